@@ -26,7 +26,7 @@ case " $* " in
 *" --help "*) echo 'usage: stub'; exit ;;
 *" --check --first-"*) again=yes; for first; do :; done ;;
 esac
-[ /dev/stdin -ef /dev/null ] && { echo "0 items: 0 carried, 0 refused" >&2; exit; }
+[ /dev/stdin -ef /dev/null ] && { echo "0 bytes, 0 lines, 0 items: 0 carried, 0 refused" >&2; exit; }
 (eval "$RELAYS")
 status=$?
 [ $status -gt 1 ] || eval "$COUNTS" >&2
@@ -35,7 +35,7 @@ STUB
 chmod +x stub
 mkdir waiting
 export LP_RELAY=$work/stub TMPDIR=$work/waiting CUTS RELAYS COUNTS counts
-counts='echo "1 items: $((1 - status)) carried, $status refused"'
+counts='echo "7 bytes, 1 lines, 1 items: $((1 - status)) carried, $status refused"'
 COUNTS=$counts
 
 # Runs a command, and leaves `out`, `err` and `status`. Both outputs are pipes, also where no file can be written.
@@ -108,8 +108,8 @@ RELAYS='cat; case " $* " in *" --strict "*) echo "item $first: no line" >&2; exi
 wanted 0 "$text" "" "$apart" "$file" 4
 wanted 1 "$text" "item 4: *" "$apart" "$file" 4 --strict
 faults_wanted $'item 1: no line\nitem 2: no line\nitem 3: no line\nitem 4: no line'
-wanted 1 "$text" "4 items: 0 carried, 4 refused" "$apart" "$file" 4 --summary --strict
-wanted 0 "$text" "4 items: 4 carried, 0 refused" "$apart" "$file" 4 --summary
+wanted 1 "$text" "28 bytes, 4 lines, 4 items: 0 carried, 4 refused" "$apart" "$file" 4 --summary --strict
+wanted 0 "$text" "28 bytes, 4 lines, 4 items: 4 carried, 0 refused" "$apart" "$file" 4 --summary
 RELAYS='text=$(cat); printf %s "$text"; case $text in ,*) echo "item $first: no line" >&2; exit 1 ;; esac'
 wanted 1 "$text" "item 3: *" "$apart" "$file" 4
 faults_wanted "item 3: no line"
@@ -138,7 +138,7 @@ for parts in "" 0 04 -1 +4 4.0 1e2 1000 18446744073709551620 x; do
 done
 wanted 2 "" "apart: with the options (--wrong) the status of * is 2" "$apart" "$file" 4 --wrong
 wanted 2 "" "apart: the options (--help) are not *" "$apart" "$file" 4 --help
-for words in "--output again" "--strict -o again" "again" "--lines -" "--max-line 7 7"; do
+for words in "--output again" "--strict -o again" "--refused again" "again" "--lines -" "--max-line 7 7"; do
     # shellcheck disable=SC2086
     wanted 2 "" "apart: the options ($words) name a file" "$apart" "$file" 4 $words
 done
@@ -186,7 +186,7 @@ COUNTS=:
 relays_wanted 'text=$(cat); printf %s "$text"; case $text in ,*) ;; *) status=0; eval "$counts" >&2 ;; esac' \
     "apart: part 3: its counts are not known"
 relays_wanted 'text=$(cat); printf %s "$text"; echo "item $first: no line" >&2; status=1
-case $text$again in ,*yes) echo "2 items: 1 carried, 1 refused" >&2 ;; *) eval "$counts" >&2 ;; esac; exit 1' \
+case $text$again in ,*yes) echo "7 bytes, 1 lines, 2 items: 1 carried, 1 refused" >&2 ;; *) eval "$counts" >&2 ;; esac; exit 1' \
     "apart: part 3: a second relay counts otherwise"
 COUNTS=$counts
 relays_wanted 'text=$(cat); printf %s "$text"; echo "item $first: no line" >&2
@@ -212,14 +212,16 @@ dd_wanted 'set -- "$@" count=7' "dd gave 7 bytes of 10"
 dd_wanted 'exit 0' "dd gave no bytes of 10"
 dd_wanted 'truncate -s 13 "a small file"' "dd gave 3 bytes of 10"
 printf '%s' "$text" >"$file"
-# A dd that fails when the part is relayed once more, and one that fails when lines are counted.
+# A dd that fails when the part is relayed once more.
 RELAYS='cat; echo "item $first: no line" >&2; exit 1'
 dd_wanted 'mkdir once 2>/dev/null || { echo "dd: why" >&2; exit 1; }' "the status of dd is 1"
 grep -qx 'part 3, dd: why' err
 rmdir once
-wanted 2 "" "apart: the lines before part 4 cannot be counted" env READS='mkdir once 2>/dev/null || exit 1' \
-    "PATH=$work/broken:$PATH" "$apart" "$file" 4 --lines
-rmdir once
+# The lines of the parts before tell the number of the first line.
+RELAYS='text=$(cat); printf %s "$text"; case $text in ,*) echo "line $first: no line" >&2; exit 1 ;; esac'
+COUNTS='echo "7 bytes, 5 lines, 1 items: $((1 - status)) carried, $status refused"'
+wanted 1 "$text" "line 11: *" "$apart" "$file" 4 --lines
+COUNTS=$counts
 
 # A TMPDIR that is missing, that holds nothing, and that holds too little. A limit of the shell is in the place of a full disk.
 limited() { (trap '' XFSZ; ulimit -f "$1"; shift; exec "$@"); }

@@ -73,17 +73,17 @@ wanted_of_both "usage: lp_rebuild [--strict]$newline"
 
 crate=lp_relay
 program=$relay
-usage="usage: lp_relay [--strict] [--verbatim | --canonical] [--faults line|raw] [--max-line BYTES]
-                [--first-item N | [--lines] [--first-line N]] [--progress] [--summary]
-                [--check | --output FILE] [FILE..]
+usage="usage: lp_relay [--strict] [--verbatim | --canonical] [--faults line|raw|json]
+                [--max-line BYTES] [--first-item N | [--lines] [--first-line N]] [--progress]
+                [--summary] [--check | --output FILE] [--refused FILE] [FILE..]
        lp_relay [--strict] --cut PARTS [FILE..]
        lp_relay --help | --version$newline"
 wanted_of_both "$usage"
 wanted 0 "" "" --check
 wanted 1 "" "$strict_fault" --check --strict
 wanted 2 "" "$usage" --check --output x
-wanted 0 "$loose" "1 items: 1 carried, 0 refused$newline" --summary
-wanted 1 "" "${strict_fault}1 items: 0 carried, 1 refused$newline" --summary --strict
+wanted 0 "$loose" "8 bytes, 1 lines, 1 items: 1 carried, 0 refused$newline" --summary
+wanted 1 "" "${strict_fault}8 bytes, 1 lines, 1 items: 0 carried, 1 refused$newline" --summary --strict
 # Where standard error is no terminal, no progress is shown.
 wanted 0 "$loose" "" --progress
 wanted 1 "" "$strict_fault" --strict --progress
@@ -150,6 +150,13 @@ if [ -n "$program" ]; then
     wanted 1 "" "line 7: ${told#item 1: }$newline" --first-line 7
     wanted 1 "" "$raw$newline" --faults raw
     wanted 1 "" "line 7: ${raw#item 1: }$newline" --faults raw --first-line 7
+    object='{"item":1,"line":1,"kind":"cannot_parse_entire_line","text":"'"$found"' \"x\u000a\u0009item 9: \\ ü\"'"'"'"}'
+    wanted 1 "" "$object$newline" --faults json
+    wanted 1 "" "${object/\"line\":1/\"line\":7}$newline" --faults json --first-line 7 --strict
+    wanted 1 "" "${object/\"item\":1/\"item\":5}$newline" --first-item 5 --faults json --lines
+    object=${object/\"item\":1/\"item\":5}
+    wanted 1 "" "${object/\"line\":1/\"line\":7}$newline" --first-item 5 --first-line 7 --faults json
+    wanted 2 "" "$usage" --first-item 5 --first-line 7 --faults raw
     told="item 1: $found "
     long=$(printf '%*s' "$((200 - ${#told} - 1))" "" | tr ' ' y)
     text="m a=1 $long\n"
@@ -176,7 +183,7 @@ if [ -n "$program" ]; then
     wanted 2 "" "$usage" --summary --cut 2
     wanted 2 "" "$usage" --cut 2 --summary
     wanted 2 "" "${unread}summary: $none$newline" --summary summary
-    wanted 1 "" "${strict_fault}1 items: 0 carried, 1 refused$newline" --check --progress --summary --strict
+    wanted 1 "" "${strict_fault}8 bytes, 1 lines, 1 items: 0 carried, 1 refused$newline" --check --progress --summary --strict
     wanted 2 "" "$usage" --check=1
     wanted 2 "" "$usage" --Check
     wanted 2 "" "$usage" --check --help
@@ -255,6 +262,14 @@ if [ -n "$program" ]; then
         wanted 2 "" "$usage" --lines --check --strict "$option" x
         wanted 2 "" "$usage" --cut 2 "$option" x
     done
+    wanted 2 "" "$usage" --refused
+    wanted 2 "" "$usage" x --refused y
+    wanted 2 "" "$usage" --refused x --refused y
+    wanted 2 "" "$usage" --refused --lines
+    wanted 2 "" "$usage" --refused -
+    wanted 2 "" "$usage" --refused ""
+    wanted 2 "" "$usage" --refused=x
+    wanted 2 "" "$usage" --refused x --cut 2
     wanted 2 "" "$usage" --output=x
     wanted 2 "" "$usage" -ox
     wanted 2 "" "$usage" --out x
@@ -435,10 +450,24 @@ ln a hard
 : >out
 names >"$work/names"
 x="A generic parsing error occurred: TakeWhile1"
-given 1 'm a=1i\nm b=2i\n' "item 3: $x\n" a b
-given 1 'm a=1i\nm b=2i\n' "line 3: $x\n" --lines a b
-given 1 'm b=2i\nm a=1i\n' "line 2: $x\n" --lines b a
-given 1 'm a=1i\nm b=2i\n' "line 3: $x\n" --lines e a e e b e
+given 1 'm b=2i\n' "item 2: $x\n" b
+given 1 'm a=1i\nm b=2i\n' "b: item 3: $x\n" a b
+given 1 'm a=1i\nm b=2i\n' "b: line 2: $x\n" --lines a b
+given 1 'm b=2i\nm a=1i\n' "b: line 2: $x\n" --lines b a
+given 1 'm a=1i\nm b=2i\n' "b: line 2: $x\n" --lines e a e e b e
+given 1 'm b=2i\nm b=2i\n' "b: item 11: $x\nb: item 13: $x\n" --first-item 10 b b
+given 1 'm b=2i\nm b=2i\n' "b: line 11: $x\nb: line 2: $x\n" --first-line 10 b b
+given 1 'm a=1i\nm b=2i\n' "item 3: $x\n" --faults raw a b
+kind='"kind":"generic_parsing_error","text":"'"$x"'"}\n'
+given 1 'm b=2i\n' '{"item":2,"line":2,'"$kind" --faults json b
+given 1 'm a=1i\nm b=2i\n' '{"file":"b","item":3,"line":2,'"$kind" --faults json a b
+given 1 'm b=2i\nm b=2i\n' '{"file":"b","item":2,"line":11,'"$kind"'{"file":"b","item":4,"line":2,'"$kind" --faults json --first-line 10 b b
+given 1 '' '{"file":"b","item":8,"line":2,'"$kind"'{"file":"b","item":10,"line":2,'"$kind" --check --first-item 7 --faults json b b
+# A name that would break a line, and a string of JSON.
+odd=$work/$'o"\n\\\x01'
+cp b "$odd"
+given 1 'm a=1i\nm b=2i\n' "$work"'/o"\\n\\\\\\x01: item 3: '"$x\n" a "$odd"
+given 1 'm a=1i\nm b=2i\n' '{"file":"'"$work"'/o\\"\\u000a\\\\\\u0001","item":3,"line":2,'"$kind" --faults json a "$odd"
 given 0 'm a=1i\nm a=1i\n' '' a a
 given 0 '' '' e
 given 0 '' '' e e
@@ -447,19 +476,20 @@ given 0 'm s=4i\n' '' -
 given 0 'm s=4i\n' '' - -
 given 0 'm a=1i\nm s=4i\nm c=3i\n' '' a - c
 given 0 'm a=1i\nm c=3i\nm s=4i\n' '' --strict --progress --max-line 6 a c -
-given 0 'm c=3i\nm s="x\n"\n' '' c q z
+given 1 'm c=3i\nm a=1i\n' "q: item 2: No fields were provided\n" c q a
 given 2 'm a=1i\n' "${unread}none: $none\n" a none b
-given 2 'm b=2i\n' "item 2: $x\n${unread}none: $none\n" b none
+given 2 'm b=2i\n' "b: item 2: $x\n${unread}none: $none\n" b none
 given 2 'm a=1i\n' "${unread}d: Is a directory (os error 21)\n" a d a
 given 2 '' "${unread}d/none: $none\n" d/none
 given 2 '' "${unread}a/b: Not a directory (os error 20)\n" a/b -
 given 0 '' '' --check a - c
-given 1 '' "item 3: $x\n" --check a b
-given 2 '' "item 2: $x\n${unread}none: $none\n" --check b none
-given 0 '' '0 items: 0 carried, 0 refused\n' --summary e
-given 1 'm a=1i\nm b=2i\n' "line 3: $x\n3 items: 2 carried, 1 refused\n" --summary --lines a b
-given 1 '' "line 3: $x\n3 items: 2 carried, 1 refused\n" --check --summary --lines a b
-given 2 'm b=2i\n' "item 2: $x\n${unread}none: $none\n" --summary b none
+given 1 '' "b: item 3: $x\n" --check a b
+given 2 '' "b: item 2: $x\n${unread}none: $none\n" --check b none
+given 0 '' '0 bytes, 0 lines, 0 items: 0 carried, 0 refused\n' --summary e
+given 1 'm a=1i\nm b=2i\n' "b: line 2: $x\n15 bytes, 3 lines, 3 items: 2 carried, 1 refused\n" --summary --lines a b
+given 1 '' "b: line 2: $x\n15 bytes, 3 lines, 3 items: 2 carried, 1 refused\n" --check --summary --lines a b
+given 0 'm a=1i\nm a=1i\n' '12 bytes, 2 lines, 2 items: 2 carried, 0 refused\n' --summary a a
+given 2 'm b=2i\n' "b: item 2: $x\n${unread}none: $none\n" --summary b none
 given 0 '14\n16\n' '' --cut 2 a b
 given 0 '7\n14\n' '' --strict --cut 2 - c
 given 2 '' "${unread}none: $none\n" --cut 2 a none
@@ -481,7 +511,7 @@ for option in -o --output; do
     put 2 'old\n' "${unread}none: $none\n" "$option" out a none
     put 2 'old\n' "${unread}d: Is a directory (os error 21)\n" --lines "$option" out d
     put 0 'm a=1i\n' '' "$option" out a
-    put 1 'm a=1i\nm b=2i\n' "line 3: $x\n" --lines "$option" out --progress a b
+    put 1 'm a=1i\nm b=2i\n' "b: line 2: $x\n" --lines "$option" out --progress a b
     put 0 'm s=4i\n' '' "$option" out
     put 0 '' '' "$option" out e
     put 0 "$(cat "$work/many")\\n" '' "$option" "$work/files/out" "$work/many"
@@ -505,6 +535,39 @@ given 2 '' "${unwritten}/dev/null: it is no regular file\n" -o /dev/null a
 given 2 '' "${unwritten}none/x: $none\n" -o none/x a
 given 2 '' "${unwritten}a/x: Not a directory (os error 20)\n" -o a/x a
 [ -c /dev/null ]
+# The refused pieces, each as it came, with its newline, and nothing of a line that is too long; `kept STATUS REFUSED FAULTS WORD..`.
+kept() {
+    local wanted=$2
+    given "$1" "$lines" "$3" --refused refused "${@:4}"
+    printf '%b' "$wanted" | cmp refused -
+}
+printf 'm a=1i\n  x \n# c\n\nw\\\t a=1i\r\nm a=\377\nm  a=2i\nm a=123456789i\ny' >bad
+printf 'old\n' >refused
+names >"$work/names"
+begun="item 2: $x\nitem 3: a name cannot be written again\nitem 4: the line is not UTF-8\n"
+pieces='  x \nw\\\t a=1i\r\nm a=\377\n'
+lines=''
+kept 2 'old\n' "${unread}none: $none\n" none
+kept 1 "${pieces}y\n" "${begun}item 7: $x\n" --check bad
+lines='m a=1i\nm a=2i\nm a=123456789i\n'
+kept 1 "${pieces}y\n" "${begun}item 7: $x\n" bad
+lines='m a=1i\nm a=2i\n'
+kept 1 "${pieces}y\n" "${begun}item 6: the line is too long\nitem 7: $x\n" --max-line 12 bad
+lines='m a=1i\nm a=123456789i\n'
+kept 1 "${pieces}m  a=2i\ny\n" "${begun}item 5: not as written: the spaces\nitem 7: $x\n" --canonical bad
+lines='m a=1i\n'
+kept 0 '' '' a
+lines='m a=1i\nm b=2i\n'
+kept 1 'x\n' '{"file":"b","item":3,"line":2,'"$kind" --faults json a b
+rm bad refused
+names >"$work/names"
+# The file of the refused pieces may be neither an input nor the output, by whatever name.
+given 2 '' "${unwritten}d: it is no regular file\n" --refused d a
+one="lp_relay: the file of --refused is "
+given 2 '' "${one}an input too: a\n" --refused ./a a
+given 2 '' "${one}an input too: standard input\n" --refused std
+given 2 '' "${one}the output too: d/../out\n" -o out --refused d/../out a
+given 2 '' "${unwritten}./new: it is the output too\n" -o new --refused ./new a
 # An output that is an input.
 too="lp_relay: the output is an input too: "
 for name in a link hard ./a d/../a "$work/files/a"; do
@@ -591,6 +654,11 @@ printf 'm a=,\n' >"$work/last"
 feed
 "$relay" --progress <"$work/fifo" >"$work/out" 2>"$work/err" && status=0 || status=$?
 shown 1 "standard error is a file" "item 2: No fields were provided\n"
+if python3 -c '' 2>/dev/null; then
+    "$top/checks/objects.py" "$relay"
+else
+    left_out "objects of faults" "there is no python3, for checks/arguments.sh"
+fi
 if ! command -v script >/dev/null; then
     left_out "progress on a terminal" "there is no script, for checks/arguments.sh"
     exit 0

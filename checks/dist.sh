@@ -324,28 +324,31 @@ completed() {
 }
 complete_all() {
     completed "--strict" lp_rebuild ""
-    completed "line raw" lp_relay --strict --faults ""
+    completed "line raw json" lp_relay --strict --faults ""
     completed "raw" lp_relay --faults r
+    completed "json" lp_relay --faults j
     completed "--strict" lp_rebuild --s
     completed "" lp_rebuild --strict ""
-    completed "--strict --faults --max-line --progress --summary --verbatim --canonical --lines --first-line --first-item --check --output --cut --help --version" lp_relay ""
-    completed "--faults --max-line --progress --summary --verbatim --canonical --lines --first-line --first-item --check --output --cut" lp_relay --strict --
-    completed "--strict --faults --max-line --progress --summary --verbatim --canonical --first-line --check --output" lp_relay --lines ""
-    completed "--strict --faults --max-line --progress --summary --verbatim --canonical --lines --first-line --first-item" lp_relay --check --
-    completed "--strict --faults --max-line --progress --summary --verbatim --canonical --lines --check --output" lp_relay --first-line 7 --
-    completed "--strict --faults --max-line --progress --summary --verbatim --canonical --check --output" lp_relay --first-item 7 --
-    completed "--strict --faults --max-line --progress --summary --verbatim --canonical --lines --first-line --first-item" lp_relay -o x --
-    completed "--strict --faults --max-line --progress --summary --lines --first-line --first-item --check --output" lp_relay --canonical --
+    completed "--strict --faults --max-line --progress --summary --refused --verbatim --canonical --lines --first-line --first-item --check --output --cut --help --version" lp_relay ""
+    completed "--faults --max-line --progress --summary --refused --verbatim --canonical --lines --first-line --first-item --check --output --cut" lp_relay --strict --
+    completed "--strict --faults --max-line --progress --summary --refused --verbatim --canonical --first-line --check --output" lp_relay --lines ""
+    completed "--strict --faults --max-line --progress --summary --refused --verbatim --canonical --lines --first-line --first-item" lp_relay --check --
+    completed "--strict --faults --max-line --progress --summary --refused --verbatim --canonical --lines --check --output" lp_relay --first-line 7 --
+    completed "--strict --faults --max-line --progress --summary --refused --verbatim --canonical --check --output" lp_relay --first-item 7 --
+    completed "--strict --faults --max-line --progress --summary --refused --verbatim --canonical --lines --first-line --first-item" lp_relay -o x --
+    completed "--strict --faults --max-line --progress --summary --refused --lines --first-line --first-item --check --output" lp_relay --canonical --
+    completed "--strict --max-line --progress --summary --refused --verbatim --canonical --lines --first-line --check --output" lp_relay --faults json --first-item 7 --
     completed "" lp_relay --first-item ""
     completed "--max-line" lp_relay --m
     completed "" lp_relay --max-line ""
-    completed "--strict --faults --progress --summary --verbatim --canonical --lines --first-line --first-item --check --output" lp_relay --max-line 7 ""
+    completed "--strict --faults --progress --summary --refused --verbatim --canonical --lines --first-line --first-item --check --output" lp_relay --max-line 7 ""
     completed "" lp_relay --cut ""
     completed "$top/launch.sh" lp_relay --strict --cut 4 "$top/lau"
     completed "$top/launch.sh" lp_relay "$top/lau"
     completed "$top/launch.sh" lp_relay --lines "$top/lau"
     completed "$top/launch.sh" lp_relay --output "$top/lau"
     completed "$top/launch.sh" lp_relay -o "$top/lau"
+    completed "$top/launch.sh" lp_relay --refused "$top/lau"
     completed "" lp_relay --output --
     completed "" lp_relay --help ""
     completed "" lp_relay -h ""

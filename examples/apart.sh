@@ -4,8 +4,8 @@
 #   examples/apart.sh FILE PARTS [OPTION..] >again.lp 2>faults
 #
 # FILE: a regular file, since it is read more than once. PARTS: 1 to 999. The options are those of a relay, as `lp_relay --help`
-# lists them, but for --output, --first-item and --first-line, and no other files. LP_RELAY: the program, by default ../lp_relay of
-# this script. TMPDIR: where the outputs wait for their turn.
+# lists them, but for --output, --refused, --first-item and --first-line, and no other files. LP_RELAY: the program, by default
+# ../lp_relay of this script. TMPDIR: where the outputs wait for their turn.
 #
 # Both outputs are what one lp_relay writes. A part that refused something is relayed a second time, to check alone, once the counts
 # of the parts before it tell the number of its first item; so the faults come once all parts were relayed.

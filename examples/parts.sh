@@ -39,7 +39,7 @@ take_parts() {
         echo "$said" >&2 || true
         fail "with the options ($*) the status of $program is $status"
     }
-    [ "$said" = "0 items: 0 carried, 0 refused" ] || fail "the options ($*) are not those of a relay"
+    [ "$said" = "0 bytes, 0 lines, 0 items: 0 carried, 0 refused" ] || fail "the options ($*) are not those of a relay"
     case " $* " in *" --strict "*) dialect=(--strict) ;; esac
 
     # Where the parts end, in bytes: no item is in two of them.
@@ -90,7 +90,7 @@ why_not() {
         echo "err the status of the relay is $of_relay"
     elif [ "$of_dd" != 0 ]; then
         echo "dd the status of dd is $of_dd"
-    elif ! [[ $(tail -n 1 "$waiting/$number.err") =~ ^[0-9]+\ items:\ [0-9]+\ carried,\ [0-9]+\ refused$ ]]; then
+    elif ! [[ $(tail -n 1 "$waiting/$number.err") =~ ^[0-9]+\ bytes,\ [0-9]+\ lines,\ [0-9]+\ items:\ [0-9]+\ carried,\ [0-9]+\ refused$ ]]; then
         echo "err its counts are not known"
     else
         said=$(tail -n 1 "$waiting/$number.dd") || said=""
@@ -100,26 +100,18 @@ why_not() {
 }
 
 # Relays once more each part that refused something, to check alone, from the number on that its first item, or line, has in the
-# whole file. The counts of the parts before it tell that number; lines are counted here. Sets again: which parts these are.
+# whole file. The counts of the parts before it tell that number. Sets again: which parts these are.
 number_faults() {
-    local number start count word items refused lines counted=0 first=1 by=--first-item checks=("$program")
+    local number start count word items refused lines first=1 by=--first-item checks=("$program")
     for word in "${options[@]}"; do
         if [ "$word" = --lines ]; then by=--first-line; elif [ "$word" != --check ]; then checks+=("$word"); fi
     done
     while read -r number start count; do
         # A part that was not relayed ends the run.
         [ -z "$(why_not "$number" "$count")" ] || break
-        read -r items _ _ _ refused _ <<<"$(tail -n 1 "$waiting/$number.err")"
-        if [ "$refused" != 0 ] && [ "$start" != 0 ]; then
-            if [ $by = --first-line ]; then
-                lines=$(dd if="$file" iflag=skip_bytes,count_bytes skip="$counted" count=$((start - counted)) bs=64K status=none |
-                    wc -l) || fail "the lines before part $number cannot be counted"
-                first=$((first + lines))
-                counted=$start
-            fi
-            again[number]="$number.again $start $count $first"
-        fi
-        [ $by = --first-line ] || first=$((first + items))
+        read -r _ _ lines _ items _ _ _ refused _ <<<"$(tail -n 1 "$waiting/$number.err")"
+        if [ "$refused" != 0 ] && [ "$start" != 0 ]; then again[number]="$number.again $start $count $first"; fi
+        if [ $by = --first-line ]; then first=$((first + lines)); else first=$((first + items)); fi
     done < <(list_parts)
     [ ${#again[@]} != 0 ] || return 0
     # shellcheck disable=SC2016
@@ -139,7 +131,7 @@ want_relayed() {
 
 # Puts out what a part gave, and adds its counts to those of the whole.
 put_part() {
-    local number=$1 count=$2 told=$1 counts carried_here refused_here
+    local number=$1 count=$2 told=$1 counts bytes_here lines_here carried_here refused_here
     want_relayed "$number" "$count"
     counts=$(tail -n 1 "$waiting/$number.err")
     if [ -n "${again[number]-}" ]; then
@@ -149,18 +141,21 @@ put_part() {
     fi
     cat "$waiting/$number.out" || fail "the output cannot be written"
     head -n -1 "$waiting/$told.err" >&2 || fail "the faults cannot be written"
-    read -r _ _ carried_here _ refused_here _ <<<"$counts"
+    read -r bytes_here _ lines_here _ _ _ carried_here _ refused_here _ <<<"$counts"
+    bytes=$((bytes + bytes_here))
+    lines=$((lines + lines_here))
     carried=$((carried + carried_here))
     refused=$((refused + refused_here))
 }
 
 # Puts out what all parts gave, with the fault numbers of the whole, and ends with the status of the whole.
 put_parts() {
-    local number count carried=0 refused=0 again=()
+    local number count bytes=0 lines=0 carried=0 refused=0 again=()
     number_faults
     while read -r number _ count; do
         put_part "$number" "$count"
     done < <(list_parts)
-    [ -z "$counts_asked" ] || echo "$((carried + refused)) items: $carried carried, $refused refused" >&2 || true
+    [ -z "$counts_asked" ] ||
+        echo "$bytes bytes, $lines lines, $((carried + refused)) items: $carried carried, $refused refused" >&2 || true
     exit "$((refused > 0))"
 }

@@ -5,7 +5,7 @@ ghost use Rattle.influxdb_line_protocol.specs.format.Pieces.{IsLastPiece};
 
 use influxdb_line_protocol::LineStream;
 use lp_rebuild::{DeviceFault, Kept, Source};
-use lp_relay_core::{Settings, relay};
+use lp_relay_core::{Nowhere, Settings, relay};
 use std::alloc::Global;
 
 // Takes the pieces that a stream can give, and counts them.
@@ -62,7 +62,15 @@ pub extern "C" fn lp_bench_relay(alloc: Global, text: &[u8], len: usize) -> u64 
     let mut reader = InParts { left: text, len };
     let mut out = Kept::new(alloc);
     let mut err = Kept::new(alloc);
-    match relay(alloc, Settings::default(), &mut reader, &mut out, &mut err) {
+    let mut refused = Nowhere::new();
+    match relay(
+        alloc,
+        Settings::default(),
+        &mut reader,
+        &mut out,
+        &mut err,
+        &mut refused,
+    ) {
         Ok(_) => out.as_slice().len() as u64,
         Err(_) => 0,
     }

@@ -22,7 +22,7 @@ use influxdb_line_protocol::{
     parse_lines_in, read_events_in, split_lines_in, write_line,
 };
 use lp_rebuild::{RunFault, rebuild_in, run_in};
-use lp_relay_core::{Settings, relay};
+use lp_relay_core::{Nowhere, Settings, relay};
 use report::Report;
 use std::alloc::Global;
 use std::fmt::Write;
@@ -452,7 +452,14 @@ pub extern "C" fn lp_checks_relay(
     let mut reader = InParts::new(input, part);
     let mut out = Room::new(out);
     let mut err = Room::new(err);
-    let relayed = relay(alloc, settings, &mut reader, &mut out, &mut err);
+    let relayed = relay(
+        alloc,
+        settings,
+        &mut reader,
+        &mut out,
+        &mut err,
+        &mut Nowhere::new(),
+    );
     *lens = [out.len() as u64, err.len() as u64];
     told_end(relayed.err())
 }

@@ -12,7 +12,7 @@ use Rattle.influxdb_line_protocol.specs.types.Dialect.TheVariants.{Crate, Strict
 use Rattle.lp_rebuild.specs.declared.program.RunFault.{RunFault}
 use Rattle.lp_rebuild.specs.declared.program.RunFault.TheVariants.{Read, NotUtf8, OutOfMemory, Write}
 use Rattle.lp_relay_core.specs.declared.telling.Faults.{Faults}
-use Rattle.lp_relay_core.specs.declared.telling.Faults.TheVariants.{Raw, OneLine}
+use Rattle.lp_relay_core.specs.declared.telling.Faults.TheVariants.{Raw, OneLine, Json}
 use Rattle.lp_relay_core.specs.declared.taking.Lines.{Lines}
 use Rattle.lp_relay_core.specs.declared.taking.Lines.TheVariants.{Rebuilt, Verbatim, Canonical}
 use Rattle.lp_relay_core.specs.declared.taking.Numbering.TheVariants as named
@@ -38,15 +38,31 @@ nothing_given = record {
   check = false;
   faults = None;
   output = None;
+  refused = None;
 }
 
 -- how many bytes a line may have if no option says it: 16 MiB
 abbrev pub default_max_line : ℕ
 default_max_line = 2 ^ 24
 
--- whether fault lines name lines of the input
+-- whether faults are told as objects
+abbrev pub is_json : Option Faults → Bool
+is_json None = false
+is_json (Some Raw) = false
+is_json (Some OneLine) = false
+is_json (Some (Json first_line)) = true
+
+-- whether fault lines name lines of the input, and no items: objects name both
 abbrev pub names_lines : Given → Bool
-names_lines given = given.lines || is_some given.first_line
+names_lines given = (given.lines || is_some given.first_line) && not (is_json given.faults)
+
+-- how faults are told, with the number of the first line that objects name
+abbrev pub told_form : Given → Faults
+told_form given = if is_json given.faults then Json (unwrap_or given.first_line 1) else unwrap_or given.faults OneLine
+
+-- the number of what fault lines name first
+abbrev pub first_named : Given → ℕ
+first_named given = if names_lines given then unwrap_or given.first_line 1 else unwrap_or given.first_item 1
 
 -- how lines go out
 abbrev pub lines_form : Given → Lines
@@ -60,8 +76,9 @@ given_settings given = record {
     limit = unwrap_or given.max_line default_max_line;
     lines = lines_form given;
     numbering = if names_lines given then named.Lines else named.Items;
-    first = unwrap_or given.first_item (unwrap_or given.first_line 1);
-    faults = unwrap_or given.faults OneLine;
+    first = first_named given;
+    faults = told_form given;
+    puts_refused = is_some given.refused;
   };
   progress = given.progress;
   summary = given.summary;
@@ -101,7 +118,8 @@ are_at_odds given =
 abbrev pub request_of : Given → List (Bor (List ℕ)) → Option Request
 request_of given words =
     if are_inputs words && not (are_at_odds given)
-    then Some (record { settings = given_settings given; output = given.output; inputs = length words }) else None
+    then Some (record { settings = given_settings given; output = given.output; refused = given.refused; inputs = length words })
+    else None
 
 -- the options with the one that a word names, if that was not given before and takes no word after it
 abbrev pub with_flag : Given → List ℕ → Option Given
@@ -119,9 +137,11 @@ with_flag given word =
 abbrev pub first_number : List ℕ → Option ℕ
 first_number word = option_and_then (λ first. if first == 0 then None else Some first) (decimal word)
 
--- how fault lines are told, as a word says: each on one line, or as they are
+-- how faults are told, as a word says: each on one line, as they are, or as objects, which name lines from 1 on
 abbrev pub faults_form : List ℕ → Option Faults
-faults_form word = if bytes_eq word (codes "line") then Some OneLine else (if bytes_eq word (codes "raw") then Some Raw else None)
+faults_form word =
+    if bytes_eq word (codes "line") then Some OneLine
+    else (if bytes_eq word (codes "raw") then Some Raw else (if bytes_eq word (codes "json") then Some (Json 1) else None))
 
 -- the options with the one that a word names, if that was not given before and the word after it says what it takes
 abbrev pub with_value : Given → List ℕ → Bor (List ℕ) → Option Given
@@ -135,7 +155,9 @@ with_value given word value =
     else (if bytes_eq word (codes "--faults") && is_none given.faults
     then option_map (λ form. record given { faults = Some form }) (faults_form value.now)
     else (if asks_output word && is_none given.output && names_file value.now
-    then Some (record given { output = Some value }) else None))))
+    then Some (record given { output = Some value })
+    else (if bytes_eq word (codes "--refused") && is_none given.refused && names_file value.now
+    then Some (record given { refused = Some value }) else None)))))
 
 -- the relay that words ask for after the options given: each option is one that was not given before it, and inputs come last
 abbrev mutual

@@ -4,42 +4,53 @@ ghost use Rattle.std.specs.Bool.{OnFalse, OnTrue};
 ghost use Rattle.influxdb_line_protocol.specs.code.Rules.{rules_of};
 ghost use Rattle.lp_relay_core.specs.Cuts.{ArePartEnds};
 ghost use Rattle.lp_relay_core.specs.Relays.{Relays};
+ghost use Rattle.lp_relay_core.specs.Writers.{of_writers};
 ghost use Rattle.lp_rebuild.specs.Running.{CountsReadFault, reader_told, writer_told};
 ghost use Rattle.lp_relay.specs.Asked.{ChecksBy};
 
-use crate::nowhere::Nowhere;
 use crate::words::Settings;
 use influxdb_line_protocol::Dialect;
 use lp_rebuild::{RunFault, Sink, Source, read_all};
-use lp_relay_core::{Relayed, part_ends, relay};
+use lp_relay_core::{Nowhere, Relayed, part_ends, relay};
 use std::alloc::Global;
 
 /// Relays the lines that `reader` gives, as [`relay`] does, by these settings. If they ask for a check, the lines go nowhere:
-/// `out` stays as it is, and a fault `Write` is one of `err`.
+/// `out` stays as it is, and a fault `Write` is one of `err` or of `refused`.
 ///
 /// # Errors
 ///
 /// Those of [`relay`].
-pub fn relay_as_asked<R: Source, W: Sink, E: Sink>(
+pub fn relay_as_asked<R: Source, W: Sink, E: Sink, P: Sink>(
     alloc: Global,
     settings: Settings,
     reader: &mut R,
     out: &mut W,
     err: &mut E,
+    refused: &mut P,
 ) -> Result<Relayed, RunFault>
     ensures relays { OnFalse settings.check (Relays settings.relay result
         (reader_told R.bytes R.failures reader.old) (reader_told R.bytes R.failures reader.new)
-        (writer_told W.bytes W.failures W.is_flushed out.old) (writer_told W.bytes W.failures W.is_flushed out.new)
-        (writer_told E.bytes E.failures E.is_flushed err.old) (writer_told E.bytes E.failures E.is_flushed err.new)) }
+        (of_writers (writer_told W.bytes W.failures W.is_flushed out.old) (writer_told E.bytes E.failures E.is_flushed err.old)
+        (writer_told P.bytes P.failures P.is_flushed refused.old))
+        (of_writers (writer_told W.bytes W.failures W.is_flushed out.new) (writer_told E.bytes E.failures E.is_flushed err.new)
+        (writer_told P.bytes P.failures P.is_flushed refused.new))) }
     ensures checks { OnTrue settings.check (ChecksBy settings.relay result
         (reader_told R.bytes R.failures reader.old) (reader_told R.bytes R.failures reader.new)
-        (writer_told E.bytes E.failures E.is_flushed err.old) (writer_told E.bytes E.failures E.is_flushed err.new)) }
+        (writer_told E.bytes E.failures E.is_flushed err.old) (writer_told E.bytes E.failures E.is_flushed err.new)
+        (writer_told P.bytes P.failures P.is_flushed refused.old) (writer_told P.bytes P.failures P.is_flushed refused.new)) }
     ensures unwritten { OnTrue settings.check (out.new ≡ out.old) }
 {
     if settings.check {
-        return relay(alloc, settings.relay, reader, &mut Nowhere::new(), err);
+        return relay(
+            alloc,
+            settings.relay,
+            reader,
+            &mut Nowhere::new(),
+            err,
+            refused,
+        );
     }
-    relay(alloc, settings.relay, reader, out, err)
+    relay(alloc, settings.relay, reader, out, err, refused)
 }
 
 /// If all that `reader` has left can be cut into so many parts, as [`part_ends`] says. All of it is held.

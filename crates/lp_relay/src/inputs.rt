@@ -1,4 +1,4 @@
-//! The inputs, which are read one after another as one.
+//! The inputs, which are read one after another, as one or each by itself.
 ghost use Rattle.std.specs.Io.{ReadsAtMost};
 
 use std::cell::Cell;
@@ -12,8 +12,8 @@ pub(crate) const STANDARD_INPUT: &[&str] = &["-"];
 // Where the system has standard input.
 const STDIN: &str = "/proc/self/fd/0";
 
-// Where the system has standard output.
-const STDOUT: &str = "/proc/self/fd/1";
+/// Where the system has standard output.
+pub(crate) const STDOUT: &str = "/proc/self/fd/1";
 
 // Where the system has standard error.
 const STDERR: &str = "/proc/self/fd/2";
@@ -25,8 +25,10 @@ enum Open {
     File(File),
 }
 
-/// The inputs that are left: the rest of the one that is open, and those that names name after it. An input that does not end in
-/// a newline is followed by one, if another input comes after it.
+/// The inputs that are left: the rest of the one that is open, and those that names name after it.
+///
+/// If they are read as one, an input that does not end in a newline is followed by one, if another input comes after it. If each is
+/// read by itself, a read gives nothing at the end of each, and the read after that begins the next.
 #[derive(Drop)]
 pub(crate) struct Inputs<'a, 'n> {
     rt: &'a HostRuntime,
@@ -34,6 +36,8 @@ pub(crate) struct Inputs<'a, 'n> {
     names: &'n [&'n str],
     /// The file that was opened last; none if it was standard input.
     name: &'a Cell<Option<&'n str>>,
+    /// Whether each is read by itself.
+    is_apart: bool,
     /// Whether bytes were given, and the last one is no newline.
     is_in_line: bool,
 }
@@ -44,12 +48,14 @@ impl<'a, 'n> Inputs<'a, 'n> {
         rt: &'a HostRuntime,
         names: &'n [&'n str],
         name: &'a Cell<Option<&'n str>>,
+        is_apart: bool,
     ) -> Self {
         Inputs {
             rt,
             open: None,
             names,
             name,
+            is_apart,
             is_in_line: false,
         }
     }
@@ -89,11 +95,15 @@ impl<'a, 'n> Read for Inputs<'a, 'n> {
                 self.is_in_line = buf[n - 1] != b'\n';
                 return Ok(n);
             }
+            let is_ended = self.open.is_some();
             self.open = None;
             let [name, names @ ..] = self.names else {
                 return Ok(0);
             };
-            if self.is_in_line {
+            if is_ended && self.is_apart {
+                return Ok(0);
+            }
+            if self.is_in_line && !self.is_apart {
                 self.is_in_line = false;
                 buf[0] = b'\n';
                 return Ok(1);
@@ -166,6 +176,14 @@ pub(crate) fn input_written_to<'a>(
         }
     }
     None
+}
+
+/// Whether two paths lead to one regular file.
+pub(crate) fn are_one_file(rt: &HostRuntime, one: &str, other: &str) -> bool {
+    match file_at(rt, one) {
+        Some(file) => file_at(rt, other) == Some(file),
+        None => false,
+    }
 }
 
 /// How many bytes all inputs have, if each is a regular file.

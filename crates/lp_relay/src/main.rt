@@ -1,108 +1,174 @@
-//! Relays the lines of its inputs as they come: those that can be written again to its output, and a numbered fault line for each
-//! other to standard error.
+//! Relays the lines of its inputs as they come: those that can be written again to its output, a numbered fault line for each
+//! other to standard error, and the other as it came to a file, if one is named for it.
 #![tactic(auto)]
 
 mod asked;
+mod files;
 mod inputs;
 mod meter;
+mod named;
 mod noted;
-mod nowhere;
 mod output;
 mod summary;
+mod tally;
 mod words;
 
 use asked::{part_ends_of, relay_as_asked};
+use files::{Files, Outputs};
 use influxdb_line_protocol::Dialect;
-use inputs::{Closed, Inputs, STANDARD_INPUT, input_written_to, total_len};
-use lp_rebuild::{Reading, RunFault, Writing};
-use lp_relay_core::Relayed;
+use inputs::{Closed, Inputs, STANDARD_INPUT, STDOUT, are_one_file, input_written_to, total_len};
+use lp_rebuild::{Reading, RunFault, Sink, Source, Writing};
+use lp_relay_core::{Faults, Numbering, Relayed};
 use meter::{Counted, Meter, MeteredSink, MeteredSource};
+use named::Named;
 use noted::{Noted, Notes};
-use output::{Lines, Output};
+use std::alloc::Global;
 use std::env;
 use std::io::{self, ErrorKind, IsTerminal};
 use std::process::ExitCode;
-use summary::summary_of;
+use summary::{Totals, summary_of};
+use tally::Tally;
 use words::{
     HELP, Request, Settings, Task, USAGE, VERSION, status_of_fault, status_of_relay, task_of,
 };
+
+// The settings for an input that comes after items that were counted so: its items are counted on, its lines from 1 on.
+fn settings_after(settings: Settings, so_far: Relayed) -> Settings {
+    let mut next = settings;
+    next.relay.first = match settings.relay.numbering {
+        Numbering::Items => {
+            let items = so_far.carried.saturating_add(so_far.refused);
+            settings.relay.first.max(1).saturating_add(items)
+        }
+        Numbering::Lines => 1,
+    };
+    if let Faults::Json { .. } = settings.relay.faults {
+        next.relay.faults = Faults::Json { first_line: 1 };
+    }
+    next
+}
+
+// Relays each input by itself, and adds up the counts.
+fn relay_each<R: Source + Drop, W: Sink, E: Sink, P: Sink>(
+    alloc: Global,
+    settings: Settings,
+    names: &[&str],
+    reader: R,
+    out: &mut W,
+    err: &mut Named<E>,
+    refused: &mut P,
+) -> Result<Totals, RunFault> {
+    let mut reader = Tally::new(settings.summary, reader);
+    let mut total = Relayed {
+        carried: 0,
+        refused: 0,
+    };
+    let mut asked = settings;
+    for name in names {
+        if names.len() > 1 && err.set_name(alloc, settings.relay.faults, name).is_err() {
+            return Err(RunFault::OutOfMemory);
+        }
+        let counts = relay_as_asked(alloc, asked, &mut reader, out, err, refused)?;
+        total.carried = total.carried.saturating_add(counts.carried);
+        total.refused = total.refused.saturating_add(counts.refused);
+        asked = settings_after(settings, total);
+    }
+    let (bytes, lines) = reader.counts();
+    Ok(Totals {
+        bytes,
+        lines,
+        carried: total.carried,
+        refused: total.refused,
+    })
+}
 
 // Relays inputs, and shows nothing.
 fn relay_quietly(
     rt: &HostRuntime,
     settings: Settings,
+    names: &[&str],
     inputs: Inputs<'_, '_>,
-    lines: Lines<'_>,
+    outputs: Outputs<'_>,
     notes: &Notes<'_>,
-) -> Result<Relayed, RunFault> {
-    let mut reader = Reading::new(Noted::new(&notes.input, inputs));
-    let mut out = Writing::new(Noted::new(&notes.output, lines));
-    let mut err = Writing::new(Noted::new(&notes.faults, rt.stderr()));
-    relay_as_asked(rt.alloc(), settings, &mut reader, &mut out, &mut err)
+) -> Result<Totals, RunFault> {
+    let reader = Reading::new(Noted::new(&notes.input, inputs));
+    let mut out = Writing::new(Noted::new(&notes.output, outputs.lines));
+    let err = Writing::new(Noted::new(&notes.faults, rt.stderr()));
+    let mut err = Named::new(rt.alloc(), err);
+    let mut refused = Writing::new(Noted::new(&notes.refused, outputs.refused));
+    relay_each(
+        rt.alloc(),
+        settings,
+        names,
+        reader,
+        &mut out,
+        &mut err,
+        &mut refused,
+    )
 }
 
-// Relays inputs, of so many bytes if that is known, and shows on the terminal how far it is.
+// Relays inputs, and shows on the terminal how far it is.
 fn relay_with_progress(
     rt: &HostRuntime,
     settings: Settings,
-    total: Option<u64>,
+    names: &[&str],
     inputs: Inputs<'_, '_>,
-    lines: Lines<'_>,
+    outputs: Outputs<'_>,
     notes: &Notes<'_>,
-) -> Result<Relayed, RunFault> {
-    let meter = Meter::new(rt, total);
+) -> Result<Totals, RunFault> {
+    let meter = Meter::new(rt, total_len(rt, names));
     let is_out_shown = notes.output_name.is_none() && rt.stdout().is_terminal();
     let reader = Reading::new(Noted::new(&notes.input, inputs));
-    let out = Writing::new(Noted::new(&notes.output, lines));
+    let out = Writing::new(Noted::new(&notes.output, outputs.lines));
     let err = Writing::new(Noted::new(&notes.faults, rt.stderr()));
-    let mut reader = MeteredSource::new(&meter, reader);
+    let reader = MeteredSource::new(&meter, reader);
     let mut out = MeteredSink::new(&meter, Counted::Lines, is_out_shown, out);
-    let mut err = MeteredSink::new(&meter, Counted::Faults, true, err);
-    let answer = relay_as_asked(rt.alloc(), settings, &mut reader, &mut out, &mut err);
+    let err = MeteredSink::new(&meter, Counted::Faults, true, err);
+    let mut err = Named::new(rt.alloc(), err);
+    let mut refused = Writing::new(Noted::new(&notes.refused, outputs.refused));
+    let answer = relay_each(
+        rt.alloc(),
+        settings,
+        names,
+        reader,
+        &mut out,
+        &mut err,
+        &mut refused,
+    );
     meter.finish();
     answer
 }
 
-// Relays the inputs of these names.
+// Relays the inputs of these names, one after another.
 fn relay_inputs<'n>(
     rt: &HostRuntime,
     settings: Settings,
     names: &'n [&'n str],
-    lines: Lines<'_>,
+    outputs: Outputs<'_>,
     notes: &Notes<'n>,
-) -> Result<Relayed, RunFault> {
-    let inputs = Inputs::new(rt, names, &notes.input_name);
+) -> Result<Totals, RunFault> {
+    let inputs = Inputs::new(rt, names, &notes.input_name, true);
     if settings.progress && rt.stderr().is_terminal() {
-        relay_with_progress(rt, settings, total_len(rt, names), inputs, lines, notes)
+        relay_with_progress(rt, settings, names, inputs, outputs, notes)
     } else {
-        relay_quietly(rt, settings, inputs, lines, notes)
+        relay_quietly(rt, settings, names, inputs, outputs, notes)
     }
 }
 
-// Relays the inputs of these names to a file.
-fn relay_to_file<'n>(
+// Relays the inputs of these names to the files that a request names, and puts these in their places.
+fn relay_to_files<'n>(
     rt: &HostRuntime,
-    settings: Settings,
+    request: Request<'n>,
     names: &'n [&'n str],
-    name: &str,
     notes: &Notes<'n>,
-) -> Result<Relayed, RunFault> {
-    let output = match Output::new(rt, name) {
-        Ok(output) => output,
-        Err(error) => {
-            notes.output.set(Some(error));
-            return Err(RunFault::Write);
-        }
-    };
-    let answer = relay_inputs(rt, settings, names, output.lines(), notes);
+) -> Result<Totals, RunFault> {
+    let files = Files::open(rt, request, notes)?;
+    let answer = relay_inputs(rt, request.settings, names, files.outputs(rt), notes);
     if answer.is_err() {
-        output.remove();
+        files.remove();
         return answer;
     }
-    if let Err(error) = output.put() {
-        notes.output.set(Some(error));
-        return Err(RunFault::Write);
-    }
+    files.put(notes)?;
     answer
 }
 
@@ -120,24 +186,18 @@ fn say_fault(rt: &HostRuntime, fault: RunFault, notes: &Notes<'_>) {
 
 // Relays what a request names, tells the counts if it asks for them, and answers with the exit status.
 fn relay<'n>(rt: &HostRuntime, request: Request<'n>, names: &'n [&'n str]) -> u8 {
-    let notes = Notes::new(request.output);
-    let answer = match request.output {
-        Some(name) => relay_to_file(rt, request.settings, names, name, &notes),
-        None => relay_inputs(
-            rt,
-            request.settings,
-            names,
-            Lines::Standard(rt.stdout()),
-            &notes,
-        ),
-    };
+    let notes = Notes::new(request.output, request.refused);
+    let answer = relay_to_files(rt, request, names, &notes);
     if let Err(fault) = answer {
         say_fault(rt, fault, &notes);
     }
     if let Some(summary) = summary_of(request.settings, &answer) {
         let _ = eprintln!(rt; "{summary}");
     }
-    status_of_relay(&answer, notes.is_pipe_closed())
+    status_of_relay(
+        &answer.map(|totals| totals.counts()),
+        notes.is_pipe_closed(),
+    )
 }
 
 // Prints where the inputs of these names can be cut into parts, a line for each end.
@@ -148,7 +208,7 @@ fn print_ends<'n>(
     names: &'n [&'n str],
     notes: &Notes<'n>,
 ) -> Result<(), RunFault> {
-    let inputs = Inputs::new(rt, names, &notes.input_name);
+    let inputs = Inputs::new(rt, names, &notes.input_name, false);
     let mut reader = Reading::new(Noted::new(&notes.input, inputs));
     for end in part_ends_of(rt.alloc(), dialect, count, &mut reader)? {
         if let Err(fault) = println!(rt; "{end}") {
@@ -161,7 +221,7 @@ fn print_ends<'n>(
 
 // Says where the inputs of these names can be cut into parts, and answers with the exit status.
 fn cut(rt: &HostRuntime, dialect: Dialect, count: usize, names: &[&str]) -> u8 {
-    let notes = Notes::new(None);
+    let notes = Notes::new(None, None);
     match print_ends(rt, dialect, count, names, &notes) {
         Ok(()) => 0,
         Err(fault) => {
@@ -203,12 +263,32 @@ fn refuse_output(rt: &HostRuntime, output: Option<&str>, names: &[&str]) -> Opti
     Some(2)
 }
 
+// Says that the refused pieces would go to an input or to the output, and answers with the exit status, if that is so.
+fn refuse_refused(rt: &HostRuntime, request: Request<'_>, names: &[&str]) -> Option<u8> {
+    let refused = request.refused?;
+    let output = request.output.unwrap_or(STDOUT);
+    if let Some(name) = input_written_to(rt, names, Some(refused)) {
+        let name = if name == "-" { "standard input" } else { name };
+        let _ = eprintln!(rt; "lp_relay: the file of --refused is an input too: {name}");
+        return Some(2);
+    }
+    if are_one_file(rt, output, refused) {
+        let _ = eprintln!(rt; "lp_relay: the file of --refused is the output too: {refused}");
+        return Some(2);
+    }
+    None
+}
+
 // Does what the words ask for, and answers with the exit status.
 fn run_words(rt: &HostRuntime, words: &[&str]) -> u8 {
     match task_of(words) {
         Some(Task::Relay(request)) => {
             let names = names_of(words, request.inputs);
-            match refuse_output(rt, request.output, names) {
+            let refusal = match refuse_output(rt, request.output, names) {
+                Some(status) => Some(status),
+                None => refuse_refused(rt, request, names),
+            };
+            match refusal {
                 Some(status) => status,
                 None => relay(rt, request, names),
             }

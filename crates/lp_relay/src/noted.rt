@@ -12,21 +12,26 @@ pub(crate) struct Notes<'a> {
     pub(crate) input: Cell<Option<io::Error>>,
     pub(crate) output: Cell<Option<io::Error>>,
     pub(crate) faults: Cell<Option<io::Error>>,
+    pub(crate) refused: Cell<Option<io::Error>>,
     /// The file that was read last; none if that was standard input.
     pub(crate) input_name: Cell<Option<&'a str>>,
     /// The file that the lines go to; none if that is standard output.
     pub(crate) output_name: Option<&'a str>,
+    /// The file that the refused pieces go to, if they go out.
+    pub(crate) refused_name: Option<&'a str>,
 }
 
 impl<'a> Notes<'a> {
     /// No error so far.
-    pub(crate) fn new(output_name: Option<&'a str>) -> Self {
+    pub(crate) fn new(output_name: Option<&'a str>, refused_name: Option<&'a str>) -> Self {
         Notes {
             input: Cell::new(None),
             output: Cell::new(None),
             faults: Cell::new(None),
+            refused: Cell::new(None),
             input_name: Cell::new(None),
             output_name,
+            refused_name,
         }
     }
 
@@ -39,8 +44,11 @@ impl<'a> Notes<'a> {
     pub(crate) fn of_fault(&self, fault: RunFault) -> (Option<&'a str>, Option<io::Error>) {
         match fault {
             RunFault::Read => (self.input_name.get(), self.input.get()),
-            RunFault::Write if self.faults.get().is_none() => (self.output_name, self.output.get()),
-            RunFault::Write => (None, self.faults.get()),
+            RunFault::Write if self.faults.get().is_some() => (None, self.faults.get()),
+            RunFault::Write if self.refused.get().is_some() => {
+                (self.refused_name, self.refused.get())
+            }
+            RunFault::Write => (self.output_name, self.output.get()),
             RunFault::NotUtf8 | RunFault::OutOfMemory => (None, None),
         }
     }

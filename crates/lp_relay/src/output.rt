@@ -1,6 +1,7 @@
-//! Where the lines go: standard output, or a file that is whole or not there.
+//! Where the lines and the refused pieces go: to standard output, to a file that is whole or not there, or nowhere.
 use std::fs::{self, File, OpenOptions};
 use std::io::{self, ErrorKind, Stdout, Write};
+use std::os::unix::fs::MetadataExt;
 use std::process;
 
 // How many names are tried for the file beside.
@@ -12,6 +13,8 @@ pub(crate) struct Output<'a> {
     rt: &'a HostRuntime,
     place: String,
     beside: String,
+    // Which of the names that are tried the file beside has.
+    turn: u32,
     file: File,
 }
 
@@ -33,11 +36,12 @@ impl<'a> Output<'a> {
             Ok(old) => Some(old.permissions()),
             Err(_) => None,
         };
-        let (beside, file) = create_beside(rt, place.as_str())?;
+        let (beside, turn, file) = create_beside(rt, place.as_str())?;
         let output = Output {
             rt,
             place,
             beside,
+            turn,
             file,
         };
         if let Some(permissions) = old {
@@ -54,22 +58,36 @@ impl<'a> Output<'a> {
         Lines::File(&self.file)
     }
 
+    /// Whether another file would come to the same place, by whatever name: then the file beside this one has the name that it
+    /// has beside that place.
+    ///
+    /// # Errors
+    ///
+    /// What the system says if it cannot tell.
+    pub(crate) fn has_place_of(&self, other: &Output<'_>) -> io::Result<bool> {
+        let own = self.file.metadata()?;
+        let name = name_beside(self.rt, other.place.as_str(), self.turn)?;
+        match fs::metadata(self.rt, name.as_str()) {
+            Ok(file) => Ok(file.dev() == own.dev() && file.ino() == own.ino()),
+            Err(_) => Ok(false),
+        }
+    }
+
+    /// Waits until all of the file is on the device.
+    ///
+    /// # Errors
+    ///
+    /// What the system says if it cannot.
+    pub(crate) fn sync(&self) -> io::Result<()> {
+        self.file.sync_all()
+    }
+
     /// Puts the file in its place.
     ///
     /// # Errors
     ///
-    /// What the system says if it cannot; the file is removed then.
-    pub(crate) fn put(self) -> io::Result<()> {
-        let answer = self.sync_and_rename();
-        if answer.is_err() {
-            self.remove();
-        }
-        answer
-    }
-
-    // Puts the file in its place once all of it is on the device.
-    fn sync_and_rename(&self) -> io::Result<()> {
-        self.file.sync_all()?;
+    /// What the system says if it cannot.
+    pub(crate) fn put(&self) -> io::Result<()> {
         fs::rename(self.rt, self.beside.as_str(), self.place.as_str())
     }
 
@@ -79,15 +97,20 @@ impl<'a> Output<'a> {
     }
 }
 
-// Makes a file beside a place, by a name that no file has.
-fn create_beside(rt: &HostRuntime, place: &str) -> io::Result<(String, File)> {
+// A name beside a place.
+fn name_beside(rt: &HostRuntime, place: &str, turn: u32) -> io::Result<String> {
     let id = process::id(rt.process());
+    Ok(format!(in rt.alloc(); "{place}.lp_relay-{id}-{turn}")?)
+}
+
+// Makes a file beside a place, by a name that no file has.
+fn create_beside(rt: &HostRuntime, place: &str) -> io::Result<(String, u32, File)> {
     for turn in 0..TRIES {
-        let beside = format!(in rt.alloc(); "{place}.lp_relay-{id}-{turn}")?;
+        let beside = name_beside(rt, place, turn)?;
         let mut options = OpenOptions::new();
         options.write(true).create_new(true);
         match options.open(rt, beside.as_str()) {
-            Ok(file) => return Ok((beside, file)),
+            Ok(file) => return Ok((beside, turn, file)),
             Err(error) if error.kind() == ErrorKind::AlreadyExists => {}
             Err(error) => return Err(error),
         }
@@ -102,6 +125,8 @@ pub(crate) enum Lines<'a> {
     Standard(Stdout),
     /// To a file.
     File(&'a File),
+    /// Nowhere.
+    Nowhere,
 }
 
 impl<'a> Write for Lines<'a> {
@@ -109,6 +134,7 @@ impl<'a> Write for Lines<'a> {
         match self {
             Lines::Standard(stdout) => stdout.write(buf),
             Lines::File(file) => file.write(buf),
+            Lines::Nowhere => Ok(buf.len()),
         }
     }
 
@@ -116,6 +142,7 @@ impl<'a> Write for Lines<'a> {
         match self {
             Lines::Standard(stdout) => stdout.flush(),
             Lines::File(file) => file.flush(),
+            Lines::Nowhere => Ok(()),
         }
     }
 }

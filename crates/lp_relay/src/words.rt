@@ -1,7 +1,7 @@
 //! What the words after the program's name ask for, and its exit status.
 ghost use Rattle.std.specs.Prelude.{◌≡◌};
 ghost use Rattle.lp_relay.specs.Words.{are_at_odds, are_inputs, asked_cut, asked_request, asked_task, asks_output, cut_task, decimal, fault_status, faults_form};
-ghost use Rattle.lp_relay.specs.Words.{first_number, given_settings, lines_form, names_file, names_input, names_lines};
+ghost use Rattle.lp_relay.specs.Words.{first_named, first_number, given_settings, is_json, lines_form, names_file, names_input, names_lines, told_form};
 ghost use Rattle.lp_relay.specs.Words.{nothing_given, relay_status, request_of};
 ghost use Rattle.lp_relay.specs.Words.{with_flag, with_value};
 
@@ -11,9 +11,9 @@ use lp_relay_core::{Faults, Lines, Numbering, Relayed};
 
 /// How the program is called: the lines that it prints if its words ask for nothing, without the last newline.
 pub const USAGE: &str =
-    "usage: lp_relay [--strict] [--verbatim | --canonical] [--faults line|raw] [--max-line BYTES]
-                [--first-item N | [--lines] [--first-line N]] [--progress] [--summary]
-                [--check | --output FILE] [FILE..]
+    "usage: lp_relay [--strict] [--verbatim | --canonical] [--faults line|raw|json]
+                [--max-line BYTES] [--first-item N | [--lines] [--first-line N]] [--progress]
+                [--summary] [--check | --output FILE] [--refused FILE] [FILE..]
        lp_relay [--strict] --cut PARTS [FILE..]
        lp_relay --help | --version";
 
@@ -24,7 +24,8 @@ pub const VERSION: &str = "2.0.0";
 pub const HELP: &str =
     "Relays lines of InfluxDB line protocol from each FILE, one after another, or from standard input,
 to standard output as they come, and writes `item N: FAULT` to standard error for each item that
-it refuses. A FILE that is - is standard input; ./-x names a file -x.
+it refuses, with the name of its FILE before it if there are several. A FILE that is - is standard
+input; ./-x names a file -x.
 
   --strict           reads the strict dialect
   --verbatim         writes each line that can be read as it came, byte for byte; if it is not
@@ -37,15 +38,20 @@ it refuses. A FILE that is - is standard input; ./-x names a file -x.
   --first-line N     the number of the first line, in faults, which name lines then
   --faults FORM      line, as if it is not given: each fault on one line, with \\n, \\t, \\r, \\\\ and
                      \\x.. for what ASCII does not print, cut after 200 bytes; raw: as lp_rebuild
-                     writes it, with newlines within
+                     writes it, with newlines within; json: each as an object on one line, which
+                     names its FILE if there are several, the item, the line, the kind of the fault
+                     and what is wrong
   --max-line BYTES   a longer line is passed over, and is a fault: 16777216 if it is not given
   --progress         shows on standard error, if that is a terminal, how far the relay is: bytes
                      read, percent if all inputs are files, lines written, faults, and MB/s,
                      each second while input comes, and once more at the end
-  --summary          says at the end on standard error, if the status is 0 or 1, how many items
-                     there were: `N items: C carried, R refused`
+  --summary          says at the end on standard error, if the status is 0 or 1, how many bytes,
+                     lines and items there were:
+                     `B bytes, L lines, N items: C carried, R refused`
   --check            writes no line, but the faults and the status are as ever
   --output FILE, -o  writes the lines to FILE, which is there, and whole, once the status is 0 or 1
+  --refused FILE     writes each piece that is refused to FILE as it came, with its newline; FILE is
+                     there as that of --output is, and has nothing of a line that is too long
   --cut PARTS        prints where the input, which is held whole, can be cut into so many parts of
                      about one length, 1000000 at most, to be relayed apart: the end of each, in
                      bytes, a line each
@@ -53,11 +59,12 @@ it refuses. A FILE that is - is standard input; ./-x names a file -x.
   --version          prints the version
 
 The options of a relay come in any order, each at most once, before the files; not both --check
-and --output, not both --verbatim and --canonical, nor --first-item with --lines or --first-line.
+and --output, not both --verbatim and --canonical, nor --first-item with --lines or --first-line,
+but with --faults json, which names items and lines.
 --cut PARTS comes first, or after --strict.
 
 Status 0: every item was carried; 1: some item was not; 2: the input could not be read, memory
-ran out, the output could not be written, it is an input too, or the arguments are wrong; 141:
+ran out, an output could not be written, or is an input too, or the arguments are wrong; 141:
 nothing reads the output, which is said by no message.";
 
 /// The greatest length of a line, in bytes, if the words give none: 16 MiB.
@@ -87,6 +94,8 @@ pub struct Request<'a> {
     pub settings: Settings,
     /// The file that the lines go to, or none: standard output. A check has none.
     pub output: Option<&'a str>,
+    /// The file that the refused pieces go to, if they go out.
+    pub refused: Option<&'a str>,
     /// How many words name inputs: so many of the last. 0: standard input.
     pub inputs: usize,
 }
@@ -119,6 +128,7 @@ pub(crate) struct Given<'a> {
     check: bool,
     faults: Option<Faults>,
     output: Option<&'a str>,
+    refused: Option<&'a str>,
 }
 
 impl<'a> Given<'a> {
@@ -138,14 +148,37 @@ impl<'a> Given<'a> {
             check: false,
             faults: None,
             output: None,
+            refused: None,
         }
     }
 
-    // Whether fault lines name lines of the input.
+    // Whether fault lines name lines of the input, and no items: objects name both.
     fn names_lines(self) -> bool
         ensures { result ≡ names_lines self.entry }
     {
-        self.lines || self.first_line.is_some()
+        (self.lines || self.first_line.is_some()) && !is_json(self.faults)
+    }
+
+    // How faults are told, with the number of the first line that objects name.
+    fn told_form(self) -> Faults
+        ensures { result ≡ told_form self.entry }
+    {
+        if is_json(self.faults) {
+            let first_line = self.first_line.unwrap_or(1);
+            return Faults::Json { first_line };
+        }
+        self.faults.unwrap_or(Faults::OneLine)
+    }
+
+    // The number of what fault lines name first.
+    fn first_named(self) -> usize
+        ensures { result ≡ first_named self.entry }
+    {
+        if self.names_lines() {
+            self.first_line.unwrap_or(1)
+        } else {
+            self.first_item.unwrap_or(1)
+        }
     }
 
     // How lines go out.
@@ -179,8 +212,9 @@ impl<'a> Given<'a> {
             limit: self.max_line.unwrap_or(DEFAULT_MAX_LINE),
             lines: self.lines_form(),
             numbering,
-            first: self.first_item.unwrap_or(self.first_line.unwrap_or(1)),
-            faults: self.faults.unwrap_or(Faults::OneLine),
+            first: self.first_named(),
+            faults: self.told_form(),
+            puts_refused: self.refused.is_some(),
         };
         Settings {
             relay,
@@ -249,6 +283,10 @@ impl<'a> Given<'a> {
             let output = Some(value);
             return Some(Given { output, ..self });
         }
+        if word == "--refused" && self.refused.is_none() && is_file(value) {
+            let refused = Some(value);
+            return Some(Given { refused, ..self });
+        }
         None
     }
 
@@ -272,6 +310,7 @@ impl<'a> Given<'a> {
         Some(Request {
             settings: self.settings(),
             output: self.output,
+            refused: self.refused,
             inputs: words.len(),
         })
     }
@@ -297,13 +336,21 @@ fn first_number_of(word: &str) -> Option<usize>
     }
 }
 
-// How fault lines are told, as a word says.
+// Whether faults are told as objects.
+fn is_json(faults: Option<Faults>) -> bool
+    ensures { result ≡ is_json faults }
+{
+    matches!(faults, Some(Faults::Json { .. }))
+}
+
+// How faults are told, as a word says.
 fn faults_form_of(word: &str) -> Option<Faults>
     ensures { result ≡ faults_form word.now }
 {
     match word {
         "line" => Some(Faults::OneLine),
         "raw" => Some(Faults::Raw),
+        "json" => Some(Faults::Json { first_line: 1 }),
         _ => None,
     }
 }
@@ -392,8 +439,8 @@ fn cut_of<'a>(words: &[&str]) -> Option<Task<'a>>
 /// What the words after the program's name ask for, or `None` if they are not as [`USAGE`] says.
 ///
 /// The options of a relay come in any order, each at most once, but not both `--check` and `--output`, not both
-/// `--verbatim` and `--canonical`, nor `--first-item` with `--lines` or `--first-line`, whose numbers are at least 1; `--cut` and
-/// a number, [`MOST_PARTS`] at most, come first or after `--strict`. The words after these name inputs. `--help`, `-h` or `--version` comes alone. A number, as after
+/// `--verbatim` and `--canonical`, nor `--first-item` with `--lines` or `--first-line`, whose numbers are at least 1, but with
+/// `--faults json`; `--cut` and a number, [`MOST_PARTS`] at most, come first or after `--strict`. The words after these name inputs. `--help`, `-h` or `--version` comes alone. A number, as after
 /// `--max-line`, is a decimal one that a `usize` holds: digits alone, of which the first may be zeros. A word with no byte, or
 /// that begins with `-`, names no file, and `-` alone names standard input. It takes no memory.
 ///
@@ -406,12 +453,14 @@ fn cut_of<'a>(words: &[&str]) -> Option<Task<'a>>
 /// task_of(&["a", "-o", "b"])            gives  None
 /// task_of(&["--check", "a"])            gives  a relay of the file `a` that writes no line
 /// task_of(&["--check", "-o", "b"])      gives  None
+/// task_of(&["--refused", "b", "a"])     gives  a relay of the file `a` whose refused pieces go to the file `b`
 /// task_of(&["--canonical"])             gives  a relay that lets out only lines that are as they would be written
 /// task_of(&["--strict", "--strict"])    gives  None
 /// task_of(&["--max-line", "+80"])       gives  None
 /// task_of(&["--first-line", "5"])       gives  a relay whose fault lines name lines, of which the first is 5
 /// task_of(&["--first-item", "0"])       gives  None
 /// task_of(&["--faults", "raw"])         gives  a relay whose fault lines are as lp_rebuild writes them
+/// task_of(&["--faults", "json"])        gives  a relay whose faults are objects, which name items and lines from 1 on
 /// task_of(&["--faults", "none"])        gives  None
 /// task_of(&["--cut", "4"])              gives  the ends of 4 parts of the input
 /// task_of(&["--cut", "1000001"])        gives  None

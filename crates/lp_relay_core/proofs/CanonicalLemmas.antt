@@ -19,26 +19,27 @@ use Rattle.lp_relay_core.specs.declared.taking.Lines.TheVariants.{Canonical}
 use Rattle.lp_relay_core.specs.declared.telling.Faults.TheVariants.{Raw}
 use Rattle.lp_relay_core.specs.declared.differing.Part.{Part}
 use Rattle.lp_relay_core.specs.Differing.{at_start, differing_part, part_text}
-use Rattle.lp_relay_core.specs.Relaying.{Item, answered, as_it_came, not_as_written, canonical_item, item_of, items_of_bytes}
+use Rattle.lp_relay_core.specs.Relaying.{Item, answered, as_it_came, not_as_written, canonical_item, front_of, item_of, items_of_bytes}
 use Rattle.lp_relay_core.specs.RelaySteps.{Made, TakesItems, made}
 use Rattle.lp_relay_core.specs.TakenBack.{TakesBack}
 use Rattle.lp_relay_core.proofs.RelayLemmas.{not_blank, takes_answer, text_item}
 
 -- what the builder writes for a line that goes out as it came
-as_it_is : (text : List ℕ) (line : Line) → is_admitted_point (point_of line) ≡ true → built (point_of line) ≡ text ++ newline ∷ []
-    → canonical_item text line ≡ as_it_came text
-as_it_is text line admitted writes =
+as_it_is : (front text : List ℕ) (line : Line) → is_admitted_point (point_of line) ≡ true → built (point_of line) ≡ text ++ newline ∷ []
+    → canonical_item front text line ≡ as_it_came text
+as_it_is front text line admitted writes =
     rw (admitted, (bytes_eq-Decides (built (point_of line)) (text ++ newline ∷ [])).1 writes) refl
 
 -- a line whose names are all admitted, and that the builder writes otherwise
-otherwise : (text : List ℕ) (line : Line) → is_admitted_point (point_of line) ≡ true
+pub otherwise : (front text : List ℕ) (line : Line) → is_admitted_point (point_of line) ≡ true
     → bytes_eq (built (point_of line)) (text ++ newline ∷ []) ≡ false
-    → canonical_item text line ≡ not_as_written (part_text (differing_part at_start text (built (point_of line))))
-otherwise text line admitted other = rw (admitted, other) refl
+    → canonical_item front text line ≡ not_as_written front (part_text (differing_part at_start text (built (point_of line))))
+otherwise front text line admitted other = rw (admitted, other) refl
 
 -- a line with a name that is not admitted
-not_admitted : (text : List ℕ) (line : Line) → is_admitted_point (point_of line) ≡ false → canonical_item text line ≡ answered (Ok line)
-not_admitted text line not = rw not refl
+pub not_admitted : (front text : List ℕ) (line : Line) → is_admitted_point (point_of line) ≡ false
+    → canonical_item front text line ≡ answered front (Ok line)
+not_admitted front text line not = rw not refl
 
 -- the item of the text of a piece
 item_is : (dialect : Dialect) (piece text : List ℕ) (test : Bool) → text ≡ trimmed piece → IsUtf8 piece → test ≡ (length text == 0)
@@ -54,14 +55,14 @@ pub takes_written : (dialect : Dialect) (piece text : List ℕ) (test : Bool) (o
 takes_written dialect piece text test old new is u tests fails stay written takes =
     let stays = stay dialect text written in
     let item : item_of Canonical piece (answer dialect text) ≡ as_it_came text =
-    ap (item_of Canonical piece) stays.1 ∙ ap (λ (l : List ℕ). canonical_item l stays.0) (sym is)
-    ∙ as_it_is text stays.0 stays.2.0 stays.2.1 in
+    ap (item_of Canonical piece) stays.1 ∙ ap (λ (l : List ℕ). canonical_item (front_of piece) l stays.0) (sym is)
+    ∙ as_it_is (front_of piece) text stays.0 stays.2.0 stays.2.1 in
     subst (λ (l : List Item). TakesItems Raw old l new)
     (sym (item_is dialect piece text test is u tests fails ∙ ap (λ (i : Item). i ∷ []) item)) takes
 
 -- an answer for which nothing was written
 no_line : (piece : List ℕ) (old new : Progress) (answer : Result Line Fault) → Takes old answer new
-    → length new.batch.items ≡ length old.batch.items → item_of Canonical piece answer ≡ answered answer
+    → length new.batch.items ≡ length old.batch.items → item_of Canonical piece answer ≡ answered (front_of piece) answer
 no_line piece old new (Err fault) takes same = refl
 no_line piece old new (Ok line) takes same =
     elim (cases_Bool (is_admitted_point (point_of line))) [
@@ -76,7 +77,7 @@ no_line piece old new (Ok line) takes same =
             length-append (line_of p ++ newline ∷ []) [],
             length-append (line_of p) (newline ∷ []),
           ))
-      | inr bad ↦ not_admitted (trimmed piece) line bad
+      | inr bad ↦ not_admitted (front_of piece) (trimmed piece) line bad
     ]
 
 -- if nothing was written for a text, it was refused as a rebuild does
@@ -87,7 +88,7 @@ takes_refused dialect piece text test old new is u tests fails takes same =
     subst (λ (l : List Item). TakesItems Raw (made old) l (made new))
     (sym (item_is dialect piece text test is u tests fails
     ∙ ap (λ (i : Item). i ∷ []) (no_line piece old new (answer dialect text) takes same)))
-    (takes_answer old (answer dialect text) new takes)
+    (takes_answer (front_of piece) old (answer dialect text) new takes)
 
 -- a line was written again, whose names are all admitted
 pub record WritesLine (old new : Progress) (answer : Result Line Fault) : Type 0 where
@@ -119,18 +120,18 @@ a_line old new (Ok line) takes more =
     ]
 
 -- an item was refused since its line is not as it would be written
-takes_wrong : (old new : Made) (wrong : List ℕ) → new.batch ≡ old.batch
+takes_wrong : (old new : Made) (front wrong : List ℕ) → new.batch ≡ old.batch
     → new.faults ≡ old.faults ++ fault_line_at old.line (old.carried + old.refused + 1) wrong
-    → new.carried ≡ old.carried → new.refused ≡ old.refused + 1 → TakesItems Raw old (not_as_written wrong ∷ []) new
-takes_wrong old new wrong batch faults carried refused = grind (arith, append-nil)
+    → new.carried ≡ old.carried → new.refused ≡ old.refused + 1 → TakesItems Raw old (not_as_written front wrong ∷ []) new
+takes_wrong old new front wrong batch faults carried refused = grind (arith, append-nil)
 
 -- a line that was written again and taken back is that item
-taken_back : (old mid new : Progress) (answer : Result Line Fault) (start : ℕ) (part : Part) → WritesLine old mid answer
+taken_back : (front : List ℕ) (old mid new : Progress) (answer : Result Line Fault) (start : ℕ) (part : Part) → WritesLine old mid answer
     → start ≡ length old.batch.items → mid.line ≡ old.line → TakesBack mid start part new
-    → TakesItems Raw (made old) (not_as_written (part_text part) ∷ []) (made new)
-taken_back old mid new answer start part w starts lines back =
+    → TakesItems Raw (made old) (not_as_written front (part_text part) ∷ []) (made new)
+taken_back front old mid new answer start part w starts lines back =
     let number : mid.carried - 1 + mid.refused + 1 ≡ old.carried + old.refused + 1 = omega (arith, w.carried, w.refused) in
-    takes_wrong (made old) (made new) (part_text part)
+    takes_wrong (made old) (made new) front (part_text part)
     (back.batch ∙ ap (λ (n : ℕ). take n mid.batch.items) starts ∙ ap (take (length old.batch.items)) w.batch
     ∙ take-append_seam old.batch.items (built (point_of w.line)))
     (back.faults ∙ ap (λ (l : List ℕ). l ++ fault_line_at mid.line (mid.carried - 1 + mid.refused + 1) (part_text part)) w.faults
@@ -159,10 +160,10 @@ takes_differing dialect piece text test old mid new start part is u tests fails 
           absurd (not_written (stay dialect text w.line w.is (w.admitted, (bytes_eq-Decides (built p) (text ++ newline ∷ [])).0 good)))
       | inr bad ↦ bad
     ] in
-    let item : item_of Canonical piece (answer dialect text) ≡ not_as_written (part_text part) =
-    ap (item_of Canonical piece) w.is ∙ ap (λ (l : List ℕ). canonical_item l w.line) (sym is) ∙ otherwise text w.line w.admitted other
-    ∙ ap (λ (l : List ℕ). not_as_written (part_text (differing_part at_start text l))) (sym written)
-    ∙ ap (λ (q : Part). not_as_written (part_text q)) (sym part_is) in
+    let item : item_of Canonical piece (answer dialect text) ≡ not_as_written (front_of piece) (part_text part) =
+    ap (item_of Canonical piece) w.is ∙ ap (λ (l : List ℕ). canonical_item (front_of piece) l w.line) (sym is) ∙ otherwise (front_of piece) text w.line w.admitted other
+    ∙ ap (λ (l : List ℕ). not_as_written (front_of piece) (part_text (differing_part at_start text l))) (sym written)
+    ∙ ap (λ (q : Part). not_as_written (front_of piece) (part_text q)) (sym part_is) in
     subst (λ (l : List Item). TakesItems Raw (made old) l (made new))
     (sym (item_is dialect piece text test is u tests fails ∙ ap (λ (i : Item). i ∷ []) item))
-    (taken_back old mid new (answer dialect text) start part w starts lines back)
+    (taken_back (front_of piece) old mid new (answer dialect text) start part w starts lines back)

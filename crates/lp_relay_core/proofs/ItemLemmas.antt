@@ -1,11 +1,13 @@
 -- The items of a relay, one after another.
-use Rattle.std.proofs.Common.{◌≡◌, ℕ, ◌+◌, ◌≤◌, nat_lt, false, not, cond, List, [], ◌∷◌, ◌++◌, length, map}
+use Rattle.std.proofs.Common.{◌≡◌, ℕ, ◌+◌, ◌<◌, ◌≤◌, nat_lt, Bool, false, true, not, cond, List, [], ◌∷◌, ◌++◌, length, map}
 use Rattle.std.proofs.Common.{refl, sym, ap, ◌∙◌, arith, append_assoc, append-nil, inl, inr}
 use Rattle.std.specs.Str.{IsUtf8, is_utf8}
 use Rattle.std.proofs.lemmas.Bool.{cases_Bool}
+use Rattle.std.proofs.lemmas.Bool.Decides.{nat_tests}
 use Rattle.std.proofs.lemmas.Grind.{flat_map-append}
 use Rattle.std.proofs.lemmas.List.Sums.{sum_by-append}
 use Rattle.std.proofs.lemmas.Str.{IsUtf8-from_is_utf8, is_utf8-from_IsUtf8}
+use Rattle.influxdb_line_protocol.specs.format.Bytes.{newline}
 use Rattle.influxdb_line_protocol.specs.format.Dialects.{Dialect}
 use Rattle.influxdb_line_protocol.specs.format.Items.{answers_of_piece}
 use Rattle.influxdb_line_protocol.specs.code.Bounded.{IsTooLong}
@@ -16,6 +18,7 @@ use Rattle.lp_relay_core.specs.declared.telling.Faults.{Faults}
 use Rattle.lp_relay_core.specs.Told.{told}
 use Rattle.lp_relay_core.specs.Relaying.{Item, item_of, not_utf8, too_long, limit_of, is_too_long, items_of_bytes, items_of_piece, items_of}
 use Rattle.lp_relay_core.specs.Relaying.{is_carried_item, items_batch, item_fault, item_faults, carried_items, refused_items}
+use Rattle.lp_relay_core.specs.Relaying.{refused_lines, refused_piece}
 use Rattle.lp_rebuild.proofs.RebuildLemmas.{one_of_two}
 
 -- the batch of items and others
@@ -85,6 +88,17 @@ items_of_short s piece h = grind (arith, cases_Bool, items_of_fitting)
 pub item_of_long : (s : Settings) (piece : List ℕ) → IsTooLong s.limit piece → items_of_piece s piece ≡ too_long ∷ []
 unfolding items_of_piece
 item_of_long s piece h = grind (arith, nat_lt)
+
+-- what goes out as refused of a piece that has no more bytes than the limit
+pub refused_short : (s : Settings) (piece : List ℕ) → length piece ≤ s.limit
+    → refused_piece s piece ≡ refused_lines s.puts_refused piece (items_of_piece s piece)
+unfolding refused_piece
+refused_short s piece h = grind (arith, cases_Bool, nat_tests)
+
+-- and of one that is too long
+pub refused_long : (s : Settings) (piece : List ℕ) → IsTooLong s.limit piece → refused_piece s piece ≡ []
+unfolding refused_piece
+refused_long s piece h = grind (arith, nat_lt)
 
 -- the items of pieces and one more
 pub items_push : (s : Settings) (pieces : List (List ℕ)) (piece : List ℕ)

@@ -9,6 +9,8 @@ pub mod RelayLemmas
 pub mod DifferingLemmas
 pub mod CanonicalLemmas
 pub mod ToldLemmas
+pub mod JsonTexts
+pub mod ObjectLemmas
 pub mod OneLine
 pub mod RelayPieces
 pub mod WholeLines

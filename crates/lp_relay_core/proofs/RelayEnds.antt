@@ -1,13 +1,14 @@
 -- How a relay ends.
-use Rattle.std.proofs.Common.{◌≡◌, ℕ, ◌+◌, ◌<◌, ◌⊎◌, ◌≤◌, List, [], Option, Some, None, IfSome, Result, Ok, Err, IsErrAnd}
-use Rattle.std.proofs.Common.{true, arith}
+use Rattle.std.proofs.Common.{◌≡◌, ℕ, ◌<◌, ◌⊎◌, ◌≤◌, List, [], Option, Some, None, IfSome, Result, Ok, Err, IsErrAnd}
+use Rattle.std.proofs.Common.{true, arith, ◌∙◌}
 use Rattle.lp_rebuild.specs.declared.program.RunFault.{RunFault}
 use Rattle.lp_relay_core.specs.declared.taking.Settings.{Settings}
 use Rattle.influxdb_line_protocol.specs.code.Rules.{rules_of}
 use Rattle.lp_relay_core.specs.Relaying.{limit_of}
 use Rattle.lp_relay_core.specs.declared.relaying.Relayed.{Relayed}
 use Rattle.lp_rebuild.specs.Running.{CountsReadFault, ReaderTold, WriterTold}
-use Rattle.lp_relay_core.specs.RelaySteps.{CountsWriteFault}
+use Rattle.lp_relay_core.specs.RelaySteps.{CountsNone, CountsOne, CountsWriteFault}
+use Rattle.lp_relay_core.specs.Writers.{Known, Writers, bytes_of, of_writers}
 use Rattle.lp_relay_core.specs.declared.taking.Lines.TheVariants as going
 use Rattle.lp_relay_core.specs.Relays.{IfRebuilt, Relays, RelaysAll, RelaysFronts, RelaysRebuilt, RelaysRebuiltFronts}
 use Rattle.influxdb_line_protocol.specs.laws.Laws.{PiecesAreUnique}
@@ -15,48 +16,57 @@ use Rattle.influxdb_line_protocol.specs.laws.StreamLaws.{Utf8ByPieces}
 use Rattle.lp_relay_core.proofs.RelaysOfText.{all_rebuilt, fronts_rebuilt}
 
 -- a front of what is relayed of bytes that are known is a front of what a rebuild of them gives
-fronts_known : Utf8ByPieces → PiecesAreUnique → (s : Settings) (bytes out out_after err err_after : Option (List ℕ))
-    → s.lines ≡ going.Rebuilt → IfSome bytes (λ bs. RelaysFronts s bs out out_after err err_after)
-    → IfSome bytes (λ bs. IfRebuilt (rules_of s.dialect) (limit_of s.limit) bs (λ r. RelaysRebuiltFronts s r out out_after err err_after))
-fronts_known law unique s None out out_after err err_after again fronts = tt
-fronts_known law unique s (Some bs) out out_after err err_after again fronts =
-    fronts_rebuilt law unique s bs out out_after err err_after again fronts
+fronts_known : Utf8ByPieces → PiecesAreUnique → (s : Settings) (bytes : Option (List ℕ)) (before after : Known)
+    → s.lines ≡ going.Rebuilt → IfSome bytes (λ bs. RelaysFronts s bs before after)
+    → IfSome bytes (λ bs. IfRebuilt (rules_of s.dialect) (limit_of s.limit) bs (λ r. RelaysRebuiltFronts s r before after))
+fronts_known law unique s None before after again fronts = tt
+fronts_known law unique s (Some bs) before after again fronts = fronts_rebuilt law unique s bs before after again fronts
 
 -- what is relayed of bytes that are known is what a rebuild of them gives
-all_known : Utf8ByPieces → PiecesAreUnique → (s : Settings) (counts : Relayed)
-    (bytes left out out_after err err_after : Option (List ℕ)) → s.lines ≡ going.Rebuilt
-    → IfSome bytes (λ bs. (left ≡ Some []) × RelaysAll s bs counts out out_after err err_after)
-    → IfSome bytes (λ bs. IfRebuilt (rules_of s.dialect) (limit_of s.limit) bs (λ r. RelaysRebuilt s r counts out out_after err err_after))
-all_known law unique s counts None left out out_after err err_after again all = tt
-all_known law unique s counts (Some bs) left out out_after err err_after again all =
-    all_rebuilt law unique s bs counts out out_after err err_after again all.1
+all_known : Utf8ByPieces → PiecesAreUnique → (s : Settings) (counts : Relayed) (bytes left : Option (List ℕ)) (before after : Known)
+    → s.lines ≡ going.Rebuilt → IfSome bytes (λ bs. (left ≡ Some []) × RelaysAll s bs counts before after)
+    → IfSome bytes (λ bs. IfRebuilt (rules_of s.dialect) (limit_of s.limit) bs (λ r. RelaysRebuilt s r counts before after))
+all_known law unique s counts None left before after again all = tt
+all_known law unique s counts (Some bs) left before after again all = all_rebuilt law unique s bs counts before after again all.1
 
 -- counts that are the same have not risen
-none_rose : (a b c d : ℕ) → b ≡ a → d ≡ c → (a < b) ⊎ (c < d) → ⊥
-none_rose a b c d e f h = grind (arith)
+none_rose : (old new : Writers ℕ) → CountsNone old new
+    → (old.out < new.out) ⊎ ((old.err < new.err) ⊎ (old.refused < new.refused)) → ⊥
+none_rose old new n h = grind (arith)
 
--- one of two counts has risen
-one_rose : (a b c d : ℕ) → ((b ≡ a + 1) × (d ≡ c)) ⊎ ((b ≡ a) × (d ≡ c + 1)) → (a < b) ⊎ (c < d)
-one_rose a b c d h = grind (arith)
+-- one of these counts has risen
+one_rose : (old new : Writers ℕ) → CountsOne old new → (old.out < new.out) ⊎ ((old.err < new.err) ⊎ (old.refused < new.refused))
+one_rose old new h = grind (arith)
 
 -- and none has fallen
-none_fell : (a b c d : ℕ) → ((b ≡ a + 1) × (d ≡ c)) ⊎ ((b ≡ a) × (d ≡ c + 1)) → (a ≤ b) × (c ≤ d)
-none_fell a b c d h = grind (arith)
+none_fell : (old new : Writers ℕ) → CountsOne old new → (old.out ≤ new.out) × (old.err ≤ new.err) × (old.refused ≤ new.refused)
+none_fell old new h = grind (arith)
+
+-- counts that have not changed, and then one failure more
+one_more : (old mid new : Writers ℕ) → CountsNone old mid → CountsOne mid new → CountsOne old new
+one_more old mid new n h = grind (arith)
+
+-- counts that have not changed twice
+pub none_twice : (old mid new : Writers ℕ) → CountsNone old mid → CountsNone mid new → CountsNone old new
+none_twice old mid new n h = record { out = h.out ∙ n.out; err = h.err ∙ n.err; refused = h.refused ∙ n.refused }
+
+-- the counts of writers that are told
+abbrev pub failures_of : Writers WriterTold → Writers ℕ
+failures_of writers = of_writers writers.out.failures writers.err.failures writers.refused.failures
 
 -- a fault of the reader, or memory that was refused
 pub read_fault : Utf8ByPieces → PiecesAreUnique → (s : Settings)
-    (fault : RunFault) (count : ℕ) (reader reader_after : ReaderTold) (out out_after err err_after : WriterTold)
-    → IfSome reader.bytes (λ bs. RelaysFronts s bs out.bytes out_after.bytes err.bytes err_after.bytes)
+    (fault : RunFault) (count : ℕ) (reader reader_after : ReaderTold) (before after : Writers WriterTold)
+    → IfSome reader.bytes (λ bs. RelaysFronts s bs (bytes_of before) (bytes_of after))
     → CountsReadFault {T = ℕ} (Err fault) count reader_after.failures → count ≡ reader.failures
-    → out_after.failures ≡ out.failures → err_after.failures ≡ err.failures
-    → Relays s (Err fault) reader reader_after out out_after err err_after
-read_fault law unique s fault count reader reader_after out out_after err err_after fronts c e o f =
+    → CountsNone (failures_of before) (failures_of after) → Relays s (Err fault) reader reader_after before after
+read_fault law unique s fault count reader reader_after before after fronts c e n =
     record {
       all = tt;
       flushed = tt;
       part = fronts;
       rebuilt = λ again. tt;
-      rebuilt_part = λ again. fronts_known law unique s reader.bytes _ _ _ _ again fronts;
+      rebuilt_part = λ again. fronts_known law unique s reader.bytes _ _ again fronts;
       read = grind (arith);
       write = grind (arith, none_rose);
       utf8 = grind (arith);
@@ -64,39 +74,37 @@ read_fault law unique s fault count reader reader_after out out_after err err_af
     }
 
 -- a fault of a writer, or memory that was refused
-pub write_fault : Utf8ByPieces → PiecesAreUnique → (s : Settings)
-    (fault : RunFault) (out_count err_count : ℕ) (reader reader_after : ReaderTold) (out out_after err err_after : WriterTold)
-    → IfSome reader.bytes (λ bs. RelaysFronts s bs out.bytes out_after.bytes err.bytes err_after.bytes)
-    → CountsWriteFault {T = Unit {0}} (Err fault) out_count out_after.failures err_count err_after.failures
-    → out_count ≡ out.failures → err_count ≡ err.failures → reader_after.failures ≡ reader.failures
-    → Relays s (Err fault) reader reader_after out out_after err err_after
-write_fault law unique s fault out_count err_count reader reader_after out out_after err err_after fronts c o f r =
+pub write_fault : Utf8ByPieces → PiecesAreUnique → (s : Settings) (fault : RunFault) (counts : Writers ℕ)
+    (reader reader_after : ReaderTold) (before after : Writers WriterTold)
+    → IfSome reader.bytes (λ bs. RelaysFronts s bs (bytes_of before) (bytes_of after))
+    → CountsWriteFault {T = Unit {0}} (Err fault) counts (failures_of after) → CountsNone (failures_of before) counts
+    → reader_after.failures ≡ reader.failures → Relays s (Err fault) reader reader_after before after
+write_fault law unique s fault counts reader reader_after before after fronts c n r =
     record {
       all = tt;
       flushed = tt;
       part = fronts;
       rebuilt = λ again. tt;
-      rebuilt_part = λ again. fronts_known law unique s reader.bytes _ _ _ _ again fronts;
+      rebuilt_part = λ again. fronts_known law unique s reader.bytes _ _ again fronts;
       read = grind (arith);
-      write = grind (arith, one_rose, none_rose);
+      write = grind (arith, one_rose, none_rose, one_more, none_twice);
       utf8 = grind (arith);
-      counts = grind (arith, none_fell);
+      counts = grind (arith, none_fell, one_more, none_twice);
     }
 
 -- all was written
 pub ended : Utf8ByPieces → PiecesAreUnique → (s : Settings)
-    (counts : Relayed) (reader reader_after : ReaderTold) (out out_after err err_after : WriterTold)
-    → IfSome reader.bytes (λ bs.
-    (reader_after.bytes ≡ Some []) × RelaysAll s bs counts out.bytes out_after.bytes err.bytes err_after.bytes)
-    → (out_after.is_flushed ≡ true) × (err_after.is_flushed ≡ true) → reader_after.failures ≡ reader.failures
-    → out_after.failures ≡ out.failures → err_after.failures ≡ err.failures
-    → Relays s (Ok counts) reader reader_after out out_after err err_after
-ended law unique s counts reader reader_after out out_after err err_after all flushed r o f =
+    (counts : Relayed) (reader reader_after : ReaderTold) (before after : Writers WriterTold)
+    → IfSome reader.bytes (λ bs. (reader_after.bytes ≡ Some []) × RelaysAll s bs counts (bytes_of before) (bytes_of after))
+    → (after.out.is_flushed ≡ true) × (after.err.is_flushed ≡ true) × (after.refused.is_flushed ≡ true)
+    → reader_after.failures ≡ reader.failures → CountsNone (failures_of before) (failures_of after)
+    → Relays s (Ok counts) reader reader_after before after
+ended law unique s counts reader reader_after before after all flushed r n =
     record {
       all = all;
       flushed = flushed;
       part = tt;
-      rebuilt = λ again. all_known law unique s counts reader.bytes reader_after.bytes _ _ _ _ again all;
+      rebuilt = λ again. all_known law unique s counts reader.bytes reader_after.bytes _ _ again all;
       rebuilt_part = λ again. tt;
       read = grind (arith);
       write = grind (arith, none_rose);
@@ -106,7 +114,6 @@ ended law unique s counts reader reader_after out out_after err err_after all fl
 
 -- a fault that was handed on
 pub handed_on : (s : Settings) (result : Result Relayed RunFault) (fault : RunFault)
-    (reader reader_after : ReaderTold) (out out_after err err_after : WriterTold) → IsErrAnd result (λ e. e ≡ fault)
-    → Relays s (Err fault) reader reader_after out out_after err err_after
-    → Relays s result reader reader_after out out_after err err_after
-handed_on s e fault reader reader_after out out_after err err_after is h = grind (arith)
+    (reader reader_after : ReaderTold) (before after : Writers WriterTold) → IsErrAnd result (λ e. e ≡ fault)
+    → Relays s (Err fault) reader reader_after before after → Relays s result reader reader_after before after
+handed_on s e fault reader reader_after before after is h = grind (arith)

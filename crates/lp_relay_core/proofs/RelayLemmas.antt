@@ -4,6 +4,7 @@ use Rattle.std.proofs.Common.{Option, Result, refl, sym, ap, subst, ◌∙◌, a
 use Rattle.std.proofs.Common.{OnErr, inl, inr, append_assoc}
 use Rattle.std.proofs.lemmas.Bool.{eqb-false, eqb-true}
 use Rattle.std.proofs.Math.Nat.{eq-zero-or-pos}
+use Rattle.std.specs.Borrow.{Bor}
 use Rattle.std.specs.Str.{IsUtf8}
 use Rattle.std.proofs.lemmas.Str.{IsUtf8-nil}
 use Rattle.std.specs.Io.KnownBytes.{Appends}
@@ -19,10 +20,16 @@ use Rattle.lp_rebuild.specs.RebuildSteps.{Refuses, Takes}
 use Rattle.lp_rebuild.specs.Running.{AppendsFront}
 use Rattle.lp_relay_core.specs.declared.taking.Lines.{Lines}
 use Rattle.lp_relay_core.specs.declared.taking.Lines.TheVariants.{Rebuilt, Verbatim}
-use Rattle.lp_relay_core.specs.Relaying.{Item, answered, as_it_came, item_of, not_utf8, too_long, items_of_bytes, items_batch}
+use Rattle.lp_relay_core.specs.Relaying.{Item, answered, as_it_came, front_of, item_of, not_utf8, too_long, items_of_bytes, items_batch}
 use Rattle.lp_relay_core.specs.declared.telling.Faults.{Faults}
 use Rattle.lp_relay_core.specs.declared.telling.Faults.TheVariants.{Raw}
-use Rattle.lp_relay_core.specs.RelaySteps.{Made, made, Passes, RelaysItems, RelaysPart, TakesItems, faults_next}
+use Rattle.influxdb_line_protocol.specs.code.Rules.{rules_of}
+use Rattle.influxdb_line_protocol.specs.types.PieceTooLong.{PieceTooLong}
+use Rattle.lp_relay_core.specs.declared.taking.Pending.{Pending}
+use Rattle.lp_relay_core.specs.declared.taking.Settings.{Settings}
+use Rattle.lp_relay_core.specs.RelaySteps.{Made, made, Passes, RelaysItems, RelaysPart, TakesItems, TakesGiven, Unwritten, faults_next}
+use Rattle.lp_relay_core.specs.RelaySteps.{items_given, refused_given, unwritten_of}
+use Rattle.lp_relay_core.specs.Writers.{Known, of_writers}
 use Rattle.lp_rebuild.proofs.RebuildLemmas.{add_where, add_elsewhere, blank_answers, piece_answers}
 use Rattle.lp_relay_core.proofs.PassLemmas.{passes_none, passes_more, passes_front}
 use Rattle.lp_relay_core.proofs.ItemLemmas.{batch_append, carried_append, refused_append}
@@ -33,9 +40,9 @@ takes_nothing : (old : Made) → TakesItems Raw old [] old
 takes_nothing old = grind (arith, append-nil)
 
 -- an answer is one item
-pub takes_answer : (old : Progress) (answer : Result Line Fault) (new : Progress) → Takes old answer new
-    → TakesItems Raw (made old) (answered answer ∷ []) (made new)
-takes_answer old answer new t = grind (arith, append-nil, string_bytes, add_where, add_elsewhere)
+pub takes_answer : (front : List ℕ) (old : Progress) (answer : Result Line Fault) (new : Progress) → Takes old answer new
+    → TakesItems Raw (made old) (answered front answer ∷ []) (made new)
+takes_answer front old answer new t = grind (arith, append-nil, string_bytes, add_where, add_elsewhere)
 
 -- a piece that is not UTF-8 is one item
 takes_no_text : (old new : Progress) → Refuses old (codes "the line is not UTF-8") new
@@ -77,7 +84,7 @@ takes_text dialect piece old new u blank some =
           (takes_blank Rebuilt dialect piece (made old) u none)
       | inr more ↦
           subst (λ (l : List Item). TakesItems Raw (made old) l (made new)) (sym (text_item Rebuilt dialect piece u more))
-          (takes_answer old (answer dialect (trimmed piece)) new (some more))
+          (takes_answer (front_of piece) old (answer dialect (trimmed piece)) new (some more))
     ]
 
 -- a piece was taken as it came
@@ -101,7 +108,7 @@ piece_of_line piece (Ok line) is = refl
 piece_of_line piece (Err fault) is = absurd (cc)
 
 -- the item of a text that would go out as it came, if it is at fault
-answer_of_fault : (piece : List ℕ) (answer : Result Line Fault) → is_ok answer ≡ false → item_of Verbatim piece answer ≡ answered answer
+answer_of_fault : (piece : List ℕ) (answer : Result Line Fault) → is_ok answer ≡ false → item_of Verbatim piece answer ≡ answered (front_of piece) answer
 answer_of_fault piece (Ok line) is = absurd (cc)
 answer_of_fault piece (Err fault) is = refl
 
@@ -135,7 +142,7 @@ takes_fault dialect piece text test verdict old new is u tests fails says wrong 
     subst (λ (l : List Item). TakesItems Raw (made old) l (made new))
     (sym (text_item Verbatim dialect piece u (not_blank text piece test is tests fails)
     ∙ ap (λ (i : Item). i ∷ []) (answer_of_fault piece (answer dialect (trimmed piece)) fault)))
-    (takes_answer old (answer dialect (trimmed piece)) new (subst (λ (l : List ℕ). Takes old (answer dialect l) new) is takes))
+    (takes_answer (front_of piece) old (answer dialect (trimmed piece)) new (subst (λ (l : List ℕ). Takes old (answer dialect l) new) is takes))
 
 -- an empty piece has no item
 no_items : (lines : Lines) (dialect : Dialect) → items_of_bytes lines dialect [] ≡ []
@@ -155,119 +162,157 @@ takes_bad_bytes lines dialect piece old new bad r =
     subst (λ l. TakesItems Raw (made old) l (made new)) (sym (item_of_no_text lines dialect piece bad)) (takes_no_text old new r)
 
 -- what was taken is held
-pub relays_taken : (form : Faults) (old new : Made) (a e : Option (List ℕ)) (xs : List Item) → TakesItems form old xs new
-    → RelaysItems old new a a e e xs (faults_next form old xs)
-relays_taken form old new a e xs t =
+pub relays_taken : (form : Faults) (old new : Unwritten) (a : Known) (xs : List Item) (ps : List ℕ)
+    → TakesItems form old.made xs new.made → new.pieces ≡ old.pieces ++ ps
+    → RelaysItems old new a a xs (faults_next form old.made xs) ps
+relays_taken form old new a xs ps t pieces =
     record {
-      batch = ([], Appends-nil a, t.batch);
-      faults = ([], Appends-nil e, t.faults);
+      batch = ([], Appends-nil a.out, t.batch);
+      faults = ([], Appends-nil a.err, t.faults);
+      pieces = ([], Appends-nil a.refused, pieces);
       carried = t.carried;
       refused = t.refused;
     }
 
 -- one step, and then another
-pub relays_more : (old mid new : Made) (a b c e f g : Option (List ℕ)) (xs ys : List Item) (fs gs : List ℕ)
-    → RelaysItems old mid a b e f xs fs → RelaysItems mid new b c f g ys gs → RelaysItems old new a c e g (xs ++ ys) (fs ++ gs)
-relays_more old mid new a b c e f g xs ys fs gs p q =
+pub relays_more : (old mid new : Unwritten) (a b c : Known) (xs ys : List Item) (fs gs ps qs : List ℕ)
+    → RelaysItems old mid a b xs fs ps → RelaysItems mid new b c ys gs qs → RelaysItems old new a c (xs ++ ys) (fs ++ gs) (ps ++ qs)
+relays_more old mid new a b c xs ys fs gs ps qs p q =
     record {
-      batch = subst (λ l. Passes a c old.batch l new.batch) (sym (batch_append xs ys))
-          (passes_more a b c old.batch _ mid.batch _ new.batch p.batch q.batch);
-      faults = passes_more e f g old.faults fs mid.faults gs new.faults p.faults q.faults;
+      batch = subst (λ l. Passes a.out c.out old.made.batch l new.made.batch) (sym (batch_append xs ys))
+          (passes_more a.out b.out c.out old.made.batch _ mid.made.batch _ new.made.batch p.batch q.batch);
+      faults = passes_more a.err b.err c.err old.made.faults fs mid.made.faults gs new.made.faults p.faults q.faults;
+      pieces = passes_more a.refused b.refused c.refused old.pieces ps mid.pieces qs new.pieces p.pieces q.pieces;
       carried = omega (arith, p.carried, q.carried, carried_append xs ys);
       refused = omega (arith, p.refused, q.refused, refused_append xs ys);
     }
 
 -- the same, if the other wrote a beginning
-pub part_more : (old mid : Made) (a b c e f g : Option (List ℕ)) (xs ys : List Item) (fs gs : List ℕ)
-    → RelaysItems old mid a b e f xs fs → RelaysPart mid b c f g ys gs → RelaysPart old a c e g (xs ++ ys) (fs ++ gs)
-part_more old mid a b c e f g xs ys fs gs p q =
+pub part_more : (old mid : Unwritten) (a b c : Known) (xs ys : List Item) (fs gs ps qs : List ℕ)
+    → RelaysItems old mid a b xs fs ps → RelaysPart mid b c ys gs qs → RelaysPart old a c (xs ++ ys) (fs ++ gs) (ps ++ qs)
+part_more old mid a b c xs ys fs gs ps qs p q =
     record {
       batch_left = q.batch_left;
       faults_left = q.faults_left;
-      batch = subst (λ l. Passes a c old.batch l q.batch_left) (sym (batch_append xs ys))
-          (passes_more a b c old.batch _ mid.batch _ q.batch_left p.batch q.batch);
-      faults = passes_more e f g old.faults fs mid.faults gs q.faults_left p.faults q.faults;
+      pieces_left = q.pieces_left;
+      batch = subst (λ l. Passes a.out c.out old.made.batch l q.batch_left) (sym (batch_append xs ys))
+          (passes_more a.out b.out c.out old.made.batch _ mid.made.batch _ q.batch_left p.batch q.batch);
+      faults = passes_more a.err b.err c.err old.made.faults fs mid.made.faults gs q.faults_left p.faults q.faults;
+      pieces = passes_more a.refused b.refused c.refused old.pieces ps mid.pieces qs q.pieces_left p.pieces q.pieces;
     }
 
--- the same items and the same fault lines
-pub relays_same : (old new : Made) (a c e g : Option (List ℕ)) (xs ys : List Item) (fs gs : List ℕ) → xs ≡ ys → fs ≡ gs
-    → RelaysItems old new a c e g xs fs → RelaysItems old new a c e g ys gs
-relays_same old new a c e g xs ys fs gs items lines p = grind (arith)
+-- the same items, the same fault lines and the same refused pieces
+pub relays_same : (old new : Unwritten) (a c : Known) (xs ys : List Item) (fs gs ps qs : List ℕ) → xs ≡ ys → fs ≡ gs → ps ≡ qs
+    → RelaysItems old new a c xs fs ps → RelaysItems old new a c ys gs qs
+relays_same old new a c xs ys fs gs ps qs items lines pieces p = grind (arith)
 
 -- the same, if a beginning was written
-pub part_same : (old : Made) (a c e g : Option (List ℕ)) (xs ys : List Item) (fs gs : List ℕ) → xs ≡ ys → fs ≡ gs
-    → RelaysPart old a c e g xs fs → RelaysPart old a c e g ys gs
-part_same old a c e g xs ys fs gs items lines p = grind (arith)
+pub part_same : (old : Unwritten) (a c : Known) (xs ys : List Item) (fs gs ps qs : List ℕ) → xs ≡ ys → fs ≡ gs → ps ≡ qs
+    → RelaysPart old a c xs fs ps → RelaysPart old a c ys gs qs
+part_same old a c xs ys fs gs ps qs items lines pieces p = grind (arith)
 
 -- one step, and then what is held was written
-pub relays_then : (old mid new : Made) (a b c e f g : Option (List ℕ)) (xs : List Item) (fs : List ℕ)
-    → RelaysItems old mid a b e f xs fs → RelaysItems mid new b c f g [] [] → RelaysItems old new a c e g xs fs
-relays_then old mid new a b c e f g xs fs p q =
-    relays_same old new a c e g (xs ++ []) xs (fs ++ []) fs (append-nil xs) (append-nil fs)
-    (relays_more old mid new a b c e f g xs [] fs [] p q)
+pub relays_then : (old mid new : Unwritten) (a b c : Known) (xs : List Item) (fs ps : List ℕ)
+    → RelaysItems old mid a b xs fs ps → RelaysItems mid new b c [] [] [] → RelaysItems old new a c xs fs ps
+relays_then old mid new a b c xs fs ps p q =
+    relays_same old new a c (xs ++ []) xs (fs ++ []) fs (ps ++ []) ps (append-nil xs) (append-nil fs) (append-nil ps)
+    (relays_more old mid new a b c xs [] fs [] ps [] p q)
 
 -- the same, if a beginning of it was written
-pub part_then : (old mid : Made) (a b c e f g : Option (List ℕ)) (xs : List Item) (fs : List ℕ)
-    → RelaysItems old mid a b e f xs fs → RelaysPart mid b c f g [] [] → RelaysPart old a c e g xs fs
-part_then old mid a b c e f g xs fs p q =
-    part_same old a c e g (xs ++ []) xs (fs ++ []) fs (append-nil xs) (append-nil fs) (part_more old mid a b c e f g xs [] fs [] p q)
+pub part_then : (old mid : Unwritten) (a b c : Known) (xs : List Item) (fs ps : List ℕ)
+    → RelaysItems old mid a b xs fs ps → RelaysPart mid b c [] [] [] → RelaysPart old a c xs fs ps
+part_then old mid a b c xs fs ps p q =
+    part_same old a c (xs ++ []) xs (fs ++ []) fs (ps ++ []) ps (append-nil xs) (append-nil fs) (append-nil ps)
+    (part_more old mid a b c xs [] fs [] ps [] p q)
 
 -- what is held is a beginning too
-pub part_so_far : (old new : Made) (a b e f : Option (List ℕ)) (xs : List Item) (fs : List ℕ) → RelaysItems old new a b e f xs fs
-    → RelaysPart old a b e f xs fs
-part_so_far old new a b e f xs fs p = grind (arith)
+pub part_so_far : (old new : Unwritten) (a b : Known) (xs : List Item) (fs ps : List ℕ) → RelaysItems old new a b xs fs ps
+    → RelaysPart old a b xs fs ps
+part_so_far old new a b xs fs ps p = grind (arith)
 
 -- a front of the batch was written
-pub part_of_batch : (old : Progress) (a b e : Option (List ℕ)) (bytes : List ℕ) → bytes ≡ old.batch.items
-    → AppendsFront a b bytes → RelaysPart (made old) a b e e [] []
-part_of_batch old a b e bytes is part =
-    let p = passes_front a b old.batch.items (subst (AppendsFront a b) is part) in
+pub part_of_batch : (old : Pending) (a b e r : Option (List ℕ)) (bytes : List ℕ) → bytes ≡ old.so_far.batch.items
+    → AppendsFront a b bytes → RelaysPart (unwritten_of old) (of_writers a e r) (of_writers b e r) [] [] []
+part_of_batch old a b e r bytes is part =
+    let p = passes_front a b old.so_far.batch.items (subst (AppendsFront a b) is part) in
     record {
       batch_left = p.0;
-      faults_left = string_bytes old.faults;
+      faults_left = string_bytes old.so_far.faults;
+      pieces_left = old.pieces.items;
       batch = p.1;
-      faults = passes_none e (string_bytes old.faults);
+      faults = passes_none e (string_bytes old.so_far.faults);
+      pieces = passes_none r old.pieces.items;
     }
 
+-- all that is held of something was written
+passes_whole : (a b : Option (List ℕ)) (held bytes : List ℕ) → bytes ≡ held → Appends a b bytes → Passes a b held [] []
+passes_whole a b held bytes is whole = (bytes, whole, append-nil bytes ∙ is ∙ sym (append-nil held))
+
 -- all of the batch was written, and a front of the faults
-pub part_of_faults : (old : Progress) (a b e f : Option (List ℕ)) (bytes faults : List ℕ) → bytes ≡ old.batch.items
-    → faults ≡ string_bytes old.faults → Appends a b bytes → AppendsFront e f faults → RelaysPart (made old) a b e f [] []
-part_of_faults old a b e f bytes faults is faults_are whole part =
-    let p = passes_front e f (string_bytes old.faults) (subst (AppendsFront e f) faults_are part) in
+pub part_of_faults : (old : Pending) (a b e f r : Option (List ℕ)) (bytes faults : List ℕ) → bytes ≡ old.so_far.batch.items
+    → faults ≡ string_bytes old.so_far.faults → Appends a b bytes → AppendsFront e f faults
+    → RelaysPart (unwritten_of old) (of_writers a e r) (of_writers b f r) [] [] []
+part_of_faults old a b e f r bytes faults is faults_are whole part =
+    let p = passes_front e f (string_bytes old.so_far.faults) (subst (AppendsFront e f) faults_are part) in
     record {
       batch_left = [];
       faults_left = p.0;
-      batch = (bytes, whole, append-nil bytes ∙ is ∙ sym (append-nil old.batch.items));
+      pieces_left = old.pieces.items;
+      batch = passes_whole a b old.so_far.batch.items bytes is whole;
       faults = p.1;
+      pieces = passes_none r old.pieces.items;
+    }
+
+-- all of both was written, and a front of the refused pieces
+pub part_of_pieces : (old : Pending) (a b e f r t : Option (List ℕ)) (bytes faults pieces : List ℕ) → bytes ≡ old.so_far.batch.items
+    → faults ≡ string_bytes old.so_far.faults → pieces ≡ old.pieces.items → Appends a b bytes → Appends e f faults
+    → AppendsFront r t pieces → RelaysPart (unwritten_of old) (of_writers a e r) (of_writers b f t) [] [] []
+part_of_pieces old a b e f r t bytes faults pieces is faults_are pieces_are whole told part =
+    let p = passes_front r t old.pieces.items (subst (AppendsFront r t) pieces_are part) in
+    record {
+      batch_left = [];
+      faults_left = [];
+      pieces_left = p.0;
+      batch = passes_whole a b old.so_far.batch.items bytes is whole;
+      faults = passes_whole e f (string_bytes old.so_far.faults) faults faults_are told;
+      pieces = p.1;
     }
 
 -- nothing was written, whatever is made then
-pub part_of_none : (old : Made) (a e : Option (List ℕ)) (xs : List Item) (fs : List ℕ) → RelaysPart old a a e e xs fs
-part_of_none old a e xs fs =
+pub part_of_none : (old : Unwritten) (a : Known) (xs : List Item) (fs ps : List ℕ) → RelaysPart old a a xs fs ps
+part_of_none old a xs fs ps =
     record {
-      batch_left = old.batch ++ items_batch xs;
-      faults_left = old.faults ++ fs;
-      batch = ([], Appends-nil a, refl);
-      faults = ([], Appends-nil e, refl);
+      batch_left = old.made.batch ++ items_batch xs;
+      faults_left = old.made.faults ++ fs;
+      pieces_left = old.pieces ++ ps;
+      batch = ([], Appends-nil a.out, refl);
+      faults = ([], Appends-nil a.err, refl);
+      pieces = ([], Appends-nil a.refused, refl);
     }
 
--- items were taken, and then what is held was written
-pub relays_poured : (form : Faults) (old now next poured : Made) (a b c e f g : Option (List ℕ)) (xs ys : List Item) (fs : List ℕ)
-    → RelaysItems old now a b e f xs fs → TakesItems form now ys next → RelaysItems next poured b c f g [] []
-    → RelaysItems old poured a c e g (xs ++ ys) (fs ++ faults_next form now ys)
-relays_poured form old now next poured a b c e f g xs ys fs p t q =
-    relays_then old next poured a b c e f g _ _ (relays_more old now next a b b e f f xs ys fs _ p (relays_taken form now next b f ys t)) q
+-- a piece was taken after items, and then what is held was written
+pub relays_poured : (s : Settings) (old now next poured : Unwritten) (a b c : Known) (xs : List Item) (fs ps : List ℕ)
+    (result : Result (Bor (List ℕ)) PieceTooLong) → RelaysItems old now a b xs fs ps → TakesGiven s now result next
+    → RelaysItems next poured b c [] [] []
+    → RelaysItems old poured a c (xs ++ items_given s.lines (rules_of s.dialect) result)
+    (fs ++ faults_next s.faults now.made (items_given s.lines (rules_of s.dialect) result)) (ps ++ refused_given s result)
+relays_poured s old now next poured a b c xs fs ps result p t q =
+    relays_then old next poured a b c _ _ _
+    (relays_more old now next a b b xs _ fs _ ps _ p (relays_taken s.faults now next b _ _ t.items t.pieces)) q
 
 -- the same, if a beginning of it was written
-pub part_poured : (form : Faults) (old now next : Made) (a b c e f g : Option (List ℕ)) (xs ys : List Item) (fs : List ℕ)
-    → RelaysItems old now a b e f xs fs → TakesItems form now ys next → RelaysPart next b c f g [] []
-    → RelaysPart old a c e g (xs ++ ys) (fs ++ faults_next form now ys)
-part_poured form old now next a b c e f g xs ys fs p t q =
-    part_then old next a b c e f g _ _ (relays_more old now next a b b e f f xs ys fs _ p (relays_taken form now next b f ys t)) q
+pub part_poured : (s : Settings) (old now next : Unwritten) (a b c : Known) (xs : List Item) (fs ps : List ℕ)
+    (result : Result (Bor (List ℕ)) PieceTooLong) → RelaysItems old now a b xs fs ps → TakesGiven s now result next
+    → RelaysPart next b c [] [] []
+    → RelaysPart old a c (xs ++ items_given s.lines (rules_of s.dialect) result)
+    (fs ++ faults_next s.faults now.made (items_given s.lines (rules_of s.dialect) result)) (ps ++ refused_given s result)
+part_poured s old now next a b c xs fs ps result p t q =
+    part_then old next a b c _ _ _
+    (relays_more old now next a b b xs _ fs _ ps _ p (relays_taken s.faults now next b _ _ t.items t.pieces)) q
 
 -- nothing was made so far
-pub relays_none : (old : Made) (a e : Option (List ℕ)) → RelaysItems old old a a e e [] []
-relays_none old a e = relays_taken Raw old old a e [] (takes_nothing old)
+pub relays_none : (old : Unwritten) (a : Known) → RelaysItems old old a a [] [] []
+relays_none old a = relays_taken Raw old old a [] [] (takes_nothing old.made) (sym (append-nil old.pieces))
 
 -- a fact at a fault
 pub on_err : {T E P : Type 0} (r : Result T E) → P → OnErr r P

@@ -11,11 +11,12 @@ use Rattle.influxdb_line_protocol.specs.types.PieceTooLong.{PieceTooLong}
 use Rattle.influxdb_line_protocol.specs.laws.StreamLaws.{Run, Run.taken}
 use Rattle.lp_relay_core.specs.declared.taking.Settings.{Settings}
 use Rattle.influxdb_line_protocol.specs.code.Rules.{rules_of}
-use Rattle.lp_relay_core.specs.Relaying.{Item, items_of_piece, items_of}
-use Rattle.lp_relay_core.specs.RelaySteps.{Made, RelaysItems, RelaysPart, RelaysAllPieces, RelaysSome, RelaysTo, TakesItems}
-use Rattle.lp_relay_core.specs.RelaySteps.{TakesPieces, faults_next, faults_past, items_given, newlines_given}
-use Rattle.lp_relay_core.specs.RelaySteps.{line_after, line_past}
-use Rattle.lp_relay_core.proofs.ItemLemmas.{item_of_long, items_add_up, items_of_short, items_push}
+use Rattle.lp_relay_core.specs.Relaying.{Item, items_of_piece, items_of, refused_piece, refused_pieces}
+use Rattle.lp_relay_core.specs.RelaySteps.{RelaysAllPieces, RelaysItems, RelaysLast, RelaysLastPart, RelaysPart, RelaysSome, RelaysTo}
+use Rattle.lp_relay_core.specs.RelaySteps.{Unwritten, faults_next, faults_past, items_given, line_after, line_past, newlines_given}
+use Rattle.lp_relay_core.specs.RelaySteps.{TakesGiven, TakesPieces, refused_given}
+use Rattle.lp_relay_core.specs.Writers.{Known}
+use Rattle.lp_relay_core.proofs.ItemLemmas.{item_of_long, items_add_up, items_of_short, items_push, refused_long, refused_short}
 use Rattle.lp_relay_core.proofs.FaultLines.{faults_from_append, faults_from_push, line_append}
 use Rattle.lp_relay_core.proofs.RelayLemmas.{part_of_none, part_poured, part_so_far, part_then, relays_none, relays_poured, relays_same}
 use Rattle.lp_relay_core.proofs.RelayLemmas.{part_more, part_same, relays_more, relays_then}
@@ -28,17 +29,18 @@ pub record Given (s : Settings) (text : List ℕ) (result : Result (Bor (List �
   pub is_cut : IsCutPiece (rules_of s.dialect) piece
   pub items : items_given s.lines (rules_of s.dialect) result ≡ items_of_piece s piece
   pub newlines : newlines_given result ≡ newlines_in piece
+  pub put : refused_given s result ≡ refused_piece s piece
 
 -- a piece that is not too long
 pub given_short : (s : Settings) (text : List ℕ) (piece : Bor (List ℕ)) (rest : List ℕ) → length piece.now ≤ s.limit
     → CutsTo (rules_of s.dialect) text piece.now rest → Given s text (Ok piece) rest
-given_short s text piece rest short cuts = grind (arith, items_of_short)
+given_short s text piece rest short cuts = grind (arith, items_of_short, refused_short)
 
 -- the stream gave one, and holds the rest
 pub given_piece : (s : Settings) (before after : HeldWithin) (text : List ℕ)
     (result : Result (Bor (List ℕ)) PieceTooLong) → before.held.dialect ≡ (rules_of s.dialect) → before.limit ≡ s.limit
     → GivesOf before text (Some result) after → (rest : List ℕ) × Holds after rest × Given s text result rest
-given_piece s before after text e same bound h = grind (arith, given_short, item_of_long)
+given_piece s before after text e same bound h = grind (arith, given_short, item_of_long, refused_long)
 
 -- so it is where more bytes come
 pub given_on : (s : Settings) (text : List ℕ) (result : Result (Bor (List ℕ)) PieceTooLong) (rest t : List ℕ)
@@ -49,6 +51,11 @@ given_on s text result rest t g = grind (arith, append_assoc)
 pub last_items : (s : Settings) (text : List ℕ) (result : Result (Bor (List ℕ)) PieceTooLong)
     → IsLastOf s.limit text result → items_given s.lines (rules_of s.dialect) result ≡ items_of_piece s text
 last_items s text e h = grind (arith, items_of_short, item_of_long)
+
+-- what goes out of it as refused
+pub last_put : (s : Settings) (text : List ℕ) (result : Result (Bor (List ℕ)) PieceTooLong)
+    → IsLastOf s.limit text result → refused_given s result ≡ refused_piece s text
+last_put s text e h = grind (arith, items_of_short, refused_short, refused_long)
 
 -- no piece was taken
 takes_none : (dialect : Dialect) (text : List ℕ) → TakesPieces dialect text [] text
@@ -80,16 +87,44 @@ pub next_items : (s : Settings) (ps : List (List ℕ)) (p : List ℕ) (items : L
 next_items s ps p items is = ap (λ l. items_of s ps ++ l) is ∙ sym (items_push s ps p)
 
 -- if pieces were taken, the fault lines of one more name what comes then
-pub next_faults : (s : Settings) (old now : Made) (a b e f : Option (List ℕ)) (ps : List (List ℕ)) (p : List ℕ)
-    (items : List Item) (fs : List ℕ) → RelaysItems old now a b e f (items_of s ps) fs → now.line ≡ line_past old.line ps
-    → items ≡ items_of_piece s p → faults_past s old ps ++ faults_next s.faults now items ≡ faults_past s old (ps ++ p ∷ [])
-next_faults s old now a b e f ps p items fs relays line is = grind (arith, items_add_up, faults_from_push)
+pub next_faults : (s : Settings) (old now : Unwritten) (a b : Known) (ps : List (List ℕ)) (p : List ℕ) (items : List Item)
+    (fs put : List ℕ) → RelaysItems old now a b (items_of s ps) fs put → now.made.line ≡ line_past old.made.line ps
+    → items ≡ items_of_piece s p
+    → faults_past s old.made ps ++ faults_next s.faults now.made items ≡ faults_past s old.made (ps ++ p ∷ [])
+next_faults s old now a b ps p items fs put relays line is = grind (arith, items_add_up, faults_from_push)
 
 -- and so do those of others
-pub faults_then : (s : Settings) (old now : Made) (a b e f : Option (List ℕ)) (ps qs : List (List ℕ))
-    (fs : List ℕ) → RelaysItems old now a b e f (items_of s ps) fs → now.line ≡ line_past old.line ps
-    → faults_past s old ps ++ faults_past s now qs ≡ faults_past s old (ps ++ qs)
-faults_then s old now a b e f ps qs fs relays line = grind (arith, items_add_up, faults_from_append)
+pub faults_then : (s : Settings) (old now : Unwritten) (a b : Known) (ps qs : List (List ℕ)) (fs put : List ℕ)
+    → RelaysItems old now a b (items_of s ps) fs put → now.made.line ≡ line_past old.made.line ps
+    → faults_past s old.made ps ++ faults_past s now.made qs ≡ faults_past s old.made (ps ++ qs)
+faults_then s old now a b ps qs fs put relays line = grind (arith, items_add_up, faults_from_append)
+
+-- what goes out as refused of pieces and of one more
+pub next_put : (s : Settings) (ps : List (List ℕ)) (p put : List ℕ) → put ≡ refused_piece s p
+    → refused_pieces s ps ++ put ≡ refused_pieces s (ps ++ p ∷ [])
+next_put s ps p put is = grind (arith, flat_map-append, append-nil)
+
+-- and of others
+pub put_append : (s : Settings) (ps qs : List (List ℕ)) → refused_pieces s ps ++ refused_pieces s qs ≡ refused_pieces s (ps ++ qs)
+put_append s ps qs = sym (flat_map-append (refused_piece s) ps qs)
+
+-- the last piece was taken, and then what is held was written
+pub last_relayed : (s : Settings) (old next poured : Unwritten) (a b : Known) (text : List ℕ)
+    (result : Result (Bor (List ℕ)) PieceTooLong) → IsLastOf s.limit text result → TakesGiven s old result next
+    → RelaysItems next poured a b [] [] [] → RelaysLast s text old poured a b
+last_relayed s old next poured a b text result last t q =
+    let items = last_items s text result last in
+    relays_same old poured a b _ _ _ _ _ _ items (ap (faults_next s.faults old.made) items) (last_put s text result last)
+    (relays_poured s old old next poured a a b [] [] [] result (relays_none old a) t q)
+
+-- the same, if a beginning of it was written
+pub last_part : (s : Settings) (old next : Unwritten) (a b : Known) (text : List ℕ)
+    (result : Result (Bor (List ℕ)) PieceTooLong) → IsLastOf s.limit text result → TakesGiven s old result next
+    → RelaysPart next a b [] [] [] → RelaysLastPart s text old a b
+last_part s old next a b text result last t q =
+    let items = last_items s text result last in
+    part_same old a b _ _ _ _ _ _ items (ap (faults_next s.faults old.made) items) (last_put s text result last)
+    (part_poured s old old next a a b [] [] [] result (relays_none old a) t q)
 
 -- what is named after one piece more
 next_line : (line now next : Option ℕ) (newlines : ℕ) (ps : List (List ℕ)) (p : List ℕ) → now ≡ line_past line ps
@@ -97,47 +132,46 @@ next_line : (line now next : Option ℕ) (newlines : ℕ) (ps : List (List ℕ))
 next_line line now next newlines ps p is lines step = grind (arith, line_append)
 
 -- no piece was taken so far
-pub to_none : (s : Settings) (text : List ℕ) (old : Made) (a e : Option (List ℕ)) → RelaysTo s text text old old a a e e
-to_none s text old a e =
-    record { pieces = []; taken = takes_none (rules_of s.dialect) text; line = refl; relays = relays_none old a e }
+pub to_none : (s : Settings) (text : List ℕ) (old : Unwritten) (a : Known) → RelaysTo s text text old old a a
+to_none s text old a =
+    record { pieces = []; taken = takes_none (rules_of s.dialect) text; line = refl; relays = relays_none old a }
 
 -- nor was any line written
-pub some_none : (s : Settings) (text : List ℕ) (old : Made) (a e : Option (List ℕ)) → RelaysSome s text old a a e e
-some_none s text old a e =
-    record { pieces = []; rest = text; taken = takes_none (rules_of s.dialect) text; part = part_of_none old a e [] [] }
+pub some_none : (s : Settings) (text : List ℕ) (old : Unwritten) (a : Known) → RelaysSome s text old a a
+some_none s text old a =
+    record { pieces = []; rest = text; taken = takes_none (rules_of s.dialect) text; part = part_of_none old a [] [] [] }
 
 -- a piece more was taken, and what is held was written
-pub to_more : (s : Settings) (text mid rest : List ℕ) (old now next poured : Made)
-    (a b c e f g : Option (List ℕ)) (result : Result (Bor (List ℕ)) PieceTooLong)
-    → RelaysTo s text mid old now a b e f → Given s mid result rest
-    → TakesItems s.faults now (items_given s.lines (rules_of s.dialect) result) next → poured.line ≡ line_after now.line (newlines_given result)
-    → RelaysItems next poured b c f g [] [] → RelaysTo s text rest old poured a c e g
-to_more s text mid rest old now next poured a b c e f g result p one takes line q =
+pub to_more : (s : Settings) (text mid rest : List ℕ) (old now next poured : Unwritten) (a b c : Known)
+    (result : Result (Bor (List ℕ)) PieceTooLong) → RelaysTo s text mid old now a b → Given s mid result rest
+    → TakesGiven s now result next → poured.made.line ≡ line_after now.made.line (newlines_given result)
+    → RelaysItems next poured b c [] [] [] → RelaysTo s text rest old poured a c
+to_more s text mid rest old now next poured a b c result p one takes line q =
     record {
       pieces = p.pieces ++ one.piece ∷ [];
       taken = takes_one (rules_of s.dialect) text mid rest p.pieces one.piece p.taken one.text_is one.is_cut;
-      line = next_line old.line now.line poured.line _ p.pieces one.piece p.line one.newlines line;
-      relays = relays_same old poured a c e g _ _ _ _
+      line = next_line old.made.line now.made.line poured.made.line _ p.pieces one.piece p.line one.newlines line;
+      relays = relays_same old poured a c _ _ _ _ _ _
           (next_items s p.pieces one.piece (items_given s.lines (rules_of s.dialect) result) one.items)
-          (next_faults s old now a b e f p.pieces one.piece _ _ p.relays p.line one.items)
-          (relays_poured s.faults old now next poured a b c e f g _ _ _ p.relays takes q);
+          (next_faults s old now a b p.pieces one.piece _ _ _ p.relays p.line one.items)
+          (next_put s p.pieces one.piece (refused_given s result) one.put)
+          (relays_poured s old now next poured a b c _ _ _ result p.relays takes q);
     }
 
 -- the same, if a beginning of it was written
-pub to_part : (s : Settings) (text mid rest : List ℕ) (old now next : Made)
-    (a b c e f g : Option (List ℕ)) (result : Result (Bor (List ℕ)) PieceTooLong)
-    → RelaysTo s text mid old now a b e f → Given s mid result rest
-    → TakesItems s.faults now (items_given s.lines (rules_of s.dialect) result) next → RelaysPart next b c f g [] []
-    → RelaysSome s text old a c e g
-to_part s text mid rest old now next a b c e f g result p one takes q =
+pub to_part : (s : Settings) (text mid rest : List ℕ) (old now next : Unwritten) (a b c : Known)
+    (result : Result (Bor (List ℕ)) PieceTooLong) → RelaysTo s text mid old now a b → Given s mid result rest
+    → TakesGiven s now result next → RelaysPart next b c [] [] [] → RelaysSome s text old a c
+to_part s text mid rest old now next a b c result p one takes q =
     record {
       pieces = p.pieces ++ one.piece ∷ [];
       rest = rest;
       taken = takes_one (rules_of s.dialect) text mid rest p.pieces one.piece p.taken one.text_is one.is_cut;
-      part = part_same old a c e g _ _ _ _
+      part = part_same old a c _ _ _ _ _ _
           (next_items s p.pieces one.piece (items_given s.lines (rules_of s.dialect) result) one.items)
-          (next_faults s old now a b e f p.pieces one.piece _ _ p.relays p.line one.items)
-          (part_poured s.faults old now next a b c e f g _ _ _ p.relays takes q);
+          (next_faults s old now a b p.pieces one.piece _ _ _ p.relays p.line one.items)
+          (next_put s p.pieces one.piece (refused_given s result) one.put)
+          (part_poured s old now next a b c _ _ _ result p.relays takes q);
     }
 
 -- the items of pieces and others
@@ -145,44 +179,43 @@ items_append : (s : Settings) (ps qs : List (List ℕ)) → items_of s ps ++ ite
 items_append s ps qs = sym (flat_map-append (items_of_piece s) ps qs)
 
 -- pieces were taken, and then pieces of the rest
-pub to_then : (s : Settings) (text mid rest : List ℕ) (old now new : Made) (a b c e f g : Option (List ℕ))
-    → RelaysTo s text mid old now a b e f → RelaysTo s mid rest now new b c f g → RelaysTo s text rest old new a c e g
-to_then s text mid rest old now new a b c e f g p q =
+pub to_then : (s : Settings) (text mid rest : List ℕ) (old now new : Unwritten) (a b c : Known)
+    → RelaysTo s text mid old now a b → RelaysTo s mid rest now new b c → RelaysTo s text rest old new a c
+to_then s text mid rest old now new a b c p q =
     record {
       pieces = p.pieces ++ q.pieces;
       taken = takes_then (rules_of s.dialect) text mid rest p.pieces q.pieces p.taken q.taken;
-      line = q.line ∙ ap (λ (k : Option ℕ). line_past k q.pieces) p.line ∙ sym (line_append old.line p.pieces q.pieces);
-      relays = relays_same old new a c e g _ _ _ _ (items_append s p.pieces q.pieces)
-          (faults_then s old now a b e f p.pieces q.pieces _ p.relays p.line)
-          (relays_more old now new a b c e f g _ _ _ _ p.relays q.relays);
+      line = q.line ∙ ap (λ (k : Option ℕ). line_past k q.pieces) p.line ∙ sym (line_append old.made.line p.pieces q.pieces);
+      relays = relays_same old new a c _ _ _ _ _ _ (items_append s p.pieces q.pieces)
+          (faults_then s old now a b p.pieces q.pieces _ _ p.relays p.line) (put_append s p.pieces q.pieces)
+          (relays_more old now new a b c _ _ _ _ _ _ p.relays q.relays);
     }
 
 -- the same, if a beginning of these was written
-pub some_then : (s : Settings) (text mid : List ℕ) (old now : Made) (a b c e f g : Option (List ℕ))
-    → RelaysTo s text mid old now a b e f → RelaysSome s mid now b c f g → RelaysSome s text old a c e g
-some_then s text mid old now a b c e f g p q =
+pub some_then : (s : Settings) (text mid : List ℕ) (old now : Unwritten) (a b c : Known)
+    → RelaysTo s text mid old now a b → RelaysSome s mid now b c → RelaysSome s text old a c
+some_then s text mid old now a b c p q =
     record {
       pieces = p.pieces ++ q.pieces;
       rest = q.rest;
       taken = takes_then (rules_of s.dialect) text mid q.rest p.pieces q.pieces p.taken q.taken;
-      part = part_same old a c e g _ _ _ _ (items_append s p.pieces q.pieces)
-          (faults_then s old now a b e f p.pieces q.pieces _ p.relays p.line)
-          (part_more old now a b c e f g _ _ _ _ p.relays q.part);
+      part = part_same old a c _ _ _ _ _ _ (items_append s p.pieces q.pieces)
+          (faults_then s old now a b p.pieces q.pieces _ _ p.relays p.line) (put_append s p.pieces q.pieces)
+          (part_more old now a b c _ _ _ _ _ _ p.relays q.part);
     }
 
 -- the pieces that were taken so far
-pub to_so_far : (s : Settings) (text rest : List ℕ) (old now : Made)
-    (a b e f : Option (List ℕ)) → RelaysTo s text rest old now a b e f → RelaysSome s text old a b e f
-to_so_far s text rest old now a b e f p =
-    record { pieces = p.pieces; rest = rest; taken = p.taken; part = part_so_far old now a b e f _ _ p.relays }
+pub to_so_far : (s : Settings) (text rest : List ℕ) (old now : Unwritten) (a b : Known) → RelaysTo s text rest old now a b
+    → RelaysSome s text old a b
+to_so_far s text rest old now a b p =
+    record { pieces = p.pieces; rest = rest; taken = p.taken; part = part_so_far old now a b _ _ _ p.relays }
 
 -- pieces were taken up to a rest, then all of that, and then what is held was written
-pub to_all : (s : Settings) (text mid : List ℕ) (after : HeldWithin) (old now new poured : Made)
-    (a b c d e f g h : Option (List ℕ)) → RelaysTo s text mid old now a b e f
-    → RelaysAllPieces s mid after now new b c f g
-    → poured.line ≡ new.line → RelaysItems new poured c d g h [] [] → RelaysAllPieces s text after old poured a d e h
-to_all s text mid after old now new poured a b c d e f g h first rest line q =
-    let p = to_then s text mid rest.0.rest old now new a b c e f g first rest.0.to in (
+pub to_all : (s : Settings) (text mid : List ℕ) (stream : HeldWithin) (old now new poured : Unwritten) (a b c d : Known)
+    → RelaysTo s text mid old now a b → RelaysAllPieces s mid stream now new b c → poured.made.line ≡ new.made.line
+    → RelaysItems new poured c d [] [] [] → RelaysAllPieces s text stream old poured a d
+to_all s text mid stream old now new poured a b c d first rest line q =
+    let p = to_then s text mid rest.0.rest old now new a b c first rest.0.to in (
       record {
         rest = rest.0.rest;
         holds = rest.0.holds;
@@ -190,21 +223,21 @@ to_all s text mid after old now new poured a b c d e f g h first rest line q =
           pieces = p.pieces;
           taken = p.taken;
           line = line ∙ p.line;
-          relays = relays_then old new poured a c d e g h _ _ p.relays q;
+          relays = relays_then old new poured a c d _ _ _ p.relays q;
         };
       },
       rest.1,
     )
 
 -- the same, if a beginning of it was written
-pub to_all_part : (s : Settings) (text mid : List ℕ) (after : HeldWithin) (old now new : Made)
-    (a b c d e f g h : Option (List ℕ)) → RelaysTo s text mid old now a b e f
-    → RelaysAllPieces s mid after now new b c f g → RelaysPart new c d g h [] [] → RelaysSome s text old a d e h
-to_all_part s text mid after old now new a b c d e f g h first rest q =
-    let p = to_then s text mid rest.0.rest old now new a b c e f g first rest.0.to in
+pub to_all_part : (s : Settings) (text mid : List ℕ) (stream : HeldWithin) (old now new : Unwritten) (a b c d : Known)
+    → RelaysTo s text mid old now a b → RelaysAllPieces s mid stream now new b c → RelaysPart new c d [] [] []
+    → RelaysSome s text old a d
+to_all_part s text mid stream old now new a b c d first rest q =
+    let p = to_then s text mid rest.0.rest old now new a b c first rest.0.to in
     record {
       pieces = p.pieces;
       rest = rest.0.rest;
       taken = p.taken;
-      part = part_then old new a c d e g h _ _ p.relays q;
+      part = part_then old new a c d _ _ _ p.relays q;
     }

@@ -1,35 +1,66 @@
 -- Fault lines, as they are told.
-use Rattle.std.proofs.Common.{◌≡◌, ℕ, ◌+◌, ◌≤◌, cond, true, List, [], ◌∷◌, ◌++◌, length, take, drop, Option, Result, Ok, Err, refl, sym, ap, subst, ◌∙◌, arith}
-use Rattle.std.proofs.Common.{append-nil, inl, inr}
+use Rattle.std.proofs.Common.{◌≡◌, ℕ, ◌+◌, ◌<◌, ◌≤◌, Bool, false, true, string_bytes, List, [], ◌∷◌, ◌++◌, length, take, drop, Option, None, Some, Result, Ok, Err, refl, sym, ap, subst, ◌∙◌, arith}
+use Rattle.std.proofs.Common.{append-nil, length-append, inl, inr}
 use Rattle.std.specs.Borrow.{Bor}
 use Rattle.std.specs.Str.{IsUtf8, is_utf8}
+use Rattle.std.specs.Prelude.{if◌then◌else◌}
 use Rattle.std.proofs.lemmas.Bool.{cases_Bool}
 use Rattle.std.proofs.lemmas.Str.{IsUtf8-from_is_utf8, is_utf8-from_IsUtf8}
 use Rattle.std.proofs.Math.Nat.{eq-zero-or-pos}
 use Rattle.std.proofs.Math.Seq.{drop-append_seam, take-append_seam}
+use Rattle.influxdb_line_protocol.specs.code.Rules.{rules_of}
+use Rattle.influxdb_line_protocol.specs.format.Bytes.{newline}
 use Rattle.influxdb_line_protocol.specs.format.Dialects.{Dialect}
 use Rattle.influxdb_line_protocol.specs.format.Trimming.{trimmed}
 use Rattle.influxdb_line_protocol.specs.types.PieceTooLong.{PieceTooLong}
 use Rattle.lp_rebuild.specs.RebuildSteps.{fault_line_at}
 use Rattle.lp_relay_core.specs.declared.telling.Faults.{Faults}
-use Rattle.lp_relay_core.specs.declared.telling.Faults.TheVariants.{Raw, OneLine}
+use Rattle.lp_relay_core.specs.declared.telling.Faults.TheVariants.{Raw, OneLine, Json}
 use Rattle.lp_relay_core.specs.declared.taking.Lines.{Lines}
+use Rattle.lp_relay_core.specs.declared.taking.Pending.{Pending}
+use Rattle.lp_relay_core.specs.declared.taking.Settings.{Settings}
 use Rattle.lp_relay_core.specs.LineFaults.{item_text}
-use Rattle.lp_relay_core.specs.Relaying.{Item, is_carried_item, items_of_bytes}
-use Rattle.lp_relay_core.specs.RelaySteps.{Made, TakesItems, faults_at, faults_next, items_given}
+use Rattle.lp_relay_core.specs.Relaying.{Item, is_carried_item, items_of_bytes, refused_lines}
+use Rattle.lp_relay_core.specs.RelaySteps.{EndsPiece, Made, TakesItems, TakesGiven, TakesRaw, Unwritten, faults_at, faults_next}
+use Rattle.lp_relay_core.specs.RelaySteps.{items_given, made, raw_fault, refused_given, told_item, unwritten_of}
 use Rattle.lp_relay_core.specs.Told.{told}
 use Rattle.lp_relay_core.proofs.RelayLemmas.{blank_items, text_item}
-use Rattle.lp_relay_core.proofs.ItemLemmas.{item_of_no_text}
+use Rattle.lp_relay_core.proofs.ItemLemmas.{item_of_no_text, items_add_up}
 
--- the fault lines of one item at most are told together as they are told one after another
-one_told : (form : Faults) (line : Option ℕ) (number : ℕ) (items : List Item) → length items ≤ 1
-    → told form (faults_at Raw line number items) ≡ faults_at form line number items
-one_told Raw line number [] few = refl
-one_told OneLine line number [] few = refl
-one_told form line number (item ∷ []) few =
-    let raw = cond (is_carried_item item) [] (fault_line_at line number (item_text item)) in
-    ap (told form) (append-nil raw) ∙ sym (append-nil (told form raw))
-one_told form line number (item ∷ other ∷ items) few = absurd (omega (arith, few))
+-- the fault line of one item at most is told as that of the item is
+one_told : (line : Option ℕ) (number : ℕ) (items : List Item) → length items ≤ 1
+    → told OneLine (faults_at Raw line number items) ≡ faults_at OneLine line number items
+one_told line number [] few = refl
+one_told line number (item ∷ []) few =
+    let raw = raw_fault line number item in
+    ap (told OneLine) (append-nil raw) ∙ sym (append-nil (told OneLine raw))
+one_told line number (item ∷ other ∷ items) few = absurd (omega (arith, few))
+
+-- a fault line has bytes
+fault_line_some : (line : Option ℕ) (number : ℕ) (text : List ℕ) → 0 < length (fault_line_at line number text)
+fault_line_some None number text = omega arith
+fault_line_some (Some line) number text = omega arith
+
+-- of an item that is carried nothing is told
+carried_told : (form : Faults) (line : Option ℕ) (number : ℕ) (item : Item) → is_carried_item item ≡ true
+    → told_item form line number item ++ [] ≡ []
+carried_told Raw line number item carried = rw carried refl
+carried_told OneLine line number item carried = rw carried refl
+carried_told (Json first) line number item carried = rw carried refl
+
+-- if one item at most has no fault line, nothing is told of it
+none_told : (form : Faults) (line : Option ℕ) (number : ℕ) (items : List Item) → length items ≤ 1
+    → length (faults_at Raw line number items) ≡ 0 → faults_at form line number items ≡ []
+none_told form line number [] few none = refl
+none_told form line number (item ∷ []) few none =
+    elim (cases_Bool (is_carried_item item)) [
+      | inl carried ↦ carried_told form line number item carried
+      | inr refused ↦
+          let its = rw refused at none in
+          let raw = fault_line_at line number (item_text item) in
+          absurd (omega (arith, its, length-append raw [], fault_line_some line number (item_text item)))
+    ]
+none_told form line number (item ∷ other ∷ items) few none = absurd (omega (arith, few))
 
 -- bytes have one item at most
 pub few_items : (lines : Lines) (dialect : Dialect) (piece : List ℕ) → length (items_of_bytes lines dialect piece) ≤ 1
@@ -50,24 +81,199 @@ pub few_given : (lines : Lines) (dialect : Dialect) (result : Result (Bor (List 
 few_given lines dialect (Ok piece) = few_items lines dialect piece.now
 few_given lines dialect (Err fault) = omega arith
 
--- what was added to a text leaves its front a text
-pub front_is_text : (old raw mid : List ℕ) (n : ℕ) → n ≡ length old → mid ≡ old ++ raw → IsUtf8 old → IsUtf8 (take n mid)
-front_is_text old raw mid n len is text =
-    subst IsUtf8 (sym (ap (λ (k : ℕ). take k mid) len ∙ ap (λ (l : List ℕ). take (length old) l) is ∙ take-append_seam old raw)) text
+-- what was added since comes after what was there
+grown : (s : Settings) (given : Result (Bor (List ℕ)) PieceTooLong) (from : ℕ) (old mid : Made) → TakesRaw s given from old mid
+    → length mid.faults ≡ from + length (faults_next Raw old (items_given s.lines (rules_of s.dialect) given))
+grown s given from old mid t =
+    let raw = faults_next Raw old (items_given s.lines (rules_of s.dialect) given) in
+    omega (arith, t.from_is, ap length t.takes.faults, length-append old.faults raw)
 
--- items were taken, and then the fault line that they have was told
-pub takes_told : (form : Faults) (old mid new : Made) (items : List Item) (n : ℕ) → n ≡ length old.faults → length items ≤ 1
-    → TakesItems Raw old items mid → new.batch ≡ mid.batch → new.faults ≡ take n mid.faults ++ told form (drop n mid.faults)
-    → new.carried ≡ mid.carried → new.refused ≡ mid.refused → TakesItems form old items new
-takes_told form old mid new items n len few t batch faults carried refused =
-    let raw = faults_next Raw old items in
+-- the fault lines are no fewer bytes than before
+pub within : (s : Settings) (given : Result (Bor (List ℕ)) PieceTooLong) (from : ℕ) (old mid : Made) → TakesRaw s given from old mid
+    → from ≤ length mid.faults
+within s given from old mid t = omega (arith, grown s given from old mid t)
+
+-- if they are as many, nothing is told
+pub takes_same : (s : Settings) (given : Result (Bor (List ℕ)) PieceTooLong) (from : ℕ) (old new : Made) → TakesRaw s given from old new
+    → from ≡ length new.faults → TakesItems s.faults old (items_given s.lines (rules_of s.dialect) given) new
+takes_same s given from old new t same =
+    let items = items_given s.lines (rules_of s.dialect) given in
+    let number = old.carried + old.refused + 1 in
+    let few = few_given s.lines (rules_of s.dialect) given in
+    let none : length (faults_at Raw old.line number items) ≡ 0 = omega (arith, same, grown s given from old new t) in
     record {
-      batch = batch ∙ t.batch;
-      faults = faults ∙ ap (λ (k : ℕ). take k mid.faults ++ told form (drop k mid.faults)) len
-          ∙ ap (λ (l : List ℕ). take (length old.faults) l ++ told form (drop (length old.faults) l)) t.faults
-          ∙ ap (λ (l : List ℕ). l ++ told form (drop (length old.faults) (old.faults ++ raw))) (take-append_seam old.faults raw)
-          ∙ ap (λ (l : List ℕ). old.faults ++ told form l) (drop-append_seam old.faults raw)
-          ∙ ap (λ (l : List ℕ). old.faults ++ l) (one_told form old.line (old.carried + old.refused + 1) items few);
-      carried = carried ∙ t.carried;
-      refused = refused ∙ t.refused;
+      batch = t.takes.batch;
+      faults = t.takes.faults
+          ∙ ap (λ (l : List ℕ). old.faults ++ l) (none_told Raw old.line number items few none ∙ sym (none_told s.faults old.line number items few none));
+      carried = t.takes.carried;
+      refused = t.takes.refused;
+    }
+
+-- the fault line that was added was told on one line
+pub takes_one_line : (s : Settings) (given : Result (Bor (List ℕ)) PieceTooLong) (from : ℕ) (old mid new : Made) → s.faults ≡ OneLine
+    → TakesRaw s given from old mid → new.faults ≡ take from mid.faults ++ told OneLine (drop from mid.faults)
+    → new.batch ≡ mid.batch → new.carried ≡ mid.carried → new.refused ≡ mid.refused
+    → TakesItems s.faults old (items_given s.lines (rules_of s.dialect) given) new
+takes_one_line s given from old mid new is t faults batch carried refused =
+    let items = items_given s.lines (rules_of s.dialect) given in
+    let raw = faults_next Raw old items in
+    subst (λ form. TakesItems form old items new) (sym is) (record {
+      batch = batch ∙ t.takes.batch;
+      faults = faults ∙ ap (λ (k : ℕ). take k mid.faults ++ told OneLine (drop k mid.faults)) t.from_is
+          ∙ ap (λ (l : List ℕ). take (length old.faults) l ++ told OneLine (drop (length old.faults) l)) t.takes.faults
+          ∙ ap (λ (l : List ℕ). l ++ told OneLine (drop (length old.faults) (old.faults ++ raw))) (take-append_seam old.faults raw)
+          ∙ ap (λ (l : List ℕ). old.faults ++ told OneLine l) (drop-append_seam old.faults raw)
+          ∙ ap (λ (l : List ℕ). old.faults ++ l)
+          (one_told old.line (old.carried + old.refused + 1) items (few_given s.lines (rules_of s.dialect) given));
+      carried = carried ∙ t.takes.carried;
+      refused = refused ∙ t.takes.refused;
+    })
+
+-- what a call gave has one item, which is refused, and its fault line was added
+pub record RefusedOne (s : Settings) (given : Result (Bor (List ℕ)) PieceTooLong) (from : ℕ) (old mid : Made) : Type 0 where
+  pub item : Item
+  pub is : items_given s.lines (rules_of s.dialect) given ≡ item ∷ []
+  pub refused : is_carried_item item ≡ false
+  pub number : mid.carried + mid.refused ≡ old.carried + old.refused + 1
+  pub line : drop from mid.faults ≡ fault_line_at mid.line (mid.carried + mid.refused) (item_text item)
+
+-- the one item that has a fault line
+record OneFault (line : Option ℕ) (number : ℕ) (items : List Item) : Type 0 where
+  pub item : Item
+  pub is : items ≡ item ∷ []
+  pub refused : is_carried_item item ≡ false
+  pub raw : faults_at Raw line number items ≡ fault_line_at line number (item_text item)
+
+-- if a fault line was added, one item has it
+one_fault : (line : Option ℕ) (number : ℕ) (items : List Item) → length items ≤ 1 → 0 < length (faults_at Raw line number items)
+    → OneFault line number items
+one_fault line number [] few some = absurd (omega (arith, some))
+one_fault line number (item ∷ []) few some =
+    elim (cases_Bool (is_carried_item item)) [
+      | inl carried ↦ let none = rw carried at some in absurd (omega (arith, none))
+      | inr bad ↦
+          record { item = item; is = refl; refused = bad; raw = rw bad (append-nil (fault_line_at line number (item_text item))) }
+    ]
+one_fault line number (item ∷ other ∷ items) few some = absurd (omega (arith, few))
+
+-- if the fault lines are more bytes than before, one item is refused
+pub refused_one : (s : Settings) (given : Result (Bor (List ℕ)) PieceTooLong) (from : ℕ) (old mid : Made) → TakesRaw s given from old mid
+    → from < length mid.faults → RefusedOne s given from old mid
+refused_one s given from old mid t some =
+    let items = items_given s.lines (rules_of s.dialect) given in
+    let number = old.carried + old.refused + 1 in
+    let raw = faults_at Raw old.line number items in
+    let more : 0 < length raw = omega (arith, some, grown s given from old mid t) in
+    let one = one_fault old.line number items (few_given s.lines (rules_of s.dialect) given) more in
+    let text = item_text one.item in
+    let counts : mid.carried + mid.refused ≡ number =
+    omega (arith, t.takes.carried, t.takes.refused, items_add_up items, ap length one.is) in
+    record {
+      item = one.item;
+      is = one.is;
+      refused = one.refused;
+      number = counts;
+      line = ap (λ (k : ℕ). drop k mid.faults) t.from_is ∙ ap (drop (length old.faults)) t.takes.faults ∙ drop-append_seam old.faults raw
+          ∙ one.raw ∙ ap (λ (l : Option ℕ). fault_line_at l number text) (sym t.line)
+          ∙ ap (λ (n : ℕ). fault_line_at mid.line n text) (sym counts);
+    }
+
+-- what is put out of what a call gave, if its item is refused
+abbrev pub put_of : Bool → Result (Bor (List ℕ)) PieceTooLong → List ℕ
+put_of goes_out (Ok piece) = if goes_out then piece.now ++ newline ∷ [] else []
+put_of goes_out (Err fault) = []
+
+-- which is nothing, if refused pieces do not go out
+pub put_unasked : (pieces : List ℕ) (goes_out : Bool) (result : Result (Bor (List ℕ)) PieceTooLong) → goes_out ≡ false
+    → pieces ≡ pieces ++ put_of goes_out result
+put_unasked pieces false (Ok piece) unasked = sym (append-nil pieces)
+put_unasked pieces false (Err fault) unasked = sym (append-nil pieces)
+put_unasked pieces true result unasked = absurd (cc)
+
+-- and else the piece, if there is one
+pub put_asked : (pieces : List ℕ) (goes_out : Bool) (result : Result (Bor (List ℕ)) PieceTooLong) (piece : Bor (List ℕ))
+    → result ≡ Ok piece → goes_out ≡ true → pieces ++ (piece.now ++ newline ∷ []) ≡ pieces ++ put_of goes_out result
+put_asked pieces goes_out result piece is asked = rw (is, asked) refl
+
+-- nothing goes out as refused of one item at most that has no fault line
+put_none : (goes_out : Bool) (piece : List ℕ) (line : Option ℕ) (number : ℕ) (items : List Item) → length items ≤ 1
+    → length (faults_at Raw line number items) ≡ 0 → refused_lines goes_out piece items ≡ []
+put_none false piece line number items few none = refl
+put_none true piece line number [] few none = refl
+put_none true piece line number (item ∷ []) few none =
+    elim (cases_Bool (is_carried_item item)) [
+      | inl carried ↦ rw carried refl
+      | inr refused ↦
+          let its = rw refused at none in
+          let raw = fault_line_at line number (item_text item) in
+          absurd (omega (arith, its, length-append raw [], fault_line_some line number (item_text item)))
+    ]
+put_none true piece line number (item ∷ other ∷ items) few none = absurd (omega (arith, few))
+
+-- so it is of what a call gave
+given_none : (s : Settings) (given : Result (Bor (List ℕ)) PieceTooLong) (line : Option ℕ) (number : ℕ)
+    → length (faults_at Raw line number (items_given s.lines (rules_of s.dialect) given)) ≡ 0 → refused_given s given ≡ []
+given_none s (Ok piece) line number none =
+    put_none s.puts_refused piece.now line number (items_given s.lines (rules_of s.dialect) (Ok piece))
+    (few_given s.lines (rules_of s.dialect) (Ok piece)) none
+given_none s (Err fault) line number none = refl
+
+-- of an item that is refused, its piece goes out
+put_one : (goes_out : Bool) (piece : List ℕ) (item : Item) → is_carried_item item ≡ false
+    → refused_lines goes_out piece (item ∷ []) ≡ (if goes_out then piece ++ newline ∷ [] else [])
+put_one false piece item refused = refl
+put_one true piece item refused = rw refused (append-nil (piece ++ newline ∷ []))
+
+-- so it is of what a call gave
+given_one : (s : Settings) (given : Result (Bor (List ℕ)) PieceTooLong) (item : Item)
+    → items_given s.lines (rules_of s.dialect) given ≡ item ∷ [] → is_carried_item item ≡ false
+    → refused_given s given ≡ put_of s.puts_refused given
+given_one s (Ok piece) item is refused =
+    ap (refused_lines s.puts_refused piece.now) is ∙ put_one s.puts_refused piece.now item refused
+given_one s (Err fault) item is refused = refl
+
+-- a piece that has no fault line ends as it is
+pub ends_same : (s : Settings) (given : Result (Bor (List ℕ)) PieceTooLong) (from : ℕ) (mid : Pending)
+    → from ≡ length (string_bytes mid.so_far.faults) → EndsPiece s from given mid mid
+ends_same s given from mid same old t =
+    let now = made mid.so_far in
+    let number = old.carried + old.refused + 1 in
+    let none : length (faults_at Raw old.line number (items_given s.lines (rules_of s.dialect) given)) ≡ 0 =
+    omega (arith, same, grown s given from old now t) in
+    record {
+      items = takes_same s given from old now t same;
+      pieces = sym (ap (λ (l : List ℕ). mid.pieces.items ++ l) (given_none s given old.line number none) ∙ append-nil mid.pieces.items);
+    }
+
+-- a piece that has a fault line ends once that is told, and the piece is put out
+pub ends_told : (s : Settings) (given : Result (Bor (List ℕ)) PieceTooLong) (from : ℕ) (mid new : Pending)
+    → from < length (string_bytes mid.so_far.faults)
+    → ((old : Made) → TakesRaw s given from old (made mid.so_far)
+    → TakesItems s.faults old (items_given s.lines (rules_of s.dialect) given) (made new.so_far))
+    → new.pieces.items ≡ mid.pieces.items ++ put_of s.puts_refused given → EndsPiece s from given mid new
+ends_told s given from mid new some told put old t =
+    let one = refused_one s given from old (made mid.so_far) t some in
+    record {
+      items = told old t;
+      pieces = put ∙ ap (λ (l : List ℕ). mid.pieces.items ++ l) (sym (given_one s given one.item one.is one.refused));
+    }
+
+-- what was taken is taken, whatever the next fault lines name
+pub takes_on : (s : Settings) (old : Unwritten) (result : Result (Bor (List ℕ)) PieceTooLong) (new : Pending)
+    (line : Option ℕ) → TakesGiven s old result (unwritten_of new)
+    → TakesGiven s old result (record { made = record (made new.so_far) { line = line }; pieces = new.pieces.items })
+takes_on s old result new line t =
+    record {
+      items = record { batch = t.items.batch; faults = t.items.faults; carried = t.items.carried; refused = t.items.refused };
+      pieces = t.pieces;
+    }
+
+-- so is it with another reference to the same bytes
+pub given_same : (s : Settings) (old new : Unwritten) (piece other : Bor (List ℕ)) → piece.now ≡ other.now
+    → TakesGiven s old (Ok piece) new → TakesGiven s old (Ok other) new
+given_same s old new piece other same t =
+    let items = items_of_bytes s.lines (rules_of s.dialect) in
+    record {
+      items = subst (λ (l : List ℕ). TakesItems s.faults old.made (items l) new.made) same t.items;
+      pieces = t.pieces ∙ ap (λ (l : List ℕ). old.pieces ++ refused_lines s.puts_refused l (items l)) same;
     }

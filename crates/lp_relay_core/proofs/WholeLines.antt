@@ -14,7 +14,8 @@ use Rattle.influxdb_line_protocol.specs.code.Bounded.{CutsTo, GivesOf, HeldWithi
 use Rattle.influxdb_line_protocol.specs.types.PieceTooLong.{PieceTooLong}
 use Rattle.lp_relay_core.specs.declared.taking.Settings.{Settings}
 use Rattle.influxdb_line_protocol.specs.code.Rules.{rules_of}
-use Rattle.lp_relay_core.specs.RelaySteps.{Made, RelaysBegun, RelaysTo}
+use Rattle.lp_relay_core.specs.RelaySteps.{RelaysBegun, RelaysTo, Unwritten}
+use Rattle.lp_relay_core.specs.Writers.{Known}
 use Rattle.lp_relay_core.proofs.RelayPieces.{Given, given_on, given_piece, given_short, to_none, to_then}
 use Rattle.influxdb_line_protocol.specs.laws.Laws.{PiecesAreTheText, PiecesAreUnique, PiecesExist}
 
@@ -87,16 +88,16 @@ first_given exist unique s text part at stream after result rest same bound is_l
     )
 
 -- no piece was taken of a text and of a part, of which the stream was given a front
-pub begun_none : (s : Settings) (text part : List ℕ) (given : ℕ) (after : HeldWithin) (old : Made)
-    (a e : Option (List ℕ)) → Holds after (text ++ take given part) → RelaysBegun s text part given after old old a a e e
-begun_none s text part given after old a e holds = grind (arith, take-append-drop, append_assoc, to_none)
+pub begun_none : (s : Settings) (text part : List ℕ) (given : ℕ) (stream : HeldWithin) (old : Unwritten) (a : Known)
+    → Holds stream (text ++ take given part) → RelaysBegun s text part given stream old old a a
+begun_none s text part given stream old a holds = grind (arith, take-append-drop, append_assoc, to_none)
 
 -- the line that the stream began was taken, and then lines of the rest of the part
-pub begun_then : (s : Settings) (text part rest : List ℕ) (end taken : ℕ) (after : HeldWithin)
-    (old now new : Made) (a b c e f g : Option (List ℕ)) → rest ≡ drop end part → Holds after []
-    → RelaysTo s (text ++ part) rest old now a b e f → RelaysTo s rest (drop taken rest) now new b c f g
-    → RelaysBegun s text part (end + taken) after old new a c e g
-begun_then s text part rest end taken after old now new a b c e f g others holds first next = grind (arith, drop-drop, to_then)
+pub begun_then : (s : Settings) (text part rest : List ℕ) (end taken : ℕ) (stream : HeldWithin)
+    (old now new : Unwritten) (a b c : Known) → rest ≡ drop end part → Holds stream []
+    → RelaysTo s (text ++ part) rest old now a b → RelaysTo s rest (drop taken rest) now new b c
+    → RelaysBegun s text part (end + taken) stream old new a c
+begun_then s text part rest end taken stream old now new a b c others holds first next = grind (arith, drop-drop, to_then)
 
 -- the first of the pieces of a text that is not all of it is cut off bytes that begin with the text
 cuts_in : PiecesExist → PiecesAreTheText → (dialect : Dialect) (before after : Option (List ℕ)) (piece rest bytes : List ℕ)

@@ -2,9 +2,11 @@ pub mod Cuts
 pub mod CutSteps
 pub mod Differing
 pub mod LineFaults
+pub mod Objects
 pub mod Relaying
 pub mod RelaySteps
 pub mod Relays
 pub mod TakenBack
 pub mod Told
 pub mod Verdicts
+pub mod Writers

@@ -11,9 +11,9 @@ use Rattle.lp_relay_core.specs.Told.{told}
 
 -- what is wrong with an item that is not carried
 abbrev pub item_text : Item → List ℕ
-item_text (answered answer) = refusal_text answer
+item_text (answered front answer) = refusal_text answer
 item_text (as_it_came piece) = []
-item_text (not_as_written wrong) = wrong
+item_text (not_as_written front wrong) = wrong
 item_text not_utf8 = codes "the line is not UTF-8"
 item_text too_long = codes "the line is too long"
 

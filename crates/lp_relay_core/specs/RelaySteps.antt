@@ -1,8 +1,9 @@
 -- What each step of a relay takes of the stream, and what it writes or holds of it.
 use Rattle.std.specs.Prelude.{◌≡◌, ◌⊎◌, ◌<◌, ℕ, ◌+◌, ◌-◌, ◌++◌, List, [], ◌∷◌, length, drop, string_bytes, Option, Some, None}
-use Rattle.std.specs.Prelude.{Result, Ok, Err, if◌then◌else◌}
+use Rattle.std.specs.Prelude.{Result, Ok, Err, unwrap_or, if◌then◌else◌}
 use Rattle.std.specs.Borrow.{Bor}
 use Rattle.std.specs.Io.KnownBytes.{Appends}
+use Rattle.std.specs.Str.{IsUtf8}
 use Rattle.influxdb_line_protocol.specs.format.Dialects.{Dialect}
 use Rattle.influxdb_line_protocol.specs.format.Bytes.{newlines_in}
 use Rattle.influxdb_line_protocol.specs.format.Pieces.{IsLastPiece}
@@ -11,18 +12,22 @@ use Rattle.influxdb_line_protocol.specs.code.Bounded.{HeldWithin, Holds}
 use Rattle.influxdb_line_protocol.specs.laws.StreamLaws.{Run}
 use Rattle.influxdb_line_protocol.specs.code.Rules.{rules_of}
 use Rattle.lp_rebuild.specs.declared.batch.Progress.{Progress}
+use Rattle.lp_relay_core.specs.declared.taking.Pending.{Pending}
 use Rattle.lp_relay_core.specs.declared.taking.Lines.{Lines}
 use Rattle.lp_relay_core.specs.declared.taking.Numbering.{Numbering}
 use Rattle.lp_relay_core.specs.declared.taking.Numbering.TheVariants as named
 use Rattle.lp_relay_core.specs.declared.taking.Settings.{Settings}
 use Rattle.lp_relay_core.specs.declared.telling.Faults.{Faults}
+use Rattle.lp_relay_core.specs.declared.telling.Faults.TheVariants.{Raw, OneLine, Json}
 use Rattle.lp_relay_core.specs.Told.{told}
 use Rattle.lp_rebuild.specs.declared.program.RunFault.{RunFault}
 use Rattle.lp_rebuild.specs.declared.program.RunFault.TheVariants.{Read, NotUtf8, OutOfMemory, Write}
 use Rattle.lp_rebuild.specs.RebuildSteps.{fault_line_at}
 use Rattle.lp_relay_core.specs.LineFaults.{item_text}
+use Rattle.lp_relay_core.specs.Objects.{front_given, item_object, kind_given, object}
 use Rattle.lp_relay_core.specs.Relaying.{Item, first_of, too_long, is_carried_item, items_of_bytes, items_of_piece, items_of, items_batch, carried_items}
-use Rattle.lp_relay_core.specs.Relaying.{refused_items}
+use Rattle.lp_relay_core.specs.Relaying.{refused_items, refused_lines, refused_piece, refused_pieces}
+use Rattle.lp_relay_core.specs.Writers.{Known, Writers}
 
 -- the items of what a call gave: those of a piece, or that of one that is too long
 abbrev pub items_given : Lines → Dialect → Result (Bor (List ℕ)) PieceTooLong → List Item
@@ -33,6 +38,11 @@ items_given lines dialect (Err _) = too_long ∷ []
 abbrev pub newlines_given : Result (Bor (List ℕ)) PieceTooLong → ℕ
 newlines_given (Ok piece) = newlines_in piece.now
 newlines_given (Err fault) = fault.newlines
+
+-- what goes out as refused of what a call gave, if refused pieces go out
+abbrev pub refused_given : Settings → Result (Bor (List ℕ)) PieceTooLong → List ℕ
+refused_given s (Ok piece) = refused_lines s.puts_refused piece.now (items_of_bytes s.lines (rules_of s.dialect) piece.now)
+refused_given s (Err _) = []
 
 -- these pieces were taken of a text, one after another, after whatever came before, and the rest is left, whatever comes then
 abbrev pub TakesPieces : Dialect → (text : List ℕ) → List (List ℕ) → (rest : List ℕ) → Type 0
@@ -49,9 +59,15 @@ pub record Made : Type 0 where
   pub line : Option ℕ
 
 -- the line that the fault line of the first item names, if it names a line
-abbrev pub first_line : Numbering → ℕ → Option ℕ
-first_line named.Items first = None
-first_line named.Lines first = Some (first_of first)
+abbrev pub first_named : Numbering → ℕ → Option ℕ
+first_named named.Items first = None
+first_named named.Lines first = Some (first_of first)
+
+-- the line that the fault line of the first item names, if it names a line; an object always does
+abbrev pub first_line : Faults → Numbering → ℕ → Option ℕ
+first_line Raw numbering first = first_named numbering first
+first_line OneLine numbering first = first_named numbering first
+first_line (Json line) numbering first = Some (first_of line)
 
 -- how many items are counted before the first item, so that the next number is that of the first item
 abbrev pub items_before : Numbering → ℕ → ℕ
@@ -65,7 +81,7 @@ made_of_none s = record {
   faults = [];
   carried = items_before s.numbering s.first;
   refused = 0;
-  line = first_line s.numbering s.first;
+  line = first_line s.faults s.numbering s.first;
 }
 
 -- what a relay has made so far
@@ -78,13 +94,29 @@ made so_far = record {
   line = so_far.line;
 }
 
--- nothing that was made is held: all of it was written
-abbrev pub HoldsNone : Progress → Type 0
-HoldsNone so_far = (so_far.batch.items ≡ []) × (string_bytes so_far.faults ≡ [])
+-- what was made so far, and the refused pieces that go out and are not written yet
+pub record Unwritten : Type 0 where
+  pub made : Made
+  pub pieces : List ℕ
 
--- of the lines and of the fault lines that were made, fewer bytes are held than this
-abbrev pub HoldsLess : ℕ → Progress → Type 0
-HoldsLess room so_far = (length so_far.batch.items < room) × (length (string_bytes so_far.faults) < room)
+-- before the first item
+abbrev pub unwritten_of_none : Settings → Unwritten
+unwritten_of_none s = record { made = made_of_none s; pieces = [] }
+
+-- what a relay has not written yet
+abbrev pub unwritten_of : Pending → Unwritten
+unwritten_of pending = record { made = made pending.so_far; pieces = pending.pieces.items }
+
+-- nothing that was made is held: all of it was written
+abbrev pub HoldsNone : Pending → Type 0
+HoldsNone pending =
+    (pending.so_far.batch.items ≡ []) × (string_bytes pending.so_far.faults ≡ []) × (pending.pieces.items ≡ [])
+
+-- of the lines, of the fault lines and of the refused pieces that were made, fewer bytes are held than this
+abbrev pub HoldsLess : ℕ → Pending → Type 0
+HoldsLess room pending =
+    (length pending.so_far.batch.items < room) × (length (string_bytes pending.so_far.faults) < room)
+    × (length pending.pieces.items < room)
 
 -- what the fault lines after a piece with so many newlines name
 abbrev pub line_after : Option ℕ → ℕ → Option ℕ
@@ -96,11 +128,25 @@ abbrev pub line_past : Option ℕ → List (List ℕ) → Option ℕ
 line_past line [] = line
 line_past line (piece ∷ pieces) = line_past (line_after line (newlines_in piece)) pieces
 
+-- the fault line of an item at a place, which has this number, as a rebuild writes it: none if it is carried
+abbrev pub raw_fault : Option ℕ → ℕ → Item → List ℕ
+raw_fault line number item = if is_carried_item item then [] else fault_line_at line number (item_text item)
+
+-- the line that is named, or 0 if none is
+abbrev pub line_or_none : Option ℕ → ℕ
+line_or_none line = unwrap_or line 0
+
+-- what is told of an item at a place, which has this number
+abbrev pub told_item : Faults → Option ℕ → ℕ → Item → List ℕ
+told_item Raw line number item = raw_fault line number item
+told_item OneLine line number item = told OneLine (raw_fault line number item)
+told_item (Json first_line) line number item = item_object number (line_or_none line) item
+
 -- the fault lines of items of one piece that are not carried, at this line, where the first item has this number
 abbrev pub faults_at : Faults → Option ℕ → ℕ → List Item → List ℕ
 faults_at form line number [] = []
 faults_at form line number (item ∷ items) =
-    told form (if is_carried_item item then [] else fault_line_at line number (item_text item)) ++ faults_at form line (number + 1) items
+    told_item form line number item ++ faults_at form line (number + 1) items
 
 -- the fault lines of the items of pieces that are not carried, where the first piece is at this line, and the first item has
 -- this number
@@ -125,68 +171,111 @@ pub record TakesItems (form : Faults) (old : Made) (items : List Item) (new : Ma
   pub carried : new.carried ≡ old.carried + carried_items items
   pub refused : new.refused ≡ old.refused + refused_items items
 
+-- what a call gave was taken: its items, and as refused what goes out of its piece
+pub record TakesGiven (s : Settings) (old : Unwritten) (result : Result (Bor (List ℕ)) PieceTooLong) (new : Unwritten)
+    : Type 0 where
+  pub items : TakesItems s.faults old.made (items_given s.lines (rules_of s.dialect) result) new.made
+  pub pieces : new.pieces ≡ old.pieces ++ refused_given s result
+
+-- what a call gave was taken, and its fault line, if it has one, comes after these first bytes, as a rebuild writes it
+pub record TakesRaw (s : Settings) (given : Result (Bor (List ℕ)) PieceTooLong) (from : ℕ) (old new : Made) : Type 0 where
+  pub from_is : from ≡ length old.faults
+  pub text : IsUtf8 old.faults
+  pub line : new.line ≡ old.line
+  pub takes : TakesItems Raw old (items_given s.lines (rules_of s.dialect) given) new
+
+-- if what a call gave was taken so, the piece is taken once it ended so
+abbrev pub EndsPiece : Settings → (from : ℕ) → Result (Bor (List ℕ)) PieceTooLong → (mid new : Pending) → Type 0
+EndsPiece s from given mid new =
+    (old : Made) → TakesRaw s given from old (made mid.so_far)
+    → TakesGiven s (record { made = old; pieces = mid.pieces.items }) given (unwritten_of new)
+
+-- the object of what a call gave, which is refused for this text
+abbrev pub object_given : Dialect → Option ℕ → ℕ → Result (Bor (List ℕ)) PieceTooLong → List ℕ → List ℕ
+object_given dialect line number given text =
+    object number (line_or_none line + newlines_in (front_given given)) (kind_given dialect given text) text
+
 -- a writer gained all that was held and that was made, but for what is left
 abbrev pub Passes : Option (List ℕ) → Option (List ℕ) → (held added left : List ℕ) → Type 0
 Passes old new held added left = (written : List ℕ) × Appends old new written × (written ++ left ≡ held ++ added)
 
--- the lines of these items were written, or are held, and so were these fault lines of theirs
-pub record RelaysItems (old new : Made) (out out_after err err_after : Option (List ℕ)) (items : List Item) (fault_lines : List ℕ)
-    : Type 0 where
-  pub batch : Passes out out_after old.batch (items_batch items) new.batch
-  pub faults : Passes err err_after old.faults fault_lines new.faults
-  pub carried : new.carried ≡ old.carried + carried_items items
-  pub refused : new.refused ≡ old.refused + refused_items items
+-- the lines of these items were written, or are held, and so were these fault lines of theirs and these refused pieces
+pub record RelaysItems (old new : Unwritten) (before after : Known) (items : List Item) (fault_lines put : List ℕ) : Type 0 where
+  pub batch : Passes before.out after.out old.made.batch (items_batch items) new.made.batch
+  pub faults : Passes before.err after.err old.made.faults fault_lines new.made.faults
+  pub pieces : Passes before.refused after.refused old.pieces put new.pieces
+  pub carried : new.made.carried ≡ old.made.carried + carried_items items
+  pub refused : new.made.refused ≡ old.made.refused + refused_items items
 
--- a beginning of the lines of these items was written, and one of these fault lines
-pub record RelaysPart (old : Made) (out out_after err err_after : Option (List ℕ)) (items : List Item) (fault_lines : List ℕ)
-    : Type 0 where
+-- a beginning of the lines of these items was written, one of these fault lines, and one of these refused pieces
+pub record RelaysPart (old : Unwritten) (before after : Known) (items : List Item) (fault_lines put : List ℕ) : Type 0 where
   pub batch_left : List ℕ
   pub faults_left : List ℕ
-  pub batch : Passes out out_after old.batch (items_batch items) batch_left
-  pub faults : Passes err err_after old.faults fault_lines faults_left
+  pub pieces_left : List ℕ
+  pub batch : Passes before.out after.out old.made.batch (items_batch items) batch_left
+  pub faults : Passes before.err after.err old.made.faults fault_lines faults_left
+  pub pieces : Passes before.refused after.refused old.pieces put pieces_left
 
 -- pieces of a text were taken up to this rest, and their lines were written, or are held
-pub record RelaysTo (s : Settings) (text rest : List ℕ) (old new : Made)
-    (out out_after err err_after : Option (List ℕ)) : Type 0 where
+pub record RelaysTo (s : Settings) (text rest : List ℕ) (old new : Unwritten) (before after : Known) : Type 0 where
   pub pieces : List (List ℕ)
   pub taken : TakesPieces (rules_of s.dialect) text pieces rest
-  pub line : new.line ≡ line_past old.line pieces
-  pub relays : RelaysItems old new out out_after err err_after (items_of s pieces) (faults_past s old pieces)
+  pub line : new.made.line ≡ line_past old.made.line pieces
+  pub relays : RelaysItems old new before after (items_of s pieces) (faults_past s old.made pieces) (refused_pieces s pieces)
 
 -- so they were up to a rest that the stream holds
-pub record RelaysPieces (s : Settings) (text : List ℕ) (after : HeldWithin) (old new : Made)
-    (out out_after err err_after : Option (List ℕ)) : Type 0 where
+pub record RelaysPieces (s : Settings) (text : List ℕ) (stream : HeldWithin) (old new : Unwritten) (before after : Known)
+    : Type 0 where
   pub rest : List ℕ
-  pub holds : Holds after rest
-  pub to : RelaysTo s text rest old new out out_after err err_after
+  pub holds : Holds stream rest
+  pub to : RelaysTo s text rest old new before after
 
 -- so were all that a newline ends
-abbrev pub RelaysAllPieces : Settings → (text : List ℕ) → (after : HeldWithin) → (old new : Made)
-    → (out out_after err err_after : Option (List ℕ)) → Type 0
-RelaysAllPieces s text after old new out out_after err err_after =
-    (relays : RelaysPieces s text after old new out out_after err err_after) × IsLastPiece (rules_of s.dialect) relays.rest
+abbrev pub RelaysAllPieces : Settings → (text : List ℕ) → (stream : HeldWithin) → (old new : Unwritten) → (before after : Known)
+    → Type 0
+RelaysAllPieces s text stream old new before after =
+    (relays : RelaysPieces s text stream old new before after) × IsLastPiece (rules_of s.dialect) relays.rest
 
 -- pieces of a text and of a part after it were taken up to a rest: the stream holds the start of it, and so many bytes of the
 -- part come before the end
-pub record RelaysBegun (s : Settings) (text part : List ℕ) (given : ℕ) (after : HeldWithin) (old new : Made)
-    (out out_after err err_after : Option (List ℕ)) : Type 0 where
+pub record RelaysBegun (s : Settings) (text part : List ℕ) (given : ℕ) (stream : HeldWithin) (old new : Unwritten)
+    (before after : Known) : Type 0 where
   pub held : List ℕ
-  pub holds : Holds after held
-  pub to : RelaysTo s (text ++ part) (held ++ drop given part) old new out out_after err err_after
+  pub holds : Holds stream held
+  pub to : RelaysTo s (text ++ part) (held ++ drop given part) old new before after
 
 -- pieces of a text were taken, and a beginning of their lines was written
-pub record RelaysSome (s : Settings) (text : List ℕ) (old : Made)
-    (out out_after err err_after : Option (List ℕ)) : Type 0 where
+pub record RelaysSome (s : Settings) (text : List ℕ) (old : Unwritten) (before after : Known) : Type 0 where
   pub pieces : List (List ℕ)
   pub rest : List ℕ
   pub taken : TakesPieces (rules_of s.dialect) text pieces rest
-  pub part : RelaysPart old out out_after err err_after (items_of s pieces) (faults_past s old pieces)
+  pub part : RelaysPart old before after (items_of s pieces) (faults_past s old.made pieces) (refused_pieces s pieces)
+
+-- the last piece was taken, which is all of this text, and its line was written, or is held
+abbrev pub RelaysLast : Settings → (text : List ℕ) → (old new : Unwritten) → (before after : Known) → Type 0
+RelaysLast s text old new before after = RelaysItems old new before after (items_of_piece s text)
+    (faults_next s.faults old.made (items_of_piece s text)) (refused_piece s text)
+
+-- the same, if a beginning of it was written
+abbrev pub RelaysLastPart : Settings → (text : List ℕ) → (old : Unwritten) → (before after : Known) → Type 0
+RelaysLastPart s text old before after = RelaysPart old before after (items_of_piece s text)
+    (faults_next s.faults old.made (items_of_piece s text)) (refused_piece s text)
+
+-- no count of failures has changed
+pub record CountsNone (old new : Writers ℕ) : Type 0 where
+  pub out : new.out ≡ old.out
+  pub err : new.err ≡ old.err
+  pub refused : new.refused ≡ old.refused
+
+-- one failure was added to one count
+abbrev pub CountsOne : (old new : Writers ℕ) → Type 0
+CountsOne old new = CountsNone (record old { out = old.out + 1 }) new
+    ⊎ (CountsNone (record old { err = old.err + 1 }) new ⊎ CountsNone (record old { refused = old.refused + 1 }) new)
 
 -- `Write` adds one failure to the count of one writer, and nothing else changes a count; no other fault but `OutOfMemory` comes
-abbrev pub CountsWriteFault : {T : Type 0} → Result T RunFault → (out out_after err err_after : ℕ) → Type 0
-CountsWriteFault (Ok x) out out_after err err_after = (out_after ≡ out) × (err_after ≡ err)
-CountsWriteFault (Err Write) out out_after err err_after =
-    ((out_after ≡ out + 1) × (err_after ≡ err)) ⊎ ((out_after ≡ out) × (err_after ≡ err + 1))
-CountsWriteFault (Err OutOfMemory) out out_after err err_after = (out_after ≡ out) × (err_after ≡ err)
-CountsWriteFault (Err Read) out out_after err err_after = ⊥
-CountsWriteFault (Err NotUtf8) out out_after err err_after = ⊥
+abbrev pub CountsWriteFault : {T : Type 0} → Result T RunFault → (old new : Writers ℕ) → Type 0
+CountsWriteFault (Ok x) old new = CountsNone old new
+CountsWriteFault (Err Write) old new = CountsOne old new
+CountsWriteFault (Err OutOfMemory) old new = CountsNone old new
+CountsWriteFault (Err Read) old new = ⊥
+CountsWriteFault (Err NotUtf8) old new = ⊥

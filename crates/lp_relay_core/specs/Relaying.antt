@@ -8,7 +8,7 @@ use Rattle.influxdb_line_protocol.specs.format.Bytes.{newline}
 use Rattle.influxdb_line_protocol.specs.format.Dialects.{Dialect}
 use Rattle.influxdb_line_protocol.specs.format.Readings.{Fault}
 use Rattle.influxdb_line_protocol.specs.format.Points.{built, built_all, is_admitted_point}
-use Rattle.influxdb_line_protocol.specs.format.Lines.{Line, point_of}
+use Rattle.influxdb_line_protocol.specs.format.Lines.{Line, front_before, point_of}
 use Rattle.influxdb_line_protocol.specs.format.Items.{answers_of_piece}
 use Rattle.influxdb_line_protocol.specs.format.Trimming.{trimmed}
 use Rattle.lp_rebuild.specs.Rebuilding.{carried_point, fault_line, fault_of, is_carried_answer}
@@ -21,30 +21,35 @@ use Rattle.lp_relay_core.specs.Differing.{at_start, differing_part, part_text}
 use Rattle.lp_relay_core.specs.Told.{told}
 
 -- an item: an answer; a text that holds a line and goes out as it came; a line that is refused, with what is wrong with it, since
--- it is not as it would be written; or a piece that has no answer, since it is not UTF-8 or is too long
+-- it is not as it would be written; or a piece that has no answer, since it is not UTF-8 or is too long. What may be refused for
+-- its text has what comes before that in its piece
 pub data Item : Type 0 where
-  answered : Result Line Fault → Item
+  answered : (front : List ℕ) → Result Line Fault → Item
   as_it_came : List ℕ → Item
-  not_as_written : List ℕ → Item
+  not_as_written : (front wrong : List ℕ) → Item
   not_utf8 too_long : Item
 
--- the item of a line whose text is this: if a name of it is not admitted, its answer, which is refused; the text as it came, if the
--- builder writes it, and a newline, for the point of the line; and else what is wrong with it
-abbrev pub canonical_item : List ℕ → Line → Item
-canonical_item text line =
+-- what comes before the trimmed text of a piece
+abbrev pub front_of : List ℕ → List ℕ
+front_of piece = front_before piece (trimmed piece)
+
+-- the item of a line that comes after this front and whose text is this: if a name of it is not admitted, its answer, which is
+-- refused; the text as it came, if the builder writes it, and a newline, for the point of the line; and else what is wrong with it
+abbrev pub canonical_item : (front text : List ℕ) → Line → Item
+canonical_item front text line =
     if is_admitted_point (point_of line)
     then if bytes_eq (built (point_of line)) (text ++ newline ∷ []) then as_it_came text
-    else not_as_written (part_text (differing_part at_start text (built (point_of line))))
-    else answered (Ok line)
+    else not_as_written front (part_text (differing_part at_start text (built (point_of line))))
+    else answered front (Ok line)
 
 -- the item of an answer for a piece: where lines go out as they came, that of a line is its piece, whatever its names are; where
 -- only lines go out that are as they would be written, that of the line that is left of the piece once it is trimmed
 abbrev pub item_of : Lines → List ℕ → Result Line Fault → Item
-item_of Rebuilt piece answer = answered answer
+item_of Rebuilt piece answer = answered (front_of piece) answer
 item_of Verbatim piece (Ok line) = as_it_came piece
-item_of Verbatim piece (Err fault) = answered (Err fault)
-item_of Canonical piece (Ok line) = canonical_item (trimmed piece) line
-item_of Canonical piece (Err fault) = answered (Err fault)
+item_of Verbatim piece (Err fault) = answered (front_of piece) (Err fault)
+item_of Canonical piece (Ok line) = canonical_item (front_of piece) (trimmed piece) line
+item_of Canonical piece (Err fault) = answered (front_of piece) (Err fault)
 
 -- the greatest length of a piece, if it has one: `usize::MAX` is none
 abbrev pub limit_of : ℕ → Option ℕ
@@ -74,17 +79,17 @@ items_of s pieces = flat_map (items_of_piece s) pieces
 
 -- whether an item is carried
 abbrev pub is_carried_item : Item → Bool
-is_carried_item (answered answer) = is_carried_answer answer
+is_carried_item (answered front answer) = is_carried_answer answer
 is_carried_item (as_it_came piece) = true
-is_carried_item (not_as_written wrong) = false
+is_carried_item (not_as_written front wrong) = false
 is_carried_item not_utf8 = false
 is_carried_item too_long = false
 
 -- what goes out for an item: the line that is written again, or the text that goes out as it came and a newline
 abbrev pub item_line : Item → List ℕ
-item_line (answered answer) = built_all (carried_point answer)
+item_line (answered front answer) = built_all (carried_point answer)
 item_line (as_it_came piece) = piece ++ newline ∷ []
-item_line (not_as_written wrong) = []
+item_line (not_as_written front wrong) = []
 item_line not_utf8 = []
 item_line too_long = []
 
@@ -94,9 +99,9 @@ items_batch items = flat_map item_line items
 
 -- the fault line of an item that is not carried
 abbrev pub item_fault : ℕ → Item → List ℕ
-item_fault number (answered answer) = fault_of number answer
+item_fault number (answered front answer) = fault_of number answer
 item_fault number (as_it_came piece) = []
-item_fault number (not_as_written wrong) = fault_line number wrong
+item_fault number (not_as_written front wrong) = fault_line number wrong
 item_fault number not_utf8 = fault_line number (codes "the line is not UTF-8")
 item_fault number too_long = fault_line number (codes "the line is too long")
 
@@ -104,6 +109,21 @@ item_fault number too_long = fault_line number (codes "the line is too long")
 abbrev pub item_faults : Faults → ℕ → List Item → List ℕ
 item_faults form number [] = []
 item_faults form number (item ∷ items) = told form (item_fault number item) ++ item_faults form (number + 1) items
+
+-- the refused lines of a piece with these items, if refused pieces go out: for each item that is not carried, the piece as it came
+-- and a newline
+abbrev pub refused_lines : Bool → List ℕ → List Item → List ℕ
+refused_lines goes_out piece items =
+    if goes_out then flat_map (λ item. if is_carried_item item then [] else piece ++ newline ∷ []) items else []
+
+-- what goes out of a piece as refused: nothing, if it is too long
+unfoldable pub refused_piece : Settings → List ℕ → List ℕ
+refused_piece s piece =
+    if is_too_long (limit_of s.limit) piece then [] else refused_lines s.puts_refused piece (items_of_piece s piece)
+
+-- what goes out of pieces as refused, in order
+abbrev pub refused_pieces : Settings → List (List ℕ) → List ℕ
+refused_pieces s pieces = flat_map (refused_piece s) pieces
 
 -- how many items are carried
 abbrev pub carried_items : List Item → ℕ

@@ -1,4 +1,4 @@
--- What a relay answers, and what it leaves in its reader and in its two writers.
+-- What a relay answers, and what it leaves in its reader and in its three writers.
 use Rattle.std.specs.Prelude.{◌≡◌, ◌≢◌, ◌⊎◌, ◌↔◌, ℕ, ◌<◌, ◌≤◌, List, [], length, Option, Some, None, Result, Err, IfOk, IfSome, true}
 use Rattle.std.specs.Prelude.{OnOk, OnErr}
 use Rattle.std.specs.List.{All}
@@ -14,50 +14,66 @@ use Rattle.lp_rebuild.specs.declared.batch.Rebuilt.{Rebuilt}
 use Rattle.lp_rebuild.specs.Rebuilding.{RebuildsIn}
 use Rattle.lp_rebuild.specs.Running.{AppendsFront, ReaderTold, WriterTold}
 use Rattle.lp_relay_core.specs.Relaying.{first_of, limit_of, items_of, items_batch, item_faults, carried_items, refused_items}
+use Rattle.lp_relay_core.specs.Relaying.{refused_pieces}
+use Rattle.lp_relay_core.specs.Writers.{Known, Writers, bytes_of}
 use Rattle.lp_relay_core.specs.LineFaults.{line_faults}
 use Rattle.lp_relay_core.specs.declared.taking.Lines.TheVariants as going
 use Rattle.lp_relay_core.specs.declared.taking.Numbering.{Numbering}
 use Rattle.lp_relay_core.specs.declared.taking.Numbering.TheVariants as named
 use Rattle.lp_relay_core.specs.declared.taking.Settings.{Settings}
-use Rattle.lp_relay_core.specs.declared.telling.Faults.TheVariants.{Raw}
+use Rattle.lp_relay_core.specs.declared.telling.Faults.{Faults}
+use Rattle.lp_relay_core.specs.declared.telling.Faults.TheVariants.{Raw, OneLine, Json}
+use Rattle.lp_relay_core.specs.Objects.{fault_objects}
 
 -- the fault lines of the items of pieces that are not carried, by what they name, from this number on
 abbrev pub named_faults : Numbering → Settings → List (List ℕ) → List ℕ
 named_faults named.Items s pieces = item_faults s.faults (first_of s.first) (items_of s pieces)
 named_faults named.Lines s pieces = line_faults s (first_of s.first) pieces
 
--- the first writer gained the batch of the items of these bytes and the second one their faults, and these are their counts
-pub record RelaysAll (s : Settings) (bytes : List ℕ) (counts : Relayed)
-    (out out_after err err_after : Option (List ℕ)) : Type 0 where
+-- the number of the first item, if this is the number of what fault lines name first
+abbrev pub first_item : Numbering → ℕ → ℕ
+first_item named.Items first = first_of first
+first_item named.Lines first = 1
+
+-- what is told of the items of pieces that are not carried: their fault lines, or their objects
+abbrev pub told_faults : Faults → Settings → List (List ℕ) → List ℕ
+told_faults Raw s pieces = named_faults s.numbering s pieces
+told_faults OneLine s pieces = named_faults s.numbering s pieces
+told_faults (Json first_line) s pieces = fault_objects s (first_item s.numbering s.first) (first_of first_line) pieces
+
+-- the first writer gained the batch of the items of these bytes, the second one their faults, and the third one the refused
+-- pieces, if these go out, and these are their counts
+pub record RelaysAll (s : Settings) (bytes : List ℕ) (counts : Relayed) (before after : Known) : Type 0 where
   pub pieces : List (List ℕ)
   pub are : Pieces (rules_of s.dialect) bytes pieces
-  pub batch : Appends out out_after (items_batch (items_of s pieces))
-  pub faults : Appends err err_after (named_faults s.numbering s pieces)
+  pub batch : Appends before.out after.out (items_batch (items_of s pieces))
+  pub faults : Appends before.err after.err (told_faults s.faults s pieces)
+  pub put : Appends before.refused after.refused (refused_pieces s pieces)
   pub carried : counts.carried ≡ carried_items (items_of s pieces)
   pub refused : counts.refused ≡ refused_items (items_of s pieces)
 
--- the first writer gained a front of the batch of the items of these bytes, and the second one a front of their faults
-pub record RelaysFronts (s : Settings) (bytes : List ℕ)
-    (out out_after err err_after : Option (List ℕ)) : Type 0 where
+-- the first writer gained a front of the batch of the items of these bytes, the second one a front of their faults, and the third
+-- one a front of the refused pieces
+pub record RelaysFronts (s : Settings) (bytes : List ℕ) (before after : Known) : Type 0 where
   pub pieces : List (List ℕ)
   pub are : Pieces (rules_of s.dialect) bytes pieces
-  pub batch : AppendsFront out out_after (items_batch (items_of s pieces))
-  pub faults : AppendsFront err err_after (named_faults s.numbering s pieces)
+  pub batch : AppendsFront before.out after.out (items_batch (items_of s pieces))
+  pub faults : AppendsFront before.err after.err (told_faults s.faults s pieces)
+  pub put : AppendsFront before.refused after.refused (refused_pieces s pieces)
 
 -- the first writer gained the batch of a rebuild, and these are its counts; if fault lines name items from 1 on, and are told as
 -- they are, the second writer gained its faults
-pub record RelaysRebuilt (s : Settings) (r : Rebuilt) (counts : Relayed) (out out_after err err_after : Option (List ℕ))
-    : Type 0 where
-  pub batch : Appends out out_after r.batch.items
-  pub faults : s.numbering ≡ named.Items → first_of s.first ≡ 1 → s.faults ≡ Raw → Appends err err_after r.faults.items
+pub record RelaysRebuilt (s : Settings) (r : Rebuilt) (counts : Relayed) (before after : Known) : Type 0 where
+  pub batch : Appends before.out after.out r.batch.items
+  pub faults : s.numbering ≡ named.Items → first_of s.first ≡ 1 → s.faults ≡ Raw → Appends before.err after.err r.faults.items
   pub carried : counts.carried ≡ r.carried
   pub refused : counts.refused ≡ r.refused
 
 -- the first writer gained a front of the batch of a rebuild, and if fault lines name items from 1 on, and are told as they are, the
 -- second one a front of its faults
-abbrev pub RelaysRebuiltFronts : Settings → Rebuilt → (out out_after err err_after : Option (List ℕ)) → Type 0
-RelaysRebuiltFronts s r out out_after err err_after =
-    AppendsFront out out_after r.batch.items × (s.numbering ≡ named.Items → first_of s.first ≡ 1 → s.faults ≡ Raw → AppendsFront err err_after r.faults.items)
+abbrev pub RelaysRebuiltFronts : Settings → Rebuilt → (before after : Known) → Type 0
+RelaysRebuiltFronts s r before after = AppendsFront before.out after.out r.batch.items
+    × (s.numbering ≡ named.Items → first_of s.first ≡ 1 → s.faults ≡ Raw → AppendsFront before.err after.err r.faults.items)
 
 -- no piece of a text has more bytes than this
 abbrev pub HasShortPieces : Dialect → ℕ → List ℕ → Type 0
@@ -69,29 +85,31 @@ IfRebuilt dialect None text P = IsUtf8 text → (r : Rebuilt) → RebuildsIn dia
 IfRebuilt dialect (Some limit) text P =
     IsUtf8 text → HasShortPieces dialect limit text → (r : Rebuilt) → RebuildsIn dialect text r → P r
 
--- a relay by its settings: what it answers, and what it leaves in its reader and in its two writers
-pub record Relays (s : Settings) (result : Result Relayed RunFault)
-    (reader reader_after : ReaderTold) (out out_after err err_after : WriterTold) : Type 0 where
+-- a relay by its settings: what it answers, and what it leaves in its reader and in its three writers
+pub record Relays (s : Settings) (result : Result Relayed RunFault) (reader reader_after : ReaderTold)
+    (before after : Writers WriterTold) : Type 0 where
   -- all was read, and the items of it were written
   pub all : IfOk result (λ counts. IfSome reader.bytes (λ bs.
-      (reader_after.bytes ≡ Some []) × RelaysAll s bs counts out.bytes out_after.bytes err.bytes err_after.bytes))
+      (reader_after.bytes ≡ Some []) × RelaysAll s bs counts (bytes_of before) (bytes_of after)))
   -- all that was written to each writer was flushed
-  pub flushed : OnOk result ((out_after.is_flushed ≡ true) × (err_after.is_flushed ≡ true))
+  pub flushed : OnOk result
+      ((after.out.is_flushed ≡ true) × (after.err.is_flushed ≡ true) × (after.refused.is_flushed ≡ true))
   -- after a fault, each writer has a front of what was meant for it
-  pub part : OnErr result (IfSome reader.bytes (λ bs.
-      RelaysFronts s bs out.bytes out_after.bytes err.bytes err_after.bytes))
+  pub part : OnErr result (IfSome reader.bytes (λ bs. RelaysFronts s bs (bytes_of before) (bytes_of after)))
   -- if lines are written again, all that was read is UTF-8, and none of it too long, that is what a rebuild of it gives, but for
   -- fault lines that name lines, or items from another number than 1 on, or are told on one line
   pub rebuilt : s.lines ≡ going.Rebuilt → IfOk result (λ counts. IfSome reader.bytes (λ bs.
-      IfRebuilt (rules_of s.dialect) (limit_of s.limit) bs (λ r. RelaysRebuilt s r counts out.bytes out_after.bytes err.bytes err_after.bytes)))
+      IfRebuilt (rules_of s.dialect) (limit_of s.limit) bs (λ r. RelaysRebuilt s r counts (bytes_of before) (bytes_of after))))
   -- after a fault, a front of that
   pub rebuilt_part : s.lines ≡ going.Rebuilt → OnErr result (IfSome reader.bytes (λ bs.
-      IfRebuilt (rules_of s.dialect) (limit_of s.limit) bs (λ r. RelaysRebuiltFronts s r out.bytes out_after.bytes err.bytes err_after.bytes)))
+      IfRebuilt (rules_of s.dialect) (limit_of s.limit) bs (λ r. RelaysRebuiltFronts s r (bytes_of before) (bytes_of after))))
   -- `Read` is answered exactly if the reader failed
   pub read : (result ≡ Err Read) ↔ (reader.failures < reader_after.failures)
   -- `Write` is answered exactly if a writer failed
-  pub write : (result ≡ Err Write) ↔ ((out.failures < out_after.failures) ⊎ (err.failures < err_after.failures))
+  pub write : (result ≡ Err Write) ↔ ((before.out.failures < after.out.failures)
+      ⊎ ((before.err.failures < after.err.failures) ⊎ (before.refused.failures < after.refused.failures)))
   -- `NotUtf8` is never answered
   pub utf8 : result ≢ Err NotUtf8
   -- no count of failures falls, so one that has not risen is as before
-  pub counts : (out.failures ≤ out_after.failures) × (err.failures ≤ err_after.failures)
+  pub counts : (before.out.failures ≤ after.out.failures) × (before.err.failures ≤ after.err.failures)
+      × (before.refused.failures ≤ after.refused.failures)

@@ -3,7 +3,7 @@ use Rattle.std.specs.Prelude.{ℕ, ◌+◌, ◌/◌, ◌%◌, ◌==◌, ◌&&◌
 use Rattle.std.specs.List.{flat_map}
 use Rattle.influxdb_line_protocol.specs.format.Bytes.{tab, newline, backslash}
 use Rattle.lp_relay_core.specs.declared.telling.Faults.{Faults}
-use Rattle.lp_relay_core.specs.declared.telling.Faults.TheVariants.{Raw, OneLine}
+use Rattle.lp_relay_core.specs.declared.telling.Faults.TheVariants.{Raw, OneLine, Json}
 
 -- the hexadecimal digit of a number below 16
 abbrev pub hex_digit : ℕ → ℕ
@@ -28,8 +28,9 @@ cut_mark len = codes ".. [" ++ decimal len ++ codes " bytes]"
 abbrev pub on_one_line : List ℕ → List ℕ
 on_one_line text = flat_map told_byte (take 200 text) ++ (if nat_lt 200 (length text) then cut_mark (length text) else [])
 
--- a fault line as it is told; its last byte is its newline
+-- a fault line as it is told; its last byte is its newline. By `Json` none is told, but an object for its item
 abbrev pub told : Faults → List ℕ → List ℕ
 told Raw line = line
+told (Json first_line) line = []
 told OneLine [] = []
 told OneLine (b ∷ bytes) = on_one_line (take (length bytes) (b ∷ bytes)) ++ newline ∷ []

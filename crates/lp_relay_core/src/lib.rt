@@ -1,4 +1,4 @@
-//! Relays lines from a reader to two writers as they come, and tells where a text can be cut, so that its parts can be relayed
+//! Relays lines from a reader to three writers as they come, and tells where a text can be cut, so that its parts can be relayed
 //! or rebuilt apart.
 //!
 //! [`relay`] holds a line of its input and a block. By its [`Settings`] it passes over lines that are too long, lets lines out as
@@ -10,12 +10,18 @@
 
 mod cuts;
 mod differing;
+mod nowhere;
+mod objects;
 mod relaying;
 mod taking;
 mod telling;
+mod texts;
 mod verdict;
 
 pub use cuts::part_ends;
+pub use nowhere::Nowhere;
+pub use objects::put_json_text;
 pub use relaying::{Relayed, relay};
-pub use taking::{Lines, Numbering, Settings, newlines_in};
-pub use telling::Faults;
+pub use taking::{Lines, Numbering, Settings};
+pub use telling::{Faults, tell_bytes};
+pub use texts::newlines_in;

@@ -1,19 +1,19 @@
-//! From a reader to two writers, line by line as they come.
+//! From a reader to three writers, line by line as they come.
 ghost use Rattle.std.specs.Prelude.{◌≡◌, ◌≢◌, ◌+◌, ◌<◌, ◌≤◌, ◌++◌, ◌∷◌, List, [], ℕ, drop, length, take, true, IfOk, IfSome, OnOk, OnErr};
 ghost use Rattle.std.specs.List.{All};
 ghost use Rattle.influxdb_line_protocol.specs.format.Bytes.{newline};
 ghost use Rattle.influxdb_line_protocol.specs.code.Bounded.{Holds, KeepsRules};
 ghost use Rattle.influxdb_line_protocol.specs.code.Rules.{rules_of};
 ghost use Rattle.influxdb_line_protocol.specs.format.Pieces.{IsLastPiece};
-ghost use Rattle.lp_relay_core.specs.Relaying.{items_of_piece, limit_of};
-ghost use Rattle.lp_relay_core.specs.RelaySteps.{CountsWriteFault, HoldsLess, HoldsNone, RelaysAllPieces, RelaysBegun};
-ghost use Rattle.lp_relay_core.specs.RelaySteps.{RelaysItems, RelaysPart, RelaysSome, RelaysTo, faults_next, made};
+ghost use Rattle.lp_relay_core.specs.RelaySteps.{CountsWriteFault, HoldsLess, HoldsNone, RelaysAllPieces, RelaysBegun, RelaysItems};
+ghost use Rattle.lp_relay_core.specs.RelaySteps.{RelaysLast, RelaysLastPart, RelaysPart, RelaysSome, RelaysTo, unwritten_of};
 ghost use Rattle.lp_relay_core.specs.Relays.{Relays};
+ghost use Rattle.lp_relay_core.specs.Writers.{of_writers};
 ghost use Rattle.lp_rebuild.specs.Running.{reader_told, writer_told};
 
-use crate::taking::{Settings, items_before, nothing_made, take_piece, take_text_piece, text_of};
+use crate::taking::{Pending, Settings, items_before, nothing_made, take_piece, take_text_piece};
+use crate::texts::text_of;
 use influxdb_line_protocol::{BoundedLineStream, ParsedLine, laws, split_lines_in};
-use lp_rebuild::batch::Progress;
 use lp_rebuild::program::{BLOCK, read_block, write_bytes};
 use lp_rebuild::{RunFault, Sink, Source};
 use memchr::{memchr, memrchr};
@@ -29,103 +29,136 @@ pub struct Relayed {
 }
 
 // Writes all that is held.
-fn pour<W: Sink, E: Sink>(so_far: &mut Progress, out: &mut W, err: &mut E) -> Result<(), RunFault>
-    ensures line { so_far.new.line ≡ so_far.old.line }
-    ensures ok { OnOk result (RelaysItems (made so_far.old) (made so_far.new)
-        (W.bytes out.old) (W.bytes out.new) (E.bytes err.old) (E.bytes err.new) [] []) }
-    ensures none { OnOk result (HoldsNone so_far.new) }
-    ensures part { OnErr result (RelaysPart (made so_far.old)
-        (W.bytes out.old) (W.bytes out.new) (E.bytes err.old) (E.bytes err.new) [] []) }
+fn pour<W: Sink, E: Sink, P: Sink>(
+    pending: &mut Pending,
+    out: &mut W,
+    err: &mut E,
+    refused: &mut P,
+) -> Result<(), RunFault>
+    ensures line { pending.new.so_far.line ≡ pending.old.so_far.line }
+    ensures ok { OnOk result (RelaysItems (unwritten_of pending.old) (unwritten_of pending.new)
+        (of_writers (W.bytes out.old) (E.bytes err.old) (P.bytes refused.old))
+        (of_writers (W.bytes out.new) (E.bytes err.new) (P.bytes refused.new)) [] [] []) }
+    ensures none { OnOk result (HoldsNone pending.new) }
+    ensures part { OnErr result (RelaysPart (unwritten_of pending.old)
+        (of_writers (W.bytes out.old) (E.bytes err.old) (P.bytes refused.old))
+        (of_writers (W.bytes out.new) (E.bytes err.new) (P.bytes refused.new)) [] [] []) }
     ensures counts { CountsWriteFault result
-        (W.failures out.old) (W.failures out.new) (E.failures err.old) (E.failures err.new) }
+        (of_writers (W.failures out.old) (E.failures err.old) (P.failures refused.old))
+        (of_writers (W.failures out.new) (E.failures err.new) (P.failures refused.new)) }
 {
-    if write_bytes(out, so_far.batch.as_slice()).is_err() {
+    if write_bytes(out, pending.so_far.batch.as_slice()).is_err() {
         return Err(RunFault::Write);
     }
-    so_far.batch.clear();
-    if write_bytes(err, so_far.faults.as_bytes()).is_err() {
+    pending.so_far.batch.clear();
+    if write_bytes(err, pending.so_far.faults.as_bytes()).is_err() {
         return Err(RunFault::Write);
     }
-    so_far.faults.clear();
+    pending.so_far.faults.clear();
+    if write_bytes(refused, pending.pieces.as_slice()).is_err() {
+        return Err(RunFault::Write);
+    }
+    pending.pieces.clear();
     Ok(())
 }
 
 // Writes all that is held, if it fills a block.
-fn pour_full<W: Sink, E: Sink>(
-    so_far: &mut Progress,
+fn pour_full<W: Sink, E: Sink, P: Sink>(
+    pending: &mut Pending,
     out: &mut W,
     err: &mut E,
+    refused: &mut P,
 ) -> Result<(), RunFault>
-    ensures line { so_far.new.line ≡ so_far.old.line }
-    ensures ok { OnOk result (RelaysItems (made so_far.old) (made so_far.new)
-        (W.bytes out.old) (W.bytes out.new) (E.bytes err.old) (E.bytes err.new) [] []) }
-    ensures held { OnOk result (HoldsLess BLOCK so_far.new) }
-    ensures part { OnErr result (RelaysPart (made so_far.old)
-        (W.bytes out.old) (W.bytes out.new) (E.bytes err.old) (E.bytes err.new) [] []) }
+    ensures line { pending.new.so_far.line ≡ pending.old.so_far.line }
+    ensures ok { OnOk result (RelaysItems (unwritten_of pending.old) (unwritten_of pending.new)
+        (of_writers (W.bytes out.old) (E.bytes err.old) (P.bytes refused.old))
+        (of_writers (W.bytes out.new) (E.bytes err.new) (P.bytes refused.new)) [] [] []) }
+    ensures held { OnOk result (HoldsLess BLOCK pending.new) }
+    ensures part { OnErr result (RelaysPart (unwritten_of pending.old)
+        (of_writers (W.bytes out.old) (E.bytes err.old) (P.bytes refused.old))
+        (of_writers (W.bytes out.new) (E.bytes err.new) (P.bytes refused.new)) [] [] []) }
     ensures counts { CountsWriteFault result
-        (W.failures out.old) (W.failures out.new) (E.failures err.old) (E.failures err.new) }
+        (of_writers (W.failures out.old) (E.failures err.old) (P.failures refused.old))
+        (of_writers (W.failures out.new) (E.failures err.new) (P.failures refused.new)) }
 {
-    if so_far.batch.len() < BLOCK && so_far.faults.len() < BLOCK {
+    if pending.so_far.batch.len() < BLOCK
+        && pending.so_far.faults.len() < BLOCK
+        && pending.pieces.len() < BLOCK
+    {
         return Ok(());
     }
-    pour(so_far, out, err)
+    pour(pending, out, err, refused)
 }
 
 // Writes all that is held, and flushes.
-fn pour_and_flush<W: Sink, E: Sink>(
-    so_far: &mut Progress,
+fn pour_and_flush<W: Sink, E: Sink, P: Sink>(
+    pending: &mut Pending,
     out: &mut W,
     err: &mut E,
+    refused: &mut P,
 ) -> Result<(), RunFault>
-    ensures line { so_far.new.line ≡ so_far.old.line }
-    ensures ok { OnOk result (RelaysItems (made so_far.old) (made so_far.new)
-        (W.bytes out.old) (W.bytes out.new) (E.bytes err.old) (E.bytes err.new) [] []) }
-    ensures none { OnOk result (HoldsNone so_far.new) }
-    ensures part { OnErr result (RelaysPart (made so_far.old)
-        (W.bytes out.old) (W.bytes out.new) (E.bytes err.old) (E.bytes err.new) [] []) }
+    ensures line { pending.new.so_far.line ≡ pending.old.so_far.line }
+    ensures ok { OnOk result (RelaysItems (unwritten_of pending.old) (unwritten_of pending.new)
+        (of_writers (W.bytes out.old) (E.bytes err.old) (P.bytes refused.old))
+        (of_writers (W.bytes out.new) (E.bytes err.new) (P.bytes refused.new)) [] [] []) }
+    ensures none { OnOk result (HoldsNone pending.new) }
+    ensures part { OnErr result (RelaysPart (unwritten_of pending.old)
+        (of_writers (W.bytes out.old) (E.bytes err.old) (P.bytes refused.old))
+        (of_writers (W.bytes out.new) (E.bytes err.new) (P.bytes refused.new)) [] [] []) }
     ensures counts { CountsWriteFault result
-        (W.failures out.old) (W.failures out.new) (E.failures err.old) (E.failures err.new) }
-    ensures flushed { OnOk result ((W.is_flushed out.new ≡ true) × (E.is_flushed err.new ≡ true)) }
+        (of_writers (W.failures out.old) (E.failures err.old) (P.failures refused.old))
+        (of_writers (W.failures out.new) (E.failures err.new) (P.failures refused.new)) }
+    ensures flushed { OnOk result ((W.is_flushed out.new ≡ true) × (E.is_flushed err.new ≡ true) × (P.is_flushed refused.new ≡ true)) }
 {
-    pour(so_far, out, err)?;
-    if out.flush().is_err() || err.flush().is_err() {
+    pour(pending, out, err, refused)?;
+    if out.flush().is_err() {
+        return Err(RunFault::Write);
+    }
+    if err.flush().is_err() {
+        return Err(RunFault::Write);
+    }
+    if refused.flush().is_err() {
         return Err(RunFault::Write);
     }
     Ok(())
 }
 
 // Takes each piece that the stream can give.
-fn relay_pieces<W: Sink, E: Sink>(
+fn relay_pieces<W: Sink, E: Sink, P: Sink>(
     alloc: Global,
     settings: Settings,
     stream: &mut BoundedLineStream,
-    so_far: &mut Progress,
+    pending: &mut Pending,
     out: &mut W,
     err: &mut E,
+    refused: &mut P,
 ) -> Result<(), RunFault>
     requires dialect { stream.old.held.dialect ≡ rules_of settings.dialect }
     requires limit { stream.old.limit ≡ settings.limit }
     requires holds { (text : List ℕ) × Holds stream.old text }
-    requires fits { so_far.old.carried + so_far.old.refused ≤ usize.MAX }
-    requires few { HoldsLess BLOCK so_far.old }
+    requires fits { pending.old.so_far.carried + pending.old.so_far.refused ≤ usize.MAX }
+    requires few { HoldsLess BLOCK pending.old }
     ensures rules { OnOk result (KeepsRules stream.old stream.new) }
     ensures ok { OnOk result ((text : List ℕ) → Holds stream.old text
         → RelaysAllPieces settings text stream.new
-        (made so_far.old) (made so_far.new)
-        (W.bytes out.old) (W.bytes out.new) (E.bytes err.old) (E.bytes err.new)) }
-    ensures held { OnOk result (HoldsLess BLOCK so_far.new) }
-    ensures fits { OnOk result (so_far.new.carried + so_far.new.refused ≤ usize.MAX) }
+        (unwritten_of pending.old) (unwritten_of pending.new)
+        (of_writers (W.bytes out.old) (E.bytes err.old) (P.bytes refused.old))
+        (of_writers (W.bytes out.new) (E.bytes err.new) (P.bytes refused.new))) }
+    ensures held { OnOk result (HoldsLess BLOCK pending.new) }
+    ensures fits { OnOk result (pending.new.so_far.carried + pending.new.so_far.refused ≤ usize.MAX) }
     ensures part { OnErr result ((text : List ℕ) → Holds stream.old text
-        → RelaysSome settings text (made so_far.old)
-        (W.bytes out.old) (W.bytes out.new) (E.bytes err.old) (E.bytes err.new)) }
+        → RelaysSome settings text (unwritten_of pending.old)
+        (of_writers (W.bytes out.old) (E.bytes err.old) (P.bytes refused.old))
+        (of_writers (W.bytes out.new) (E.bytes err.new) (P.bytes refused.new))) }
     ensures counts { CountsWriteFault result
-        (W.failures out.old) (W.failures out.new) (E.failures err.old) (E.failures err.new) }
+        (of_writers (W.failures out.old) (E.failures err.old) (P.failures refused.old))
+        (of_writers (W.failures out.new) (E.failures err.new) (P.failures refused.new)) }
 {
     while let Some(piece) = stream.next() {
-        if take_piece(alloc, settings, so_far, piece).is_err() {
+        if take_piece(alloc, settings, pending, piece).is_err() {
             return Err(RunFault::OutOfMemory);
         }
-        pour_full(so_far, out, err)?;
+        pour_full(pending, out, err, refused)?;
     }
     Ok(())
 }
@@ -141,26 +174,30 @@ fn whole_lines(bytes: &[u8]) -> &str
 }
 
 // Takes the whole lines at the start of bytes as a rebuild does, up to one that is too long. Gives how many bytes were taken.
-fn relay_lines<W: Sink, E: Sink>(
+fn relay_lines<W: Sink, E: Sink, P: Sink>(
     alloc: Global,
     settings: Settings,
-    progress: &mut Progress,
+    progress: &mut Pending,
     bytes: &[u8],
     out: &mut W,
     err: &mut E,
+    refused: &mut P,
 ) -> Result<usize, RunFault>
-    requires fits { progress.old.carried + progress.old.refused ≤ usize.MAX }
+    requires fits { progress.old.so_far.carried + progress.old.so_far.refused ≤ usize.MAX }
     requires few { HoldsLess BLOCK progress.old }
     ensures within { IfOk result (λ taken. taken ≤ length bytes.now) }
     ensures ok { IfOk result (λ taken. RelaysTo settings bytes.now (drop taken bytes.now)
-        (made progress.old) (made progress.new)
-        (W.bytes out.old) (W.bytes out.new) (E.bytes err.old) (E.bytes err.new)) }
+        (unwritten_of progress.old) (unwritten_of progress.new)
+        (of_writers (W.bytes out.old) (E.bytes err.old) (P.bytes refused.old))
+        (of_writers (W.bytes out.new) (E.bytes err.new) (P.bytes refused.new))) }
     ensures held { OnOk result (HoldsLess BLOCK progress.new) }
-    ensures fits { OnOk result (progress.new.carried + progress.new.refused ≤ usize.MAX) }
-    ensures part { OnErr result (RelaysSome settings bytes.now (made progress.old)
-        (W.bytes out.old) (W.bytes out.new) (E.bytes err.old) (E.bytes err.new)) }
+    ensures fits { OnOk result (progress.new.so_far.carried + progress.new.so_far.refused ≤ usize.MAX) }
+    ensures part { OnErr result (RelaysSome settings bytes.now (unwritten_of progress.old)
+        (of_writers (W.bytes out.old) (E.bytes err.old) (P.bytes refused.old))
+        (of_writers (W.bytes out.new) (E.bytes err.new) (P.bytes refused.new))) }
     ensures counts { CountsWriteFault result
-        (W.failures out.old) (W.failures out.new) (E.failures err.old) (E.failures err.new) }
+        (of_writers (W.failures out.old) (E.failures err.old) (P.failures refused.old))
+        (of_writers (W.failures out.new) (E.failures err.new) (P.failures refused.new)) }
 {
     laws::pieces_join();
     let mut lines = split_lines_in(settings.dialect, whole_lines(bytes));
@@ -175,7 +212,7 @@ fn relay_lines<W: Sink, E: Sink>(
         if take_text_piece(alloc, settings, progress, piece, &mut line, &mut spare).is_err() {
             return Err(RunFault::OutOfMemory);
         }
-        pour_full(progress, out, err)?;
+        pour_full(progress, out, err, refused)?;
         taken += piece.len() + 1;
     }
     Ok(taken)
@@ -191,31 +228,36 @@ fn first_newline(bytes: &[u8]) -> Option<usize>
 
 // Takes the line that ends in a part, if its first newline ends it, and the whole lines after it, which the stream is not
 // given. Gives how many bytes of the part were taken, or given to the stream.
-fn relay_begun<W: Sink, E: Sink>(
+fn relay_begun<W: Sink, E: Sink, P: Sink>(
     alloc: Global,
     settings: Settings,
     stream: &mut BoundedLineStream,
-    so_far: &mut Progress,
+    pending: &mut Pending,
     part: &[u8],
     out: &mut W,
     err: &mut E,
+    refused: &mut P,
 ) -> Result<usize, RunFault>
     requires dialect { stream.old.held.dialect ≡ rules_of settings.dialect }
     requires limit { stream.old.limit ≡ settings.limit }
-    requires fits { so_far.old.carried + so_far.old.refused ≤ usize.MAX }
-    requires few { HoldsLess BLOCK so_far.old }
+    requires fits { pending.old.so_far.carried + pending.old.so_far.refused ≤ usize.MAX }
+    requires few { HoldsLess BLOCK pending.old }
     ensures within { IfOk result (λ given. given ≤ length part.now) }
     ensures rules { OnOk result (KeepsRules stream.old stream.new) }
     ensures ok { IfOk result (λ given. (text : List ℕ) → Holds stream.old text → IsLastPiece (rules_of settings.dialect) text
         → RelaysBegun settings text part.now given stream.new
-        (made so_far.old) (made so_far.new) (W.bytes out.old) (W.bytes out.new) (E.bytes err.old) (E.bytes err.new)) }
-    ensures held { OnOk result (HoldsLess BLOCK so_far.new) }
-    ensures fits { OnOk result (so_far.new.carried + so_far.new.refused ≤ usize.MAX) }
+        (unwritten_of pending.old) (unwritten_of pending.new)
+        (of_writers (W.bytes out.old) (E.bytes err.old) (P.bytes refused.old))
+        (of_writers (W.bytes out.new) (E.bytes err.new) (P.bytes refused.new))) }
+    ensures held { OnOk result (HoldsLess BLOCK pending.new) }
+    ensures fits { OnOk result (pending.new.so_far.carried + pending.new.so_far.refused ≤ usize.MAX) }
     ensures part { OnErr result ((text : List ℕ) → Holds stream.old text → IsLastPiece (rules_of settings.dialect) text
-        → RelaysSome settings (text ++ part.now) (made so_far.old)
-        (W.bytes out.old) (W.bytes out.new) (E.bytes err.old) (E.bytes err.new)) }
+        → RelaysSome settings (text ++ part.now) (unwritten_of pending.old)
+        (of_writers (W.bytes out.old) (E.bytes err.old) (P.bytes refused.old))
+        (of_writers (W.bytes out.new) (E.bytes err.new) (P.bytes refused.new))) }
     ensures counts { CountsWriteFault result
-        (W.failures out.old) (W.failures out.new) (E.failures err.old) (E.failures err.new) }
+        (of_writers (W.failures out.old) (E.failures err.old) (P.failures refused.old))
+        (of_writers (W.failures out.new) (E.failures err.new) (P.failures refused.new)) }
 {
     laws::pieces_join();
     let Some(at) = first_newline(part) else {
@@ -228,90 +270,97 @@ fn relay_begun<W: Sink, E: Sink>(
     let Some(piece) = stream.next() else {
         return Ok(end);
     };
-    if take_piece(alloc, settings, so_far, piece).is_err() {
+    if take_piece(alloc, settings, pending, piece).is_err() {
         return Err(RunFault::OutOfMemory);
     }
-    pour_full(so_far, out, err)?;
-    let taken = relay_lines(alloc, settings, so_far, &part[end..], out, err)?;
+    pour_full(pending, out, err, refused)?;
+    let taken = relay_lines(alloc, settings, pending, &part[end..], out, err, refused)?;
     Ok(end + taken)
 }
 
 // Takes a part of the text, and each piece that is there then. All that these make is written and flushed.
-fn relay_part<W: Sink, E: Sink>(
+fn relay_part<W: Sink, E: Sink, P: Sink>(
     alloc: Global,
     settings: Settings,
     stream: &mut BoundedLineStream,
-    so_far: &mut Progress,
+    pending: &mut Pending,
     part: &[u8],
     out: &mut W,
     err: &mut E,
+    refused: &mut P,
 ) -> Result<(), RunFault>
     requires dialect { stream.old.held.dialect ≡ rules_of settings.dialect }
     requires limit { stream.old.limit ≡ settings.limit }
     requires holds { (text : List ℕ) × Holds stream.old text × IsLastPiece (rules_of settings.dialect) text }
-    requires fits { so_far.old.carried + so_far.old.refused ≤ usize.MAX }
-    requires empty { HoldsNone so_far.old }
+    requires fits { pending.old.so_far.carried + pending.old.so_far.refused ≤ usize.MAX }
+    requires empty { HoldsNone pending.old }
     requires block { length part.now ≤ BLOCK }
     ensures rules { OnOk result (KeepsRules stream.old stream.new) }
     ensures ok { OnOk result ((text : List ℕ) → Holds stream.old text → IsLastPiece (rules_of settings.dialect) text
         → RelaysAllPieces settings (text ++ part.now) stream.new
-        (made so_far.old) (made so_far.new)
-        (W.bytes out.old) (W.bytes out.new) (E.bytes err.old) (E.bytes err.new)) }
-    ensures none { OnOk result (HoldsNone so_far.new) }
-    ensures fits { OnOk result (so_far.new.carried + so_far.new.refused ≤ usize.MAX) }
+        (unwritten_of pending.old) (unwritten_of pending.new)
+        (of_writers (W.bytes out.old) (E.bytes err.old) (P.bytes refused.old))
+        (of_writers (W.bytes out.new) (E.bytes err.new) (P.bytes refused.new))) }
+    ensures none { OnOk result (HoldsNone pending.new) }
+    ensures fits { OnOk result (pending.new.so_far.carried + pending.new.so_far.refused ≤ usize.MAX) }
     ensures part { OnErr result ((text : List ℕ) → Holds stream.old text → IsLastPiece (rules_of settings.dialect) text
-        → RelaysSome settings (text ++ part.now) (made so_far.old)
-        (W.bytes out.old) (W.bytes out.new) (E.bytes err.old) (E.bytes err.new)) }
+        → RelaysSome settings (text ++ part.now) (unwritten_of pending.old)
+        (of_writers (W.bytes out.old) (E.bytes err.old) (P.bytes refused.old))
+        (of_writers (W.bytes out.new) (E.bytes err.new) (P.bytes refused.new))) }
     ensures counts { CountsWriteFault result
-        (W.failures out.old) (W.failures out.new) (E.failures err.old) (E.failures err.new) }
-    ensures flushed { OnOk result ((W.is_flushed out.new ≡ true) × (E.is_flushed err.new ≡ true)) }
+        (of_writers (W.failures out.old) (E.failures err.old) (P.failures refused.old))
+        (of_writers (W.failures out.new) (E.failures err.new) (P.failures refused.new)) }
+    ensures flushed { OnOk result ((W.is_flushed out.new ≡ true) × (E.is_flushed err.new ≡ true) × (P.is_flushed refused.new ≡ true)) }
 {
-    let given = relay_begun(alloc, settings, stream, so_far, part, out, err)?;
+    let given = relay_begun(alloc, settings, stream, pending, part, out, err, refused)?;
     if stream.push(&part[given..]).is_err() {
         return Err(RunFault::OutOfMemory);
     }
-    relay_pieces(alloc, settings, stream, so_far, out, err)?;
-    pour_and_flush(so_far, out, err)
+    relay_pieces(alloc, settings, stream, pending, out, err, refused)?;
+    pour_and_flush(pending, out, err, refused)
 }
 
 // Takes the last piece, writes all that is held, and flushes.
-fn finish<W: Sink, E: Sink>(
+fn finish<W: Sink, E: Sink, P: Sink>(
     alloc: Global,
     settings: Settings,
     stream: &mut BoundedLineStream,
-    so_far: &mut Progress,
+    pending: &mut Pending,
     out: &mut W,
     err: &mut E,
+    refused: &mut P,
 ) -> Result<(), RunFault>
     requires dialect { stream.old.held.dialect ≡ rules_of settings.dialect }
     requires limit { stream.old.limit ≡ settings.limit }
     requires holds { (text : List ℕ) × Holds stream.old text × IsLastPiece (rules_of settings.dialect) text }
-    requires fits { so_far.old.carried + so_far.old.refused ≤ usize.MAX }
-    requires empty { HoldsNone so_far.old }
+    requires fits { pending.old.so_far.carried + pending.old.so_far.refused ≤ usize.MAX }
+    requires empty { HoldsNone pending.old }
     ensures ok { OnOk result ((text : List ℕ) → Holds stream.old text → IsLastPiece (rules_of settings.dialect) text
-        → RelaysItems (made so_far.old) (made so_far.new)
-        (W.bytes out.old) (W.bytes out.new) (E.bytes err.old) (E.bytes err.new)
-        (items_of_piece settings text)
-        (faults_next settings.faults (made so_far.old) (items_of_piece settings text))) }
-    ensures none { OnOk result (HoldsNone so_far.new) }
+        → RelaysLast settings text (unwritten_of pending.old) (unwritten_of pending.new)
+        (of_writers (W.bytes out.old) (E.bytes err.old) (P.bytes refused.old))
+        (of_writers (W.bytes out.new) (E.bytes err.new) (P.bytes refused.new))) }
+    ensures none { OnOk result (HoldsNone pending.new) }
     ensures part { OnErr result ((text : List ℕ) → Holds stream.old text → IsLastPiece (rules_of settings.dialect) text
-        → RelaysPart (made so_far.old)
-        (W.bytes out.old) (W.bytes out.new) (E.bytes err.old) (E.bytes err.new)
-        (items_of_piece settings text)
-        (faults_next settings.faults (made so_far.old) (items_of_piece settings text))) }
+        → RelaysLastPart settings text (unwritten_of pending.old)
+        (of_writers (W.bytes out.old) (E.bytes err.old) (P.bytes refused.old))
+        (of_writers (W.bytes out.new) (E.bytes err.new) (P.bytes refused.new))) }
     ensures counts { CountsWriteFault result
-        (W.failures out.old) (W.failures out.new) (E.failures err.old) (E.failures err.new) }
-    ensures flushed { OnOk result ((W.is_flushed out.new ≡ true) × (E.is_flushed err.new ≡ true)) }
+        (of_writers (W.failures out.old) (E.failures err.old) (P.failures refused.old))
+        (of_writers (W.failures out.new) (E.failures err.new) (P.failures refused.new)) }
+    ensures flushed { OnOk result ((W.is_flushed out.new ≡ true) × (E.is_flushed err.new ≡ true) × (P.is_flushed refused.new ≡ true)) }
 {
-    if take_piece(alloc, settings, so_far, stream.finish()).is_err() {
+    if take_piece(alloc, settings, pending, stream.finish()).is_err() {
         return Err(RunFault::OutOfMemory);
     }
-    pour_and_flush(so_far, out, err)
+    pour_and_flush(pending, out, err, refused)
 }
 
 /// Relays the lines that `reader` gives, as they come: each that [`rebuild`](lp_rebuild::rebuild) would write again goes to
 /// `out`, and the fault of every other item to `err`, with what `settings.numbering` says. By `Lines::Verbatim` each line that
 /// can be read goes to `out` as it came, also one that a rebuild would refuse for a name.
+///
+/// If `settings.puts_refused` says so, `refused` gains the piece of each item that has a fault line, byte for byte as it came,
+/// and a newline, but nothing of a piece that is too long. Else it gains nothing.
 ///
 /// What each read completes is written and flushed before the next read is asked for, and the rest at the end. What is held of
 /// the input is the line that has not ended yet and one block, and of the output less than a block and what one line makes,
@@ -327,47 +376,62 @@ fn finish<W: Sink, E: Sink>(
 ///
 /// # Errors
 ///
-/// After each of them, `out` has a beginning of the batch and `err` one of the fault lines.
+/// After each of them, `out` has a beginning of the batch, `err` one of the fault lines, and `refused` one of the refused pieces.
 ///
 /// * `Read` if `reader` failed, and only there.
 /// * `OutOfMemory` if memory was refused, or if no `usize` holds the number of the next item, how many newlines, equal signs
-///   or commas a line has that is too long, or, if fault lines name lines, the line on which the next piece would begin.
-/// * `Write` if `out` or `err` failed, and only there.
-pub fn relay<R: Source, W: Sink, E: Sink>(
+///   or commas a line has that is too long, or, if faults name lines, the line on which the next piece would begin.
+/// * `Write` if `out`, `err` or `refused` failed, and only there.
+pub fn relay<R: Source, W: Sink, E: Sink, P: Sink>(
     alloc: Global,
     settings: Settings,
     reader: &mut R,
     out: &mut W,
     err: &mut E,
+    refused: &mut P,
 ) -> Result<Relayed, RunFault>
     ensures { Relays settings result
         (reader_told R.bytes R.failures reader.old) (reader_told R.bytes R.failures reader.new)
-        (writer_told W.bytes W.failures W.is_flushed out.old) (writer_told W.bytes W.failures W.is_flushed out.new)
-        (writer_told E.bytes E.failures E.is_flushed err.old) (writer_told E.bytes E.failures E.is_flushed err.new) }
+        (of_writers (writer_told W.bytes W.failures W.is_flushed out.old) (writer_told E.bytes E.failures E.is_flushed err.old)
+        (writer_told P.bytes P.failures P.is_flushed refused.old))
+        (of_writers (writer_told W.bytes W.failures W.is_flushed out.new) (writer_told E.bytes E.failures E.is_flushed err.new)
+        (writer_told P.bytes P.failures P.is_flushed refused.new)) }
 {
     laws::pieces_join();
     laws::runs_give_pieces();
     laws::utf8_by_pieces();
     let mut stream = BoundedLineStream::new_in(alloc, settings.dialect, settings.limit);
-    let mut so_far = nothing_made(alloc, settings);
+    let mut pending = nothing_made(alloc, settings);
     let mut block = Vec::new(alloc);
     for _ in 0..u64::MAX {
         let n = read_block(reader, &mut block, 0)?;
         if n == 0 {
-            finish(alloc, settings, &mut stream, &mut so_far, out, err)?;
+            finish(
+                alloc,
+                settings,
+                &mut stream,
+                &mut pending,
+                out,
+                err,
+                refused,
+            )?;
             return Ok(Relayed {
-                carried: so_far.carried.saturating_sub(items_before(settings)),
-                refused: so_far.refused,
+                carried: pending
+                    .so_far
+                    .carried
+                    .saturating_sub(items_before(settings)),
+                refused: pending.so_far.refused,
             });
         }
         relay_part(
             alloc,
             settings,
             &mut stream,
-            &mut so_far,
+            &mut pending,
             &block[..n],
             out,
             err,
+            refused,
         )?;
     }
     Err(RunFault::OutOfMemory)

@@ -1,14 +1,17 @@
 //! What a relay takes of a piece of its input.
-ghost use Rattle.std.specs.Prelude.{◌≡◌, ◌+◌, ◌<◌, ◌≤◌, ◌∷◌, [], length, IfOk, IsUtf8, MatchResult, OnOk};
+ghost use Rattle.std.specs.Prelude.{◌≡◌, ◌+◌, ◌<◌, ◌≤◌, ◌∷◌, ◌++◌, [], false, length, string_bytes, take, IfOk, IsUtf8, MatchResult};
+ghost use Rattle.std.specs.Prelude.{Ok, OnOk};
 ghost use Rattle.influxdb_line_protocol.specs.code.Rules.{rules_of};
-ghost use Rattle.influxdb_line_protocol.specs.format.Bytes.{newlines_in};
+ghost use Rattle.influxdb_line_protocol.specs.format.Bytes.{newline, newlines_in};
 ghost use Rattle.lp_relay_core.specs.Relaying.{as_it_came, items_of_bytes};
-ghost use Rattle.lp_relay_core.specs.RelaySteps.{HoldsLess, TakesItems, items_before, items_given, made, made_of_none};
-ghost use Rattle.lp_relay_core.specs.RelaySteps.{newlines_given, line_after};
+ghost use Rattle.lp_relay_core.specs.RelaySteps.{EndsPiece, HoldsLess, Made, TakesItems, TakesGiven, TakesRaw, first_line, items_before};
+ghost use Rattle.lp_relay_core.specs.RelaySteps.{items_given, line_after, made, newlines_given, unwritten_of, unwritten_of_none};
 ghost use Rattle.lp_relay_core.specs.TakenBack.{TakesBack};
 
 use crate::differing::{Part, differing_part, part_text};
-use crate::telling::{Faults, tell};
+use crate::objects::tell_as_object;
+use crate::telling::{Faults, tell_on_one_line};
+use crate::texts::{newlines_in, text_of};
 use crate::verdict::is_line;
 use influxdb_line_protocol::{
     Dialect, EscapedStr, FieldSet, ParsedLine, PieceTooLong, Series, TagSet, is_as_written, laws,
@@ -17,9 +20,7 @@ use lp_lines::freeing::{forget_line, free_line};
 use lp_rebuild::batch::{self, Progress, refuse};
 use lp_rebuild::program::BLOCK;
 use lp_scan::trim::trimmed;
-use simdutf8::basic::{self, Utf8Error};
 use std::alloc::{AllocError, Global};
-use std::str;
 
 /// How the lines of a relay go out.
 #[derive(Clone, Copy, Debug, PartialEq, Eq)]
@@ -62,6 +63,8 @@ pub struct Settings {
     pub first: usize,
     /// How fault lines are told.
     pub faults: Faults,
+    /// Whether each piece that is refused goes out too, to a writer of its own.
+    pub puts_refused: bool,
 }
 
 impl Default for Settings {
@@ -73,6 +76,7 @@ impl Default for Settings {
           lines = Lines.Rebuilt;
           first = 1;
           faults = Faults.Raw;
+          puts_refused = false;
         } }
     {
         Settings {
@@ -82,8 +86,18 @@ impl Default for Settings {
             lines: Lines::Rebuilt,
             first: 1,
             faults: Faults::Raw,
+            puts_refused: false,
         }
     }
+}
+
+/// What a relay made and has not written yet.
+#[derive(Drop)]
+pub(crate) struct Pending {
+    /// The lines and the fault lines, with the counts of all items so far.
+    pub(crate) so_far: Progress,
+    /// The refused pieces that go out, each with a newline.
+    pub(crate) pieces: Vec<u8>,
 }
 
 // What is wrong with a piece that is no text.
@@ -102,21 +116,31 @@ pub(crate) fn items_before(settings: Settings) -> usize
     }
 }
 
-// Before the first item. It takes no memory.
-pub(crate) fn nothing_made(alloc: Global, settings: Settings) -> Progress
-    ensures made { made result ≡ made_of_none settings }
-    ensures fits { result.carried + result.refused ≤ usize.MAX }
+// The line on which the first piece begins, if lines are named.
+fn first_line(settings: Settings) -> Option<usize>
+    ensures { result ≡ first_line settings.faults settings.numbering settings.first }
 {
-    Progress {
+    match (settings.faults, settings.numbering) {
+        (Faults::Json { first_line }, _) => Some(first_line.max(1)),
+        (_, Numbering::Items) => None,
+        (_, Numbering::Lines) => Some(settings.first.max(1)),
+    }
+}
+
+// Before the first item. It takes no memory.
+pub(crate) fn nothing_made(alloc: Global, settings: Settings) -> Pending
+    ensures made { unwritten_of result ≡ unwritten_of_none settings }
+    ensures fits { result.so_far.carried + result.so_far.refused ≤ usize.MAX }
+{
+    let so_far = Progress {
         batch: Vec::new(alloc),
         faults: String::new(alloc),
         carried: items_before(settings),
         refused: 0,
-        line: match settings.numbering {
-            Numbering::Items => None,
-            Numbering::Lines => Some(settings.first.max(1)),
-        },
-    }
+        line: first_line(settings),
+    };
+    let pieces = Vec::new(alloc);
+    Pending { so_far, pieces }
 }
 
 // Takes a text that holds a line as it came.
@@ -125,6 +149,7 @@ fn take_as_it_came(so_far: &mut Progress, piece: &str) -> Result<(), AllocError>
     ensures taken { OnOk result (TakesItems Faults.Raw (made so_far.old) (as_it_came piece.now ∷ []) (made so_far.new)) }
     ensures counted { OnOk result
         (so_far.new.carried + so_far.new.refused ≡ so_far.old.carried + so_far.old.refused + 1) }
+    ensures line { so_far.new.line ≡ so_far.old.line }
 {
     so_far.batch.reserve(piece.len() + 1)?;
     so_far.batch.extend_from_slice(piece.as_bytes())?;
@@ -148,6 +173,7 @@ fn take_verbatim<'a>(
         (TakesItems Faults.Raw (made so_far.old) (items_of_bytes Lines.Verbatim (rules_of dialect) piece.now) (made so_far.new)) }
     ensures counted { OnOk result
         (so_far.new.carried + so_far.new.refused ≤ so_far.old.carried + so_far.old.refused + 1) }
+    ensures line { so_far.new.line ≡ so_far.old.line }
 {
     let text = trimmed(piece);
     if text.is_empty() {
@@ -168,7 +194,8 @@ fn take_back(
 ) -> Result<(), AllocError>
     requires some { 0 < so_far.old.carried }
     requires room { so_far.old.carried + so_far.old.refused ≤ usize.MAX }
-    ensures { OnOk result (TakesBack so_far.old start part so_far.new) }
+    ensures back { OnOk result (TakesBack so_far.old start part so_far.new) }
+    ensures line { so_far.new.line ≡ so_far.old.line }
 {
     so_far.batch.truncate(start);
     so_far.carried -= 1;
@@ -192,6 +219,7 @@ fn take_canonical<'a>(
         (TakesItems Faults.Raw (made so_far.old) (items_of_bytes Lines.Canonical (rules_of dialect) piece.now) (made so_far.new)) }
     ensures counted { OnOk result
         (so_far.new.carried + so_far.new.refused ≤ so_far.old.carried + so_far.old.refused + 1) }
+    ensures line { so_far.new.line ≡ so_far.old.line }
 {
     laws::written_lines_stay();
     let text = trimmed(piece);
@@ -226,6 +254,7 @@ fn take_text<'a>(
         (TakesItems Faults.Raw (made so_far.old) (items_of_bytes settings.lines (rules_of settings.dialect) piece.now) (made so_far.new)) }
     ensures counted { OnOk result
         (so_far.new.carried + so_far.new.refused ≤ so_far.old.carried + so_far.old.refused + 1) }
+    ensures line { so_far.new.line ≡ so_far.old.line }
 {
     match settings.lines {
         Lines::Rebuilt => batch::take_piece(alloc, settings.dialect, so_far, piece, line, spare),
@@ -247,6 +276,7 @@ fn take_alone(
         (TakesItems Faults.Raw (made so_far.old) (items_of_bytes settings.lines (rules_of settings.dialect) piece.now) (made so_far.new)) }
     ensures counted { OnOk result
         (so_far.new.carried + so_far.new.refused ≤ so_far.old.carried + so_far.old.refused + 1) }
+    ensures line { so_far.new.line ≡ so_far.old.line }
 {
     let mut line = ParsedLine {
         series: Series {
@@ -263,20 +293,6 @@ fn take_alone(
     taken
 }
 
-// From this length on `simdutf8` tests bytes. It is several times as fast as std if they are not ASCII; if they are, it
-// takes longer below this length.
-const LONG: usize = 128;
-
-// The text of bytes, if they are UTF-8.
-pub(crate) fn text_of(bytes: &[u8]) -> Result<&str, Utf8Error>
-    ensures cases { MatchResult result (λ text. (text.now ≡ bytes.now) × IsUtf8 bytes.now) (λ _. ¬ (IsUtf8 bytes.now)) }
-{
-    if bytes.len() < LONG {
-        return str::from_utf8(bytes).map_err(|_| Utf8Error);
-    }
-    basic::from_utf8(bytes)
-}
-
 // Takes what the stream gave: its text, or a fault if it is not UTF-8 or too long. An empty piece, which has no item, needs no
 // line.
 fn take_given(
@@ -290,6 +306,7 @@ fn take_given(
         (TakesItems Faults.Raw (made so_far.old) (items_given settings.lines (rules_of settings.dialect) piece.entry) (made so_far.new)) }
     ensures counted { OnOk result
         (so_far.new.carried + so_far.new.refused ≤ so_far.old.carried + so_far.old.refused + 1) }
+    ensures line { so_far.new.line ≡ so_far.old.line }
 {
     let Ok(bytes) = piece else {
         return refuse(so_far, TOO_LONG);
@@ -301,20 +318,6 @@ fn take_given(
         Ok(text) => take_alone(alloc, settings, so_far, text),
         Err(_) => refuse(so_far, NOT_UTF8),
     }
-}
-
-/// How many newlines there are. It goes over the bytes once, and takes no memory.
-pub fn newlines_in(bytes: &[u8]) -> usize
-    ensures few { result ≤ length bytes.now }
-    ensures value { result ≡ newlines_in bytes.now }
-{
-    let mut count = 0;
-    for at in 0..bytes.len() {
-        if bytes[at] == b'\n' {
-            count += 1;
-        }
-    }
-    count
 }
 
 // The line of the next piece, if fault lines name lines. It is refused if it, or the number of an item more, would not fit.
@@ -340,25 +343,88 @@ fn line_after(
     Ok(Some(end.checked_add(1).ok_or(AllocError)?))
 }
 
+// Tells as the settings say the fault line of a piece, which follows these first bytes.
+#[inline(always)]
+fn tell(
+    alloc: Global,
+    settings: Settings,
+    so_far: &mut Progress,
+    from: usize,
+    piece: Result<&[u8], PieceTooLong>,
+) -> Result<(), AllocError>
+    requires taken { (before : Made) × TakesRaw settings piece from before (made so_far.old) }
+    requires some { from < length (string_bytes so_far.old.faults) }
+    requires fits { so_far.old.carried + so_far.old.refused ≤ usize.MAX }
+    ensures told { OnOk result ((before : Made) → TakesRaw settings piece.entry from before (made so_far.old)
+        → TakesItems settings.faults before (items_given settings.lines (rules_of settings.dialect) piece.entry) (made so_far.new)) }
+    ensures counts { (so_far.new.carried ≡ so_far.old.carried) × (so_far.new.refused ≡ so_far.old.refused) }
+{
+    match settings.faults {
+        Faults::Raw => Ok(()),
+        Faults::OneLine => tell_on_one_line(&mut so_far.faults, from),
+        Faults::Json { .. } => tell_as_object(alloc, settings.dialect, so_far, from, piece),
+    }
+}
+
+// Adds a piece that was refused, as it came, and a newline.
+#[cold]
+#[inline(never)]
+fn put_refused(pieces: &mut Vec<u8>, piece: &[u8]) -> Result<(), AllocError>
+    ensures { OnOk result (pieces.new.items ≡ pieces.old.items ++ (piece.now ++ newline ∷ [])) }
+{
+    pieces.reserve(piece.len() + 1)?;
+    pieces.extend_from_slice(piece)?;
+    pieces.push(b'\n')?;
+    Ok(())
+}
+
+// Ends a piece that was taken: if its item was refused, its fault line, which follows these first bytes, is told, and the piece goes
+// out, if refused pieces do.
+#[inline(always)]
+fn end_piece(
+    alloc: Global,
+    settings: Settings,
+    pending: &mut Pending,
+    from: usize,
+    piece: Result<&[u8], PieceTooLong>,
+) -> Result<(), AllocError>
+    requires taken { (before : Made) × TakesRaw settings piece from before (made pending.old.so_far) }
+    requires fits { pending.old.so_far.carried + pending.old.so_far.refused ≤ usize.MAX }
+    ensures ends { OnOk result (EndsPiece settings from piece.entry pending.old pending.new) }
+    ensures counted { OnOk result ((pending.new.so_far.carried ≡ pending.old.so_far.carried)
+        × (pending.new.so_far.refused ≡ pending.old.so_far.refused)) }
+{
+    if from == pending.so_far.faults.len() {
+        return Ok(());
+    }
+    tell(alloc, settings, &mut pending.so_far, from, piece)?;
+    let Ok(bytes) = piece else {
+        return Ok(());
+    };
+    if !settings.puts_refused {
+        return Ok(());
+    }
+    put_refused(&mut pending.pieces, bytes)
+}
+
 // Takes a piece. It is refused if its number, or the line after it, would not fit.
 pub(crate) fn take_piece(
     alloc: Global,
     settings: Settings,
-    so_far: &mut Progress,
+    pending: &mut Pending,
     piece: Result<&[u8], PieceTooLong>,
 ) -> Result<(), AllocError>
-    requires fits { so_far.old.carried + so_far.old.refused ≤ usize.MAX }
-    requires few { HoldsLess BLOCK so_far.old }
-    ensures taken { OnOk result
-        (TakesItems settings.faults (made so_far.old) (items_given settings.lines (rules_of settings.dialect) piece.entry) (made so_far.new)) }
-    ensures line { OnOk result (so_far.new.line ≡ line_after so_far.old.line (newlines_given piece.entry)) }
-    ensures fits { OnOk result (so_far.new.carried + so_far.new.refused ≤ usize.MAX) }
+    requires fits { pending.old.so_far.carried + pending.old.so_far.refused ≤ usize.MAX }
+    requires few { HoldsLess BLOCK pending.old }
+    ensures taken { OnOk result (TakesGiven settings (unwritten_of pending.old) piece.entry (unwritten_of pending.new)) }
+    ensures line { OnOk result (pending.new.so_far.line ≡ line_after pending.old.so_far.line (newlines_given piece.entry)) }
+    ensures fits { OnOk result (pending.new.so_far.carried + pending.new.so_far.refused ≤ usize.MAX) }
 {
-    let next = line_after(so_far, piece)?;
-    let told = so_far.faults.len();
-    take_given(alloc, settings, so_far, piece)?;
-    tell(settings.faults, so_far, told)?;
-    so_far.line = next;
+    let next = line_after(&pending.so_far, piece)?;
+    let from = pending.so_far.faults.len();
+    take_given(alloc, settings, &mut pending.so_far, piece)?;
+    end_piece(alloc, settings, pending, from, piece)?;
+    pending.so_far.line = next;
     Ok(())
 }
 
@@ -367,22 +433,22 @@ pub(crate) fn take_piece(
 pub(crate) fn take_text_piece<'a>(
     alloc: Global,
     settings: Settings,
-    so_far: &mut Progress,
+    pending: &mut Pending,
     piece: &'a str,
     line: &mut ParsedLine<'a>,
     spare: &mut Option<TagSet<'a>>,
 ) -> Result<(), AllocError>
-    requires fits { so_far.old.carried + so_far.old.refused ≤ usize.MAX }
-    requires few { HoldsLess BLOCK so_far.old }
-    ensures taken { OnOk result
-        (TakesItems settings.faults (made so_far.old) (items_of_bytes settings.lines (rules_of settings.dialect) piece.now) (made so_far.new)) }
-    ensures line { OnOk result (so_far.new.line ≡ line_after so_far.old.line (newlines_in piece.now)) }
-    ensures fits { OnOk result (so_far.new.carried + so_far.new.refused ≤ usize.MAX) }
+    requires fits { pending.old.so_far.carried + pending.old.so_far.refused ≤ usize.MAX }
+    requires few { HoldsLess BLOCK pending.old }
+    ensures taken { OnOk result (TakesGiven settings (unwritten_of pending.old) (Ok piece.entry) (unwritten_of pending.new)) }
+    ensures line { OnOk result (pending.new.so_far.line ≡ line_after pending.old.so_far.line (newlines_in piece.now)) }
+    ensures fits { OnOk result (pending.new.so_far.carried + pending.new.so_far.refused ≤ usize.MAX) }
 {
-    let next = line_after(so_far, Ok(piece.as_bytes()))?;
-    let told = so_far.faults.len();
-    take_text(alloc, settings, so_far, piece, line, spare)?;
-    tell(settings.faults, so_far, told)?;
-    so_far.line = next;
+    let given = Ok(piece.as_bytes());
+    let next = line_after(&pending.so_far, given)?;
+    let from = pending.so_far.faults.len();
+    take_text(alloc, settings, &mut pending.so_far, piece, line, spare)?;
+    end_piece(alloc, settings, pending, from, given)?;
+    pending.so_far.line = next;
     Ok(())
 }

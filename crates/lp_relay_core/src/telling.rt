@@ -1,12 +1,11 @@
-//! Tells fault lines, each on one line if that is asked for.
+//! How fault lines are told, and each on one line.
 //!
 //! A fault line is made as a rebuild makes it, and only then told: so the calls of `lp_rebuild` that refuse items serve for both
 //! forms, and a relay that refuses nothing pays one comparison for each line.
-ghost use Rattle.std.specs.Prelude.{◌≡◌, ◌<◌, ◌≤◌, ◌++◌, drop, length, string_bytes, take, IsUtf8, OnOk};
+ghost use Rattle.std.specs.Prelude.{◌≡◌, ◌<◌, ◌++◌, drop, length, string_bytes, take, IsUtf8, OnOk};
 ghost use Rattle.std.specs.List.{flat_map};
 ghost use Rattle.lp_relay_core.specs.Told.{hex_digit, on_one_line, told, told_byte};
 
-use lp_rebuild::batch::Progress;
 use std::alloc::AllocError;
 
 /// How a relay tells its fault lines.
@@ -17,13 +16,17 @@ pub enum Faults {
     /// Each on one line, with Rust's escapes for what ASCII does not print: `\n`, `\t`, `\r`, `\\`, and `\x..` for each other byte. Of
     /// a fault line of more than 200 bytes the first 200, and how many it has, as in `.. [1234 bytes]`.
     OneLine,
+    /// Each as an object of JSON on one line, as `{"item":2,"line":7,"kind":"field_set_missing","text":"No fields were provided"}`: the
+    /// number of the item, the line of the input on which its text begins, the kind of its fault, and what is wrong with it. Lines are
+    /// counted from `first_line`, whatever `numbering` of the settings says; 0 is taken as 1.
+    Json { first_line: usize },
 }
 
 // Of a fault line that is told on one line, so many bytes are told at most.
 const MOST_TOLD: usize = 200;
 
 // The hexadecimal digit of a number below 16.
-fn hex_digit(n: u8) -> char
+pub(crate) fn hex_digit(n: u8) -> char
     requires { n < 16 }
     ensures value { result ≡ hex_digit n }
     ensures ascii { result < 128 }
@@ -53,12 +56,16 @@ fn tell_byte(faults: &mut String, byte: u8) -> Result<(), AllocError>
     }
 }
 
-// Adds bytes as they are told on one line.
-fn tell_bytes(faults: &mut String, bytes: &[u8]) -> Result<(), AllocError>
-    ensures { OnOk result (string_bytes faults.new ≡ string_bytes faults.old ++ flat_map told_byte bytes.now) }
+/// Adds bytes as they are told on one line, with Rust's escapes for what ASCII does not print.
+///
+/// # Errors
+///
+/// If memory was refused; then a front of them was added.
+pub fn tell_bytes(line: &mut String, bytes: &[u8]) -> Result<(), AllocError>
+    ensures { OnOk result (string_bytes line.new ≡ string_bytes line.old ++ flat_map told_byte bytes.now) }
 {
     for at in 0..bytes.len() {
-        tell_byte(faults, bytes[at])?;
+        tell_byte(line, bytes[at])?;
     }
     Ok(())
 }
@@ -80,7 +87,7 @@ fn tell_text(faults: &mut String, text: &[u8]) -> Result<(), AllocError>
 // Tells on one line the fault line that follows the first bytes of these.
 #[cold]
 #[inline(never)]
-fn tell_on_one_line(faults: &mut String, from: usize) -> Result<(), AllocError>
+pub(crate) fn tell_on_one_line(faults: &mut String, from: usize) -> Result<(), AllocError>
     requires front { IsUtf8 (take from (string_bytes faults.old)) }
     requires some { from < length (string_bytes faults.old) }
     ensures { OnOk result (string_bytes faults.new
@@ -91,20 +98,4 @@ fn tell_on_one_line(faults: &mut String, from: usize) -> Result<(), AllocError>
     let text = &bytes[..bytes.len() - 1];
     tell_text(faults, text)?;
     faults.push('\n')
-}
-
-// Tells as the settings say the fault line that follows the first bytes, if there is one.
-#[inline(always)]
-pub(crate) fn tell(form: Faults, so_far: &mut Progress, from: usize) -> Result<(), AllocError>
-    requires front { IsUtf8 (take from (string_bytes so_far.old.faults)) }
-    requires within { from ≤ length (string_bytes so_far.old.faults) }
-    ensures faults { OnOk result (string_bytes so_far.new.faults
-        ≡ take from (string_bytes so_far.old.faults) ++ told form (drop from (string_bytes so_far.old.faults))) }
-    ensures others { (so_far.new.batch ≡ so_far.old.batch) × (so_far.new.line ≡ so_far.old.line)
-        × (so_far.new.carried ≡ so_far.old.carried) × (so_far.new.refused ≡ so_far.old.refused) }
-{
-    match form {
-        Faults::OneLine if from < so_far.faults.len() => tell_on_one_line(&mut so_far.faults, from),
-        _ => Ok(()),
-    }
 }

@@ -1,19 +1,21 @@
-//! Tells whether a text is a line, with no memory.
-ghost use Rattle.std.specs.Prelude.{◌≡◌, is_ok};
+//! Tells what is wrong with a text that is no line, with no memory.
+ghost use Rattle.std.specs.Prelude.{◌≡◌, is_ok, option_map};
 ghost use Rattle.influxdb_line_protocol.specs.code.Rules.{rules_of};
 ghost use Rattle.influxdb_line_protocol.specs.format.Lines.{answer};
+ghost use Rattle.lp_relay_core.specs.Verdicts.{fault_in};
+ghost use Rattle.lp_values.specs.code.SpelledParts.{spelled_fault};
 
 use influxdb_line_protocol::{
     Dialect, EventSink, Spelled, SpelledFault, SpelledValue, read_line_events,
 };
 
-// Whether the text that is told is a line: it is, unless its fault is told.
+// The fault of the text that is told, if that is no line.
 #[derive(Drop)]
-struct Verdict {
-    is_line: bool,
+struct Verdict<'a> {
+    fault: Option<SpelledFault<'a>>,
 }
 
-impl<'a> EventSink<'a> for Verdict {
+impl<'a> EventSink<'a> for Verdict<'a> {
     ghost use Rattle.lp_relay_core.specs.Verdicts.{Judges};
 
     ghost takes = { Judges };
@@ -31,16 +33,24 @@ impl<'a> EventSink<'a> for Verdict {
     fn end(&mut self, _series: &'a str, _timestamp: Option<i64>) {}
 
     #[inline(always)]
-    fn fault(&mut self, _fault: SpelledFault<'a>) {
-        self.is_line = false;
+    fn fault(&mut self, fault: SpelledFault<'a>) {
+        self.fault = Some(fault);
     }
 }
 
+// The fault of a trimmed text, if that is no line. It takes no memory.
+pub(crate) fn fault_of<'a>(dialect: Dialect, text: &'a str) -> Option<SpelledFault<'a>>
+    ensures { option_map spelled_fault result ≡ fault_in (answer (rules_of dialect) text.now) }
+{
+    let mut verdict = Verdict { fault: None };
+    read_line_events(dialect, text, &mut verdict);
+    verdict.fault
+}
+
 // Whether a trimmed text is a line. It takes no memory.
+#[tactic(auto, using(crate::proofs::VerdictLemmas::line_if_no_fault))]
 pub(crate) fn is_line(dialect: Dialect, text: &str) -> bool
     ensures { result ≡ is_ok (answer (rules_of dialect) text.now) }
 {
-    let mut verdict = Verdict { is_line: true };
-    read_line_events(dialect, text, &mut verdict);
-    verdict.is_line
+    fault_of(dialect, text).is_none()
 }

@@ -2,7 +2,7 @@
 //! beginning of what it would have written. The answers come from the format's rules.
 
 use lp_rebuild::{DeviceFault, RunFault, Source};
-use lp_relay_core::{Settings, relay};
+use lp_relay_core::{Nowhere, Settings, relay};
 use lp_vectors_shared::drops::Basin;
 use lp_vectors_shared::exhausted_memory::ExhaustedMemory;
 use std::alloc::{AllocError, Global};
@@ -71,7 +71,15 @@ fn relay_with(alloc: Global, exhausts_at: usize, bytes_left: usize) -> Ended {
         exhausted: None,
     };
     let (mut out, mut err) = (Basin::new(0), Basin::new(0));
-    let fault = relay(alloc, Settings::default(), &mut reader, &mut out, &mut err).err();
+    let fault = relay(
+        alloc,
+        Settings::default(),
+        &mut reader,
+        &mut out,
+        &mut err,
+        &mut Nowhere::new(),
+    )
+    .err();
     Ended { fault, out, err }
 }
 
@@ -128,7 +136,15 @@ fn has_no_room_for_a_block(
     let mut reader = b"m a=1i\n".as_slice();
     let (mut out, mut err) = (Basin::new(0), Basin::new(0));
     let exhausted = ExhaustedMemory::leaving(alloc, granted)?;
-    let fault = relay(alloc, Settings::default(), &mut reader, &mut out, &mut err).err();
+    let fault = relay(
+        alloc,
+        Settings::default(),
+        &mut reader,
+        &mut out,
+        &mut err,
+        &mut Nowhere::new(),
+    )
+    .err();
     drop(exhausted);
     assert_eq!(rt;
         fault,

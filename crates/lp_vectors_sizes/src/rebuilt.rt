@@ -3,7 +3,7 @@
 use crate::rows::{self, Row, assert_same, repeated};
 use influxdb_line_protocol::Dialect;
 use lp_rebuild::{DeviceFault, Kept, Source, read_all, rebuild_in, run_in};
-use lp_relay_core::{Numbering, Settings, part_ends, relay};
+use lp_relay_core::{Nowhere, Numbering, Settings, part_ends, relay};
 use lp_vectors_shared::fault::Fault;
 use std::alloc::{AllocError, Global};
 use std::process::Abort;
@@ -77,7 +77,14 @@ fn is_relayed_so(rt: &impl Abort, alloc: Global, text: &str, len: usize, wanted:
             numbering,
             ..Settings::default()
         };
-        let answer = relay(alloc, settings, &mut reader, &mut out, &mut err);
+        let answer = relay(
+            alloc,
+            settings,
+            &mut reader,
+            &mut out,
+            &mut err,
+            &mut Nowhere::new(),
+        );
         assert!(rt; answer.is_ok(), "of {} bytes", text.len());
         assert_same(rt, out.as_slice(), lines.as_bytes());
         assert_same(rt, err.as_slice(), faults.as_bytes());
@@ -175,7 +182,14 @@ fn many_pieces_that_are_no_text_or_too_long_are_faults(rt: HostRuntime) -> Resul
         limit: 6,
         ..Settings::default()
     };
-    let answer = relay(alloc, settings, &mut reader, &mut out, &mut err);
+    let answer = relay(
+        alloc,
+        settings,
+        &mut reader,
+        &mut out,
+        &mut err,
+        &mut Nowhere::new(),
+    );
     assert!(rt; answer.is_ok());
     assert_same(&rt, out.as_slice(), lines.as_bytes());
     assert_same(&rt, err.as_slice(), faults.as_bytes());

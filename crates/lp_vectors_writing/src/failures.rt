@@ -2,7 +2,7 @@
 
 use crate::wrote::{Ended, relayed, run_into, run_over};
 use lp_rebuild::{Reading, RunFault, Writing, run};
-use lp_relay_core::{Settings, relay};
+use lp_relay_core::{Nowhere, Settings, relay};
 use lp_vectors_shared::drops::{Basin, Trickle};
 use std::alloc::{AllocError, Global};
 use std::cell::Cell;
@@ -164,6 +164,7 @@ fn relay_with_stuck_faults(alloc: Global) -> (Option<RunFault>, Basin) {
         &mut reader,
         &mut out,
         &mut Writing::new(Stuck),
+        &mut Nowhere::new(),
     )
     .err();
     (fault, out)

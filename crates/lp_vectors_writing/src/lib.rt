@@ -20,6 +20,8 @@ mod numbered_relays;
 #[cfg(test)]
 mod part_tables;
 #[cfg(test)]
+mod refused_pieces;
+#[cfg(test)]
 mod relays;
 #[cfg(test)]
 mod relays_cut_anywhere;

@@ -3,7 +3,7 @@
 
 use influxdb_line_protocol::Dialect;
 use lp_rebuild::{Kept, Rebuilt, RunFault, Source, run};
-use lp_relay_core::{Numbering, Relayed, Settings, relay};
+use lp_relay_core::{Nowhere, Numbering, Relayed, Settings, relay};
 use lp_vectors_shared::drops::Basin;
 use std::alloc::Global;
 use std::process::Abort;
@@ -14,6 +14,7 @@ pub struct Wrote {
     pub answer: Result<Relayed, RunFault>,
     pub out: Kept,
     pub err: Kept,
+    pub refused: Kept,
 }
 
 impl Wrote {
@@ -55,8 +56,14 @@ pub fn assert_same(rt: &impl Abort, bytes: &[u8], wanted: &[u8], place: usize) {
 pub fn relayed_so<R: Source>(alloc: Global, settings: Settings, reader: &mut R) -> Wrote {
     let mut out = Kept::new(alloc);
     let mut err = Kept::new(alloc);
-    let answer = relay(alloc, settings, reader, &mut out, &mut err);
-    Wrote { answer, out, err }
+    let mut refused = Kept::new(alloc);
+    let answer = relay(alloc, settings, reader, &mut out, &mut err, &mut refused);
+    Wrote {
+        answer,
+        out,
+        err,
+        refused,
+    }
 }
 
 /// Relays what a source gives, by the settings that are the default.
@@ -134,7 +141,15 @@ pub fn relayed_into<R: Source>(
         dialect,
         ..Settings::default()
     };
-    let fault = relay(alloc, settings, reader, &mut out, &mut err).err();
+    let fault = relay(
+        alloc,
+        settings,
+        reader,
+        &mut out,
+        &mut err,
+        &mut Nowhere::new(),
+    )
+    .err();
     Ended { fault, out, err }
 }
 

@@ -1,9 +1,10 @@
 use Rattle.influxdb_line_protocol.specs.code.Rules.{rules_of}
 use Rattle.std.proofs.Common.{◌∙◌, Ok, ap, drop, refl, arith}
 use Rattle.influxdb_line_protocol.specs.format.Pieces.{Left}
-use Rattle.lp_relay_core.specs.RelaySteps.{made}
+use Rattle.lp_relay_core.specs.RelaySteps.{unwritten_of}
 use Rattle.lp_rebuild.proofs.Parts.{at_no_fault}
 use Rattle.lp_relay_core.proofs.RelayLemmas.{on_err}
+use Rattle.lp_relay_core.proofs.RelayEnds.{none_twice}
 use Rattle.lp_relay_core.proofs.RelayPieces.{to_more, to_none, to_part}
 use Rattle.lp_relay_core.proofs.WholeLines.{begins_with, line_given}
 use Rattle.lp_relay_core.proofs.relaying.relay_lines.Goals as goal
@@ -18,9 +19,8 @@ loop-piece-init g c =
           c.whole_lines.ensures;
       fits = omega (arith, c.requires.fits);
       held = c.requires.few;
-      relays = to_none c.args.settings c.args.bytes.now _ _ _;
-      out_unfailed = refl;
-      err_unfailed = refl;
+      relays = to_none c.args.settings c.args.bytes.now _ _;
+      unfailed = record { out = refl; err = refl; refused = refl };
     }
 
 pub loop-piece-preserved : goal.loop-piece-preserved
@@ -40,12 +40,11 @@ loop-piece-preserved g c =
       fits = omega (arith, fits, poured.ok.carried, poured.ok.refused);
       held = poured.held;
       relays = to_more c.args.settings c.args.bytes.now (drop c.loop-piece.taken c.args.bytes.now) _
-          (made c.args.progress.now) (made c.loop-piece.progress) (made c.take_text_piece.new.so_far) (made c.pour_full.new.so_far)
-          _ _ _ _ _ _ (Ok c.in-Some.piece) h.relays line.given
+          (unwritten_of c.args.progress.now) (unwritten_of c.loop-piece.progress) (unwritten_of c.take_text_piece.new.pending) (unwritten_of c.pour_full.new.pending)
+          _ _ _ (Ok c.in-Some.piece) h.relays line.given
           (at_no_fault c.take_text_piece.result c.if-is_err.ensures.value taken.taken)
           (poured.line ∙ at_no_fault c.take_text_piece.result c.if-is_err.ensures.value taken.line) poured.ok;
-      out_unfailed = poured.counts.0 ∙ h.out_unfailed;
-      err_unfailed = poured.counts.1 ∙ h.err_unfailed;
+      unfailed = none_twice _ _ _ h.unfailed poured.counts;
     }
 
 pub returns-in_err-pour_full-clause-part : goal.returns-in_err-pour_full-clause-part
@@ -57,6 +56,6 @@ returns-in_err-pour_full-clause-part g c =
     c.if-is_none.ensures c.remainder.ensures c.if-piece-settings.false in
     on_err c.from_residual.result
     (to_part c.args.settings c.args.bytes.now (drop c.loop-piece.taken c.args.bytes.now) _
-    (made c.args.progress.now) (made c.loop-piece.progress) (made c.take_text_piece.new.so_far)
-    _ _ _ _ _ _ (Ok c.in-Some.piece) h.relays line.given
+    (unwritten_of c.args.progress.now) (unwritten_of c.loop-piece.progress) (unwritten_of c.take_text_piece.new.pending)
+    _ _ _ (Ok c.in-Some.piece) h.relays line.given
     (at_no_fault c.take_text_piece.result c.if-is_err.ensures.value c.take_text_piece.ensures.taken) c.in_err-pour_full.ensures.part)

@@ -11,7 +11,7 @@ use Rattle.lp_relay_core.proofs.relaying.relay_part.Goals as goal
 pub returns-then-is_err-clause-part : goal.returns-then-is_err-clause-part
 returns-then-is_err-clause-part g c text holds is_last =
     let begun = c.in_ok-given.ensures.ok text holds is_last in
-    to_so_far c.args.settings (text ++ c.args.part.now) _ _ _ _ _ _ _ begun.to
+    to_so_far c.args.settings (text ++ c.args.part.now) _ _ _ _ _ begun.to
 
 pub returns-in_err-relay_pieces-clause-part : goal.returns-in_err-relay_pieces-clause-part
 returns-in_err-relay_pieces-clause-part g c =
@@ -22,7 +22,7 @@ returns-in_err-relay_pieces-clause-part g c =
     (λ text holds is_last.
     let begun = c.in_ok-given.ensures.ok text holds is_last in
     let rest = begun.held ++ drop c.in_ok-given.given part in
-    some_then c.args.settings (text ++ part) rest _ _ _ _ _ _ _ _ begun.to
+    some_then c.args.settings (text ++ part) rest _ _ _ _ _ begun.to
     (c.in_err-relay_pieces.ensures.part rest (subst (λ l. Holds c.push.new.self (begun.held ++ l)) (take_rest part c.in_ok-given.given) (pushed begun.held begun.holds))))
 
 pub returns-clause-ok : goal.returns-clause-ok
@@ -33,7 +33,7 @@ returns-clause-ok g c =
     (λ poured text holds is_last.
     let begun = c.in_ok-given.ensures.ok text holds is_last in
     let rest = begun.held ++ drop c.in_ok-given.given part in
-    to_all c.args.settings (text ++ part) rest _ _ _ _ _ _ _ _ _ _ _ _ _ begun.to
+    to_all c.args.settings (text ++ part) rest _ _ _ _ _ _ _ _ _ begun.to
     (c.in_ok-relay_pieces.ensures.ok rest (subst (λ l. Holds c.push.new.self (begun.held ++ l)) (take_rest part c.in_ok-given.given) (pushed begun.held begun.holds))) c.pour_and_flush.ensures.line poured)
     c.pour_and_flush.ensures.ok
 
@@ -45,6 +45,6 @@ returns-clause-part g c =
     (λ poured text holds is_last.
     let begun = c.in_ok-given.ensures.ok text holds is_last in
     let rest = begun.held ++ drop c.in_ok-given.given part in
-    to_all_part c.args.settings (text ++ part) rest _ _ _ _ _ _ _ _ _ _ _ _ begun.to
+    to_all_part c.args.settings (text ++ part) rest _ _ _ _ _ _ _ _ begun.to
     (c.in_ok-relay_pieces.ensures.ok rest (subst (λ l. Holds c.push.new.self (begun.held ++ l)) (take_rest part c.in_ok-given.given) (pushed begun.held begun.holds))) poured)
     c.pour_and_flush.ensures.part

@@ -1,9 +1,10 @@
 use Rattle.std.proofs.Common.{◌∙◌, refl, subst, arith}
 use Rattle.influxdb_line_protocol.specs.code.Bounded.{GivesWithin}
 use Rattle.influxdb_line_protocol.specs.format.Pieces.{IsLastPiece}
-use Rattle.lp_relay_core.specs.RelaySteps.{made}
+use Rattle.lp_relay_core.specs.RelaySteps.{unwritten_of}
 use Rattle.lp_rebuild.proofs.Parts.{at_no_fault}
 use Rattle.lp_relay_core.proofs.RelayLemmas.{on_err}
+use Rattle.lp_relay_core.proofs.RelayEnds.{none_twice}
 use Rattle.lp_relay_core.proofs.RelayPieces.{given_piece, to_more, to_none, to_part, to_so_far}
 use Rattle.lp_relay_core.proofs.relaying.relay_pieces.Goals as goal
 
@@ -17,16 +18,15 @@ loop-piece-init g c =
           record {
             rest = text;
             holds = holds;
-            to = to_none c.args.settings text _ _ _;
+            to = to_none c.args.settings text _ _;
           };
-      out_unfailed = refl;
-      err_unfailed = refl;
+      unfailed = record { out = refl; err = refl; refused = refl };
     }
 
 pub returns-then-is_err-clause-part : goal.returns-then-is_err-clause-part
 returns-then-is_err-clause-part g c text holds =
     let p = c.loop-piece.invariant.relays text holds in
-    to_so_far c.args.settings text p.rest _ _ _ _ _ _ p.to
+    to_so_far c.args.settings text p.rest _ _ _ _ p.to
 
 pub loop-piece-preserved : goal.loop-piece-preserved
 loop-piece-preserved g c =
@@ -46,13 +46,12 @@ loop-piece-preserved g c =
             rest = one.0;
             holds = one.1;
             to = to_more c.args.settings text p.rest one.0
-                (made c.args.so_far.now) (made c.loop-piece.so_far) (made c.take_piece.new.so_far) (made c.pour_full.new.so_far)
-                _ _ _ _ _ _ c.in-Some.piece p.to one.2
+                (unwritten_of c.args.pending.now) (unwritten_of c.loop-piece.pending) (unwritten_of c.take_piece.new.pending) (unwritten_of c.pour_full.new.pending)
+                _ _ _ c.in-Some.piece p.to one.2
                 (at_no_fault c.take_piece.result c.if-is_err.ensures.value c.take_piece.ensures.taken)
                 (poured.line ∙ at_no_fault c.take_piece.result c.if-is_err.ensures.value c.take_piece.ensures.line) poured.ok;
           };
-      out_unfailed = poured.counts.0 ∙ h.out_unfailed;
-      err_unfailed = poured.counts.1 ∙ h.err_unfailed;
+      unfailed = none_twice _ _ _ h.unfailed poured.counts;
     }
 
 pub returns-in_err-pour_full-clause-part : goal.returns-in_err-pour_full-clause-part
@@ -65,7 +64,7 @@ returns-in_err-pour_full-clause-part g c =
     let one = given_piece c.args.settings c.loop-piece.stream c.next.follows.lender-at-none p.rest
     c.in-Some.piece (h.rules.0 ∙ c.requires.dialect) (h.rules.1 ∙ c.requires.limit) (gives.3 p.rest p.holds) in
     to_part c.args.settings text p.rest one.0
-    (made c.args.so_far.now) (made c.loop-piece.so_far) (made c.take_piece.new.so_far) _ _ _ _ _ _ c.in-Some.piece p.to one.2
+    (unwritten_of c.args.pending.now) (unwritten_of c.loop-piece.pending) (unwritten_of c.take_piece.new.pending) _ _ _ c.in-Some.piece p.to one.2
     (at_no_fault c.take_piece.result c.if-is_err.ensures.value c.take_piece.ensures.taken) c.in_err-pour_full.ensures.part)
 
 pub returns-clause-ok : goal.returns-clause-ok

@@ -50,4 +50,4 @@ returns-clause-taken c =
     c.written_lines_stay.ensures.written
     (λ is. let h = not_written is in let f = c.if-is_as_written.false in absurd (cc)) c.in_ok-take_text.ensures.taken more
     (omega (arith, c.len-start.ensures)) c.in_ok-take_text.ensures.line part)
-    c.take_back.ensures
+    c.take_back.ensures.back

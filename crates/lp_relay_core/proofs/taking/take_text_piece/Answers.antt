@@ -1,20 +1,35 @@
-use Rattle.std.proofs.Common.{◌≡◌, ap, length, string_bytes, arith}
+use Rattle.std.proofs.Common.{ℕ, List, subst, sym, arith}
 use Rattle.std.proofs.lemmas.Str.{IsUtf8-string_bytes}
 use Rattle.influxdb_line_protocol.specs.code.Rules.{rules_of}
-use Rattle.lp_relay_core.specs.RelaySteps.{made}
-use Rattle.lp_relay_core.proofs.ToldLemmas.{few_items, front_is_text, takes_told}
+use Rattle.lp_relay_core.specs.declared.telling.Faults.TheVariants.{Raw}
+use Rattle.lp_relay_core.specs.Relaying.{items_of_bytes}
+use Rattle.lp_relay_core.specs.RelaySteps.{TakesItems, made}
+use Rattle.lp_relay_core.proofs.ToldLemmas.{given_same, takes_on}
 use Rattle.lp_relay_core.proofs.taking.take_text_piece.Goals as goal
 
-pub tell-requires-clause-front : goal.tell-requires-clause-front
-tell-requires-clause-front c =
-    let old = c.args.so_far.now.faults in
-    let len : c.len-told.result ≡ length (string_bytes old) = omega (arith, c.len-told.ensures) in
-    front_is_text (string_bytes old) _ _ c.len-told.result len c.in_ok-take_text.ensures.taken.faults (IsUtf8-string_bytes old)
+pub end_piece-requires-clause-taken : goal.end_piece-requires-clause-taken
+end_piece-requires-clause-taken c =
+    let old = made c.args.pending.now.so_far in
+    let items = items_of_bytes c.args.settings.lines (rules_of c.args.settings.dialect) in (
+      old,
+      record {
+        from_is = omega (arith, c.len-from.ensures);
+        text = IsUtf8-string_bytes c.args.pending.now.so_far.faults;
+        line = c.take_text.ensures.line;
+        takes = subst (λ (l : List ℕ). TakesItems Raw old (items l) (made c.take_text.new.so_far)) (sym c.as_bytes.ensures.value)
+            c.in_ok-take_text.ensures.taken;
+      },
+    )
 
 pub returns-clause-taken : goal.returns-clause-taken
 returns-clause-taken c =
-    let others = c.in_ok-tell.ensures.others in
-    let len : c.len-told.result ≡ length (string_bytes c.args.so_far.now.faults) = omega (arith, c.len-told.ensures) in
-    takes_told c.args.settings.faults (made c.args.so_far.now) (made c.take_text.new.so_far) _ _ c.len-told.result len
-    (few_items c.args.settings.lines (rules_of c.args.settings.dialect) c.args.piece.now) c.in_ok-take_text.ensures.taken
-    (ap (λ v. v.items) others.0) c.in_ok-tell.ensures.faults others.2 others.3
+    let old = made c.args.pending.now.so_far in
+    let items = items_of_bytes c.args.settings.lines (rules_of c.args.settings.dialect) in
+    let same = c.as_bytes.ensures.value in
+    given_same c.args.settings _ _ c.as_bytes.result c.args.piece same
+    (takes_on c.args.settings _ _ c.end_piece.new.pending c.in_ok-next.next (c.in_ok-end_piece.ensures.ends old (record {
+      from_is = omega (arith, c.len-from.ensures);
+      text = IsUtf8-string_bytes c.args.pending.now.so_far.faults;
+      line = c.take_text.ensures.line;
+      takes = subst (λ (l : List ℕ). TakesItems Raw old (items l) (made c.take_text.new.so_far)) (sym same) c.in_ok-take_text.ensures.taken;
+    })))

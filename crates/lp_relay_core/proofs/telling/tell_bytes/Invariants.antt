@@ -5,4 +5,4 @@ use Rattle.lp_relay_core.proofs.telling.tell_bytes.Given as goal
 
 -- the bytes so far are told
 abbrev pub invariant-loop-at : goal.invariant-loop-at
-invariant-loop-at l = string_bytes l.faults ≡ string_bytes l.initial.faults ++ flat_map told_byte (take l.at l.bytes)
+invariant-loop-at l = string_bytes l.line ≡ string_bytes l.initial.line ++ flat_map told_byte (take l.at l.bytes)

@@ -2,7 +2,7 @@ use Rattle.std.proofs.Common.{refl}
 use Rattle.influxdb_line_protocol.specs.code.Rules.{rules_of}
 use Rattle.influxdb_line_protocol.specs.format.Lines.{answer}
 use Rattle.lp_relay_core.proofs.VerdictLemmas.{verdict_is}
-use Rattle.lp_relay_core.proofs.verdict.is_line.Goals as goal
+use Rattle.lp_relay_core.proofs.verdict.fault_of.Goals as goal
 
 pub returns : goal.returns
 returns c =

@@ -1,18 +1,18 @@
-//! Where the lines of a check go.
+//! A writer for what nobody wants.
 ghost use Rattle.std.specs.Prelude.{◌≡◌, None, true};
 
 use lp_rebuild::{DeviceFault, Sink};
 
 /// A sink that takes all that is written, keeps none of it, and never fails.
 #[derive(Drop)]
-pub(crate) struct Nowhere {
+pub struct Nowhere {
     // Whether all that was written was flushed, for contracts.
     is_flushed: bool,
 }
 
 impl Nowhere {
     /// A sink to which nothing was written so far.
-    pub(crate) fn new() -> Self
+    pub fn new() -> Self
         ensures { result.is_flushed ≡ true }
     {
         Nowhere { is_flushed: true }

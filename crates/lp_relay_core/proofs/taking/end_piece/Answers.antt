@@ -1,0 +1,40 @@
+use Rattle.std.proofs.Common.{◌≡◌, ◌<◌, ◌∙◌, length, string_bytes, arith, false, true}
+use Rattle.std.proofs.lemmas.Bool.Decides.{nat_tests}
+use Rattle.std.proofs.lemmas.Result.{on_ok_weaker}
+use Rattle.lp_relay_core.specs.RelaySteps.{made}
+use Rattle.lp_relay_core.proofs.ToldLemmas.{ends_same, ends_told, put_asked, put_unasked, within}
+use Rattle.lp_relay_core.proofs.taking.end_piece.Goals as goal
+
+pub returns-then-from-len-clause-ends : goal.returns-then-from-len-clause-ends
+returns-then-from-len-clause-ends c = ends_same c.args.settings c.args.piece c.args.from c.args.pending.now (omega arith)
+
+pub tell-requires-clause-some : goal.tell-requires-clause-some
+tell-requires-clause-some c =
+    let (before, t) = c.requires.taken in
+    omega (arith, within c.args.settings c.args.piece c.args.from before (made c.args.pending.now.so_far) t)
+
+pub returns-then-not-settings-clause-ends : goal.returns-then-not-settings-clause-ends
+returns-then-not-settings-clause-ends c =
+    let now = c.args.pending.now in
+    let (before, t) = c.requires.taken in
+    let some : c.args.from < length (string_bytes now.so_far.faults) =
+    omega (arith, within c.args.settings c.args.piece c.args.from before (made now.so_far) t) in
+    let unasked : c.args.settings.puts_refused ≡ false = grind (arith, nat_tests) in
+    ends_told c.args.settings c.args.piece c.args.from now
+    (record { so_far = c.tell.new.so_far; pieces = now.pieces }) some
+    c.in_ok-tell.ensures.told (put_unasked now.pieces.items c.args.settings.puts_refused c.args.piece unasked)
+
+pub returns-clause-ends : goal.returns-clause-ends
+returns-clause-ends c =
+    let now = c.args.pending.now in
+    let (before, t) = c.requires.taken in
+    let some : c.args.from < length (string_bytes now.so_far.faults) =
+    omega (arith, within c.args.settings c.args.piece c.args.from before (made now.so_far) t) in
+    let asked : c.args.settings.puts_refused ≡ true = grind (arith, nat_tests) in
+    on_ok_weaker c.put_refused.result
+    (λ put.
+    ends_told c.args.settings c.args.piece c.args.from now
+    (record { so_far = c.tell.new.so_far; pieces = c.put_refused.new.pieces }) some
+    c.in_ok-tell.ensures.told
+    (put ∙ put_asked now.pieces.items c.args.settings.puts_refused c.args.piece c.in-Ok.bytes c.in-Ok.is asked))
+    c.put_refused.ensures

@@ -1,0 +1,112 @@
+-- The faults of a relay as objects of JSON.
+use Rattle.std.specs.Prelude.{ℕ, ◌+◌, ◌/◌, ◌%◌, ◌==◌, ◌||◌, nat_eq, nat_lt, Bool, List, [], ◌∷◌, ◌++◌, codes, decimal, length, if◌then◌else◌}
+use Rattle.std.specs.Prelude.{Option, Some, None, Result, Ok, Err}
+use Rattle.std.specs.Borrow.{Bor}
+use Rattle.std.specs.List.{flat_map, starts_with}
+use Rattle.std.specs.Str.{is_utf8}
+use Rattle.influxdb_line_protocol.specs.format.Bytes.{newline, newlines_in, backslash}
+use Rattle.influxdb_line_protocol.specs.format.Dialects.{Dialect}
+use Rattle.influxdb_line_protocol.specs.format.Lines.{Line, answer}
+use Rattle.influxdb_line_protocol.specs.format.Readings as fault
+use Rattle.influxdb_line_protocol.specs.format.Trimming.{trimmed}
+use Rattle.influxdb_line_protocol.specs.types.PieceTooLong.{PieceTooLong}
+use Rattle.lp_relay_core.specs.declared.taking.Settings.{Settings}
+use Rattle.lp_relay_core.specs.LineFaults.{item_text}
+use Rattle.lp_relay_core.specs.Relaying.{Item, answered, as_it_came, not_as_written, not_utf8, too_long, front_of, is_carried_item, items_of_piece}
+use Rattle.lp_relay_core.specs.Told.{hex_digit}
+
+-- whether a byte has an escape in a string of JSON: a quote, a backslash, and what ASCII does not print
+abbrev pub is_escaped : ℕ → Bool
+is_escaped b = nat_lt b 32 || b == 127 || b == 34 || b == backslash
+
+-- the escape of a byte: a backslash before a quote or a backslash, and else the two digits of the byte
+abbrev pub escape_of : ℕ → List ℕ
+escape_of b =
+    if b == 34 then backslash ∷ 34 ∷ []
+    else (if b == backslash then backslash ∷ backslash ∷ [] else backslash ∷ codes "u00" ++ hex_digit (b / 16) ∷ hex_digit (b % 16) ∷ [])
+
+-- a byte in a string of JSON
+abbrev pub json_byte : ℕ → List ℕ
+json_byte b = if is_escaped b then escape_of b else b ∷ []
+
+-- a text in a string of JSON, without the quotes
+abbrev pub json_text : List ℕ → List ℕ
+json_text text = flat_map json_byte text
+
+-- the kind of the fault of a text
+abbrev pub fault_kind : fault.Fault → List ℕ
+fault_kind fault.measurement_value_invalid = codes "measurement_value_invalid"
+fault_kind fault.field_set_missing = codes "field_set_missing"
+fault_kind (fault.integer_value_invalid side value) = codes "integer_value_invalid"
+fault_kind (fault.uinteger_value_invalid side value) = codes "uinteger_value_invalid"
+fault_kind (fault.timestamp_value_invalid side value) = codes "timestamp_value_invalid"
+fault_kind fault.ends_with_backslash = codes "ends_with_backslash"
+fault_kind (fault.cannot_parse_entire_line rest) = codes "cannot_parse_entire_line"
+fault_kind fault.tag_set_malformed = codes "tag_set_malformed"
+fault_kind fault.take_while1 = codes "generic_parsing_error"
+
+-- the kind of an item that is not carried
+abbrev pub item_kind : Item → List ℕ
+item_kind (answered front (Ok line)) = codes "name_not_admitted"
+item_kind (answered front (Err fault)) = fault_kind fault
+item_kind (as_it_came piece) = []
+item_kind (not_as_written front wrong) = codes "not_as_written"
+item_kind not_utf8 = codes "not_utf8"
+item_kind too_long = codes "too_long"
+
+-- what comes before the text of an item in its piece: nothing if the piece has no text
+abbrev pub item_front : Item → List ℕ
+item_front (answered front answer) = front
+item_front (as_it_came piece) = []
+item_front (not_as_written front wrong) = front
+item_front not_utf8 = []
+item_front too_long = []
+
+-- the object of a fault, which names this item and this line, and a newline
+abbrev pub object : (number line : ℕ) → (kind text : List ℕ) → List ℕ
+object number line kind text =
+    codes "{\"item\":" ++ decimal number ++ codes ",\"line\":" ++ decimal line ++ codes ",\"kind\":\"" ++ kind ++ codes "\",\"text\":\""
+    ++ json_text text ++ codes "\"}" ++ newline ∷ []
+
+-- the object of an item that is not carried, which has this number, and whose piece begins on this line: it names the line on which
+-- the text of the item begins
+abbrev pub item_object : (number line : ℕ) → Item → List ℕ
+item_object number line item =
+    if is_carried_item item then [] else object number (line + newlines_in (item_front item)) (item_kind item) (item_text item)
+
+-- the objects of the items of one piece, where the first item has this number, and the piece begins on this line
+abbrev pub item_objects : (number line : ℕ) → List Item → List ℕ
+item_objects number line [] = []
+item_objects number line (item ∷ items) = item_object number line item ++ item_objects (number + 1) line items
+
+-- the objects of the items of pieces, where the first item has this number, and the first piece begins on this line
+abbrev pub fault_objects : Settings → (number line : ℕ) → List (List ℕ) → List ℕ
+fault_objects s number line [] = []
+fault_objects s number line (piece ∷ pieces) =
+    item_objects number line (items_of_piece s piece)
+    ++ fault_objects s (number + length (items_of_piece s piece)) (line + newlines_in piece + 1) pieces
+
+-- what a fault line has before its text
+abbrev pub line_mark : Option ℕ → ℕ → List ℕ
+line_mark None number = codes "item " ++ decimal number ++ codes ": "
+line_mark (Some line) number = codes "line " ++ decimal line ++ codes ": "
+
+-- what comes before the text of what a call gave
+abbrev pub front_given : Result (Bor (List ℕ)) PieceTooLong → List ℕ
+front_given (Ok piece) = if is_utf8 piece.now then front_of piece.now else []
+front_given (Err _) = []
+
+-- the kind of a line that is refused for this text: the first byte of `not as written: ..`, or of `a name cannot be written again`
+abbrev pub line_kind : List ℕ → List ℕ
+line_kind text = if starts_with nat_eq text (codes "n") then codes "not_as_written" else codes "name_not_admitted"
+
+-- the kind of an answer that is refused for this text
+abbrev pub answer_kind : Result Line fault.Fault → List ℕ → List ℕ
+answer_kind (Ok line) text = line_kind text
+answer_kind (Err fault) text = fault_kind fault
+
+-- the kind of what a call gave, which is refused for this text
+abbrev pub kind_given : Dialect → Result (Bor (List ℕ)) PieceTooLong → List ℕ → List ℕ
+kind_given dialect (Ok piece) text =
+    if is_utf8 piece.now then answer_kind (answer dialect (trimmed piece.now)) text else codes "not_utf8"
+kind_given dialect (Err _) text = codes "too_long"
