@@ -282,5 +282,6 @@ for input in lines three string empty newline; do
     compare "$input" --lines --summary
     compare "$input" --strict --verbatim --check --lines
     compare "$input" --max-line 11 --summary
+    compare "$input" --faults json --strict
 done
 echo "apart: a relay's parts give what the whole gives, also its faults, in $compared runs"

@@ -27,7 +27,7 @@ take_parts() {
     program=${LP_RELAY:-$(dirname "$(readlink -f "${BASH_SOURCE[0]}")")/../lp_relay}
     # Each part is an input of its own, and has an output of its own.
     for word in "$@"; do
-        if [[ $word = --output || $word = -o || ($word != --* && $before != --max-line) ]]; then
+        if [[ $word = --output || $word = -o || ($word != --* && $before != --max-line && $before != --faults) ]]; then
             fail "the options ($*) name a file"
         fi
         [[ $word != --first-* ]] || fail "the options ($*) say where the numbers begin, and each part has its own"
@@ -102,21 +102,29 @@ why_not() {
 # Relays once more each part that refused something, to check alone, from the number on that its first item, or line, has in the
 # whole file. The counts of the parts before it tell that number. Sets again: which parts these are.
 number_faults() {
-    local number start count word items refused lines first=1 by=--first-item checks=("$program")
+    local number start count word items refused lines first item=1 line=1 by=item checks=("$program")
     for word in "${options[@]}"; do
-        if [ "$word" = --lines ]; then by=--first-line; elif [ "$word" != --check ]; then checks+=("$word"); fi
+        case $word in --lines) by=line ;; json) by=both ;; esac
+        if [ "$word" != --lines ] && [ "$word" != --check ]; then checks+=("$word"); fi
     done
     while read -r number start count; do
         # A part that was not relayed ends the run.
         [ -z "$(why_not "$number" "$count")" ] || break
         read -r _ _ lines _ items _ _ _ refused _ <<<"$(tail -n 1 "$waiting/$number.err")"
+        case $by in
+        item) first="--first-item $item" ;;
+        line) first="--first-line $line" ;;
+        both) first="--first-item $item --first-line $line" ;;
+        esac
         if [ "$refused" != 0 ] && [ "$start" != 0 ]; then again[number]="$number.again $start $count $first"; fi
-        if [ $by = --first-line ]; then first=$((first + lines)); else first=$((first + items)); fi
+        item=$((item + items))
+        line=$((line + lines))
     done < <(list_parts)
     [ ${#again[@]} != 0 ] || return 0
     # shellcheck disable=SC2016
-    printf '%s\n' "${again[@]}" | xargs -P "$(nproc)" -I PART bash -c 'relay_part "${1% *}" "${@:2}" "${1##* }"' relay_part PART \
-        "${checks[@]}" --check "$by" || fail "the status of xargs is $?"
+    printf '%s\n' "${again[@]}" | xargs -P "$(nproc)" -I PART bash -c \
+        'read -r number start count first <<<"$1"; relay_part "$number $start $count" "${@:2}" $first' relay_part PART \
+        "${checks[@]}" --check || fail "the status of xargs is $?"
 }
 
 # Ends the run if a part was not relayed, or not the second time: NUMBER or NUMBER.again, and COUNT.
