@@ -541,20 +541,21 @@ kept() {
     given "$1" "$lines" "$3" --refused refused "${@:4}"
     printf '%b' "$wanted" | cmp refused -
 }
-printf 'm a=1i\n  x \n# c\n\nw\\\t a=1i\r\nm a=\377\nm  a=2i\nm a=123456789i\ny' >bad
+printf 'm a=1i\n  x \n# c\n\nw\\\t a=1i\nm a=1i\r\nm a=\377\nm  a=2i\nm a=123456789i\ny' >bad
 printf 'old\n' >refused
 names >"$work/names"
-begun="item 2: $x\nitem 3: a name cannot be written again\nitem 4: the line is not UTF-8\n"
-pieces='  x \nw\\\t a=1i\r\nm a=\377\n'
+begun="item 2: No fields were provided\nitem 3: a name cannot be written again\n"
+begun="${begun}item 4: Could not parse entire line. Found trailing content: '\\\\r'\nitem 5: the line is not UTF-8\n"
+pieces='  x \nw\\\t a=1i\nm a=1i\r\nm a=\377\n'
 lines=''
 kept 2 'old\n' "${unread}none: $none\n" none
-kept 1 "${pieces}y\n" "${begun}item 7: $x\n" --check bad
+kept 1 "${pieces}y\n" "${begun}item 8: $x\n" --check bad
 lines='m a=1i\nm a=2i\nm a=123456789i\n'
-kept 1 "${pieces}y\n" "${begun}item 7: $x\n" bad
+kept 1 "${pieces}y\n" "${begun}item 8: $x\n" bad
 lines='m a=1i\nm a=2i\n'
-kept 1 "${pieces}y\n" "${begun}item 6: the line is too long\nitem 7: $x\n" --max-line 12 bad
+kept 1 "${pieces}y\n" "${begun}item 7: the line is too long\nitem 8: $x\n" --max-line 12 bad
 lines='m a=1i\nm a=123456789i\n'
-kept 1 "${pieces}m  a=2i\ny\n" "${begun}item 5: not as written: the spaces\nitem 7: $x\n" --canonical bad
+kept 1 "${pieces}m  a=2i\ny\n" "${begun}item 6: not as written: the spaces\nitem 8: $x\n" --canonical bad
 lines='m a=1i\n'
 kept 0 '' '' a
 lines='m a=1i\nm b=2i\n'
