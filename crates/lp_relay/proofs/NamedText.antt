@@ -1,5 +1,5 @@
 -- A front of one line with a name in it.
-use Rattle.std.proofs.Common.{◌≡◌, ◌≢◌, ℕ, suc, ◌+◌, ◌<◌, ◌≤◌, ◌==◌, Bool, true, false, List, [], ◌∷◌, ◌++◌, length, take, slice_index, refl, sym, ap, arith, eq-eqb, ne_eqb, ◌∙◌, inl, inr, subst, get_or-take, length-take-le, take-take}
+use Rattle.std.proofs.Common.{◌≡◌, ◌≢◌, ℕ, suc, ◌+◌, ◌<◌, ◌≤◌, ◌==◌, Bool, true, false, List, [], ◌∷◌, ◌++◌, length, take, slice_index, refl, sym, ap, arith, eq-eqb, ne_eqb, ◌∙◌, inl, inr, subst, get_or-take}
 use Rattle.std.specs.Prelude.{IfOk, Option, Result, Ok, Err}
 use Rattle.std.specs.Io.KnownBytes.{Appends, WriteAppends}
 use Rattle.std.proofs.KnownBytes.{Appends-nil, Appends-trans}
@@ -24,7 +24,7 @@ within_line name (b ∷ c ∷ bytes) place column low some past line =
     (λ k h. line (suc k) (omega (arith, h)))))
 
 -- without a name, lines stay as they are
-pub no_name : (place column : ℕ) (bytes : List ℕ) → named_text [] place column bytes ≡ bytes
+no_name : (place column : ℕ) (bytes : List ℕ) → named_text [] place column bytes ≡ bytes
 no_name place column [] = refl
 no_name place column (b ∷ bytes) =
     let rest = ap (λ (xs : List ℕ). b ∷ xs) (no_name place (next_column column b) bytes) in
@@ -34,7 +34,7 @@ no_name place column (b ∷ bytes) =
     ]
 
 -- a front of one line has the name before it, if this is its place
-pub named_front : (name : List ℕ) (place column : ℕ) (bytes : List ℕ) → place ≤ 1 → 0 < length bytes
+named_front : (name : List ℕ) (place column : ℕ) (bytes : List ℕ) → place ≤ 1 → 0 < length bytes
     → (place ≡ 1 → column ≡ 0 → length bytes ≤ 1) → ((k : ℕ) → k + 1 < length bytes → slice_index bytes k ≢ newline)
     → named_text name place column bytes ≡ name_at name place column ++ bytes
 named_front name place column [] low some first line = absurd (omega (arith, some))
@@ -58,7 +58,7 @@ named_front name place column (b ∷ c ∷ bytes) low some first line =
     ]
 
 -- the column after bytes and one more
-pub column_more : (column : ℕ) (bytes : List ℕ) (b : ℕ)
+column_more : (column : ℕ) (bytes : List ℕ) (b : ℕ)
     → column_after column (bytes ++ b ∷ []) ≡ next_column (column_after column bytes) b
 column_more column [] b = refl
 column_more column (c ∷ bytes) b = column_more (next_column column c) bytes b
