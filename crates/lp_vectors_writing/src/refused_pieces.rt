@@ -6,9 +6,10 @@ use lp_vectors_shared::drops::Trickle;
 use std::alloc::Global;
 use std::process::Abort;
 
-// Lines in several spellings, between them a fault, a comment, a blank line, a name that is not admitted and a line that is not
-// UTF-8, and at the end a fault without a newline.
-const TEXT: &[u8] = b"m a=1i\n  x \n# c\n\nw\\\t a=1i\r\nm a=\xff\nm  a=2i\nm a=123456789i\ny";
+// Lines in several spellings, between them a fault, a comment, a blank line, a name that is not admitted, a line that ends in a
+// carriage return and one that is not UTF-8, and at the end a fault without a newline.
+const TEXT: &[u8] =
+    b"m a=1i\n  x \n# c\n\nw\\\t a=1i\nm a=1i\r\nm a=\xff\nm  a=2i\nm a=123456789i\ny";
 
 // By these settings the text gives these refused pieces, whether it comes at once or byte by byte.
 fn puts(rt: &impl Abort, alloc: Global, settings: Settings, refused: &[u8]) {
@@ -26,7 +27,12 @@ fn each_refused_piece_goes_out_as_it_came(rt: HostRuntime) {
         puts_refused: true,
         ..Settings::default()
     };
-    puts(&rt, rt.alloc(), asked, b"  x \nw\\\t a=1i\r\nm a=\xff\ny\n");
+    puts(
+        &rt,
+        rt.alloc(),
+        asked,
+        b"  x \nw\\\t a=1i\nm a=1i\r\nm a=\xff\ny\n",
+    );
     let canonical = Settings {
         lines: Lines::Canonical,
         ..asked
@@ -35,13 +41,13 @@ fn each_refused_piece_goes_out_as_it_came(rt: HostRuntime) {
         &rt,
         rt.alloc(),
         canonical,
-        b"  x \nw\\\t a=1i\r\nm a=\xff\nm  a=2i\ny\n",
+        b"  x \nw\\\t a=1i\nm a=1i\r\nm a=\xff\nm  a=2i\ny\n",
     );
     let verbatim = Settings {
         lines: Lines::Verbatim,
         ..asked
     };
-    puts(&rt, rt.alloc(), verbatim, b"  x \nm a=\xff\ny\n");
+    puts(&rt, rt.alloc(), verbatim, b"  x \nm a=1i\r\nm a=\xff\ny\n");
 }
 
 #[test]
