@@ -560,7 +560,14 @@ lines='m a=1i\n'
 kept 0 '' '' a
 lines='m a=1i\nm b=2i\n'
 kept 1 'x\n' '{"file":"b","item":3,"line":2,'"$kind" --faults json a b
-rm bad refused
+# A refused piece of 9 MB, and its object, which is told whole, and what comes after them.
+{ printf 'm a=1i '; head -c 9000000 /dev/zero | tr '\0' x; printf '\ny\n'; } >large
+"$relay" --faults json --refused refused large >"$work/out" 2>"$work/err" && exit 1
+if ! cmp refused large || [ -s "$work/out" ] || [ "$(wc -l <"$work/err")" != 2 ] || [ "$(wc -c <"$work/err")" -lt 9000000 ]; then
+    echo "arguments: a refused piece of 9 MB does not go out, or is not told, whole"
+    exit 1
+fi
+rm bad refused large
 names >"$work/names"
 # The file of the refused pieces may be neither an input nor the output, by whatever name.
 given 2 '' "${unwritten}d: it is no regular file\n" --refused d a
