@@ -106,7 +106,7 @@ fn line_kind(text: &str) -> &'static str
 }
 
 // The kind of a piece that is refused for this text.
-fn kind_given(dialect: Dialect, piece: Result<&[u8], PieceTooLong>, text: &str) -> &'static str
+fn kind_given(dialect: Dialect, piece: Result<&[u8], PieceTooLong<'_>>, text: &str) -> &'static str
     ensures { result.now ≡ kind_given (rules_of dialect) piece.entry text.now }
 {
     let Ok(bytes) = piece else {
@@ -122,7 +122,7 @@ fn kind_given(dialect: Dialect, piece: Result<&[u8], PieceTooLong>, text: &str) 
 }
 
 // How many newlines come before the text of a piece.
-fn newlines_before(piece: Result<&[u8], PieceTooLong>) -> usize
+fn newlines_before(piece: Result<&[u8], PieceTooLong<'_>>) -> usize
     ensures { result ≡ newlines_in (front_given piece.entry) }
 {
     let Ok(bytes) = piece else {
@@ -161,7 +161,7 @@ pub(crate) fn tell_as_object(
     dialect: Dialect,
     so_far: &mut Progress,
     from: usize,
-    piece: Result<&[u8], PieceTooLong>,
+    piece: Result<&[u8], PieceTooLong<'_>>,
 ) -> Result<(), AllocError>
     requires front { IsUtf8 (take from (string_bytes so_far.old.faults)) }
     requires within { from ≤ length (string_bytes so_far.old.faults) }

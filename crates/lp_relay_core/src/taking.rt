@@ -299,7 +299,7 @@ fn take_given(
     alloc: Global,
     settings: Settings,
     so_far: &mut Progress,
-    piece: Result<&[u8], PieceTooLong>,
+    piece: Result<&[u8], PieceTooLong<'_>>,
 ) -> Result<(), AllocError>
     requires room { so_far.old.carried + so_far.old.refused < usize.MAX }
     ensures taken { OnOk result
@@ -323,7 +323,7 @@ fn take_given(
 // The line of the next piece, if fault lines name lines. It is refused if it, or the number of an item more, would not fit.
 fn line_after(
     so_far: &Progress,
-    piece: Result<&[u8], PieceTooLong>,
+    piece: Result<&[u8], PieceTooLong<'_>>,
 ) -> Result<Option<usize>, AllocError>
     requires fits { so_far.now.carried + so_far.now.refused ≤ usize.MAX }
     ensures room { OnOk result (so_far.now.carried + so_far.now.refused < usize.MAX) }
@@ -350,7 +350,7 @@ fn tell(
     settings: Settings,
     so_far: &mut Progress,
     from: usize,
-    piece: Result<&[u8], PieceTooLong>,
+    piece: Result<&[u8], PieceTooLong<'_>>,
 ) -> Result<(), AllocError>
     requires taken { (before : Made) × TakesRaw settings piece from before (made so_far.old) }
     requires some { from < length (string_bytes so_far.old.faults) }
@@ -386,7 +386,7 @@ fn end_piece(
     settings: Settings,
     pending: &mut Pending,
     from: usize,
-    piece: Result<&[u8], PieceTooLong>,
+    piece: Result<&[u8], PieceTooLong<'_>>,
 ) -> Result<(), AllocError>
     requires taken { (before : Made) × TakesRaw settings piece from before (made pending.old.so_far) }
     requires fits { pending.old.so_far.carried + pending.old.so_far.refused ≤ usize.MAX }
@@ -412,7 +412,7 @@ pub(crate) fn take_piece(
     alloc: Global,
     settings: Settings,
     pending: &mut Pending,
-    piece: Result<&[u8], PieceTooLong>,
+    piece: Result<&[u8], PieceTooLong<'_>>,
 ) -> Result<(), AllocError>
     requires fits { pending.old.so_far.carried + pending.old.so_far.refused ≤ usize.MAX }
     requires few { HoldsLess BLOCK pending.old }
