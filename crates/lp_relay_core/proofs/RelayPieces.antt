@@ -27,7 +27,7 @@ pub record Given (s : Settings) (text : List ℕ) (result : Result (Bor (List �
   pub piece : List ℕ
   pub text_is : text ≡ piece ++ newline ∷ rest
   pub is_cut : IsCutPiece (rules_of s.dialect) piece
-  pub items : items_given s.lines (rules_of s.dialect) result ≡ items_of_piece s piece
+  pub items : items_given s result ≡ items_of_piece s piece
   pub newlines : newlines_given result ≡ newlines_in piece
   pub put : refused_given s result ≡ refused_piece s piece
 
@@ -49,7 +49,7 @@ given_on s text result rest t g = grind (arith, append_assoc)
 
 -- the items of the last piece
 pub last_items : (s : Settings) (text : List ℕ) (result : Result (Bor (List ℕ)) PieceTooLong)
-    → IsLastOf s.limit text result → items_given s.lines (rules_of s.dialect) result ≡ items_of_piece s text
+    → IsLastOf s.limit text result → items_given s result ≡ items_of_piece s text
 last_items s text e h = grind (arith, items_of_short, item_of_long)
 
 -- what goes out of it as refused
@@ -152,7 +152,7 @@ to_more s text mid rest old now next poured a b c result p one takes line q =
       taken = takes_one (rules_of s.dialect) text mid rest p.pieces one.piece p.taken one.text_is one.is_cut;
       line = next_line old.made.line now.made.line poured.made.line _ p.pieces one.piece p.line one.newlines line;
       relays = relays_same old poured a c _ _ _ _ _ _
-          (next_items s p.pieces one.piece (items_given s.lines (rules_of s.dialect) result) one.items)
+          (next_items s p.pieces one.piece (items_given s result) one.items)
           (next_faults s old now a b p.pieces one.piece _ _ _ p.relays p.line one.items)
           (next_put s p.pieces one.piece (refused_given s result) one.put)
           (relays_poured s old now next poured a b c _ _ _ result p.relays takes q);
@@ -168,7 +168,7 @@ to_part s text mid rest old now next a b c result p one takes q =
       rest = rest;
       taken = takes_one (rules_of s.dialect) text mid rest p.pieces one.piece p.taken one.text_is one.is_cut;
       part = part_same old a c _ _ _ _ _ _
-          (next_items s p.pieces one.piece (items_given s.lines (rules_of s.dialect) result) one.items)
+          (next_items s p.pieces one.piece (items_given s result) one.items)
           (next_faults s old now a b p.pieces one.piece _ _ _ p.relays p.line one.items)
           (next_put s p.pieces one.piece (refused_given s result) one.put)
           (part_poured s old now next a b c _ _ _ result p.relays takes q);

@@ -52,7 +52,7 @@ item_kind (answered front (Err fault)) = fault_kind fault
 item_kind (as_it_came piece) = []
 item_kind (not_as_written front wrong) = codes "not_as_written"
 item_kind not_utf8 = codes "not_utf8"
-item_kind too_long = codes "too_long"
+item_kind (too_long kept) = codes "too_long"
 
 -- what comes before the text of an item in its piece: nothing if the piece has no text
 abbrev pub item_front : Item → List ℕ
@@ -60,7 +60,7 @@ item_front (answered front answer) = front
 item_front (as_it_came piece) = []
 item_front (not_as_written front wrong) = front
 item_front not_utf8 = []
-item_front too_long = []
+item_front (too_long kept) = []
 
 -- the object of a fault, which names this item and this line, and a newline
 abbrev pub object : (number line : ℕ) → (kind text : List ℕ) → List ℕ
