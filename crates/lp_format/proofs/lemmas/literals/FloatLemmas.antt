@@ -13,7 +13,7 @@ use Rattle.std.proofs.lemmas.List.{Sums.prefix_len-le-length, Sums.AllPass-from_
 use Rattle.lp_format.specs.format.{comma, space, letter_i, letter_u, is_one_of, miss, reads, value, IsFloat, IsMarked, IsSigned, float}
 use Rattle.lp_format.specs.format.{float_at, digits_len, number_len, marked_len, integer_len, fraction_len, exponent_len, float_len}
 use Rattle.lp_format.specs.format.{unsigned_at}
-use Rattle.lp_format.proofs.lemmas.values.ValueLemmas.{front_numeral, digits_no_more, integer_unmarked, unsigned_unmarked}
+use Rattle.lp_format.proofs.lemmas.values.ValueLemmas.{front_numeral, integer_unmarked}
 
 -- a digit passes the test
 pub digit_passes : (b : ℕ) → digit_value b < 10 → is_ascii_digit b ≡ true
@@ -266,11 +266,12 @@ pub record FloatFront (text t rest : List ℕ) : Type 0 where
 
 -- each float before the end, a comma or a space is at the start
 pub float_front : (t rest : List ℕ) → IsFloat t → Ends rest → FloatFront (t ++ rest) t rest
+unfolding unsigned_at
 float_front t rest parts ends =
     let text = t ++ rest in
     let len = float_ends t rest parts ends in
     let filled : 0 < float_len text = omega (arith, len, (float_fills t parts).0, float_len_fits t) in
-    grind (arith, integer_or_more, digits_no_more, cases_Bool, eqb-false, unsigned_unmarked, unmarked, float_reads, take_at, drop_at)
+    grind (arith, integer_or_more, cases_eq, ne_eqb, eqb-true, zero-add, cases_Bool, eqb-false, nat_tests, unmarked, float_reads, take_at, drop_at)
 
 -- a float reads back before the end, a comma or a space
 pub float_reads_back : (t rest : List ℕ) → IsFloat t → Ends rest → value (t ++ rest) ≡ reads (float t) rest

@@ -16,15 +16,7 @@ module _ {A : Type 0} (one : List ℕ → Reading A) where
   comma_there : (text : List ℕ) → after_comma one text ≢ miss
       → (suffix : List ℕ) × (text ≡ comma ∷ suffix) × (after_comma one text ≡ one suffix)
   comma_there [] some = absurd (some refl)
-  comma_there (b ∷ suffix) some = elim (cases_Bool (b == comma)) [
-    | inl sign ↦ (suffix, ap (λ c. c ∷ suffix) (eqb-true b comma sign), rw sign refl)
-    | inr other ↦ absurd (some (rw other refl))
-  ]
-
-  -- a fault of one more, in the words of the law, is a fault of what reads after them
-  fault_next : (xs : List A) (rest : List ℕ) (e : Fault) → NextHasFault one xs rest e → next xs rest ≡ fatal e
-  fault_next [] rest e h = h
-  fault_next (x ∷ xs) rest e h = rw h.1 h.2
+  comma_there (b ∷ suffix) some = grind (arith, cases_Bool, eqb-true)
 
   -- and back
   next_fault : (xs : List A) (rest : List ℕ) (e : Fault) → next xs rest ≡ fatal e → NextHasFault one xs rest e
@@ -139,7 +131,7 @@ module _ {A : Type 0} (one : List ℕ → Reading A) where
     pub the_most_is_read : TheMostIsRead one
     the_most_is_read text xs rest =
         let w = whole_is text in (
-          (λ e. grind (arith, fault_next)),
+          (λ e. grind (arith)),
           (λ h.
               let same = w.only xs rest h.longest in
               let fine : (e : Fault) → next xs rest ≢ fatal e = λ e k. h.no_fault e (next_fault xs rest e k) in
@@ -151,7 +143,7 @@ module _ {A : Type 0} (one : List ℕ → Reading A) where
     the_next_has_the_fault text e =
         let w = whole_is text in (
           (λ h. (w.xs, w.rest, w.longest, next_fault w.xs w.rest e (grind arith))),
-          (λ h. let same = w.only h.0 h.1 h.2 in grind (arith, fault_next)),
+          (λ h. let same = w.only h.0 h.1 h.2 in grind (arith)),
         )
 
     -- a list is not there if its first element is not there

@@ -115,29 +115,6 @@ integer_decides text other some mark = grind (arith, marked, cases_Bool)
 pub letter_boundary : (text : List ℕ) (n b : ℕ) → IsUtf8 text → slice_index text n ≡ suc b → suc b < 128 → IsCharBoundary text (n + 1)
 letter_boundary text n b utf8 e small = IsCharBoundary-after_ascii text n utf8 (in_text text n b e) (omega (arith, e))
 
--- the digits at the start and the integer at the start
-pub digits_of_plain : (text : List ℕ) → slice_index text 0 ≢ minus → digits_len text ≡ integer_len text
-digits_of_plain text other = grind (arith, ne_eqb, cases_Bool, eqb-true, zero-add)
-
--- no digits are at a minus
-pub digits_of_minus : (text : List ℕ) → slice_index text 0 ≡ minus → digits_len text ≡ 0
-digits_of_minus [] e = refl
-digits_of_minus (b ∷ rest) e = rw e refl
-
--- the digits at the start take no more than the integer there
-pub digits_no_more : (text : List ℕ) → digits_len text ≤ integer_len text
-digits_no_more text = grind (arith, cases_eq, digits_of_minus, digits_of_plain)
-
--- the outcomes of an unsigned integer
-pub unsigned_misses : (text : List ℕ) → digits_len text ≡ 0 → unsigned_at text ≡ miss
-unfolding unsigned_at
-unsigned_misses text e = rw (eq-eqb (digits_len text) 0 e) refl
-
--- digits without `u` are no unsigned integer
-pub unsigned_unmarked : (text : List ℕ) → slice_index text (digits_len text) ≢ letter_u → unsigned_at text ≡ miss
-unfolding unsigned_at
-unsigned_unmarked text other = grind (arith, nat_tests)
-
 -- digits in range and `u` are an unsigned integer
 pub unsigned_reads : (text : List ℕ) → 0 < digits_len text → slice_index text (digits_len text) ≡ letter_u
     → digits_value 10 (take (digits_len text) text) < 2 ^ 64
