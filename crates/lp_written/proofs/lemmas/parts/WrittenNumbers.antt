@@ -9,7 +9,7 @@ use Rattle.std.proofs.Math.Nat.{pow-le-pow_right}
 use Rattle.lp_format.specs.format.{IsSigned, IsFloat, Value, integer, unsigned, float, string, boolean, integer_len, fits_i64, float_at}
 use Rattle.lp_format.specs.format.{float_len, minus, miss, reads, IsValue, built_value, byte}
 use Rattle.lp_format.specs.format.Bytes.{letter_i, letter_u, quote}
-use Rattle.std.proofs.lemmas.Bool.{cases_Bool, cases_lt, and_parts, eqb-false, or_parts, false≢true, not-true}
+use Rattle.std.proofs.lemmas.Bool.{cases_eq, cases_lt, and_parts, eqb-false, or_parts, false≢true, not-true}
 use Rattle.std.proofs.lemmas.Fmt.{decimal_is_IsNumeral, decimal-digits_value, decimal_digit, first_decimal}
 use Rattle.std.proofs.lemmas.{Int.Digits.digits_value-lt, Str.Parse.digit_from_value, Str.Parse.numerals_by_value, Str.Parse.tells_digits}
 use Rattle.lp_format.proofs.lemmas.literals.FloatLemmas.{float_len_float, float_misses, float_reads, signed_front, FloatFront, float_front}
@@ -222,32 +222,20 @@ pub ruleset number_steps = (signed_number, integer_answer, unsigned_answer)
 
 -- what is read as a float is one that the builder writes
 float_found : (text t rest : List ℕ) → float_at text ≡ reads (float t) rest → IsWrittenValue text rest
-float_found text t rest read = elim (cases_Bool (float_len text == 0)) [
-  | inl none ↦ let missed = float_misses text (eqb-true (float_len text) 0 none) in absurd (cc (missed, read))
-  | inr some ↦
-      let more : 0 < float_len text = omega (arith, eqb-false (float_len text) 0 some) in
-      let found : reads (float (take (float_len text) text)) (drop (float_len text) text) ≡ reads (float t) rest =
-      sym (float_reads text more) ∙ read in
-      let same : take (float_len text) text ≡ t = cc in
-      let left : drop (float_len text) text ≡ rest = cc in
-      record {
-        thing = float t;
-        is = subst IsFloat same (float_len_float text more);
-        written = rw (← same, ← left) (take-append-drop (float_len text) text);
-      }
-]
+float_found text t rest read =
+    let some : 0 < float_len text = grind (arith, cases_eq, float_misses) in
+    let found = sym (float_reads text some) ∙ read in
+    record { thing = float t; is = subst IsFloat (cc) (float_len_float text some); written = grind (arith, take-append-drop) }
 
 module _ (text : List ℕ) (whole : ℕ) (len : whole ≡ integer_len text) (some : 0 < whole) (no_i : byte letter_i (drop whole text) ≡ miss)
     (no_u : byte letter_u (drop whole text) ≡ miss) where
   -- if no mark of an integer is, the builder writes no value but a float
   float_only : (rest : List ℕ) → IsWrittenValue text rest → EndsValue rest → (t : List ℕ) × (float_at text ≡ reads (float t) rest)
-  float_only rest w ends = elim (shape text rest w ends) [
-    | an_integer z fits t ↦ absurd (byte_missing letter_i (drop whole text) no_i rest (rw len t.after))
-    | an_unsigned n fits t ↦ absurd (byte_missing letter_u (drop whole text) no_u rest (rw len t.after))
-    | a_float x front ↦ (x, front.reads_it)
-    | a_string none quote x ↦ absurd (omega (arith, len, some, none))
-    | a_word b none word ↦ absurd (omega (arith, len, some, none))
-  ]
+  float_only rest w ends =
+      let no_i = byte_missing letter_i (drop whole text) no_i rest in
+      let no_u = byte_missing letter_u (drop whole text) no_u rest in
+      let t = shape text rest w ends in
+      grind (arith)
 
   -- none, if no float is read
   pub no_float : (o : Option (Bor (List ℕ))) → o ≡ None → float_at text ≡ miss → IsOnlyRest (IsWrittenValue text) EndsValue o
