@@ -172,13 +172,9 @@ ends_here kind bytes at within mark other = grind (arith, common_steps, written_
 -- the steps of a reader of tokens
 pub ruleset token_steps = (run_mark, first_run, next_run, ends_here)
 
--- what may be in a name is what its token can hold
-holds_same : (kind : NameKind) (b : ℕ) → can_hold (escapable kind) (is_stop kind) b ≡ may_hold kind b
-holds_same kind b = grind (arith, common_steps)
-
 -- and so of a text
 all_same : (kind : NameKind) (n : List ℕ) → list_all (can_hold (escapable kind) (is_stop kind)) n ≡ list_all (may_hold kind) n
-all_same kind n = grind (arith, holds_same)
+all_same kind n = grind (arith, common_steps)
 
 -- a spelling is empty if its name is
 spelled_empty : (known n : List ℕ) → (length (escaped known n) == 0) ≡ (length n == 0)
