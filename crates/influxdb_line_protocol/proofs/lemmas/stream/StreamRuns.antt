@@ -1,7 +1,4 @@
 -- The pieces that a stream gives, and their answers, are those of all that was pushed.
-use Rattle.std.proofs.lemmas.Grind.{common_steps}
-use Rattle.std.proofs.lemmas.Bool.Decides.{nat_tests}
-use Rattle.std.proofs.lemmas.Bool.{cases_Bool}
 use Rattle.std.proofs.Common.{◌≡◌, ℕ, List, [], ◌∷◌, ◌++◌, subst, sym, ◌∙◌, arith, append_assoc, append-nil, refl, ap}
 use Rattle.std.proofs.Common.{Result, All}
 use Rattle.std.proofs.lemmas.Grind.{flat_map-append}
@@ -65,7 +62,11 @@ last_answers dialect (piece ∷ texts) text answers h =
 -- at the end they are the answers of all
 pub streams_answer_all : StreamsAnswerAll
 streams_answer_all dialect given pieces held answers r h =
-    grind (arith, common_steps, nat_tests, cases_Bool, last_answers, streams_give_answers, append-nil)
+    let w = last_answers dialect pieces held answers h in
+    let all = streams_give_answers dialect given pieces held [] w.0 w.1 r w.2
+    (subst (λ text. HasAnswers dialect text w.1) (sym (append-nil held)) w.3) in
+    subst (λ text. HasAnswers dialect text answers) (append-nil given)
+    (subst (λ xs. HasAnswers dialect (given ++ []) xs) (sym w.4) all)
 
 -- the laws of streams
 pub ruleset stream_laws = (taken_is_first, runs_give_pieces, runs_end, streams_give_answers, streams_answer_all)

@@ -200,18 +200,8 @@ module _ (text number : List ℕ) (whole : ℕ) (len : whole ≡ integer_len tex
         only : (rest : List ℕ) → IsWrittenValue text rest → EndsValue rest → (is_written_unsigned number ≡ true) × (rest ≡ r.now)
         only rest w ends = elim (shape text rest w ends) [
           | an_integer z fits t ↦ absurd (omega (arith, ap (λ (xs : List ℕ). slice_index xs 0) (sym (at_mark letter_u read) ∙ t.after)))
-          | an_unsigned n fits t ↦
-              grind (
-                arith,
-                number_is,
-                at_mark letter_u read,
-                decimal_is_IsNumeral,
-                no_minus,
-                decimal_digit,
-                first_digit,
-                first_decimal,
-                lt-ltb,
-              )
+          | an_unsigned n fits t ↦ let marked = at_mark letter_u read in
+              grind (arith, number_is, decimal_is_IsNumeral, no_minus, decimal_digit, first_digit, first_decimal, lt-ltb)
           | a_float x f ↦ absurd (f.no_u (byte_at_drop text r.now (integer_len text) letter_u (at_mark letter_u read)).0)
           | a_string none quote x ↦ absurd (omega (arith, len, some, none))
           | a_word b none word ↦ absurd (omega (arith, len, some, none))
