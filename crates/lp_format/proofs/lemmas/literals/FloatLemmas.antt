@@ -135,17 +135,16 @@ float_len_float t some =
     let suffix = drop w t in
     let f = fraction_len suffix in
     let after = drop (w + f) t in
-    elim (cases_eq w 0) [
-      | inl none ↦ absurd (grind (arith, nat_tests))
-      | inr whole ↦
-          let positive : 0 < w = omega arith in
-          let len : float_len t ≡ w + f + exponent_len after = rw (ne_eqb w 0 whole) refl in
-          let spelled : take (float_len t) t ≡ take w t ++ (take f suffix ++ take (exponent_len after) after) =
-          rw (len, take-add (w + f) (exponent_len after) t, take-add w f t, append_assoc) refl in
-          let fraction = marked_front (codes ".") digits_len (IsNumeral 10) suffix (λ x h. front_numeral x (λ e. absurd (omega arith))) in
-          let exponent = marked_front (codes "eE") (number_len (codes "+-")) (IsSigned (codes "+-")) after (signed_front (codes "+-")) in
-          (take w t, take f suffix, take (exponent_len after) after, spelled, signed_front (codes "-") t positive, fraction, exponent)
-    ]
+    let whole : w ≢ 0 = λ none. absurd (grind (arith, nat_tests)) in
+    let len : float_len t ≡ w + f + exponent_len after = rw (ne_eqb w 0 whole) refl in (
+      take w t,
+      take f suffix,
+      take (exponent_len after) after,
+      rw (len, take-add (w + f) (exponent_len after) t, take-add w f t, append_assoc) refl,
+      signed_front (codes "-") t (omega arith),
+      marked_front (codes ".") digits_len (IsNumeral 10) suffix (λ x h. front_numeral x (λ e. absurd (omega arith))),
+      marked_front (codes "eE") (number_len (codes "+-")) (IsSigned (codes "+-")) after (signed_front (codes "+-")),
+    )
 
 -- a byte that a float can hold
 abbrev pub in_float : ℕ → Bool

@@ -1,5 +1,5 @@
 -- What is joined by commas is read as the most that are at the start, and as many are counted.
-use Rattle.std.proofs.Common.{◌≡◌, ◌≢◌, ℕ, zero, suc, ◌≤◌, List, [], ◌∷◌, length, refl, sym, ap, ◌∙◌, arith, inl, inr, eqb-true, ◌==◌}
+use Rattle.std.proofs.Common.{◌≡◌, ◌≢◌, ℕ, zero, suc, ◌≤◌, List, [], ◌∷◌, length, refl, sym, ap, ◌∙◌, arith, eqb-true}
 use Rattle.std.proofs.lemmas.Bool.{cases_Bool}
 use Rattle.lp_format.specs.format.{Fault, Reading, miss, fatal, reads, after_comma, separated_list, many, comma}
 use Rattle.lp_format.specs.laws.Meanings.{SeparatedBy, SeparatedAfterComma, LongestList, NextHasFault, TheMostIsRead, TheNextHasTheFault}
@@ -69,14 +69,7 @@ module _ {A : Type 0} (one : List ℕ → Reading A) where
         let s = comma_there text (λ none. cc) in
         let first : one s.0 ≡ reads x after = sym s.2 ∙ e in
         let t = more after (omega (arith, no_longer s.0 x after first, ap length s.1)) in
-        record {
-          xs = x ∷ t.xs;
-          rest = t.rest;
-          are = (s.0, after, s.1, first, t.are);
-          none = t.none;
-          ends = grind arith;
-          counted = grind arith;
-        }
+        record { xs = x ∷ t.xs; rest = t.rest; are = grind arith; none = t.none; ends = grind arith; counted = grind arith }
     tail_more n text room more other e =
         record { xs = []; rest = text; are = refl; none = λ y after is. cc; ends = rw e refl; counted = rw e refl }
 
@@ -109,19 +102,7 @@ module _ {A : Type 0} (one : List ℕ → Reading A) where
         first_most x xs text after rest e h none (y ∷ ys) b k =
             after_most (x ∷ xs) (y ∷ ys) (comma ∷ text) rest b (text, after, refl, e, h) (text, k.0, refl, k.1, k.2) none
     whole_by text other e =
-        record {
-          xs = [];
-          rest = text;
-          longest = record { separated = refl; most = λ others b k. (none others b k).0 };
-          only = λ others b k. (none others b k.separated).1;
-          ends = rw e refl;
-          counted = rw e refl;
-        }
-      where
-        -- none is there
-        none : (others : List A) (b : List ℕ) → SeparatedBy one others text b → (length others ≤ 0) × ((others ≡ []) × (b ≡ text))
-        none [] b k = (omega arith, (refl, sym k))
-        none (y ∷ ys) b k = absurd (cc)
+        record { xs = []; rest = text; longest = grind arith; only = grind arith; ends = rw e refl; counted = rw e refl }
 
     -- each text has an outcome as a list joined by commas
     whole_is : (text : List ℕ) → Whole text

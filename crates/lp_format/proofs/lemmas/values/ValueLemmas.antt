@@ -1,15 +1,15 @@
 -- Numbers at the start of a text.
 use Rattle.std.proofs.Common.{◌≡◌, ◌≢◌, ℕ, zero, suc, ◌+◌, ◌-◌, ◌^◌, ◌<◌, ◌≤◌, List, [], ◌∷◌, length, take, drop, get_or, Bool, slice_index}
 use Rattle.std.proofs.Common.{true, false, refl, ap, subst, arith, inl, inr, add-zero, zero-add, one-add, ◌==◌, ◌&&◌, not, if◌then◌else◌}
-use Rattle.std.proofs.Common.{IsUtf8, IsCharBoundary, ℤ, FitsSigned, w64, eqb-true, eq-eqb, ne_eqb, leb-true, ltb-true, lt-ltb, le-ltb}
+use Rattle.std.proofs.Common.{IsUtf8, IsCharBoundary, ℤ, FitsSigned, w64, eq-eqb, ne_eqb, leb-true, ltb-true, lt-ltb, le-ltb}
 use Rattle.std.proofs.Common.{le-leb, drop-drop, get_or-drop, length-drop, length-take, length-take-le}
 use Rattle.std.specs.{Char.is_ascii_digit, Str.Parse.AllDigits, Str.Parse.IsNumeral, Str.Parse.digits_value, Str.Parse.signed_digits_value}
-use Rattle.std.proofs.lemmas.{Bool.cases_Bool, Bool.cases_eq, Bool.cases_lt, Bool.and_parts, Bool.eqb-false, Bool.and_from, List.drop_more}
+use Rattle.std.proofs.lemmas.{Bool.cases_Bool, Bool.cases_lt, Bool.and_parts, Bool.eqb-false, Bool.and_from, List.drop_more}
 use Rattle.std.proofs.lemmas.{List.get_or_past, List.Sums.prefix_len_passes, List.Sums.prefix_len-le-length, Grind.common_steps}
 use Rattle.std.proofs.lemmas.{Bool.Decides.nat_tests, Str.IsCharBoundary-after_ascii, Str.IsCharBoundary-start, Str.digit_value_digit}
 use Rattle.lp_format.specs.format.{Value, digits_len, integer, integer_at, integer_len, side_of, fits_i64, boolean, boolean_at, unsigned}
 use Rattle.lp_format.specs.format.{unsigned_at, word_len, Reading, Text, ◌otherwise◌, above, miss, fatal, reads, integer_value_invalid}
-use Rattle.lp_format.specs.format.{uinteger_value_invalid, letter_i, letter_u, minus}
+use Rattle.lp_format.specs.format.{uinteger_value_invalid, letter_i, letter_u}
 
 -- a digit, by its test
 pub digit_range : (b : ℕ) → is_ascii_digit b ≡ true → (48 ≤ b) × (b ≤ 57)
