@@ -99,11 +99,7 @@ spelled_escape : (known : List ℕ) (stops : ℕ → Bool) (b c : ℕ) (text : L
 spelled_escape known stops b c text mark is found more =
     let len : written_len known stops (b ∷ c ∷ text) ≡ suc (suc (written_len known stops text)) =
     omega (arith, written_escape known stops b c text mark is found) in
-    record {
-      name = c ∷ more.name;
-      holds = grind (arith, common_steps);
-      spelled = rw (len, escaped_found known more.name c found, is) (ap (λ (xs : List ℕ). backslash ∷ c ∷ xs) more.spelled);
-    }
+    record { name = c ∷ more.name; holds = grind (arith, common_steps); spelled = grind (arith, escaped_found) }
 
 -- what is passed is such a front
 pub written_spelled : (known : List ℕ) (stops : ℕ → Bool) (text : List ℕ) → Spelled known stops text
@@ -227,17 +223,12 @@ pub name_found : (kind : NameKind) (text bytes known rest : List ℕ) (stops : �
     → IsWrittenName kind text rest × ((other : List ℕ) → IsWrittenName kind text other → EndsName kind other → other ≡ rest)
 name_found kind text bytes known rest stops len ok left is tells passes same_text same_known same_stops =
     let is : len ≡ name_len kind text = cc in
-    let tells = rw same_text at tells in
     let front = written_spelled (escapable kind) (is_stop kind) text in
     let spelled : spelling kind front.name ++ rest ≡ text = rw (left, is) front.spelled in
     let same : take len text ≡ spelling kind front.name =
     sym (append_cancel_right (spelling kind front.name) (take len text) rest (spelled ∙ rw left (sym (take-append-drop len text)))) in
     let may : list_all (may_hold kind) front.name ≡ true = sym (all_same kind front.name) ∙ front.holds in (
-      record {
-        thing = front.name;
-        is = sym (spelling_tells kind front.name may) ∙ ap (is_admitted_spelling kind) (sym same) ∙ sym tells ∙ passes;
-        written = spelled;
-      },
+      record { thing = front.name; is = grind (arith, spelling_tells); written = spelled },
       λ other w ends. grind (arith, drop_at, name_passed),
     )
 
@@ -267,12 +258,7 @@ pub string_found : (text opened rest : List ℕ) → text ≡ quote ∷ opened �
     → IsWrittenString text rest
 string_found text opened rest e closed =
     let front = written_spelled quotable is_quote opened in
-    record {
-      thing = front.name;
-      is = tt;
-      written = append_assoc (quote ∷ escaped quotable front.name) (quote ∷ []) rest
-          ∙ ap (λ (xs : List ℕ). quote ∷ xs) (rw closed at front.spelled) ∙ sym e;
-    }
+    record { thing = front.name; is = tt; written = grind (arith, append_assoc) }
 
 -- and no other rest follows a string
 pub string_only : (text opened rest : List ℕ) → text ≡ quote ∷ opened → IsWrittenString text rest
