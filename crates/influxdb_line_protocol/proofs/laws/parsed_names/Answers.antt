@@ -3,8 +3,4 @@ use Rattle.influxdb_line_protocol.proofs.lemmas.laws.NamesInLines.{parsed_names_
 use Rattle.influxdb_line_protocol.proofs.laws.parsed_names.Goals as goal
 
 pub returns : goal.returns
-returns c = record {
-  all = names_are_parsed;
-  each = parsed_names_are_in_lines;
-  fields_end = strict_fields_end;
-}
+returns c = record { all = names_are_parsed; each = parsed_names_are_in_lines; fields_end = strict_fields_end }

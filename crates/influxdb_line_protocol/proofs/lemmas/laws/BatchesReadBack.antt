@@ -19,7 +19,7 @@ use Rattle.lp_lines.proofs.lemmas.names.Spellings.{reaches_start}
 use Rattle.lp_lines.proofs.lemmas.names.ParsedNames.{ParsedPoint, names_are_parsed, nothing_in_nil}
 use Rattle.std.specs.List.{AllByRecursion, list_all}
 use Rattle.std.proofs.lemmas.Bool.{and_parts, cases_Bool, false≢true, and_from}
-use Rattle.std.proofs.lemmas.List.{length-map, get_or-map}
+use Rattle.std.proofs.lemmas.{List.length-map, List.get_or-map, List.map-append, Simd.map-map}
 use Rattle.std.proofs.lemmas.List.Elements.{All-contains_itself, All-weaker, Contains-append_left, Contains-append_right, recursion_from_All}
 use Rattle.lp_split.specs.code.{Head, Plain}
 use Rattle.lp_split.proofs.lemmas.split.SplitWalk.{Plain-comma}
@@ -168,12 +168,6 @@ point_fails p h names bad =
     ] in
     subst Fails (sym (line_parts p)) parts
 
--- the items of lines and of what follows them
-items_of_lines : (lines : List Line) (answers : List (Result Line Fault))
-    → map item_of (map Ok lines ++ answers) ≡ map Ok (map point_of lines) ++ map item_of answers
-items_of_lines [] answers = refl
-items_of_lines (line ∷ lines) answers = ap (λ xs. Ok (point_of line) ∷ xs) (items_of_lines lines answers)
-
 -- what holds of each element holds of all
 all_elements : {X : Type 0} (P : X → Type 0) (xs : List X) → ((x : X) → Contains xs x → P x) → AllByRecursion P xs
 all_elements P xs each = recursion_from_All P xs (All-weaker (Contains xs) P each xs (All-contains_itself xs))
@@ -254,4 +248,4 @@ other_batches_do_not dialect points t items others all bad h k e =
     let has = subst (λ ps. HasAnswers dialect (built_all ps ++ t) h.0) f.is h.1 in
     let w = other_points_end_with_backslash dialect f.front f.stop f.after t h.0 points_are.0 points_are.1 f.fails names has in
     not_all f.front f.stop f.after ends_with_backslash (map item_of w.1) others
-    (grind (arith, items_of_lines))
+    (grind (arith, map-append, map-map))

@@ -2,7 +2,7 @@
 use Rattle.std.proofs.Common.{◌≡◌, ◌≢◌, ℕ, ◌<◌, List, [], ◌∷◌, ◌++◌, length, slice_index, true, false, refl, sym, ap, ◌∙◌, subst, arith}
 use Rattle.std.proofs.Common.{inl, inr, append_assoc, append-nil, Err, Result, Bool, ◌&&◌, flat_map, ne_eqb, length-append}
 use Rattle.std.specs.List.{list_all, AllByRecursion}
-use Rattle.std.proofs.lemmas.Bool.{cases_Bool, false≢true, both_ways, and_from, and_right, and_parts}
+use Rattle.std.proofs.lemmas.Bool.{cases_Bool, false≢true, both_ways, and_right, and_parts}
 use Rattle.std.proofs.lemmas.{Grind.flat_map-append, List.get_or_append_left}
 use Rattle.lp_format.specs.format.{Dialect, Crate, Strict, is_one_of, newline, comma, equals, space, backslash, escaped, Fault}
 use Rattle.lp_format.specs.format.{ends_with_backslash, fatal, Reading, reads, NameKind, a_measurement, a_tag_key, a_tag_value}
@@ -110,14 +110,7 @@ first_failing test [] h = absurd (false≢true (sym h))
 first_failing test (x ∷ xs) h = elim (cases_Bool (test x)) [
   | inl ok ↦
       let more = first_failing test xs (second_fails (test x) (list_all test xs) h ok) in
-      record {
-        front = x ∷ more.front;
-        stop = more.stop;
-        after = more.after;
-        is = ap (λ ys. x ∷ ys) more.is;
-        pass = and_from (test x) _ ok more.pass;
-        fails = more.fails;
-      }
+      record { front = x ∷ more.front; stop = more.stop; after = more.after; is = grind arith; pass = grind arith; fails = more.fails }
   | inr failing ↦ record { front = []; stop = x; after = xs; is = refl; pass = refl; fails = failing }
 ]
 
@@ -151,12 +144,7 @@ name_stops kind n h bad =
       stop = place.stop;
       after = spelling kind place.after;
       is = ap (spelling kind) place.is ∙ spelling_around kind place.front place.after place.stop never;
-      reached = record {
-        name = place.front;
-        spelled = spelled;
-        some = some;
-        first = sym (get_or_append_left place.front (place.stop ∷ place.after) 0 0 some) ∙ ap (λ (xs : List ℕ). slice_index xs 0) (sym place.is);
-      };
+      reached = record { name = place.front; spelled = spelled; some = some; first = grind (arith, get_or_append_left, place.is) };
       fails = λ rest stops. spelled_fatal spelled some ends rest (grind (arith, never_stops, never));
     }
 

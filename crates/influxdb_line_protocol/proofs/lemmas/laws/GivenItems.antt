@@ -6,7 +6,7 @@ use Rattle.std.proofs.lemmas.{Bool.cases_Bool, Grind.flat_map-append, List.Eleme
 use Rattle.lp_format.specs.format.{Dialect, trimmed, Left, PiecesLeft, answers_of, answers_of_piece, answer}
 use Rattle.lp_values.specs.declared.error.Error.{Error}
 use Rattle.lp_lines.specs.{declared.parsed.ParsedLine.ParsedLine, code.ParseSteps.GivesItem}
-use Rattle.lp_events.specs.code.{LineSteps.IsBlankPiece, EventsLeft.HasEventsLeft, EventsLeft.told}
+use Rattle.lp_events.specs.code.{LineSteps.IsBlankPiece, EventsLeft.HasEventsLeft}
 use Rattle.influxdb_line_protocol.specs.laws.GivenItems.{trimmed_lines, AreItemsOf, AreAnswers, ItemsAreOfPieces, ItemsAreAnswers}
 use Rattle.influxdb_line_protocol.specs.laws.GivenItems.{GivenLinesWereRead, ItemsSoFar}
 use Rattle.influxdb_line_protocol.specs.laws.GivenEvents.{AllEventsCome, EventsSoFar}
@@ -75,8 +75,7 @@ given_lines_were_read before after line gives =
 -- the events that came were left, and those that are left after them
 pub so_far : EventsSoFar
 so_far start reader [] others same left = subst (λ r. HasEventsLeft r others) (sym same) left
-so_far start reader (event ∷ came) others (next, given, more) left =
-    given (map told came ++ others) (so_far next reader came others more left)
+so_far start reader (event ∷ came) others (next, given, more) left = grind (arith, so_far next reader came others more left)
 
 -- so all come before `None`
 pub all_come : AllEventsCome

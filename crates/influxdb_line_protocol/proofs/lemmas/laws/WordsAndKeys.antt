@@ -1,8 +1,7 @@
 -- The word at the start of a text is the longest that is there; tags by their keys are the one list of them whose keys rise.
 use Rattle.std.proofs.Common.{◌≡◌, ◌⊎◌, ℕ, ◌≤◌, List, [], ◌∷◌, ◌++◌, length, take, drop, true, false, eqb, refl, sym, ap, ◌∙◌, subst, inl}
 use Rattle.std.proofs.Common.{inr, arith, Contains, fold, ltb-true, ltb-false, length-take-le, take-append-drop, take_at, IsPermutation}
-use Rattle.std.proofs.Common.{is_lt, nat_cmp, Less}
-use Rattle.std.specs.{List.starts_with, Cmp.Lexicographic.slice_cmp}
+use Rattle.std.specs.{List.starts_with}
 use Rattle.std.proofs.lemmas.{Bool.cases_Bool, Bool.both_ways, Bool.and_from, Bool.Decides.Decides-eqb, Slice.Eq.starts_is}
 use Rattle.std.proofs.lemmas.List.{Elements.All-head, Sorted.IsPermutation-sym, Sorted.IsPermutation-trans}
 use Rattle.lp_format.specs.{format.longer_front, laws.Meanings.WordFrontIsWord, laws.Meanings.WordFrontIsLongest}
@@ -67,9 +66,7 @@ word_front_is_longest words text n fits here = (longest_is text 0 words).front n
 rise_passes : (es : List (List ℕ × List ℕ)) → Rise es → is_strictly_sorted (entry_keys es) ≡ true
 rise_passes [] h = refl
 rise_passes (e ∷ []) h = refl
-rise_passes (e ∷ f ∷ es) h =
-    let first = ap is_lt (All-head (λ g. slice_cmp nat_cmp e.0 g.0 ≡ Less) f es h.0) in
-    and_from (is_lt (slice_cmp nat_cmp e.0 f.0)) (is_strictly_sorted (entry_keys (f ∷ es))) first (rise_passes (f ∷ es) h.1)
+rise_passes (e ∷ f ∷ es) h = grind (arith, All-head, and_from, rise_passes (f ∷ es) h.1)
 
 -- the tags by their keys, and no other list
 pub tags_by_key_are_sorted : TagsByKeyAreSorted

@@ -1,23 +1,18 @@
 -- The pieces that a stream gives, and their answers, are those of all that was pushed.
-use Rattle.std.proofs.Common.{◌≡◌, ℕ, List, [], ◌∷◌, ◌++◌, subst, sym, ◌∙◌, arith, append_assoc, length-append, append-nil, refl, ap}
+use Rattle.std.proofs.Common.{◌≡◌, ℕ, List, [], ◌∷◌, ◌++◌, subst, sym, ◌∙◌, arith, append_assoc, append-nil, refl, ap}
 use Rattle.std.proofs.Common.{Result, All}
-use Rattle.std.proofs.lemmas.{List.get_or_append_left, List.take-append-le, Str.IsUtf8-append, Grind.flat_map-append}
+use Rattle.std.proofs.lemmas.Grind.{flat_map-append}
 use Rattle.lp_format.specs.format.{IsLastPiece, newline, Dialect, Fault, Line, HasAnswers, answers_of}
 use Rattle.lp_format.specs.format.{Pieces.Pieces, Pieces.Pieces.cut, Pieces.Pieces.last}
-use Rattle.influxdb_line_protocol.specs.laws.StreamLaws.{FrontsKeepTheirCuts, TakenIsFirst, RunsGivePieces, RunsEnd, Utf8ByPieces}
+use Rattle.influxdb_line_protocol.specs.laws.StreamLaws.{TakenIsFirst, RunsGivePieces, RunsEnd}
 use Rattle.influxdb_line_protocol.specs.laws.StreamLaws.{HaveAnswers, StreamsGiveAnswers, StreamsAnswerAll, Run}
 use Rattle.influxdb_line_protocol.specs.laws.StreamLaws.Run.{begun, pushed, taken}
 use Rattle.std.proofs.lemmas.List.Elements.{All-head, All-nil, All-push, All-tail}
 use Rattle.lp_format.proofs.lemmas.split.SplitPieces.{IsLastPiece-cut, same_pieces}
-use Rattle.influxdb_line_protocol.proofs.lemmas.laws.NamesInLines.{utf8_around, utf8_push}
 
 -- whatever comes then, the piece that was taken is the first
 pub taken_is_first : TakenIsFirst
 taken_is_first before after piece t others k h = rw (k.bytes, append_assoc) (cut piece (after.bytes ++ t) others k.is_cut h)
-
--- a cut is told by the bytes before it
-pub fronts_keep_their_cuts : FrontsKeepTheirCuts
-fronts_keep_their_cuts dialect front rest i h = grind (arith, length-append, get_or_append_left, take-append-le)
 
 -- whatever comes then, the pieces that were given, and those of what is held and comes, are the pieces of all
 pub runs_give_pieces : RunsGivePieces
@@ -32,13 +27,6 @@ pub runs_end : RunsEnd
 runs_end dialect given pieces held r h = subst (λ text. Pieces dialect text (pieces ++ held ∷ [])) (append-nil given)
     (runs_give_pieces dialect given pieces held [] (held ∷ []) r
     (subst (λ text. Pieces dialect text (held ∷ [])) (sym (append-nil held)) (last held h)))
-
--- two texts with a newline between them are UTF-8 exactly if both are
-pub utf8_by_pieces : Utf8ByPieces
-utf8_by_pieces u t = (
-  λ h. utf8_around u t newline h (omega arith),
-  λ h. IsUtf8-append u (newline ∷ t) h.0 (utf8_push newline t (omega arith) h.1),
-)
 
 -- each piece that was given is one piece
 given_are_single : (dialect : Dialect) (given : List ℕ) (pieces : List (List ℕ)) (held : List ℕ) → Run dialect given pieces held

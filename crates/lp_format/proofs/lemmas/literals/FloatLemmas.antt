@@ -13,7 +13,7 @@ use Rattle.std.proofs.lemmas.List.{Sums.prefix_len-le-length, Sums.AllPass-from_
 use Rattle.lp_format.specs.format.{comma, space, letter_i, letter_u, is_one_of, miss, reads, value, IsFloat, IsMarked, IsSigned, float}
 use Rattle.lp_format.specs.format.{float_at, digits_len, number_len, marked_len, integer_len, fraction_len, exponent_len, float_len}
 use Rattle.lp_format.specs.format.{unsigned_at}
-use Rattle.lp_format.proofs.lemmas.values.ValueLemmas.{front_numeral, digits_no_more, integer_unmarked, unsigned_unmarked}
+use Rattle.lp_format.proofs.lemmas.values.ValueLemmas.{front_numeral, integer_unmarked}
 
 -- a digit passes the test
 pub digit_passes : (b : ℕ) → digit_value b < 10 → is_ascii_digit b ≡ true
@@ -135,17 +135,16 @@ float_len_float t some =
     let suffix = drop w t in
     let f = fraction_len suffix in
     let after = drop (w + f) t in
-    elim (cases_eq w 0) [
-      | inl none ↦ absurd (grind (arith, nat_tests))
-      | inr whole ↦
-          let positive : 0 < w = omega arith in
-          let len : float_len t ≡ w + f + exponent_len after = rw (ne_eqb w 0 whole) refl in
-          let spelled : take (float_len t) t ≡ take w t ++ (take f suffix ++ take (exponent_len after) after) =
-          rw (len, take-add (w + f) (exponent_len after) t, take-add w f t, append_assoc) refl in
-          let fraction = marked_front (codes ".") digits_len (IsNumeral 10) suffix (λ x h. front_numeral x (λ e. absurd (omega arith))) in
-          let exponent = marked_front (codes "eE") (number_len (codes "+-")) (IsSigned (codes "+-")) after (signed_front (codes "+-")) in
-          (take w t, take f suffix, take (exponent_len after) after, spelled, signed_front (codes "-") t positive, fraction, exponent)
-    ]
+    let whole : w ≢ 0 = λ none. absurd (grind (arith, nat_tests)) in
+    let len : float_len t ≡ w + f + exponent_len after = rw (ne_eqb w 0 whole) refl in (
+      take w t,
+      take f suffix,
+      take (exponent_len after) after,
+      rw (len, take-add (w + f) (exponent_len after) t, take-add w f t, append_assoc) refl,
+      signed_front (codes "-") t (omega arith),
+      marked_front (codes ".") digits_len (IsNumeral 10) suffix (λ x h. front_numeral x (λ e. absurd (omega arith))),
+      marked_front (codes "eE") (number_len (codes "+-")) (IsSigned (codes "+-")) after (signed_front (codes "+-")),
+    )
 
 -- a byte that a float can hold
 abbrev pub in_float : ℕ → Bool
@@ -266,11 +265,12 @@ pub record FloatFront (text t rest : List ℕ) : Type 0 where
 
 -- each float before the end, a comma or a space is at the start
 pub float_front : (t rest : List ℕ) → IsFloat t → Ends rest → FloatFront (t ++ rest) t rest
+unfolding unsigned_at
 float_front t rest parts ends =
     let text = t ++ rest in
     let len = float_ends t rest parts ends in
     let filled : 0 < float_len text = omega (arith, len, (float_fills t parts).0, float_len_fits t) in
-    grind (arith, integer_or_more, digits_no_more, cases_Bool, eqb-false, unsigned_unmarked, unmarked, float_reads, take_at, drop_at)
+    grind (arith, integer_or_more, cases_eq, ne_eqb, eqb-true, zero-add, cases_Bool, eqb-false, nat_tests, unmarked, float_reads, take_at, drop_at)
 
 -- a float reads back before the end, a comma or a space
 pub float_reads_back : (t rest : List ℕ) → IsFloat t → Ends rest → value (t ++ rest) ≡ reads (float t) rest

@@ -1,5 +1,5 @@
 -- What is joined by commas is read as the most that are at the start, and as many are counted.
-use Rattle.std.proofs.Common.{◌≡◌, ◌≢◌, ℕ, zero, suc, ◌≤◌, List, [], ◌∷◌, length, refl, sym, ap, ◌∙◌, arith, inl, inr, eqb-true, ◌==◌}
+use Rattle.std.proofs.Common.{◌≡◌, ◌≢◌, ℕ, zero, suc, ◌≤◌, List, [], ◌∷◌, length, refl, sym, ap, ◌∙◌, arith, eqb-true}
 use Rattle.std.proofs.lemmas.Bool.{cases_Bool}
 use Rattle.lp_format.specs.format.{Fault, Reading, miss, fatal, reads, after_comma, separated_list, many, comma}
 use Rattle.lp_format.specs.laws.Meanings.{SeparatedBy, SeparatedAfterComma, LongestList, NextHasFault, TheMostIsRead, TheNextHasTheFault}
@@ -16,15 +16,7 @@ module _ {A : Type 0} (one : List ℕ → Reading A) where
   comma_there : (text : List ℕ) → after_comma one text ≢ miss
       → (suffix : List ℕ) × (text ≡ comma ∷ suffix) × (after_comma one text ≡ one suffix)
   comma_there [] some = absurd (some refl)
-  comma_there (b ∷ suffix) some = elim (cases_Bool (b == comma)) [
-    | inl sign ↦ (suffix, ap (λ c. c ∷ suffix) (eqb-true b comma sign), rw sign refl)
-    | inr other ↦ absurd (some (rw other refl))
-  ]
-
-  -- a fault of one more, in the words of the law, is a fault of what reads after them
-  fault_next : (xs : List A) (rest : List ℕ) (e : Fault) → NextHasFault one xs rest e → next xs rest ≡ fatal e
-  fault_next [] rest e h = h
-  fault_next (x ∷ xs) rest e h = rw h.1 h.2
+  comma_there (b ∷ suffix) some = grind (arith, cases_Bool, eqb-true)
 
   -- and back
   next_fault : (xs : List A) (rest : List ℕ) (e : Fault) → next xs rest ≡ fatal e → NextHasFault one xs rest e
@@ -77,14 +69,7 @@ module _ {A : Type 0} (one : List ℕ → Reading A) where
         let s = comma_there text (λ none. cc) in
         let first : one s.0 ≡ reads x after = sym s.2 ∙ e in
         let t = more after (omega (arith, no_longer s.0 x after first, ap length s.1)) in
-        record {
-          xs = x ∷ t.xs;
-          rest = t.rest;
-          are = (s.0, after, s.1, first, t.are);
-          none = t.none;
-          ends = grind arith;
-          counted = grind arith;
-        }
+        record { xs = x ∷ t.xs; rest = t.rest; are = grind arith; none = t.none; ends = grind arith; counted = grind arith }
     tail_more n text room more other e =
         record { xs = []; rest = text; are = refl; none = λ y after is. cc; ends = rw e refl; counted = rw e refl }
 
@@ -117,19 +102,7 @@ module _ {A : Type 0} (one : List ℕ → Reading A) where
         first_most x xs text after rest e h none (y ∷ ys) b k =
             after_most (x ∷ xs) (y ∷ ys) (comma ∷ text) rest b (text, after, refl, e, h) (text, k.0, refl, k.1, k.2) none
     whole_by text other e =
-        record {
-          xs = [];
-          rest = text;
-          longest = record { separated = refl; most = λ others b k. (none others b k).0 };
-          only = λ others b k. (none others b k.separated).1;
-          ends = rw e refl;
-          counted = rw e refl;
-        }
-      where
-        -- none is there
-        none : (others : List A) (b : List ℕ) → SeparatedBy one others text b → (length others ≤ 0) × ((others ≡ []) × (b ≡ text))
-        none [] b k = (omega arith, (refl, sym k))
-        none (y ∷ ys) b k = absurd (cc)
+        record { xs = []; rest = text; longest = grind arith; only = grind arith; ends = rw e refl; counted = rw e refl }
 
     -- each text has an outcome as a list joined by commas
     whole_is : (text : List ℕ) → Whole text
@@ -139,7 +112,7 @@ module _ {A : Type 0} (one : List ℕ → Reading A) where
     pub the_most_is_read : TheMostIsRead one
     the_most_is_read text xs rest =
         let w = whole_is text in (
-          (λ e. grind (arith, fault_next)),
+          (λ e. grind (arith)),
           (λ h.
               let same = w.only xs rest h.longest in
               let fine : (e : Fault) → next xs rest ≢ fatal e = λ e k. h.no_fault e (next_fault xs rest e k) in
@@ -151,7 +124,7 @@ module _ {A : Type 0} (one : List ℕ → Reading A) where
     the_next_has_the_fault text e =
         let w = whole_is text in (
           (λ h. (w.xs, w.rest, w.longest, next_fault w.xs w.rest e (grind arith))),
-          (λ h. let same = w.only h.0 h.1 h.2 in grind (arith, fault_next)),
+          (λ h. let same = w.only h.0 h.1 h.2 in grind (arith)),
         )
 
     -- a list is not there if its first element is not there

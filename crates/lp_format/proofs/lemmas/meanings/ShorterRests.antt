@@ -1,9 +1,12 @@
 -- What is left after what was read is no longer than the text.
-use Rattle.std.proofs.Common.{◌≡◌, ℕ, zero, suc, add-one, List, get_or, arith, ◌≤◌, length, drop, Bool, cond, ap}
-use Rattle.std.proofs.Common.{length-drop, ◌==◌, IsUtf8, IsCharBoundary, eqb-true}
+use Rattle.std.proofs.lemmas.Grind.{common_steps}
+use Rattle.std.proofs.lemmas.Bool.Decides.{nat_tests}
+use Rattle.std.proofs.lemmas.Bool.{cases_Bool}
+use Rattle.std.proofs.Common.{◌≡◌, ℕ, zero, suc, add-one, List, arith, ◌≤◌, length, drop, Bool, cond, ap}
+use Rattle.std.proofs.Common.{length-drop, IsUtf8, IsCharBoundary, eqb-true}
 use Rattle.std.proofs.lemmas.List.Sums.{prefix_len_passes, prefix_len-le-length}
 use Rattle.std.proofs.lemmas.Str.{IsCharBoundary-after_ascii, IsCharBoundary-start}
-use Rattle.lp_format.specs.format.{byte, spaces, key_value, tag, field, reads, Fault, Read, Reading, miss, fatal, ◌>>=◌, ◌otherwise◌, space}
+use Rattle.lp_format.specs.format.{byte, spaces, key_value, tag, field, reads, Fault, Read, Reading, miss, fatal, ◌>>=◌, ◌otherwise◌}
 use Rattle.lp_format.specs.format.{equals, NameKind, a_tag_key, a_tag_value, a_field_key, name, value, integer_at, unsigned_at, float_at}
 use Rattle.lp_format.specs.format.{string_at, boolean_at}
 
@@ -11,9 +14,7 @@ use Rattle.lp_format.specs.format.{string_at, boolean_at}
 pub spaces_boundary : (text : List ℕ) (n : ℕ) → IsUtf8 text → n ≡ spaces text → IsCharBoundary text n
 spaces_boundary text zero utf8 e = IsCharBoundary-start text utf8
 spaces_boundary text (suc n) utf8 e =
-    let byte : get_or text n 0 ≡ space = eqb-true _ space (prefix_len_passes (λ b. b == space) text n 0 (omega arith)) in
-    let within = prefix_len-le-length (λ b. b == space) text in
-    rw (← add-one n) (IsCharBoundary-after_ascii text n utf8 (omega arith) (omega arith))
+    grind (arith, common_steps, nat_tests, cases_Bool, eqb-true, prefix_len_passes, prefix_len-le-length, add-one, IsCharBoundary-after_ascii)
 
 -- what the reading leaves is no longer than the text
 pub record IsNoLonger {A : Type 0} (text : List ℕ) (r : Reading A) : Type 0 where

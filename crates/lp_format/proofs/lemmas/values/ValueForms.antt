@@ -1,4 +1,5 @@
 -- The first bytes of a value decide its form; strings at the start of a text.
+use Rattle.std.proofs.lemmas.Bool.{cases_Bool}
 use Rattle.std.proofs.Common.{◌≡◌, ◌≢◌, ℕ, ◌<◌, List, [], ◌∷◌, length, take, drop, slice_index, true, false, refl, ap, arith}
 use Rattle.std.proofs.Common.{zero-add, ◌⊎◌, ◌==◌, nat_lt, ◌||◌, eq-eqb, eqb-true, ne_eqb, lt-ltb, ltb-true, length-drop}
 use Rattle.std.proofs.lemmas.Bool.{and_parts, cases_lt, false_from_ne_true, cases_eq, eqb-false, or_parts}
@@ -7,9 +8,8 @@ use Rattle.std.proofs.lemmas.List.{FromFn.length-range_with_len, FromFn.get_or-r
 use Rattle.lp_format.specs.format.{quote, first_bare, byte, read_text, miss, reads, ◌otherwise◌, quotable, body_len, string}
 use Rattle.lp_format.specs.format.{string_at, value, integer_at, unsigned_at, float_at, boolean_at, integer_len, true_words, false_words}
 use Rattle.lp_format.specs.format.{letter_i, letter_u, minus}
-use Rattle.lp_format.proofs.lemmas.values.ValueLemmas.{byte_at_drop, after_byte, boolean_misses, digits_no_more, digits_of_minus}
-use Rattle.lp_format.proofs.lemmas.values.ValueLemmas.{digits_of_plain, integer_unmarked, unsigned_reads, unsigned_overflows}
-use Rattle.lp_format.proofs.lemmas.values.ValueLemmas.{unsigned_misses, unsigned_unmarked}
+use Rattle.lp_format.proofs.lemmas.values.ValueLemmas.{byte_at_drop, after_byte, boolean_misses}
+use Rattle.lp_format.proofs.lemmas.values.ValueLemmas.{integer_unmarked, unsigned_reads, unsigned_overflows}
 use Rattle.std.proofs.lemmas.{Grind.common_steps, Bool.Decides.nat_tests}
 
 -- if a byte misses, the text does not begin with it
@@ -47,19 +47,20 @@ string_reads text after rest e closed = grind (arith, common_steps, nat_tests, b
 -- if no integer is, no number is
 pub no_number : (text : List ℕ) → integer_len text ≡ 0 → (integer_at text otherwise unsigned_at text otherwise float_at text) ≡ miss
 unfolding integer_at unsigned_at float_at
-no_number text none = grind (arith, eq-eqb, digits_no_more)
+no_number text none = grind (arith, eq-eqb, cases_eq, ne_eqb, cases_Bool, eqb-true, zero-add)
 
 -- digits and `u`, without `-`
 pub unsigned_is : (text : List ℕ) → 0 < integer_len text → slice_index text (integer_len text) ≢ letter_i
     → slice_index text (integer_len text) ≡ letter_u → slice_index text 0 ≢ minus
     → (integer_at text otherwise unsigned_at text otherwise float_at text) ≡ unsigned_at text
-unsigned_is text some no_i mark plain = grind (arith, digits_of_plain, cases_lt, unsigned_reads, unsigned_overflows, integer_unmarked)
+unsigned_is text some no_i mark plain = grind (arith, ne_eqb, cases_Bool, eqb-true, zero-add, cases_lt, unsigned_reads, unsigned_overflows, integer_unmarked)
 
 -- without either mark, or with `-` at the start of `u`, it is a float or nothing
 pub float_is : (text : List ℕ) → slice_index text (integer_len text) ≢ letter_i
     → (slice_index text (integer_len text) ≢ letter_u) ⊎ (slice_index text 0 ≡ minus)
     → (integer_at text otherwise unsigned_at text otherwise float_at text) ≡ float_at text
-float_is text no_i minus = grind (arith, integer_unmarked, cases_eq, unsigned_misses, digits_of_minus, unsigned_unmarked, digits_of_plain)
+unfolding unsigned_at
+float_is text no_i minus = grind (arith, integer_unmarked, cases_eq, eq-eqb, nat_tests, ne_eqb, cases_Bool, eqb-true, zero-add)
 
 -- no integer is read if the first byte is neither a digit nor `-`
 no_integer : (text : List ℕ) → (is_ascii_digit (slice_index text 0) || slice_index text 0 == minus) ≡ false → integer_len text ≡ 0

@@ -1,15 +1,15 @@
 -- Numbers at the start of a text.
 use Rattle.std.proofs.Common.{◌≡◌, ◌≢◌, ℕ, zero, suc, ◌+◌, ◌-◌, ◌^◌, ◌<◌, ◌≤◌, List, [], ◌∷◌, length, take, drop, get_or, Bool, slice_index}
 use Rattle.std.proofs.Common.{true, false, refl, ap, subst, arith, inl, inr, add-zero, zero-add, one-add, ◌==◌, ◌&&◌, not, if◌then◌else◌}
-use Rattle.std.proofs.Common.{IsUtf8, IsCharBoundary, ℤ, FitsSigned, w64, eqb-true, eq-eqb, ne_eqb, leb-true, ltb-true, lt-ltb, le-ltb}
+use Rattle.std.proofs.Common.{IsUtf8, IsCharBoundary, ℤ, FitsSigned, w64, eq-eqb, ne_eqb, leb-true, ltb-true, lt-ltb, le-ltb}
 use Rattle.std.proofs.Common.{le-leb, drop-drop, get_or-drop, length-drop, length-take, length-take-le}
 use Rattle.std.specs.{Char.is_ascii_digit, Str.Parse.AllDigits, Str.Parse.IsNumeral, Str.Parse.digits_value, Str.Parse.signed_digits_value}
-use Rattle.std.proofs.lemmas.{Bool.cases_Bool, Bool.cases_eq, Bool.cases_lt, Bool.and_parts, Bool.eqb-false, Bool.and_from, List.drop_more}
+use Rattle.std.proofs.lemmas.{Bool.cases_Bool, Bool.cases_lt, Bool.and_parts, Bool.eqb-false, Bool.and_from, List.drop_more}
 use Rattle.std.proofs.lemmas.{List.get_or_past, List.Sums.prefix_len_passes, List.Sums.prefix_len-le-length, Grind.common_steps}
 use Rattle.std.proofs.lemmas.{Bool.Decides.nat_tests, Str.IsCharBoundary-after_ascii, Str.IsCharBoundary-start, Str.digit_value_digit}
 use Rattle.lp_format.specs.format.{Value, digits_len, integer, integer_at, integer_len, side_of, fits_i64, boolean, boolean_at, unsigned}
 use Rattle.lp_format.specs.format.{unsigned_at, word_len, Reading, Text, ◌otherwise◌, above, miss, fatal, reads, integer_value_invalid}
-use Rattle.lp_format.specs.format.{uinteger_value_invalid, letter_i, letter_u, minus}
+use Rattle.lp_format.specs.format.{uinteger_value_invalid, letter_i, letter_u}
 
 -- a digit, by its test
 pub digit_range : (b : ℕ) → is_ascii_digit b ≡ true → (48 ≤ b) × (b ≤ 57)
@@ -114,29 +114,6 @@ integer_decides text other some mark = grind (arith, marked, cases_Bool)
 -- after a letter a text may be cut
 pub letter_boundary : (text : List ℕ) (n b : ℕ) → IsUtf8 text → slice_index text n ≡ suc b → suc b < 128 → IsCharBoundary text (n + 1)
 letter_boundary text n b utf8 e small = IsCharBoundary-after_ascii text n utf8 (in_text text n b e) (omega (arith, e))
-
--- the digits at the start and the integer at the start
-pub digits_of_plain : (text : List ℕ) → slice_index text 0 ≢ minus → digits_len text ≡ integer_len text
-digits_of_plain text other = grind (arith, ne_eqb, cases_Bool, eqb-true, zero-add)
-
--- no digits are at a minus
-pub digits_of_minus : (text : List ℕ) → slice_index text 0 ≡ minus → digits_len text ≡ 0
-digits_of_minus [] e = refl
-digits_of_minus (b ∷ rest) e = rw e refl
-
--- the digits at the start take no more than the integer there
-pub digits_no_more : (text : List ℕ) → digits_len text ≤ integer_len text
-digits_no_more text = grind (arith, cases_eq, digits_of_minus, digits_of_plain)
-
--- the outcomes of an unsigned integer
-pub unsigned_misses : (text : List ℕ) → digits_len text ≡ 0 → unsigned_at text ≡ miss
-unfolding unsigned_at
-unsigned_misses text e = rw (eq-eqb (digits_len text) 0 e) refl
-
--- digits without `u` are no unsigned integer
-pub unsigned_unmarked : (text : List ℕ) → slice_index text (digits_len text) ≢ letter_u → unsigned_at text ≡ miss
-unfolding unsigned_at
-unsigned_unmarked text other = grind (arith, nat_tests)
 
 -- digits in range and `u` are an unsigned integer
 pub unsigned_reads : (text : List ℕ) → 0 < digits_len text → slice_index text (digits_len text) ≡ letter_u

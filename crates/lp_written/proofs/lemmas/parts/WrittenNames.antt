@@ -1,10 +1,10 @@
 -- Names and strings that are spelled as the builder spells them, and how far such a token goes.
 use Rattle.std.proofs.Common.{◌≡◌, ℕ, ◌&&◌, Bool, true, false, not, List, [], ◌∷◌, length, take, drop, slice_index, refl, sym, ap, subst}
-use Rattle.std.proofs.Common.{◌∙◌, arith, ◌≢◌, Option, Some, None, ◌==◌, MatchOption, Bor, ne_eqb, eqb-true, drop_at, take_at, append_assoc}
+use Rattle.std.proofs.Common.{◌∙◌, arith, ◌≢◌, Option, Some, None, ◌==◌, MatchOption, Bor, ne_eqb, eq-eqb, eqb-true, drop_at, take_at, append_assoc}
 use Rattle.std.proofs.Common.{take-append-drop, suc, zero, ◌+◌, ◌-◌, ◌<◌, ◌≤◌, ◌||◌, ◌++◌, inl, inr, one-add, zero-add, drop-drop}
 use Rattle.std.proofs.Common.{get_or-drop, length-drop}
 use Rattle.std.specs.List.{list_all}
-use Rattle.std.proofs.lemmas.Bool.{cases_Bool, false≢true, and_parts, and_from, or_parts, not-true, not-false}
+use Rattle.std.proofs.lemmas.Bool.{cases_Bool, and_parts, or_parts, not-true, not-false}
 use Rattle.std.proofs.lemmas.{Grind.common_steps, List.append_cancel_right, List.drop_more}
 use Rattle.lp_format.specs.format.{backslash, hash, quote, escaped, NameKind, a_measurement, ends_in_backslash, escapable, is_stop}
 use Rattle.lp_format.specs.format.{quotable, is_admitted_name, spelling, byte, miss, reads, is_one_of}
@@ -27,10 +27,10 @@ unfolding written_len
 written_stops known stops b text mark other = grind (arith, ne_eqb)
 
 -- a backslash before a byte that gets one is two bytes of it
-pub written_escape : (known : List ℕ) (stops : ℕ → Bool) (c : ℕ) (text : List ℕ) → (stops backslash || is_one_of known backslash) ≡ true
-    → is_one_of known c ≡ true → written_len known stops (backslash ∷ c ∷ text) ≡ 2 + written_len known stops text
+pub written_escape : (known : List ℕ) (stops : ℕ → Bool) (b c : ℕ) (text : List ℕ) → (stops b || is_one_of known b) ≡ true
+    → b ≡ backslash → is_one_of known c ≡ true → written_len known stops (b ∷ c ∷ text) ≡ 2 + written_len known stops text
 unfolding written_len
-written_escape known stops c text mark found = rw (mark, found) refl
+written_escape known stops b c text mark is found = grind (arith, eq-eqb)
 
 -- it ends at a mark that is not such a backslash
 pub written_ends : (known : List ℕ) (stops : ℕ → Bool) (text : List ℕ)
@@ -67,7 +67,7 @@ written_spelling known stops (b ∷ n) rest closed all ends =
     elim (cases_Bool (is_one_of known b)) [
       | inl found ↦
           let mark : (stops backslash || is_one_of known backslash) ≡ true = grind (arith, common_steps) in
-          rw (escaped_found known n b found, written_escape known stops b (escaped known n ++ rest) mark found, more) (omega arith)
+          rw (escaped_found known n b found, written_escape known stops backslash b (escaped known n ++ rest) mark refl found, more) (omega arith)
       | inr plain ↦
           let unmarked : (stops b || is_one_of known b) ≡ false = grind (arith, common_steps) in
           rw (escaped_plain known n b plain, written_unmarked known stops b (escaped known n ++ rest) unmarked, more) (omega arith)
@@ -87,47 +87,36 @@ spelled_none known stops text none = record { name = []; holds = refl; spelled =
 -- a byte that is no mark is passed
 spelled_plain : (known : List ℕ) (stops : ℕ → Bool) (b : ℕ) (text : List ℕ) → (stops b || is_one_of known b) ≡ false
     → Spelled known stops text → Spelled known stops (b ∷ text)
-spelled_plain known stops b text plain more =
-    let parts = or_parts (stops b) (is_one_of known b) plain in
-    let holds : can_hold known stops b ≡ true = rw parts.0 refl in
-    let len : written_len known stops (b ∷ text) ≡ suc (written_len known stops text) =
-    written_unmarked known stops b text plain ∙ one-add (written_len known stops text) in
-    record {
-      name = b ∷ more.name;
-      holds = and_from _ _ holds more.holds;
-      spelled = rw (len, escaped_plain known more.name b parts.1) (ap (λ (xs : List ℕ). b ∷ xs) more.spelled);
-    }
+spelled_plain known stops b text plain more = record {
+  name = b ∷ more.name;
+  holds = grind (arith, common_steps);
+  spelled = grind (arith, or_parts, written_unmarked, one-add, escaped_plain);
+}
 
 -- a backslash and a byte that gets one are passed
-spelled_escape : (known : List ℕ) (stops : ℕ → Bool) (c : ℕ) (text : List ℕ) → (stops backslash || is_one_of known backslash) ≡ true
-    → is_one_of known c ≡ true → Spelled known stops text → Spelled known stops (backslash ∷ c ∷ text)
-spelled_escape known stops c text mark found more =
-    let holds : can_hold known stops c ≡ true = grind (arith, common_steps) in
-    let len : written_len known stops (backslash ∷ c ∷ text) ≡ suc (suc (written_len known stops text)) =
-    written_escape known stops c text mark found ∙ omega arith in
-    record {
-      name = c ∷ more.name;
-      holds = and_from _ _ holds more.holds;
-      spelled = rw (len, escaped_found known more.name c found) (ap (λ (xs : List ℕ). backslash ∷ c ∷ xs) more.spelled);
-    }
+spelled_escape : (known : List ℕ) (stops : ℕ → Bool) (b c : ℕ) (text : List ℕ) → (stops b || is_one_of known b) ≡ true → b ≡ backslash
+    → is_one_of known c ≡ true → Spelled known stops text → Spelled known stops (b ∷ c ∷ text)
+spelled_escape known stops b c text mark is found more =
+    let len : written_len known stops (b ∷ c ∷ text) ≡ suc (suc (written_len known stops text)) =
+    omega (arith, written_escape known stops b c text mark is found) in
+    record { name = c ∷ more.name; holds = grind (arith, common_steps); spelled = grind (arith, escaped_found) }
 
 -- what is passed is such a front
 pub written_spelled : (known : List ℕ) (stops : ℕ → Bool) (text : List ℕ) → Spelled known stops text
 unfolding written_len
 written_spelled known stops [] = spelled_none known stops [] refl
 written_spelled known stops (b ∷ []) = grind (arith, cases_Bool, spelled_none, spelled_plain)
-written_spelled known stops (b ∷ c ∷ text) = elim (cases_Bool (stops b || is_one_of known b)) [
-  | inl mark ↦ elim (cases_Bool (b == backslash && is_one_of known c)) [
-    | inl escape ↦
-        let parts = and_parts (b == backslash) (is_one_of known c) escape in
-        let same : b ≡ backslash = eqb-true b backslash parts.0 in
-        subst (λ x. Spelled known stops (x ∷ c ∷ text)) (sym same)
-        (spelled_escape known stops c text (subst (λ x. (stops x || is_one_of known x) ≡ true) same mark) parts.1
-        (written_spelled known stops text))
-    | inr other ↦ spelled_none known stops (b ∷ c ∷ text) (rw (mark, other) refl)
-  ]
-  | inr plain ↦ spelled_plain known stops b (c ∷ text) plain (written_spelled known stops (c ∷ text))
-]
+written_spelled known stops (b ∷ c ∷ text) = grind (
+  arith,
+  cases_Bool,
+  and_parts,
+  eqb-true,
+  spelled_none,
+  spelled_plain,
+  spelled_escape,
+  written_spelled known stops text,
+  written_spelled known stops (c ∷ text),
+)
 
 -- the token goes on after a run of bytes that are no marks
 run_passed : (kind : TokenKind) (bytes : List ℕ) (at end : ℕ) → IsRunAt (λ b. not (is_mark kind b)) bytes at end
@@ -165,9 +154,7 @@ pub next_run : (kind : TokenKind) (bytes : List ℕ) (at end : ℕ) (found : Boo
     → at + 1 < length bytes → slice_index bytes at ≡ backslash → found ≡ is_one_of (known_of kind) (slice_index bytes (at + 1)) → found ≡ true
     → end + written_len (known_of kind) (stops_of kind) (drop end bytes) ≡ written_len (known_of kind) (stops_of kind) bytes
 next_run kind bytes at end found run so_far inside here is accepted =
-    let escape : written_len (known_of kind) (stops_of kind) (drop at bytes)
-    ≡ 2 + written_len (known_of kind) (stops_of kind) (drop (at + 2) bytes) =
-    escape_passed kind bytes at inside here (sym is ∙ accepted) in
+    let escape = escape_passed kind bytes at inside here (sym is ∙ accepted) in
     let passed = run_passed kind bytes (at + 2) end run in
     omega (arith, escape, passed, run.ordered, so_far)
 
@@ -181,13 +168,9 @@ ends_here kind bytes at within mark other = grind (arith, common_steps, written_
 -- the steps of a reader of tokens
 pub ruleset token_steps = (run_mark, first_run, next_run, ends_here)
 
--- what may be in a name is what its token can hold
-holds_same : (kind : NameKind) (b : ℕ) → can_hold (escapable kind) (is_stop kind) b ≡ may_hold kind b
-holds_same kind b = grind (arith, common_steps)
-
 -- and so of a text
 all_same : (kind : NameKind) (n : List ℕ) → list_all (can_hold (escapable kind) (is_stop kind)) n ≡ list_all (may_hold kind) n
-all_same kind n = grind (arith, holds_same)
+all_same kind n = grind (arith, common_steps)
 
 -- a spelling is empty if its name is
 spelled_empty : (known n : List ℕ) → (length (escaped known n) == 0) ≡ (length n == 0)
@@ -225,21 +208,6 @@ spelling_tells other n may = rw (spelled_empty (escapable other) n, spelled_ends
 abbrev pub name_len : NameKind → List ℕ → ℕ
 name_len kind text = written_len (escapable kind) (is_stop kind) text
 
--- what is passed is a name if that is admitted
-pub name_found : (kind : NameKind) (text : List ℕ) → is_admitted_spelling kind (take (name_len kind text) text) ≡ true
-    → IsWrittenName kind text (drop (name_len kind text) text)
-name_found kind text ok =
-    let front = written_spelled (escapable kind) (is_stop kind) text in
-    let same : take (name_len kind text) text ≡ spelling kind front.name =
-    sym (append_cancel_right (spelling kind front.name) (take (name_len kind text) text) (drop (name_len kind text) text)
-    (front.spelled ∙ sym (take-append-drop (name_len kind text) text))) in
-    let may : list_all (may_hold kind) front.name ≡ true = sym (all_same kind front.name) ∙ front.holds in
-    record {
-      thing = front.name;
-      is = sym (spelling_tells kind front.name may) ∙ ap (is_admitted_spelling kind) (sym same) ∙ ok;
-      written = front.spelled;
-    }
-
 -- the spelling of a name is what is passed
 name_passed : (kind : NameKind) (text rest : List ℕ) (w : IsWrittenName kind text rest) → EndsName kind rest
     → name_len kind text ≡ length (spelling kind w.thing)
@@ -248,15 +216,29 @@ name_passed kind text rest w ends =
     subst (λ xs. name_len kind xs ≡ length (spelling kind w.thing)) w.written
     (written_spelling (escapable kind) (is_stop kind) w.thing rest (escapable_backslash kind) may ends)
 
--- no other rest follows a name
-pub name_only : (kind : NameKind) (text rest : List ℕ) → IsWrittenName kind text rest → EndsName kind rest
-    → rest ≡ drop (name_len kind text) text
-name_only kind text rest w ends = grind (arith, drop_at, name_passed)
+-- what is passed is a name if that is admitted, and no other rest follows a name
+pub name_found : (kind : NameKind) (text bytes known rest : List ℕ) (stops : ℕ → Bool) (len : ℕ) (ok : Bool) → rest ≡ drop len text
+    → len ≡ written_len known stops bytes → ok ≡ is_admitted_spelling kind (take len bytes) → ok ≡ true
+    → bytes ≡ text → known ≡ escapable kind → stops ≡ is_stop kind
+    → IsWrittenName kind text rest × ((other : List ℕ) → IsWrittenName kind text other → EndsName kind other → other ≡ rest)
+name_found kind text bytes known rest stops len ok left is tells passes same_text same_known same_stops =
+    let is : len ≡ name_len kind text = cc in
+    let front = written_spelled (escapable kind) (is_stop kind) text in
+    let spelled : spelling kind front.name ++ rest ≡ text = rw (left, is) front.spelled in
+    let same : take len text ≡ spelling kind front.name =
+    sym (append_cancel_right (spelling kind front.name) (take len text) rest (spelled ∙ rw left (sym (take-append-drop len text)))) in
+    let may : list_all (may_hold kind) front.name ≡ true = sym (all_same kind front.name) ∙ front.holds in (
+      record { thing = front.name; is = grind (arith, spelling_tells); written = spelled },
+      λ other w ends. grind (arith, drop_at, name_passed),
+    )
 
 -- and none does if it is not admitted
-pub name_none : (kind : NameKind) (text rest : List ℕ) → is_admitted_spelling kind (take (name_len kind text) text) ≡ false
-    → IsWrittenName kind text rest → EndsName kind rest → ⊥
-name_none kind text rest refused w ends = grind (arith, take_at, name_passed, false≢true, spelling_tells, admitted_parts)
+pub name_none : (kind : NameKind) (text bytes known rest : List ℕ) (stops : ℕ → Bool) (len : ℕ) (ok : Bool)
+    → len ≡ written_len known stops bytes → ok ≡ is_admitted_spelling kind (take len bytes) → ok ≡ false
+    → bytes ≡ text → known ≡ escapable kind → stops ≡ is_stop kind → IsWrittenName kind text rest → EndsName kind rest → ⊥
+name_none kind text bytes known rest stops len ok is tells fails same_text same_known same_stops w ends =
+    let is : len ≡ name_len kind text = cc in
+    grind (arith, take_at, name_passed, spelling_tells, admitted_parts)
 
 -- a byte that ends a name ends it there
 pub stop_ends : (kind : NameKind) (stop : ℕ) (rest : List ℕ) → is_stop kind stop ≡ true → stop ≢ backslash → EndsName kind (stop ∷ rest)
@@ -276,12 +258,7 @@ pub string_found : (text opened rest : List ℕ) → text ≡ quote ∷ opened �
     → IsWrittenString text rest
 string_found text opened rest e closed =
     let front = written_spelled quotable is_quote opened in
-    record {
-      thing = front.name;
-      is = tt;
-      written = append_assoc (quote ∷ escaped quotable front.name) (quote ∷ []) rest
-          ∙ ap (λ (xs : List ℕ). quote ∷ xs) (rw closed at front.spelled) ∙ sym e;
-    }
+    record { thing = front.name; is = tt; written = grind (arith, append_assoc) }
 
 -- and no other rest follows a string
 pub string_only : (text opened rest : List ℕ) → text ≡ quote ∷ opened → IsWrittenString text rest
@@ -293,14 +270,17 @@ pub byte_left : (b : ℕ) (text rest : List ℕ) → byte b text ≡ reads b res
 byte_left b text rest e = grind (arith, cases_Bool, eqb-true)
 
 -- what comes after both quotes is the only rest of a string
-pub string_answer : (text opened after : List ℕ) (o : Option (Bor (List ℕ))) → text ≡ quote ∷ opened
-    → after ≡ drop (written_len quotable is_quote opened) opened
+pub string_answer : (text opened bytes after : List ℕ) (len : ℕ) (o : Option (Bor (List ℕ))) → byte quote text ≡ reads quote opened
+    → after ≡ drop len opened → len ≡ written_len quotable is_quote bytes → bytes ≡ opened
     → MatchOption o (byte quote after ≡ miss) (λ rest. byte quote after ≡ reads quote rest.now)
     → IsOnlyRest (IsWrittenString text) (λ rest. Unit) o
-string_answer text opened after None e past closed =
-    λ rest w any. byte_missing quote after closed rest (past ∙ string_only text opened rest e w)
-string_answer text opened after (Some left) e past closed =
-    let found = byte_left quote after left.now closed in (
-      string_found text opened left.now e (sym past ∙ found),
-      λ rest w any. ap (λ (xs : List ℕ). drop 1 xs) (sym (string_only text opened rest e w) ∙ sym past ∙ found),
+string_answer text opened bytes after len None read left is same closed =
+    let past : after ≡ drop (written_len quotable is_quote opened) opened = cc in
+    λ rest w any. byte_missing quote after closed rest (past ∙ string_only text opened rest (byte_left quote text opened read) w)
+string_answer text opened bytes after len (Some rest) read left is same closed =
+    let past : after ≡ drop (written_len quotable is_quote opened) opened = cc in
+    let e = byte_left quote text opened read in
+    let found = byte_left quote after rest.now closed in (
+      string_found text opened rest.now e (sym past ∙ found),
+      λ other w any. ap (λ (xs : List ℕ). drop 1 xs) (sym (string_only text opened other e w) ∙ sym past ∙ found),
     )

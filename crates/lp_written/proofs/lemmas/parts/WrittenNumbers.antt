@@ -1,5 +1,5 @@
 -- Numbers as the builder writes them.
-use Rattle.std.proofs.Common.{◌≡◌, ◌≢◌, ℕ, ◌^◌, ◌<◌, ◌&&◌, ◌||◌, Bool, true, false, not, List, [], ◌∷◌, ◌++◌, length, take, drop}
+use Rattle.std.proofs.Common.{◌≡◌, ◌≢◌, ℕ, ◌^◌, ◌<◌, ◌&&◌, Bool, true, false, not, List, [], ◌∷◌, ◌++◌, length, take, drop}
 use Rattle.std.proofs.Common.{slice_index, get_or, refl, sym, ap, subst, ◌∙◌, arith, inl, inr, append_assoc, Option, Some, None, ◌==◌, ℤ}
 use Rattle.std.proofs.Common.{pos, decimal, codes, nat_lt, neg_ℤ, MatchOption, Bor, eqb-true, ne_eqb, lt-ltb, ltb-true, take_at, drop_at}
 use Rattle.std.proofs.Common.{take-append-drop}
@@ -9,7 +9,7 @@ use Rattle.std.proofs.Math.Nat.{pow-le-pow_right}
 use Rattle.lp_format.specs.format.{IsSigned, IsFloat, Value, integer, unsigned, float, string, boolean, integer_len, fits_i64, float_at}
 use Rattle.lp_format.specs.format.{float_len, minus, miss, reads, IsValue, built_value, byte}
 use Rattle.lp_format.specs.format.Bytes.{letter_i, letter_u, quote}
-use Rattle.std.proofs.lemmas.Bool.{cases_Bool, cases_lt, and_parts, eqb-false, or_parts, false≢true, not-true}
+use Rattle.std.proofs.lemmas.Bool.{cases_eq, cases_lt, and_parts, eqb-false, or_parts, false≢true, not-true}
 use Rattle.std.proofs.lemmas.Fmt.{decimal_is_IsNumeral, decimal-digits_value, decimal_digit, first_decimal}
 use Rattle.std.proofs.lemmas.{Int.Digits.digits_value-lt, Str.Parse.digit_from_value, Str.Parse.numerals_by_value, Str.Parse.tells_digits}
 use Rattle.lp_format.proofs.lemmas.literals.FloatLemmas.{float_len_float, float_misses, float_reads, signed_front, FloatFront, float_front}
@@ -33,45 +33,34 @@ unsigned_again ds numeral plain fits =
 first_digit : (ds : List ℕ) → 48 < get_or ds 0 0 → has_extra_zero ds ≡ false
 first_digit ds more = grind (arith, ne_eqb)
 
--- nor has what the builder writes for a number
-pub decimal_zero : (n : ℕ) → n < 2 ^ 64 → has_extra_zero (decimal n) ≡ false
-decimal_zero n fits = grind (arith, decimal_digit, first_digit, first_decimal)
-
 -- a sign before a text that begins with no zero
 minus_zero : (ds : List ℕ) → 48 < get_or ds 0 0 → has_extra_zero (minus ∷ ds) ≡ false
 minus_zero ds more = grind (arith, ne_eqb)
 
 -- nor has that of an integer
 pub signed_zero : (z : ℤ) → fits_i64 z ≡ true → has_extra_zero (signed_decimal z) ≡ false
-signed_zero n fits = grind (arith, fits_from_test, decimal_zero, minus_zero, first_decimal)
-
--- digits after a sign have no zero at the start
-first_after_minus : (ds : List ℕ) → IsNumeral 10 ds → has_extra_zero (minus ∷ ds) ≡ false → 48 < get_or ds 0 0
-first_after_minus ds numeral plain = grind (arith, digit_from_value, or_parts, eqb-false)
+signed_zero n fits = grind (arith, fits_from_test, decimal_digit, first_digit, minus_zero, first_decimal)
 
 -- digits after a sign are what the builder writes for their number
 minus_again : (ds : List ℕ) → IsNumeral 10 ds → has_extra_zero (minus ∷ ds) ≡ false
     → fits_i64 (neg_ℤ (pos (digits_value 10 ds))) ≡ true → signed_decimal (neg_ℤ (pos (digits_value 10 ds))) ≡ minus ∷ ds
-minus_again ds numeral plain fits = grind (arith, first_after_minus, unsigned_again, first_digit, fits_from_test, cases_lt, decimal_digit)
+minus_again ds numeral plain fits =
+    grind (arith, digit_from_value, or_parts, eqb-false, unsigned_again, first_digit, fits_from_test, cases_lt, decimal_digit)
 
 -- digits without a sign have their value
 plain_value : (d : ℕ) (ds : List ℕ) → IsNumeral 10 (d ∷ ds) → signed_digits_value 10 (d ∷ ds) ≡ pos (digits_value 10 (d ∷ ds))
 plain_value d ds numeral = grind (arith, digit_from_value, ne_eqb)
 
--- a test beside one that fails
-or_one : (t : Bool) → (t || false) ≡ true → t ≡ true
-or_one x0 h = grind (arith, false≢true)
-
 -- an integer without a zero too many is what the builder writes for its number
 pub integer_again : (number : List ℕ) → IsSigned (codes "-") number → has_extra_zero number ≡ false
     → fits_i64 (signed_digits_value 10 number) ≡ true → signed_decimal (signed_digits_value 10 number) ≡ number
 integer_again [] never plain fits = absurd never
-integer_again (b ∷ ds) (inl signed) plain fits = grind (arith, eqb-true, or_one, minus_again)
+integer_again (b ∷ ds) (inl signed) plain fits = grind (arith, eqb-true, false≢true, minus_again)
 integer_again (b ∷ ds) (inr numeral) plain fits = grind (arith, plain_value, fits_from_test, unsigned_again)
 
 -- an integer of less than 19 bytes fits an i64
 short_fits : (number : List ℕ) → IsSigned (codes "-") number → length number < 19 → fits_i64 (signed_digits_value 10 number) ≡ true
-short_fits ds never short = grind (arith, eqb-true, or_one, plain_value, test_from_fits, pow-le-pow_right, digits_value-lt)
+short_fits ds never short = grind (arith, eqb-true, false≢true, plain_value, test_from_fits, pow-le-pow_right, digits_value-lt)
 
 -- so whether it is written so is told by its zeros
 pub short_written : (number : List ℕ) → IsSigned (codes "-") number → not (has_extra_zero number) ≡ true → length number < 19
@@ -119,7 +108,7 @@ shape text rest w ends = subst (λ xs. Shape xs rest) w.written (shape_of w.thin
 
 -- digits if no sign is
 pub unsigned_numeral : (number : List ℕ) → IsSigned (codes "-") number → (slice_index number 0 == minus) ≡ false → IsNumeral 10 number
-unsigned_numeral ds never plain = grind (arith, eqb-false, eqb-true, or_one)
+unsigned_numeral ds never plain = grind (arith, eqb-false, eqb-true, false≢true)
 
 -- digits begin with no sign
 no_minus : (ds : List ℕ) → IsNumeral 10 ds → (slice_index ds 0 == minus) ≡ false
@@ -211,7 +200,8 @@ module _ (text number : List ℕ) (whole : ℕ) (len : whole ≡ integer_len tex
         only : (rest : List ℕ) → IsWrittenValue text rest → EndsValue rest → (is_written_unsigned number ≡ true) × (rest ≡ r.now)
         only rest w ends = elim (shape text rest w ends) [
           | an_integer z fits t ↦ absurd (omega (arith, ap (λ (xs : List ℕ). slice_index xs 0) (sym (at_mark letter_u read) ∙ t.after)))
-          | an_unsigned n fits t ↦ grind (arith, number_is, at_mark letter_u read, decimal_is_IsNumeral, no_minus, decimal_zero, lt-ltb)
+          | an_unsigned n fits t ↦ let marked = at_mark letter_u read in
+              grind (arith, number_is, decimal_is_IsNumeral, no_minus, decimal_digit, first_digit, first_decimal, lt-ltb)
           | a_float x f ↦ absurd (f.no_u (byte_at_drop text r.now (integer_len text) letter_u (at_mark letter_u read)).0)
           | a_string none quote x ↦ absurd (omega (arith, len, some, none))
           | a_word b none word ↦ absurd (omega (arith, len, some, none))
@@ -222,32 +212,20 @@ pub ruleset number_steps = (signed_number, integer_answer, unsigned_answer)
 
 -- what is read as a float is one that the builder writes
 float_found : (text t rest : List ℕ) → float_at text ≡ reads (float t) rest → IsWrittenValue text rest
-float_found text t rest read = elim (cases_Bool (float_len text == 0)) [
-  | inl none ↦ let missed = float_misses text (eqb-true (float_len text) 0 none) in absurd (cc (missed, read))
-  | inr some ↦
-      let more : 0 < float_len text = omega (arith, eqb-false (float_len text) 0 some) in
-      let found : reads (float (take (float_len text) text)) (drop (float_len text) text) ≡ reads (float t) rest =
-      sym (float_reads text more) ∙ read in
-      let same : take (float_len text) text ≡ t = cc in
-      let left : drop (float_len text) text ≡ rest = cc in
-      record {
-        thing = float t;
-        is = subst IsFloat same (float_len_float text more);
-        written = rw (← same, ← left) (take-append-drop (float_len text) text);
-      }
-]
+float_found text t rest read =
+    let some : 0 < float_len text = grind (arith, cases_eq, float_misses) in
+    let found = sym (float_reads text some) ∙ read in
+    record { thing = float t; is = subst IsFloat (cc) (float_len_float text some); written = grind (arith, take-append-drop) }
 
 module _ (text : List ℕ) (whole : ℕ) (len : whole ≡ integer_len text) (some : 0 < whole) (no_i : byte letter_i (drop whole text) ≡ miss)
     (no_u : byte letter_u (drop whole text) ≡ miss) where
   -- if no mark of an integer is, the builder writes no value but a float
   float_only : (rest : List ℕ) → IsWrittenValue text rest → EndsValue rest → (t : List ℕ) × (float_at text ≡ reads (float t) rest)
-  float_only rest w ends = elim (shape text rest w ends) [
-    | an_integer z fits t ↦ absurd (byte_missing letter_i (drop whole text) no_i rest (rw len t.after))
-    | an_unsigned n fits t ↦ absurd (byte_missing letter_u (drop whole text) no_u rest (rw len t.after))
-    | a_float x front ↦ (x, front.reads_it)
-    | a_string none quote x ↦ absurd (omega (arith, len, some, none))
-    | a_word b none word ↦ absurd (omega (arith, len, some, none))
-  ]
+  float_only rest w ends =
+      let no_i = byte_missing letter_i (drop whole text) no_i rest in
+      let no_u = byte_missing letter_u (drop whole text) no_u rest in
+      let t = shape text rest w ends in
+      grind (arith)
 
   -- none, if no float is read
   pub no_float : (o : Option (Bor (List ℕ))) → o ≡ None → float_at text ≡ miss → IsOnlyRest (IsWrittenValue text) EndsValue o

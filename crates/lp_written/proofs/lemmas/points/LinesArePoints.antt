@@ -1,10 +1,10 @@
 -- The logical texts of each line that is answered are a point: it has a field, and its values and its timestamp fit. And the lines
 -- that are as the builder writes them are those that it writes again.
-use Rattle.std.proofs.Common.{◌≡◌, ◌≢◌, ℕ, ◌<◌, List, [], length, take, drop, Bool, true, false, cond, subst, arith, Option, Some, None, Ok}
-use Rattle.std.proofs.Common.{Err, Result, ◌==◌, ℤ, IfSome, ◌∷◌, ◌++◌, ap}
+use Rattle.std.proofs.Common.{◌≡◌, ◌≢◌, ℕ, ◌<◌, List, [], length, take, drop, Bool, true, false, cond, subst, arith, Option, Ok}
+use Rattle.std.proofs.Common.{◌==◌, ℤ, IfSome, ◌∷◌, ◌++◌, ap}
 use Rattle.std.specs.List.{AllByRecursion}
 use Rattle.std.proofs.lemmas.{Bool.eqb-false, Bool.Decides.nat_tests, List.length-map, List.append_cancel_right}
-use Rattle.lp_format.specs.format.{Dialect, Fault, Text, Read, Reading, miss, reads, ◌otherwise◌, Value, float, float_len, fits_i64}
+use Rattle.lp_format.specs.format.{Dialect, Text, miss, reads, Value, float, float_len, fits_i64}
 use Rattle.lp_format.specs.format.{integer_at, unsigned_at, float_at, string_at, boolean_at, value, Pair, IsValue, logical_field}
 use Rattle.lp_format.specs.format.{logical_value, field, separated_list, field_set, without_comma, spaces, timestamp, newline, line_of}
 use Rattle.lp_format.specs.format.{answer, point_of}
@@ -42,27 +42,11 @@ float_fits line x rest h =
     let some : float_len line ≢ 0 = eqb-false (float_len line) 0 parts.0 in
     subst Fits parts.1 (float_len_float line (omega arith))
 
--- any string will do
-string_fits : (line : List ℕ) (x : Value Text) (rest : List ℕ) → string_at line ≡ reads x rest → Fits x
-unfolding string_at
-string_fits after x rest h = grind arith
-
 -- and either boolean
 boolean_fits : (b : Bool) (words : List (List ℕ)) (line : List ℕ) (x : Value Text) (rest : List ℕ)
     → boolean_at b words line ≡ reads x rest → Fits x
 unfolding boolean_at
 boolean_fits b words line x rest h = grind (arith, no_test)
-
--- what holds of either holds of the first that does not miss
-either_fits : (r s : Reading (Value Text)) → ((x : Value Text) (rest : List ℕ) → r ≡ reads x rest → Fits x)
-    → ((x : Value Text) (rest : List ℕ) → s ≡ reads x rest → Fits x) → (x : Value Text) (rest : List ℕ)
-    → (r otherwise s) ≡ reads x rest → Fits x
-either_fits after s first second x rest h = grind (arith)
-
--- each value that is read is one of its type
-value_fits : (line : List ℕ) (x : Value Text) (rest : List ℕ) → value line ≡ reads x rest → Fits x
-unfolding value
-value_fits line x rest h = grind (arith, either_fits, integer_fits, unsigned_fits, float_fits, string_fits, boolean_fits)
 
 -- the value of a field
 abbrev pub FieldFits : Pair Text (Value Text) → Type 0
@@ -70,8 +54,8 @@ FieldFits f = Fits f.value
 
 -- so is that of each field
 field_fits : (line : List ℕ) (f : Pair Text (Value Text)) (rest : List ℕ) → field line ≡ reads f rest → FieldFits f
-unfolding field
-field_fits line f rest h = grind (arith, pair_parts, value_fits)
+unfolding field value string_at
+field_fits line f rest h = grind (arith, pair_parts, integer_fits, unsigned_fits, float_fits, boolean_fits)
 
 -- the fields of a line: at least one, and each with a value of its type
 record SomeFit (fs : List (Pair Text (Value Text))) : Type 0 where
@@ -89,18 +73,10 @@ field_set_fits dialect line rest fs h =
       fit = joined_of FieldFits field field_fits (λ t. (field_no_longer t).holds) line parts.mid parts.first parts.was;
     })
 
--- a timestamp, under its tests
-stamp_cases : (a b : Bool) (z : ℤ) (t : Option ℤ) (line after rest : List ℕ) (e : Fault) → b ≡ fits_i64 z
-    → cond {A = Result (Read (Option ℤ)) Fault} a (Ok (record { value = None; rest = line }))
-    (cond {A = Result (Read (Option ℤ)) Fault} b (Ok (record { value = Some z; rest = after })) (Err e)) ≡ Ok
-    (record { value = t; rest = rest })
-    → IfSome t (λ y. fits_i64 y ≡ true)
-stamp_cases x0 b z t line after rest e is h = grind (arith, ok_same)
-
 -- a timestamp is in range
 stamp_fits : (line rest : List ℕ) (t : Option ℤ) → timestamp line ≡ Ok (record { value = t; rest = rest })
     → IfSome t (λ y. fits_i64 y ≡ true)
-stamp_fits line rest t h = grind (arith, stamp_cases)
+stamp_fits line rest t h = grind (arith, ok_same)
 
 -- the logical texts of each line that is answered are a point
 pub lines_are_points : LinesArePoints
