@@ -79,12 +79,11 @@ module _ (dialect : Dialect) (text : List ℕ) where
   -- each row gives its answer, by what the parts read
   row_answers : {a : Result Line Fault} → IsAnswer dialect text a → answer dialect text ≡ a
   unfolding answer
-  row_answers (fatal_measurement e h) = rw h (ap Err (name_fault a_measurement text e h))
+  row_answers (fatal_measurement e h) = grind (arith, name_fault)
   row_answers (no_measurement h) = rw h refl
   row_answers (fatal_tag m after tags rest e named most next) =
       let fault = (the_next_has_the_fault tag (λ t. (tag_no_longer t).holds) after e).1 (tags, rest, most, next) in
-      let over : e ≡ ends_with_backslash = grind (arith, tag_fault) in
-      rw (named, fault) (ap Err over)
+      grind (arith, tag_fault)
   row_answers (no_tag m after named h) = rw (named, h) refl
   row_answers (no_space m tags rest series gap) = let s = series_parts series in rw (s.named, s.set, no_byte space rest gap) refl
   row_answers (fatal_field m tags after fields rest e series gap most next) =

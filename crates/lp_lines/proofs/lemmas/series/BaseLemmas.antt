@@ -52,11 +52,8 @@ pub first_repeated_is : (keys : List (List ℕ)) (n : ℕ) → n ≤ length keys
     → (n < length keys → is_repeated_at keys n ≡ true)
     → first_repeated keys ≡ n
 unfolding first_repeated
-first_repeated_is keys n fits none found =
-    let len : length (range_with_len 0 (length keys)) ≡ length keys = length-range_with_len 0 (length keys) in
-    position_or_len_is (is_repeated_at keys) (range_with_len 0 (length keys)) n 0 (omega arith)
-    (λ k h. rw (get_or-range_with_len 0 (length keys) k 0 (omega arith), zero-add k) (none k h))
-    (λ h. rw (get_or-range_with_len 0 (length keys) n 0 (omega arith), zero-add n) (found (omega arith)))
+first_repeated_is keys n fits none found = position_or_len_is (is_repeated_at keys) (range_with_len 0 (length keys)) n 0
+    (grind (arith, length-range_with_len)) (λ k h. grind (arith, get_or-range_with_len, none k h)) (λ h. grind (arith, get_or-range_with_len, length-range_with_len))
 
 -- the bytes of what goes in at an order
 bytes_at : (o : Ordering) (a b c : List (Bor (List ℕ) × Bor (List ℕ)))
