@@ -69,6 +69,7 @@ fn keep_fields<'a>(fields: &mut FieldSet<'a>, count: usize)
 
 // Fills the line `parsed`, which has a tag set, with what the trimmed text `line` says. At a fault, and if memory is refused,
 // it is filled in part. A tag set that has grown is kept at `spare`, if that is given and the line has no tags.
+#[tactic(auto, using(crate::proofs::lemmas::line::Filled::fill_steps))]
 #[inline(never)]
 fn fill<'a>(
     alloc: Global,
@@ -163,6 +164,7 @@ fn refuse(alloc: Global, item: &mut Result<ParsedLine<'_>>, fault: Error)
 /// Reads a trimmed text into a line that is used again: the line is then what the text says, or empty if that is at fault.
 ///
 /// The sets of the line keep their room. One of tags that has grown is kept at `spare` while the line has no tags.
+#[tactic(auto, using(crate::proofs::lemmas::line::AnsweredLines::more_room))]
 #[inline(always)]
 pub fn read_into<'a>(
     alloc: Global,

@@ -101,10 +101,10 @@ module _ (dialect : Dialect) (line : List ℕ) where
   light_in p q light = grind (arith, and_parts, leb-true)
 
   -- a line that needs no memory in some room needs none in more
-  pub more_room : (p q more_tags more_fields : ℕ) → p ≤ more_tags → q ≤ more_fields → is_light_in p q dialect line ≡ true
+  pub more_room : (p q more_tags more_fields : ℕ) → is_light_in p q dialect line ≡ true → p ≤ more_tags → q ≤ more_fields
       → is_light_in more_tags more_fields dialect line ≡ true
   unfolding is_light_in
-  more_room p q more_tags more_fields h k light = grind (arith, light_in, le-leb)
+  more_room p q more_tags more_fields light h k = grind (arith, light_in, le-leb)
 
   -- as many tags were counted as the line has
   tags_are : (l : Line) → answer dialect line ≡ Ok l → tags_in line ≡ length (some_tags l.tags)

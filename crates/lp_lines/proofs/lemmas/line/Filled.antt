@@ -163,3 +163,6 @@ module _ (old new : Filling) (none : old.fault ≡ None) where
 
 -- what a line is once it was told
 pub ruleset filled_steps = (same_line, rooms_kept, filled_answer)
+
+-- what shows that no memory is refused to a light line that was told
+pub ruleset fill_steps = (fault_is_light, light_is_not_refused)

@@ -45,19 +45,10 @@ logical_kept : (kind : NameKind) (after : Bool) (text : List ℕ) → is_closed 
 unfolding without_escapes
 logical_kept kind after [] h = refl
 logical_kept kind after (b ∷ []) h = grind (arith, unstopped_may, no_stop, and_parts, and_from, may_hold, or_left)
-logical_kept kind after (b ∷ c ∷ rest) h = grind (
-  arith,
-  cases_Bool,
-  unstopped_may,
-  no_stop,
-  and_parts,
-  and_from,
-  or_left,
-  or_right,
-  escapable_may,
-  logical_kept kind (c == backslash) rest,
-  logical_kept kind (b == backslash) (c ∷ rest),
-)
+logical_kept kind after (b ∷ c ∷ rest) h =
+    let more = logical_kept kind (c == backslash) rest in
+    let next = logical_kept kind (b == backslash) (c ∷ rest) in
+    grind (arith, cases_Bool, unstopped_may, no_stop, and_parts, and_from, or_left, or_right, escapable_may, more, next)
 
 -- whether a text ends in a backslash, or, if it is empty, what is said of the place before it
 abbrev ends_after : Bool → List ℕ → Bool

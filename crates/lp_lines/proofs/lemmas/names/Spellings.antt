@@ -109,20 +109,10 @@ spelled_pair kind b c n e never more = rw e (backslash ∷ c ∷ more.0, pair c 
 pub spelled_as : (kind : NameKind) (n : List ℕ) → is_kept kind false n ≡ true → (s : List ℕ) × SpelledAs kind n s
 spelled_as kind [] h = ([], done)
 spelled_as kind (b ∷ []) h = spelled_more kind b [] (rw or-false at ((and_parts (may_hold kind b || false) true h).0)) ([], done)
-spelled_as kind (b ∷ c ∷ n) h = grind (
-  arith,
-  cases_Bool,
-  and_parts,
-  or-false,
-  spelled_more,
-  spelled_pair,
-  no_backslash,
-  never_unescapable,
-  ne_eqb,
-  eqb-true,
-  spelled_as kind (c ∷ n),
-  spelled_as kind n,
-)
+spelled_as kind (b ∷ c ∷ n) h =
+    let next = spelled_as kind (c ∷ n) in
+    let more = spelled_as kind n in
+    grind (arith, cases_Bool, and_parts, spelled_more, spelled_pair, no_backslash, never_unescapable, ne_eqb, eqb-true, next, more)
 
 -- the builder's spelling is one where each byte may be bare
 pub spelling_as : (kind : NameKind) (n : List ℕ) → list_all (may_hold kind) n ≡ true → SpelledAs kind n (spelling kind n)
