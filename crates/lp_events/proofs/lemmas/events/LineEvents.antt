@@ -115,9 +115,7 @@ module _ {S : Type 0} (takes : S → Event → S → Type 0) (before begun mid :
 pub blank_events : (dialect : Dialect) (skipped : List (List ℕ)) → All IsBlankPiece skipped → AreEventsOfAll [] (answers_of dialect skipped)
 unfolding answers_of_piece
 blank_events dialect [] blank = refl
-blank_events dialect (p ∷ skipped) blank =
-    let e : (length (trimmed p) == 0) ≡ true = eq-eqb (length (trimmed p)) 0 (All-head IsBlankPiece p skipped blank) in
-    rw e (blank_events dialect skipped (All-tail IsBlankPiece p skipped blank))
+blank_events dialect (p ∷ skipped) blank = grind (arith, eq-eqb, All-head IsBlankPiece p skipped, All-tail IsBlankPiece p skipped, blank_events dialect skipped)
 
 -- the events of a line after blank pieces, and of the pieces after it
 line_first : (dialect : Dialect) (skipped : List (List ℕ)) (piece : List ℕ) (pieces : List (List ℕ)) (first others events : List Event)
@@ -125,9 +123,7 @@ line_first : (dialect : Dialect) (skipped : List (List ℕ)) (piece : List ℕ) 
     → AreEventsOfAll others (answers_of dialect pieces) → AreEventsOfAll events (answers_of dialect (skipped ++ piece ∷ pieces))
 unfolding answers_of_piece
 line_first dialect [] piece pieces first others events blank some is one all = grind (arith, ne_eqb)
-line_first dialect (p ∷ skipped) piece pieces first others events blank some is one all =
-    let e : (length (trimmed p) == 0) ≡ true = eq-eqb (length (trimmed p)) 0 (All-head IsBlankPiece p skipped blank) in
-    rw e (line_first dialect skipped piece pieces first others events (All-tail IsBlankPiece p skipped blank) some is one all)
+line_first dialect (p ∷ skipped) piece pieces first others events blank some is one all = grind (arith, eq-eqb, All-head IsBlankPiece p skipped, All-tail IsBlankPiece p skipped, line_first dialect skipped piece pieces)
 
 -- what completes the line that was found was left before it
 pub line_left : (before after : Left) (line : Bor (List ℕ)) (events : List Event) → GivesLine before (Some line) after
