@@ -1,6 +1,6 @@
 -- What a sink was told of a line, one event after another, and of the lines of a text.
-use Rattle.std.proofs.Common.{◌≡◌, ℕ, ◌+◌, ◌<◌, List, [], ◌∷◌, ◌++◌, length, length-append, map, refl, sym, arith, inr, true}
-use Rattle.std.proofs.Common.{append_assoc, Some, Ok, Result, ℤ, ◌==◌, Option, Err, Bor, append-nil, All, eq-eqb, ne_eqb}
+use Rattle.std.proofs.Common.{◌≡◌, ℕ, ◌+◌, ◌<◌, List, [], ◌∷◌, ◌++◌, length, length-append, map, refl, sym, arith, inr}
+use Rattle.std.proofs.Common.{append_assoc, Some, Ok, Result, ℤ, Option, Err, Bor, append-nil, All, eq-eqb, ne_eqb}
 use Rattle.std.proofs.lemmas.{List.map_push, List.Elements.All-head, List.Elements.All-tail}
 use Rattle.lp_format.specs.format.{comma, Fault, Reading, fatal, miss, reads, Text, cannot_parse_entire_line, byte, separated_list, Line}
 use Rattle.lp_format.specs.format.{answer, some_tags, complete, Dialect, answers_of, answers_of_piece, Left, Pair, trimmed, Value}
