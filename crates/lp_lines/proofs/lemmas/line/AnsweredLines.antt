@@ -8,7 +8,7 @@ use Rattle.lp_format.specs.format.{field, some_tags, spaces, byte, comma, a_meas
 use Rattle.lp_format.proofs.lemmas.names.Inversions.{prepend_parts, count_is_of_the_most}
 use Rattle.lp_format.specs.laws.Meanings.{SeparatedBy, SeparatedAfterComma}
 use Rattle.lp_format.proofs.lemmas.meanings.{JoinedMeaning.the_most_is_read, ShorterRests.tag_no_longer, ShorterRests.field_no_longer}
-use Rattle.lp_format.specs.code.Light.{carries_no_text, count_after, fields_in, is_light_answer, is_light_in, is_single_line, read_count}
+use Rattle.lp_format.specs.code.Light.{carries_no_text, count_after, fields_in, is_light_in, is_single_line, read_count}
 use Rattle.lp_format.specs.code.Light.{tags_in, is_light}
 use Rattle.lp_values.specs.declared.{error.Error.Error}
 use Rattle.lp_values.proofs.lemmas.fields.ReadingLemmas.{bind_reads, name_ends}
@@ -69,8 +69,7 @@ line_room dialect text l h =
 pub item_columns_fit : (dialect : Dialect) (line : List ℕ) (item : Result ParsedLine Error) → length line < 2 ^ 63
     → Answers item (answer dialect line) → CanCountColumns item
 item_columns_fit dialect line (Ok parsed) short h =
-    let room = line_room dialect line (line_read parsed) h in
-    grind (arith, length-map)
+    let room = line_room dialect line (line_read parsed) h in grind (arith, length-map)
 item_columns_fit dialect line (Err e) short h = tt
 
 -- as many are counted as commas join
@@ -89,22 +88,11 @@ tags_counted : (text : List ℕ) (tags : Option (List (Pair Text Text))) (rest :
 tags_counted text tags rest e = grind (arith, tag_set_read, joined_counted tag (λ t. (tag_no_longer t).holds))
 
 module _ (dialect : Dialect) (line : List ℕ) where
-  -- what the test of a line that needs no memory in some room says
-  record IsLightIn (p q : ℕ) : Type 0 where
-    tags : tags_in line ≤ p
-    fields : fields_in line ≤ q
-    answered : is_light_answer line (answer dialect line) ≡ true
-
-  -- each line that passes the test has that
-  light_in : (p q : ℕ) → is_light_in p q dialect line ≡ true → IsLightIn p q
-  unfolding is_light_in
-  light_in p q light = grind (arith, and_parts, leb-true)
-
   -- a line that needs no memory in some room needs none in more
   pub more_room : (p q more_tags more_fields : ℕ) → is_light_in p q dialect line ≡ true → p ≤ more_tags → q ≤ more_fields
       → is_light_in more_tags more_fields dialect line ≡ true
   unfolding is_light_in
-  more_room p q more_tags more_fields light h k = grind (arith, light_in, le-leb)
+  more_room p q more_tags more_fields light h k = grind (arith, and_parts, leb-true, le-leb)
 
   -- as many tags were counted as the line has
   tags_are : (l : Line) → answer dialect line ≡ Ok l → tags_in line ≡ length (some_tags l.tags)
@@ -121,12 +109,14 @@ module _ (dialect : Dialect) (line : List ℕ) where
   -- a light line that is read has no copy, and fits the room
   pub light_line : (p q : ℕ) (l : Line) → answer dialect line ≡ Ok l → is_light_in p q dialect line ≡ true
       → (length (some_tags l.tags) ≤ p) × (length l.fields ≤ q) × (is_single_line l ≡ true)
-  light_line p q l h light = grind (arith, light_in, tags_are, fields_are)
+  unfolding is_light_in
+  light_line p q l h light = grind (arith, and_parts, leb-true, tags_are, fields_are)
 
   -- the fault of a light line carries no text
   pub light_fault : (p q : ℕ) (fault : Fault) → answer dialect line ≡ Err fault → is_light_in p q dialect line ≡ true
       → carries_no_text fault ≡ true
-  light_fault p q fault h light = grind (arith, and_parts, light_in)
+  unfolding is_light_in
+  light_fault p q fault h light = grind (arith, and_parts)
 
 -- the item of the line that was given
 pub gave_item : (before : Left) (line : List ℕ) (item : Result ParsedLine Error) (others : List (List ℕ)) → GaveLine before line others

@@ -138,15 +138,8 @@ module _ (dialect : Dialect) (text : List ℕ) where
       (Err d, fatal_field m tags after f.0 f.1 d h gap f.2 f.3)
   by_fields series m tags after is h gap (reads fields last) e =
       let rest = without_comma dialect fields last in
-      by_stamp series m tags fields rest (λ t. record {
-        after_series = after;
-        series_is = is;
-        series_reads = h;
-        gap = gap;
-        after_fields = last;
-        fields_read = (the_most_is_read field (λ t. (field_no_longer t).holds) (after_spaces after) fields last).0 e;
-        rest_is = refl;
-      }) (timestamp rest) refl
+      let read = (the_most_is_read field (λ t. (field_no_longer t).holds) (after_spaces after) fields last).0 e in
+      by_stamp series m tags fields rest (λ t. grind arith) (timestamp rest) refl
 
   -- once a series is read
   by_series : (m : Text) (tags : Option (List (Pair Text Text))) (after : List ℕ) → ReadsSeries text m tags after → SomeRow

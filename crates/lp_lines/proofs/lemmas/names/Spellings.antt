@@ -147,10 +147,7 @@ spelled_logical {kind = kind} (pair c n s never more) = grind (arith, never_unes
 
 -- and is not empty if the name is not
 spelled_some : {kind : NameKind} {n s : List ℕ} → SpelledAs kind n s → 0 < length n → 0 < length s
-spelled_some done h = h
-spelled_some (escape b n s known more) h = omega arith
-spelled_some (plain b n s other may more) h = omega arith
-spelled_some (pair c n s never more) h = omega arith
+spelled_some h some = grind arith
 
 -- what is at the start of the stop
 record Front (kind : NameKind) (s rest : List ℕ) : Type 0 where
@@ -198,10 +195,7 @@ BeginsLine (b ∷ text) = is_one_of (hash ∷ space ∷ tab ∷ newline ∷ []) 
 -- a measurement that begins with no `#` begins a line so
 pub spelled_begins : {n s : List ℕ} → SpelledAs a_measurement n s → 0 < length n → slice_index n 0 ≢ hash
     → (rest : List ℕ) → BeginsLine (s ++ rest)
-spelled_begins done some no_hash rest = absurd (omega (arith, some))
-spelled_begins (escape b n s known more) some no_hash rest = refl
-spelled_begins (plain b n s other may more) some no_hash rest = grind (arith, common_steps)
-spelled_begins (pair c n s never more) some no_hash rest = refl
+spelled_begins h some no_hash rest = grind (arith, common_steps)
 
 -- so does an admitted one
 pub measurement_begins : (m rest : List ℕ) → is_admitted_name a_measurement m ≡ true → BeginsLine (spelling a_measurement m ++ rest)
@@ -210,10 +204,7 @@ measurement_begins m rest ok =
 
 -- no space is at the start of a spelling
 pub spelled_spaces : {kind : NameKind} {n s : List ℕ} → SpelledAs kind n s → 0 < length n → (rest : List ℕ) → spaces (s ++ rest) ≡ 0
-spelled_spaces done some rest = absurd (omega (arith, some))
-spelled_spaces (escape b n s known more) some rest = refl
-spelled_spaces {kind = kind} (plain b n s other may more) some rest = rw (ne_eqb b space (no_space kind b other)) refl
-spelled_spaces (pair c n s never more) some rest = refl
+spelled_spaces h some rest = grind (arith, ne_eqb, no_space)
 
 -- a text that begins so is no comment, and nothing is trimmed off it
 pub line_no_comment : (text : List ℕ) → BeginsLine text → begins_comment text ≡ false

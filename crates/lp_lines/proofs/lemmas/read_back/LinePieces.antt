@@ -113,7 +113,7 @@ reaches_fields (f ∷ fs) all = leads_then AfterFields (comma ∷ built_field f)
 -- the timestamp
 reaches_timestamp : (t : Option ℤ) → IfSome t (λ z. fits_i64 z ≡ true) → Leads AfterFields AfterFields (built_timestamp t)
 reaches_timestamp None ok = leads_by_none AfterFields
-reaches_timestamp (Some z) ok = λ piece r. (r.0, reaches_simple (r.0 + 1) r.0 (space ∷ signed_decimal z) (simple_signed z ok) piece r.1)
+reaches_timestamp (Some z) ok = λ piece r. (r.0, reaches_simple (r.0 + 1) r.0 _ (simple_signed z ok) piece r.1)
 
 -- the tags
 pub reaches_tags : (ts : List Tag) → AllByRecursion AdmittedTag ts → Leads (Reaches Head 0 0) (Reaches Head 0 0) (flat_map built_tag ts)

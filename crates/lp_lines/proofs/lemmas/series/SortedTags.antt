@@ -151,10 +151,7 @@ less_from_test o h = grind (arith)
 pub passes_rise : (es : List (List ℕ × List ℕ)) → is_strictly_sorted (entry_keys es) ≡ true → Rise es
 passes_rise [] h = tt
 passes_rise (e ∷ []) h = (All-nil (λ f. slice_cmp nat_cmp e.0 f.0 ≡ Less), tt)
-passes_rise (e ∷ f ∷ es) h =
-    let parts = and_parts (is_lt (slice_cmp nat_cmp e.0 f.0)) (is_strictly_sorted (entry_keys (f ∷ es))) h in
-    let more = passes_rise (f ∷ es) parts.1 in
-    (before_all e f es (less_from_test (slice_cmp nat_cmp e.0 f.0) parts.0) more.0, more)
+passes_rise (e ∷ f ∷ es) h = grind (arith, and_parts, less_from_test, before_all, passes_rise (f ∷ es))
 
 -- if the keys rise, that is their own order
 pub by_key_in_order : (tags : List (Pair Text Text)) → first_repeated (keys_of tags) ≡ length tags

@@ -4,5 +4,5 @@ use Rattle.lp_lines.proofs.line.ParseLinesIterator.next.Goals as goal
 
 pub returns-clause-steps : goal.returns-clause-steps
 returns-clause-steps c =
-    let given = c.in-Some.ensures.gives in
+    let given = rw c.self.view_is at c.in-Some.ensures.gives in
     (given.0, λ others left. let gave = given.1 others left in grind (arith, gave_item))
