@@ -16,38 +16,45 @@ returns-in_err-rest g c =
 pub returns-in_default-strip_byte : goal.returns-in_default-strip_byte
 unfolding answer
 returns-in_default-strip_byte g c =
-    tags_fault g.S.EventSink.takes _ _ _ _ c.measurement.ensures _ c.in_ok-rest.ensures _ (GenericParsingError TakeWhile1) (grind arith)
+    tags_fault g.S.EventSink.takes _ _ _ _ c.measurement.ensures _ c.in_ok-rest.ensures _
+    (GenericParsingError TakeWhile1) (grind arith)
 
 pub front_before-series-requires-clause-ends : goal.front_before-series-requires-clause-ends
 front_before-series-requires-clause-ends g c =
-    let ends = series_ends c.args.line.now _ _ _ (rw c.in-Some.is at c.in_ok-measurement.ensures.value) c.in_ok-rest.ensures.are.1 in
+    let name = rw c.in-Some.is at c.in_ok-measurement.ensures.value in
+    let ends = series_ends c.args.line.now _ _ _ name c.in_ok-rest.ensures.are.1 in
     (ends.front, ends.is)
 
 pub returns-in_err-rest-2 : goal.returns-in_err-rest-2
 unfolding answer
 returns-in_err-rest-2 g c =
     let p = err_from_is_err_and c.from_residual-in_err-rest-2.result c.from_residual-in_err-rest-2.ensures.1 in
-    rw (p.1, p.2) (fields_fault g.S.EventSink.takes _ _ _ _ c.measurement.ensures _ c.in_ok-rest.ensures _ _ _ c.in_err-rest-2.ensures _ (grind arith))
+    rw (p.1, p.2) (fields_fault g.S.EventSink.takes _ _ _ _ c.measurement.ensures _ c.in_ok-rest.ensures _ _ _
+    c.in_err-rest-2.ensures _ (grind arith))
 
 pub returns-in_default-2 : goal.returns-in_default-2
 unfolding answer
 returns-in_default-2 g c =
-    fields_fault g.S.EventSink.takes _ _ _ _ c.measurement.ensures _ c.in_ok-rest.ensures _ _ _ c.in_ok-rest-2.ensures FieldSetMissing (grind arith)
+    fields_fault g.S.EventSink.takes _ _ _ _ c.measurement.ensures _ c.in_ok-rest.ensures _ _ _
+    c.in_ok-rest-2.ensures FieldSetMissing (grind arith)
 
 pub returns-in_err-timestamp : goal.returns-in_err-timestamp
 unfolding answer
 returns-in_err-timestamp g c =
     let p = err_from_is_err_and c.from_residual-in_err-timestamp.result c.from_residual-in_err-timestamp.ensures.1 in
-    rw (p.1, p.2) (fields_fault g.S.EventSink.takes _ _ _ _ c.measurement.ensures _ c.in_ok-rest.ensures _ _ _ c.in_ok-rest-2.ensures _ (grind arith))
+    rw (p.1, p.2) (fields_fault g.S.EventSink.takes _ _ _ _ c.measurement.ensures _ c.in_ok-rest.ensures _ _ _
+    c.in_ok-rest-2.ensures _ (grind arith))
 
 pub returns-then-not-is_empty : goal.returns-then-not-is_empty
 unfolding answer
 returns-then-not-is_empty g c =
-    fields_fault g.S.EventSink.takes _ _ _ _ c.measurement.ensures _ c.in_ok-rest.ensures _ _ _ c.in_ok-rest-2.ensures
+    fields_fault g.S.EventSink.takes _ _ _ _ c.measurement.ensures _ c.in_ok-rest.ensures _ _ _
+    c.in_ok-rest-2.ensures
     (CannotParseEntireLine c.in_ok-timestamp.rest) (grind (arith, common_steps, complete_some))
 
 pub returns : goal.returns
 unfolding answer
 returns g c =
-    line_told g.S.EventSink.takes _ _ _ _ c.measurement.ensures _ c.in_ok-rest.ensures _ _ _ c.in_ok-rest-2.ensures _ _ _ c.in_ok-rest.ensures.are.0
+    line_told g.S.EventSink.takes _ _ _ _ c.measurement.ensures _ c.in_ok-rest.ensures _ _ _
+    c.in_ok-rest-2.ensures _ _ _ c.in_ok-rest.ensures.are.0
     c.end.ensures c.in_ok-rest.ensures.are.2 (grind (arith, common_steps, complete_none))

@@ -35,7 +35,8 @@ module _ {S A : Type 0} (takes : S → Event → S → Type 0) (event : A → Ev
       (so_far : ToldSoFar takes event one before mid text count rest place) (n : ℕ) (more : n ≡ count + 1) where
     -- one event more
     told_more : TakesAll takes before (map event (so_far.parts ++ x ∷ [])) after
-    told_more = rw (map_push event so_far.parts x) (takes_more takes before mid after (map event so_far.parts) (event x) so_far.told told)
+    told_more = rw (map_push event so_far.parts x)
+        (takes_more takes before mid after (map event so_far.parts) (event x) so_far.told told)
 
     -- so many
     one_more : n ≡ length (so_far.parts ++ x ∷ [])
@@ -46,24 +47,31 @@ module _ {S A : Type 0} (takes : S → Event → S → Type 0) (event : A → Ev
         → ToldSoFar takes event one before after text n end next
     told_next end next is less mark =
         let read = reached_more one end x so_far.are.1 is less in
-        record { parts = _; told = told_more; are = (one_more, inr (record { so_far = read; mark = mark; some = omega (arith, one_more) })) }
+        record {
+          parts = _;
+          told = told_more;
+          are = (one_more, inr (record { so_far = read; mark = mark; some = omega (arith, one_more) }));
+        }
 
     -- one part more was told, and no comma comes after it
     pub told_last : (end : Bor (List ℕ)) → one place ≡ reads x end.now → length end.now < length place → byte comma end.now ≡ miss
         → WasToldParts takes event before after (AreCounted (Ok (Some (n, end))) (separated_list one text))
     told_last end is less none =
-        record { parts = _; told = told_more; are = (one_more, last_read one (reached_more one end.now x so_far.are.1 is less) none) }
+        let all = last_read one (reached_more one end.now x so_far.are.1 is less) none in
+        record { parts = _; told = told_more; are = (one_more, all) }
 
   module _ (before after : S) (text : List ℕ) (count : ℕ) (place : List ℕ) where
     -- no part reads at the place: these were all
-    pub told_all : (rest : Bor (List ℕ)) → ToldSoFar takes event one before after text count rest.now place → one place ≡ miss → 0 < count
-        → WasToldParts takes event before after (AreCounted (Ok (Some (count, rest))) (separated_list one text))
+    pub told_all : (rest : Bor (List ℕ)) → ToldSoFar takes event one before after text count rest.now place → one place ≡ miss
+        → 0 < count → WasToldParts takes event before after (AreCounted (Ok (Some (count, rest))) (separated_list one text))
     told_all rest so_far none some =
-        record { parts = so_far.parts; told = so_far.told; are = (so_far.are.0, reached_all one so_far.are.1 none (let count = so_far.are.0 in omega arith)) }
+        let all = reached_all one so_far.are.1 none (let count = so_far.are.0 in omega arith) in
+        record { parts = so_far.parts; told = so_far.told; are = (so_far.are.0, all) }
 
     -- what is at the place is fatal
     pub told_fatal : (rest : List ℕ) (fault : SpelledFault) → ToldSoFar takes event one before after text count rest place
-        → one place ≡ fatal (spelled_fault fault) → WasToldParts takes event before after (AreCounted (Err fault) (separated_list one text))
+        → one place ≡ fatal (spelled_fault fault)
+        → WasToldParts takes event before after (AreCounted (Err fault) (separated_list one text))
     told_fatal rest fault so_far is =
         record { parts = so_far.parts; told = so_far.told; are = reached_fatal one (spelled_fault fault) so_far.are.1 is }
 
@@ -91,17 +99,18 @@ module _ {S : Type 0} (takes : S → Event → S → Type 0) (before begun mid :
   module _ (after : S) (These : List (Pair Text (Value Text)) → Type 0) (fields : WasToldParts takes valued mid after These) where
     -- they are a front of events
     front_told : TakesAll takes before (front_events m tags.parts fields.parts) after
-    front_told = takes_append takes before mid after (named m ∷ map tagged tags.parts) (map valued fields.parts) (begun, first, tags.told) fields.told
+    front_told = takes_append takes before mid after (named m ∷ map tagged tags.parts) (map valued fields.parts)
+        (begun, first, tags.told) fields.told
 
     -- the line is at fault after them
     pub fields_fault : (fault : SpelledFault) → answer ≡ Err (spelled_fault fault)
         → WasTold takes before after (AreToldBefore {X = Unit {0}} (Err fault) answer)
     fields_fault fault is =
-        record { events = front_events m tags.parts fields.parts; told = front_told; are = (is, inr (m, tags.parts, fields.parts, refl)) }
+        record { events = _; told = front_told; are = (is, inr (m, tags.parts, fields.parts, refl)) }
 
     -- the line ends after them
-    pub line_told : (last : S) (series : List ℕ) (time : Option ℤ) (set : Option (List (Pair Text Text))) → takes after (ended series time) last
-        → some_tags set ≡ tags.parts
+    pub line_told : (last : S) (series : List ℕ) (time : Option ℤ) (set : Option (List (Pair Text Text)))
+        → takes after (ended series time) last → some_tags set ≡ tags.parts
         → answer ≡ Ok (record { series = series; measurement = m; tags = set; fields = fields.parts; timestamp = time })
         → WasTold takes before last (AreToldBefore {X = Unit {0}} (Ok (tt {0})) answer)
     line_told last series time set done tags_are is =
@@ -115,7 +124,8 @@ module _ {S : Type 0} (takes : S → Event → S → Type 0) (before begun mid :
 pub blank_events : (dialect : Dialect) (skipped : List (List ℕ)) → All IsBlankPiece skipped → AreEventsOfAll [] (answers_of dialect skipped)
 unfolding answers_of_piece
 blank_events dialect [] blank = refl
-blank_events dialect (p ∷ skipped) blank = grind (arith, eq-eqb, All-head IsBlankPiece p skipped, All-tail IsBlankPiece p skipped, blank_events dialect skipped)
+blank_events dialect (p ∷ skipped) blank =
+    grind (arith, eq-eqb, All-head IsBlankPiece p skipped, All-tail IsBlankPiece p skipped, blank_events dialect skipped)
 
 -- the events of a line after blank pieces, and of the pieces after it
 line_first : (dialect : Dialect) (skipped : List (List ℕ)) (piece : List ℕ) (pieces : List (List ℕ)) (first others events : List Event)
@@ -123,7 +133,8 @@ line_first : (dialect : Dialect) (skipped : List (List ℕ)) (piece : List ℕ) 
     → AreEventsOfAll others (answers_of dialect pieces) → AreEventsOfAll events (answers_of dialect (skipped ++ piece ∷ pieces))
 unfolding answers_of_piece
 line_first dialect [] piece pieces first others events blank some is one all = grind (arith, ne_eqb)
-line_first dialect (p ∷ skipped) piece pieces first others events blank some is one all = grind (arith, eq-eqb, All-head IsBlankPiece p skipped, All-tail IsBlankPiece p skipped, line_first dialect skipped piece pieces)
+line_first dialect (p ∷ skipped) piece pieces first others events blank some is one all =
+    grind (arith, eq-eqb, All-head IsBlankPiece p skipped, All-tail IsBlankPiece p skipped, line_first dialect skipped piece pieces)
 
 -- what completes the line that was found was left before it
 pub line_left : (before after : Left) (line : Bor (List ℕ)) (events : List Event) → GivesLine before (Some line) after

@@ -44,7 +44,8 @@ module _ {A : Type 0} (one : List ℕ → Reading A) where
       → length after < length rest → SoFar one text (done ++ y ∷ []) after
   so_far_more text done rest after y so_far e less =
       let fuel : so_far.fuel ≡ suc (so_far.fuel - 1) = omega arith in
-      record { fuel = so_far.fuel - 1; enough = omega arith; is = rw fuel at so_far.is ∙ rw e (prepend-prepend done (y ∷ []) (many (after_comma one) (so_far.fuel - 1) after)) }
+      let joined = prepend-prepend done (y ∷ []) (many (after_comma one) (so_far.fuel - 1) after) in
+      record { fuel = so_far.fuel - 1; enough = omega arith; is = rw fuel at so_far.is ∙ rw e joined }
 
   -- what is fatal after a comma is fatal for all
   pub so_far_fatal : (text : List ℕ) (done : List A) (rest : List ℕ) (e : Fault) → SoFar one text done rest

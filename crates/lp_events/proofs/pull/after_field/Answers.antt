@@ -33,9 +33,11 @@ returns-then-not-is_empty-clause-steps c = λ left others later d line m tags fs
     let rest = c.rest_after.ensures fs h.first_is in
     let more = c.in_ok-timestamp.rest.now in
     completes_fault (inr (m, tags, fs, refl))
-    (rw d (left_fault h (rules_of c.args.dialect) (grind arith) c.in_ok-timestamp.timestamp more (grind arith) (grind (arith, common_steps)))) later
+    (rw d (left_fault h (rules_of c.args.dialect) (grind arith) c.in_ok-timestamp.timestamp more (grind arith)
+    (grind (arith, common_steps)))) later
 
 pub returns-clause-steps : goal.returns-clause-steps
 returns-clause-steps c = λ left others later d line m tags fs h.
     let rest = c.rest_after.ensures fs h.first_is in
-    completes_end h (rules_of c.args.dialect) (grind arith) left others _ c.in_ok-timestamp.rest.now d (grind arith) (grind (arith, common_steps)) later
+    completes_end h (rules_of c.args.dialect) (grind arith) left others _ c.in_ok-timestamp.rest.now d (grind arith)
+    (grind (arith, common_steps)) later
