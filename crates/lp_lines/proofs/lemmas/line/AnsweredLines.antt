@@ -104,7 +104,9 @@ module _ (dialect : Dialect) (line : List ℕ) where
   -- as many fields were counted as the line has
   fields_are : (l : Line) → answer dialect line ≡ Ok l → fields_in line ≡ length l.fields
   unfolding answer fields_in
-  fields_are l h = let parts = answer_parts dialect line l h in grind (arith, fields_joined, joined_counted field (λ t. (field_no_longer t).holds))
+  fields_are l h =
+      let parts = answer_parts dialect line l h in
+      grind (arith, fields_joined, joined_counted field (λ t. (field_no_longer t).holds))
 
   -- a light line that is read has no copy, and fits the room
   pub light_line : (p q : ℕ) (l : Line) → answer dialect line ≡ Ok l → is_light_in p q dialect line ≡ true

@@ -127,7 +127,8 @@ pub is_line : (dialect : Dialect) (text : List ℕ) (l : Line) (filling : Fillin
     → fields.items ≡ take filling.field_count filling.line.now.field_set.items → IfSome set (λ s. 0 < length s.items)
     → line_read (filled_line_of filling set fields) ≡ l
 is_line dialect text l filling set fields answered read kept kept_fields some =
-    let tags = same_tags l.tags set (line_some_tags dialect text l answered) some (ap (map tag_of) kept ∙ read.tags) in grind (arith, read)
+    let tags = same_tags l.tags set (line_some_tags dialect text l answered) some (ap (map tag_of) kept ∙ read.tags) in
+    grind (arith, read)
 
 module _ (old new : Filling) (none : old.fault ≡ None) where
   -- a fault that was kept is the answer

@@ -78,7 +78,8 @@ kept_from : (kind : NameKind) (after : Bool) (n : List ℕ)
     → is_kept kind after n ≡ true
 kept_from kind after [] h = refl
 kept_from kind after (b ∷ n) h =
-    let more = kept_from kind (b == backslash) n (λ front back c e never. h (b ∷ front) back c (ap (λ (xs : List ℕ). b ∷ xs) e) never) in
+    let more = kept_from kind (b == backslash) n
+    (λ front back c e never. h (b ∷ front) back c (ap (λ (xs : List ℕ). b ∷ xs) e) never) in
     grind (arith, cases_Bool, and_from, or_left, or_right, not_from_false, h [] n b refl)
 
 -- a parsed name, by the test of its bytes
@@ -110,7 +111,8 @@ spelled_is_parsed kind text some ends begins =
       some = logical_some kind (spelled kind text) some;
       ends = logical_ends kind (spelled kind text) ∙ ends;
       begins = name_begins kind text begins;
-      after_backslash = λ front back b e never. sym (ends_from_start front) ∙ kept_place kind false front back b (rw e at kept) never;
+      after_backslash = λ front back b e never.
+          sym (ends_from_start front) ∙ kept_place kind false front back b (rw e at kept) never;
     }
 
 -- each name that is read is a parsed name

@@ -101,8 +101,8 @@ spelled_more kind b n may more = elim (cases_Bool (is_escapable kind b)) [
 ]
 
 -- a name with a backslash at the start, and then a byte that no escape keeps
-spelled_pair : (kind : NameKind) (b c : ℕ) (n : List ℕ) → b ≡ backslash → is_one_of (never_in kind) c ≡ true → (s : List ℕ) × SpelledAs kind n s
-    → (s : List ℕ) × SpelledAs kind (b ∷ c ∷ n) s
+spelled_pair : (kind : NameKind) (b c : ℕ) (n : List ℕ) → b ≡ backslash → is_one_of (never_in kind) c ≡ true
+    → (s : List ℕ) × SpelledAs kind n s → (s : List ℕ) × SpelledAs kind (b ∷ c ∷ n) s
 spelled_pair kind b c n e never more = rw e (backslash ∷ c ∷ more.0, pair c n more.0 never more.1)
 
 -- each parsed name has a spelling
@@ -142,7 +142,8 @@ pub spelled_logical : {kind : NameKind} {n s : List ℕ} → SpelledAs kind n s 
 unfolding without_escapes
 spelled_logical {kind = kind} done = refl
 spelled_logical {kind = kind} (escape b n s known more) = grind (arith, without_escapes_known, spelled_logical more)
-spelled_logical {kind = kind} (plain b n s other may more) = grind (arith, without_escapes_plain_byte, no_backslash, spelled_logical more)
+spelled_logical {kind = kind} (plain b n s other may more) =
+    grind (arith, without_escapes_plain_byte, no_backslash, spelled_logical more)
 spelled_logical {kind = kind} (pair c n s never more) = grind (arith, never_unescapable, spelled_logical more)
 
 -- and is not empty if the name is not
@@ -182,10 +183,12 @@ pub reaches_spelled : (part : Part) (e c : ℕ) {kind : NameKind} {n s : List �
     → ((b : ℕ) → may_hold kind b ≡ true → is_escapable kind b ≡ false → ChangesNothing part e c b)
     → SpelledAs kind n s → Leads (Reaches part e c) (Reaches part e c) s
 reaches_spelled part e c same done = leads_by_none (Reaches part e c)
-reaches_spelled part e c same (escape b n s known more) = leads_then (Reaches part e c) _ s (reaches_pair part e c b) (reaches_spelled part e c same more)
+reaches_spelled part e c same (escape b n s known more) =
+    leads_then (Reaches part e c) _ s (reaches_pair part e c b) (reaches_spelled part e c same more)
 reaches_spelled part e c same (plain b n s other may more) =
     leads_then (Reaches part e c) _ s (reaches_byte part e c b (same b may other)) (reaches_spelled part e c same more)
-reaches_spelled part e c same (pair b n s never more) = leads_then (Reaches part e c) _ s (reaches_pair part e c b) (reaches_spelled part e c same more)
+reaches_spelled part e c same (pair b n s never more) =
+    leads_then (Reaches part e c) _ s (reaches_pair part e c b) (reaches_spelled part e c same more)
 
 -- a text that begins with no blank, no newline and no `#`
 abbrev pub BeginsLine : List ℕ → Type 0

@@ -26,8 +26,11 @@ is_simple b = not (is_one_of (backslash ∷ equals ∷ comma ∷ newline ∷ quo
 -- such a byte changes nothing
 simple_same : (e c b : ℕ) → is_simple b ≡ true → ChangesNothing Plain e c b
 simple_same e c b simple =
-    let differs : (k : ℕ) → is_simple k ≡ false → b ≢ k = λ k no i. cc (simple, no, ap is_simple i) in
-    (differs backslash refl, λ q f h. Plain-other e c q b f (differs equals refl) (differs comma refl) (differs newline refl) (λ i. absurd (differs quote refl i)) h)
+    let differs : (k : ℕ) → is_simple k ≡ false → b ≢ k = λ k no i. cc (simple, no, ap is_simple i) in (
+      differs backslash refl,
+      λ q f h. Plain-other e c q b f (differs equals refl) (differs comma refl) (differs newline refl)
+          (λ i. absurd (differs quote refl i)) h,
+    )
 
 abbrev pub IsSimple : List ℕ → Type 0
 IsSimple text = list_all is_simple text ≡ true
@@ -45,7 +48,8 @@ reaches_simple e c (b ∷ text) all =
 
 -- a text of bytes that a float can hold is simple
 simple_number : (text : List ℕ) → AllPass in_float text → IsSimple text
-simple_number text all = list_all-from_AllPass is_simple text (λ i d within. let held = all i d within in grind (arith, common_steps))
+simple_number text all =
+    list_all-from_AllPass is_simple text (λ i d within. let held = all i d within in grind (arith, common_steps))
 
 -- the decimal text of a number
 simple_decimal : (n : ℕ) → n < 2 ^ 64 → IsSimple (decimal n)
@@ -61,7 +65,8 @@ reaches_quotable : (e c : ℕ) (s : List ℕ) → Leads (Reaches Quoted e c) (Re
 unfolding escaped
 reaches_quotable e c [] = leads_by_none (Reaches Quoted e c)
 reaches_quotable e c (b ∷ s) = elim (cases_Bool (is_one_of quotable b)) [
-  | inl found ↦ rw found (leads_then (Reaches Quoted e c) _ (escaped quotable s) (reaches_pair Quoted e c b) (reaches_quotable e c s))
+  | inl found ↦
+      rw found (leads_then (Reaches Quoted e c) _ (escaped quotable s) (reaches_pair Quoted e c b) (reaches_quotable e c s))
   | inr plain ↦
       let none : b ≢ backslash = λ i. cc (plain, ap (is_one_of quotable) i) in
       let same = reaches_byte Quoted e c b (none, λ q f h. Quoted-other e c q b f (λ i. cc (plain, ap (is_one_of quotable) i)) h) in

@@ -53,7 +53,8 @@ pub first_repeated_is : (keys : List (List ℕ)) (n : ℕ) → n ≤ length keys
     → first_repeated keys ≡ n
 unfolding first_repeated
 first_repeated_is keys n fits none found = position_or_len_is (is_repeated_at keys) (range_with_len 0 (length keys)) n 0
-    (grind (arith, length-range_with_len)) (λ k h. grind (arith, get_or-range_with_len, none k h)) (λ h. grind (arith, get_or-range_with_len, length-range_with_len))
+    (grind (arith, length-range_with_len)) (λ k h. grind (arith, get_or-range_with_len, none k h))
+    (λ h. grind (arith, get_or-range_with_len, length-range_with_len))
 
 -- an entry goes in by the bytes of its key
 pub insert_bytes : (es : List (Bor (List ℕ) × Bor (List ℕ))) (k v : Bor (List ℕ))

@@ -39,7 +39,8 @@ tag_parts text x rest e =
     let p = pair_parts a_tag_key (name a_tag_value) text x rest e in
     let key = name_parts a_tag_key text x.key (equals ∷ p.mid) p.key in
     let value = name_parts a_tag_value p.mid x.value rest p.value in
-    let past : value_part text ≡ p.mid = sym (drop-drop 1 (spelled_len a_tag_key text) text) ∙ ap (λ (r : List ℕ). drop 1 r) (sym key.1) in
+    let past : value_part text ≡ p.mid = sym (drop-drop 1 (spelled_len a_tag_key text) text)
+    ∙ ap (λ (r : List ℕ). drop 1 r) (sym key.1) in
     grind (arith, take-append-drop)
 
 -- tags that are parts of the text, none of their names an escape alone, are spelled as they are

@@ -7,7 +7,8 @@ use Rattle.std.specs.Ordering.{match_ordering, ordering_reverse}
 use Rattle.std.specs.{BTreeMap.insert_entry, Cmp.Lexicographic.slice_cmp, List.list_any, List.range_with_len}
 use Rattle.std.proofs.lemmas.List.Elements.{All-cons, All-contains, All-nil, All-weaker}
 use Rattle.std.proofs.lemmas.List.Sorted.{All-permutation, IsPermutation-cons, IsPermutation-map}
-use Rattle.std.proofs.lemmas.List.Sorted.{IsPermutation-middle, IsPermutation-refl, IsPermutation-sym, IsPermutation-trans, IsPermutation-push_more, list_any-IsPermutation}
+use Rattle.std.proofs.lemmas.List.Sorted.{IsPermutation-middle, IsPermutation-refl, IsPermutation-sym, IsPermutation-trans}
+use Rattle.std.proofs.lemmas.List.Sorted.{IsPermutation-push_more, list_any-IsPermutation}
 use Rattle.std.proofs.lemmas.List.Sorted.{Contains-permutation}
 use Rattle.std.proofs.lemmas.{Map.Text.is_eq-slice_cmp, Bool.false≢true, Bool.or_parts, Bool.and_parts, List.map-append}
 use Rattle.std.proofs.lemmas.{Cmp.nat_list_cmp_total, Cmp.tied_itself, List.FromFn.get_or-range_with_len, List.Sums.fails_before_first}
@@ -78,18 +79,19 @@ keys_in_order [] = refl
 keys_in_order (t ∷ tags) = ap (λ (ks : List (List ℕ)). t.key.bytes ∷ ks) (keys_in_order tags)
 
 -- the first tags by their keys are these tags in another order, and rise, if no key is repeated
-first_placed : (d : Pair Text Text) (tags : List (Pair Text Text)) → first_repeated (keys_of tags) ≡ length tags → (n : ℕ) → n ≤ length tags
-    → IsPermutation (in_order (take n tags)) (by_key (take n tags)) × Rise (by_key (take n tags))
+first_placed : (d : Pair Text Text) (tags : List (Pair Text Text)) → first_repeated (keys_of tags) ≡ length tags
+    → (n : ℕ) → n ≤ length tags → IsPermutation (in_order (take n tags)) (by_key (take n tags)) × Rise (by_key (take n tags))
 unfolding by_key
 first_placed d tags once zero fits = (IsPermutation-refl [], tt)
 first_placed d tags once (suc n) fits =
     let front = take n tags in
     let t = get_or tags n d in
-    let len = length-map tags (λ (t : Pair Text Text). t.key.bytes) in
+    let key_of = λ (t : Pair Text Text). t.key.bytes in
+    let len = length-map tags key_of in
     let so_far = first_placed d tags once n (omega arith) in
-    let key : get_or (keys_of tags) n [] ≡ t.key.bytes = get_or-map (λ (t : Pair Text Text). t.key.bytes) tags n d [] (omega arith) in
+    let key : get_or (keys_of tags) n [] ≡ t.key.bytes = get_or-map key_of tags n d [] (omega arith) in
     let apart : list_any (bytes_eq t.key.bytes) (keys_of front) ≡ false =
-    rw (key, take-map (λ (t : Pair Text Text). t.key.bytes) n tags) at (none_repeated (keys_of tags) (once ∙ sym len) n (omega arith)) in
+    rw (key, take-map key_of n tags) at (none_repeated (keys_of tags) (once ∙ sym len) n (omega arith)) in
     let absent = sym (list_any-IsPermutation (bytes_eq t.key.bytes) (entry_keys (in_order front)) (entry_keys (by_key front))
     (IsPermutation-map (λ (e : List ℕ × List ℕ). e.0) (in_order front) (by_key front) so_far.0))
     ∙ ap (list_any (bytes_eq t.key.bytes)) (keys_in_order front) ∙ apart in
@@ -107,7 +109,8 @@ pub by_key_placed : (tags : List (Pair Text Text)) → first_repeated (keys_of t
     → IsPermutation (in_order tags) (by_key tags) × Rise (by_key tags)
 unfolding by_key
 by_key_placed [] once = (IsPermutation-refl [], tt)
-by_key_placed (t ∷ tags) once = rw (take_all (length tags) tags (omega arith)) at (first_placed t (t ∷ tags) once (suc (length tags)) (omega arith))
+by_key_placed (t ∷ tags) once =
+    rw (take_all (length tags) tags (omega arith)) at (first_placed t (t ∷ tags) once (suc (length tags)) (omega arith))
 
 -- no key is less than itself
 not_below_itself : (k : List ℕ) → slice_cmp nat_cmp k k ≡ Less → ⊥
