@@ -37,7 +37,7 @@ line_some_tags dialect text l h = let parts = answer_parts dialect text l h in g
 -- the tag set of an item is not empty
 pub item_has_tags : (dialect : Dialect) (line : List ℕ) (item : Result ParsedLine Error) → Answers item (answer dialect line)
     → HasNoEmptyTagSet item
-item_has_tags dialect line (Ok parsed) h = let some = line_some_tags dialect line (line_read parsed) h in grind (arith, length-map)
+item_has_tags dialect line (Ok parsed) h = grind (arith, length-map, line_some_tags dialect line (line_read parsed))
 item_has_tags dialect line (Err e) h = tt
 
 module _ {A : Type 0} (one : List ℕ → Reading A)

@@ -29,10 +29,6 @@ unstopped_may kind b h = grind (arith, common_steps)
 pub escapable_may : (kind : NameKind) (b : ℕ) → is_escapable kind b ≡ true → may_hold kind b ≡ true
 escapable_may kind b h = grind (arith, common_steps)
 
--- the same of a byte at a place that is not escaped
-no_stop : (s : Bool) → (not s || false) ≡ true → s ≡ false
-no_stop x0 h = grind (arith, false≢true)
-
 -- what comes before the first bare stop holds none
 before_stop_closed : (kind : NameKind) (escaped : Bool) (text : List ℕ)
     → is_closed kind escaped (take (bare_len (is_stop kind) escaped text) text) ≡ true
@@ -44,11 +40,11 @@ logical_kept : (kind : NameKind) (after : Bool) (text : List ℕ) → is_closed 
     → is_kept kind after (logical kind text) ≡ true
 unfolding without_escapes
 logical_kept kind after [] h = refl
-logical_kept kind after (b ∷ []) h = grind (arith, unstopped_may, no_stop, and_parts, and_from, may_hold, or_left)
+logical_kept kind after (b ∷ []) h = grind (arith, unstopped_may, and_parts, and_from, may_hold, or_left)
 logical_kept kind after (b ∷ c ∷ rest) h =
     let more = logical_kept kind (c == backslash) rest in
     let next = logical_kept kind (b == backslash) (c ∷ rest) in
-    grind (arith, cases_Bool, unstopped_may, no_stop, and_parts, and_from, or_left, or_right, escapable_may, more, next)
+    grind (arith, cases_Bool, unstopped_may, and_parts, and_from, or_left, or_right, escapable_may, more, next)
 
 -- whether a text ends in a backslash, or, if it is empty, what is said of the place before it
 abbrev ends_after : Bool → List ℕ → Bool

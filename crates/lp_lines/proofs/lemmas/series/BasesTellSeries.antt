@@ -1,12 +1,11 @@
 -- Bases tell parsed series from one another.
-use Rattle.std.proofs.Common.{◌≡◌, ℕ, ◌+◌, true, false, List, [], ◌∷◌, ◌++◌, ◌&&◌, length, drop, refl, sym, ap, ◌∙◌, inl, inr}
+use Rattle.std.proofs.Common.{◌≡◌, ℕ, ◌+◌, true, false, List, [], ◌∷◌, ◌++◌, ◌&&◌, length, drop, sym, ap, ◌∙◌}
 use Rattle.std.proofs.Common.{append_assoc, Some, arith, flat_map, is_some, eq-eqb, drop-drop, take-append-drop}
 use Rattle.std.specs.List.{list_all, list_any}
 use Rattle.std.proofs.lemmas.Bool.{and_parts, cases_Bool, false≢true, not-true, or_cases, or_parts}
 use Rattle.lp_lines.specs.laws.BaseLaws.{IsClearSeries, IsParsedSeries, ClearSeriesHaveBases, SameSeriesHaveOneBase, base_bytes}
 use Rattle.lp_lines.specs.laws.BaseLaws.{is_tag_one_escape, spelled_tags}
 use Rattle.lp_lines.specs.code.Bases.{base_by_key, base_of, base_text, based_tag, by_key, first_repeated, in_order, keys_of}
-use Rattle.lp_lines.specs.code.Bases.{is_strictly_sorted}
 use Rattle.lp_format.specs.code.Light.{is_single_tag}
 use Rattle.lp_format.specs.format.{equals, tag, NameKind, a_measurement, a_tag_key, a_tag_value, escapable}
 use Rattle.lp_format.specs.format.{is_one_escape, name, read_text, spelled, spelled_len, Pair, Text, reads}
@@ -74,15 +73,11 @@ raw_is raw m tags h single =
 pub base_is : (raw : List ℕ) (m : Text) (tags : List (Pair Text Text)) → IsClearSeries raw m tags
     → base_bytes (base_of raw m tags) ≡ Some (base_text m.bytes (by_key tags))
 unfolding base_of base_by_key
-base_is raw m tags h = elim (cases_Bool (is_strictly_sorted (keys_of tags))) [
-  | inr falls ↦ rw (falls, eq-eqb (first_repeated (keys_of tags)) (length tags) h.repeats_none) refl
-  | inl rise ↦
-      let sorted = by_key_in_order tags h.repeats_none rise in
-      elim (cases_Bool (m.is_single && list_all is_single_tag tags)) [
-        | inl single ↦ rw (rise, single, ← sorted) (ap (λ (x : List ℕ). Some x) (raw_is raw m tags h single))
-        | inr copied ↦ rw (rise, copied, sorted) refl
-      ]
-]
+base_is raw m tags h =
+    let once = eq-eqb (first_repeated (keys_of tags)) (length tags) h.repeats_none in
+    let sorted = by_key_in_order tags h.repeats_none in
+    let spelled_so = raw_is raw m tags h in
+    grind (arith, cases_Bool)
 
 -- two clear series are the same if their bases are
 pub clear_series_have_bases : ClearSeriesHaveBases
