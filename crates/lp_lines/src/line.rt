@@ -1,13 +1,13 @@
 //! Lines.
 
-ghost use Rattle.std.specs.Prelude.{◌≡◌, ◌<◌, ◌≤◌, ◌^◌, [], length, max, take, true, Err, None, Some, IfSome, OnErr, option_map};
+ghost use Rattle.std.specs.Prelude.{◌≡◌, ◌<◌, ◌≤◌, [], length, max, take, true, Err, None, Some, IfSome, OnErr, option_map};
 ghost use Rattle.lp_format.specs.format.{Crate, answer, trimmed};
 ghost use Rattle.lp_split.specs.code.{rules_of};
 ghost use Rattle.lp_values.specs.code.Outcomes.{IsNotOutOfMemory};
 ghost use Rattle.lp_format.specs.code.Light.{inline_fields, inline_tags, is_light_in};
 ghost use Rattle.lp_lines.specs.code.Lookups.{room_of, some_items};
 ghost use Rattle.lp_lines.specs.code.Parsed.{FillsLine};
-ghost use Rattle.lp_events.specs.code.LineSteps.{GivesLine, most_items};
+ghost use Rattle.lp_events.specs.code.LineSteps.{most_items};
 ghost use Rattle.lp_lines.specs.code.ReadInto.{IsEmptyLine, KeepsTagRoom};
 
 use crate::filling::{Filling, tell_line};
@@ -69,6 +69,7 @@ fn keep_fields<'a>(fields: &mut FieldSet<'a>, count: usize)
 
 // Fills the line `parsed`, which has a tag set, with what the trimmed text `line` says. At a fault, and if memory is refused,
 // it is filled in part. A tag set that has grown is kept at `spare`, if that is given and the line has no tags.
+#[tactic(auto, using(crate::proofs::lemmas::line::Filled::fill_steps))]
 #[inline(never)]
 fn fill<'a>(
     alloc: Global,
@@ -163,6 +164,7 @@ fn refuse(alloc: Global, item: &mut Result<ParsedLine<'_>>, fault: Error)
 /// Reads a trimmed text into a line that is used again: the line is then what the text says, or empty if that is at fault.
 ///
 /// The sets of the line keep their room. One of tags that has grown is kept at `spare` while the line has no tags.
+#[tactic(auto, using(crate::proofs::lemmas::line::AnsweredLines::more_room))]
 #[inline(always)]
 pub fn read_into<'a>(
     alloc: Global,
@@ -216,16 +218,6 @@ impl<'a> ParseLines<'a> {
     ghost use Rattle.lp_lines.specs.code.ParseSteps.{GivesItem};
     ghost use Rattle.lp_lines.specs.code.ReadInto.{GivesInRoom, LeavesEmpty, item_in};
 
-    // The next piece that holds more than blanks and comments, without those before it.
-    #[inline(always)]
-    fn next_line(&mut self) -> Option<&'a str>
-        ensures gives { GivesLine self.old result self.new }
-        ensures fewer { IfSome result (λ line. most_items self.new.text < most_items self.old.text) }
-        ensures fits { IfSome result (λ line. length line.now < 2 ^ 63) }
-    {
-        lines::next_line(&mut self.lines)
-    }
-
     /// The text that is left: what comes after the piece of the last item, or `None` once there is none.
     ///
     /// Where an item ends in the text is told by it: `input.len() - rest.len()` bytes from the start, after its newline; or
@@ -260,7 +252,7 @@ impl<'a> ParseLines<'a> {
         ensures memory { GivesInRoom (max inline_tags (room_of line.old.series.tag_set))
             (max inline_fields line.old.field_set.capacity) self.old result self.new }
     {
-        let text = self.next_line()?;
+        let text = lines::next_line(&mut self.lines)?;
         let dialect = dialect_of(&self.lines);
         Some(read_into(self.alloc, dialect, text, line, &mut self.spare))
     }
@@ -326,7 +318,7 @@ impl<'a> Iterator for ParseLines<'a> {
             field_set: SmallVec::new(self.alloc),
             timestamp: None,
         });
-        let Some(line) = self.next_line() else {
+        let Some(line) = lines::next_line(&mut self.lines) else {
             // It holds no memory, and to drop it would visit each place of its sets.
             mem::forget(item);
             return None;

@@ -1,6 +1,6 @@
 -- Values that commas join are read one after another; and what a tag set was read from.
-use Rattle.std.proofs.Common.{◌≡◌, ℕ, zero, suc, ◌<◌, ◌≤◌, List, [], ◌∷◌, ◌++◌, length, length-append, refl, ap, ◌∙◌, arith, inl, inr}
-use Rattle.std.proofs.Common.{append_assoc, subst, ◌⊎◌, Option, Some, None, Result, Ok, append-nil}
+use Rattle.std.proofs.Common.{◌≡◌, ℕ, suc, ◌<◌, List, [], ◌∷◌, ◌++◌, length, length-append, refl, ap, ◌∙◌, arith, inl, inr}
+use Rattle.std.proofs.Common.{◌-◌, append_assoc, ◌⊎◌, Option, Some, None, Ok, append-nil}
 use Rattle.std.proofs.lemmas.Bool.{cases_Bool}
 use Rattle.lp_format.specs.format.{comma, Dialect, Fault, Text, Read, Reading, miss, fatal, reads, name, a_measurement, Pair, Value}
 use Rattle.lp_format.specs.format.{after_comma, byte, field, field_set, many, prepend, separated_list, some_tags, tag, tag_set}
@@ -42,18 +42,10 @@ module _ {A : Type 0} (one : List ℕ → Reading A) where
   pub so_far_more : (text : List ℕ) (done : List A) (rest after : List ℕ) (y : A) → SoFar one text done rest
       → after_comma one rest ≡ reads y after
       → length after < length rest → SoFar one text (done ++ y ∷ []) after
-  so_far_more text done rest after y so_far e less = more so_far.fuel so_far.enough so_far.is
-    where
-      -- an element more is in the list
-      more : (n : ℕ) → length rest ≤ n → separated_list one text ≡ prepend done (many (after_comma one) n rest)
-          → SoFar one text (done ++ y ∷ []) after
-      more zero room is = absurd (omega arith)
-      more (suc n) room is =
-          record {
-            fuel = n;
-            enough = omega arith;
-            is = is ∙ rw e (prepend-prepend done (y ∷ []) (many (after_comma one) n after));
-          }
+  so_far_more text done rest after y so_far e less =
+      let fuel : so_far.fuel ≡ suc (so_far.fuel - 1) = omega arith in
+      let joined = prepend-prepend done (y ∷ []) (many (after_comma one) (so_far.fuel - 1) after) in
+      record { fuel = so_far.fuel - 1; enough = omega arith; is = rw fuel at so_far.is ∙ rw e joined }
 
   -- what is fatal after a comma is fatal for all
   pub so_far_fatal : (text : List ℕ) (done : List A) (rest : List ℕ) (e : Fault) → SoFar one text done rest
@@ -102,26 +94,7 @@ pub data TagSetRead (text : List ℕ) : Option (List (Pair Text Text)) → List 
 -- each tag set is read from such a text
 pub tag_set_read : (text rest : List ℕ) (set : Option (List (Pair Text Text))) → tag_set text ≡ Ok (record { value = set; rest = rest })
     → TagSetRead text set rest
-tag_set_read text rest set e = elim (comma_cases text) [
-  | inl none ↦ same None text (no_set none) (rw none at e)
-  | inr mark ↦ after mark.0 mark.1 (separated_list tag mark.0) refl
-]
-  where
-    -- what was read is what the set says
-    same : (x : Option (List (Pair Text Text))) (r : List ℕ) → TagSetRead text x r
-        → (let y : Result (Read (Option (List (Pair Text Text)))) Fault = Ok (record { value = x; rest = r }) in y) ≡ Ok
-        (record { value = set; rest = rest })
-        → TagSetRead text set rest
-    same x r h is =
-        let both : (let y : Read (Option (List (Pair Text Text))) = record { value = x; rest = r } in y) ≡ record { value = set; rest = rest } = cc in
-        subst (λ (y : Read (Option (List (Pair Text Text)))). TagSetRead text y.value y.rest) both h
-
-    -- tags come after a comma
-    after : (mark : List ℕ) → byte comma text ≡ reads comma mark → (r : Reading (List (Pair Text Text)))
-        → separated_list tag mark ≡ r → TagSetRead text set rest
-    after mark m miss j = absurd (let h = rw (m, j) at e in cc)
-    after mark m (fatal f) j = absurd (let h = rw (m, j) at e in cc)
-    after mark m (reads xs end) j = same (Some xs) end (some_set mark xs end m j) (rw (m, j) at e)
+tag_set_read text rest set e = grind (arith, comma_cases, TagSetRead.no_set, TagSetRead.some_set)
 
 -- joined tags come after commas, with the comma before them
 separated_after : (tags : List (Pair Text Text)) (text mark rest : List ℕ) → text ≡ comma ∷ mark → 0 < length tags

@@ -92,8 +92,4 @@ items_less before after piece some h =
     let left = left_pieces after in
     let gave = h left.0 left.1 in
     let less = pieces_less before after gave.skipped piece left.0 gave.left left.1 in
-    go before.text after.text (omega (arith, less, trimmed_fits piece))
-  where
-    -- fewer pieces are left, and one of them is not empty
-    go : (t u : Option (List ℕ)) → 1 + most_pieces u < most_pieces t → most_items u < most_items t
-    go t u less = grind (arith)
+    grind (arith, trimmed_fits)

@@ -1,12 +1,12 @@
 -- What one step of a reader means for the events that are left.
-use Rattle.std.proofs.Common.{◌≡◌, ℕ, ◌-◌, ◌<◌, List, [], ◌∷◌, ◌++◌, length, drop, Bool, true, false, refl, sym, ◌∙◌, ap, subst, arith}
+use Rattle.std.proofs.Common.{◌≡◌, ℕ, ◌-◌, ◌<◌, List, [], ◌∷◌, ◌++◌, length, drop, Bool, true, false, refl, sym, ap, subst, arith}
 use Rattle.std.proofs.Common.{append_assoc, length-append, length-drop, length-take, ◌+◌, ◌≤◌, ℤ, ◌==◌, MatchOption, Option, Some}
 use Rattle.std.proofs.Common.{Result, Ok, Err, is_some, IfOk, MatchResult, Bor, ne_eqb, append-nil}
 use Rattle.std.proofs.Math.Seq.{take-append_seam}
 use Rattle.std.proofs.lemmas.{Bool.cases_Bool, Bool.Decides.nat_tests, Grind.common_steps, List.map_push, Result.err_from_is_err_and}
 use Rattle.lp_events.specs.declared.pull.Event as given
 use Rattle.lp_format.specs.format.{comma, space, Dialect, after_comma, answer, byte, field, field_set, front_before, spaces, tag, timestamp}
-use Rattle.lp_format.specs.format.{without_comma, complete, NameKind, name, Left, Pair, Fault, Text, cannot_parse_entire_line, fatal, miss}
+use Rattle.lp_format.specs.format.{without_comma, NameKind, name, Left, Pair, Fault, Text, cannot_parse_entire_line, fatal, miss}
 use Rattle.lp_format.specs.format.{reads, tag_set_malformed, Value}
 use Rattle.lp_values.proofs.lemmas.fields.ReadingLemmas.{EndsIn, bind_reads, byte_parts, name_ends, name_parts}
 use Rattle.lp_values.specs.declared.spelled.SpelledFault.{SpelledFault}
@@ -118,9 +118,12 @@ module _ {line series : List ℕ} {m : Text} {tags : List (Pair Text Text)} {fie
   -- a field that is fatal
   pub fields_fatal : (dialect : Dialect) (fault : Fault) → after_comma field rest ≡ fatal fault → answer dialect line ≡ Err fault
   unfolding answer
-  fields_fatal dialect fault is =
-      let f = so_far_fatal field (drop (spaces h.after) h.after) fields rest fault h.so_far is in
-      rw (h.series_read.name_is, h.series_read.set_is, h.gap_is, f) refl
+  fields_fatal dialect fault is = rw (
+    h.series_read.name_is,
+    h.series_read.set_is,
+    h.gap_is,
+    so_far_fatal field (drop (spaces h.after) h.after) fields rest fault h.so_far is,
+  ) refl
 
   -- no field follows
   module _ (dialect : Dialect) (none : after_comma field rest ≡ miss) where
@@ -131,37 +134,36 @@ module _ {line series : List ℕ} {m : Text} {tags : List (Pair Text Text)} {fie
     -- the timestamp is at fault
     pub time_fault : (fault : Fault) → timestamp (without_comma dialect fields rest) ≡ Err fault → answer dialect line ≡ Err fault
     unfolding answer
-    time_fault fault t = rw (h.series_read.name_is, h.series_read.set_is, h.gap_is, all_fields, t) refl
+    time_fault fault t = grind (arith, all_fields, h.series_read)
 
-    -- what is left after it decides
-    time_read : (time : Option ℤ) (more : List ℕ)
-        → timestamp (without_comma dialect fields rest) ≡ Ok (record { value = time; rest = more })
-        → answer dialect line ≡ complete (record {
-          series = series;
-          measurement = m;
-          tags = h.series_read.set;
-          fields = fields;
-          timestamp = time;
-        }) more
-    unfolding answer
-    time_read time more t = rw (h.series_read.name_is, h.series_read.set_is, h.gap_is, all_fields, t, h.series_is) refl
-
-    -- something is left
+    -- something is left after it
     pub left_fault : (time : Option ℤ) (more : List ℕ)
         → timestamp (without_comma dialect fields rest) ≡ Ok (record { value = time; rest = more }) → 0 < length more
         → answer dialect line ≡ Err (cannot_parse_entire_line more)
-    left_fault time more t some = time_read time more t ∙ complete_some _ more some
+    unfolding answer
+    left_fault time more t some = grind (arith, all_fields, h.series_read, complete_some)
 
     -- nothing is left: the end completes the line
     pub completes_end : (left : Left) (others : List Event) (time : Option ℤ) (more : List ℕ) → left.dialect ≡ dialect
         → timestamp (without_comma dialect fields rest) ≡ Ok (record { value = time; rest = more }) → length more ≡ 0
         → AreEventsLeft left others → Completes line (front_events m tags fields) left (ended series time ∷ others)
+    unfolding answer
     completes_end left others time more d t empty later =
         record {
           first = ended series time ∷ [];
           others = others;
           events_are = refl;
-          line_is = rw (d, time_read time more t ∙ complete_none _ more empty, h.series_read.tags_are) refl;
+          line_is = rw (
+            d,
+            h.series_read.name_is,
+            h.series_read.set_is,
+            h.gap_is,
+            all_fields,
+            t,
+            h.series_is,
+            complete_none _ more empty,
+            h.series_read.tags_are,
+          ) refl;
           others_are = later;
         }
 

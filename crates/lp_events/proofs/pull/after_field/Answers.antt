@@ -1,4 +1,4 @@
-use Rattle.std.proofs.Common.{◌≡◌, ◌<◌, ◌∙◌, [], ◌∷◌, ◌++◌, length, arith, refl, sym, inr, eqb-true}
+use Rattle.std.proofs.Common.{[], ◌∷◌, ◌++◌, arith, refl, inr}
 use Rattle.std.proofs.lemmas.{Grind.common_steps, Result.err_from_is_err_and}
 use Rattle.lp_split.specs.code.{rules_of}
 use Rattle.lp_events.specs.code.Events.{spelled_field}
@@ -25,24 +25,19 @@ returns-in-Some-clause-steps c = λ left others later d line m tags fs h.
 pub returns-in_err-timestamp-clause-steps : goal.returns-in_err-timestamp-clause-steps
 returns-in_err-timestamp-clause-steps c =
     let p = err_from_is_err_and c.from_residual-in_err-timestamp.result c.from_residual-in_err-timestamp.ensures.1 in
-    let no_field = rw c.in_default.is at c.in_ok-key.ensures.value in
-    rw (p.1, p.2)
-    (λ left others later d line m tags fs h.
-    let stamp = rw (c.rest_after.ensures fs h.first_is) at c.in_err-timestamp.ensures in
-    completes_fault (inr (m, tags, fs, refl)) (rw d (time_fault h (rules_of c.args.dialect) no_field _ stamp)) later)
+    rw (p.1, p.2) (λ left others later d line m tags fs h.
+    let rest = c.rest_after.ensures fs h.first_is in grind (arith, completes_fault, time_fault h (rules_of c.args.dialect)))
 
 pub returns-then-not-is_empty-clause-steps : goal.returns-then-not-is_empty-clause-steps
 returns-then-not-is_empty-clause-steps c = λ left others later d line m tags fs h.
+    let rest = c.rest_after.ensures fs h.first_is in
     let more = c.in_ok-timestamp.rest.now in
-    let some : 0 < length more = grind (arith, common_steps) in
-    let no_field = rw c.in_default.is at c.in_ok-key.ensures.value in
-    let stamp = rw (c.rest_after.ensures fs h.first_is) at c.in_ok-timestamp.ensures in
-    completes_fault (inr (m, tags, fs, refl)) (rw d (left_fault h (rules_of c.args.dialect) no_field _ more stamp some)) later
+    completes_fault (inr (m, tags, fs, refl))
+    (rw d (left_fault h (rules_of c.args.dialect) (grind arith) c.in_ok-timestamp.timestamp more (grind arith)
+    (grind (arith, common_steps)))) later
 
 pub returns-clause-steps : goal.returns-clause-steps
 returns-clause-steps c = λ left others later d line m tags fs h.
-    let more = c.in_ok-timestamp.rest.now in
-    let none : length more ≡ 0 = eqb-true (length more) 0 (sym c.is_empty.ensures ∙ c.if-not-is_empty.false) in
-    let no_field = rw c.in_default.is at c.in_ok-key.ensures.value in
-    let stamp = rw (c.rest_after.ensures fs h.first_is) at c.in_ok-timestamp.ensures in
-    completes_end h (rules_of c.args.dialect) no_field left others _ more d stamp none later
+    let rest = c.rest_after.ensures fs h.first_is in
+    completes_end h (rules_of c.args.dialect) (grind arith) left others _ c.in_ok-timestamp.rest.now d (grind arith)
+    (grind (arith, common_steps)) later

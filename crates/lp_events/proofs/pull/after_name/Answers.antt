@@ -1,4 +1,4 @@
-use Rattle.std.proofs.Common.{◌≡◌, [], ◌∷◌, ◌++◌, true, refl, sym, ◌∙◌, inr, arith}
+use Rattle.std.proofs.Common.{◌≡◌, [], ◌∷◌, ◌++◌, true, sym, arith}
 use Rattle.std.proofs.lemmas.{Grind.common_steps, Result.err_from_is_err_and}
 use Rattle.lp_format.specs.format.{comma, byte, tag, miss}
 use Rattle.lp_values.proofs.lemmas.fields.ReadingLemmas.{EndsIn, EndsIn-end, after_comma_ends, tag_ends}
@@ -12,18 +12,10 @@ use Rattle.lp_events.proofs.pull.after_name.Goals.{else-names-via-then-names+els
 pub returns-in_err-key-clause-steps : goal.returns-in_err-key-clause-steps
 returns-in_err-key-clause-steps c =
     let p = err_from_is_err_and c.from_residual.result c.from_residual.ensures.1 in
-    rw (p.1, p.2)
-    (λ left others later m tags h.
-    completes_fault (inr (m, tags, [], refl))
-    (names_fatal _ m tags c.args.names.rest.now left.dialect c.args.names.is_first _ h c.in_err-key.ensures.value) later)
+    rw (p.1, p.2) (λ left others later m tags h. grind (arith, completes_fault, names_fatal))
 
 pub returns-then-is_some-clause-steps : goal.returns-then-is_some-clause-steps
-returns-then-is_some-clause-steps c = λ left others later m tags h.
-    let names = c.args.names in
-    let mark = stripped c.strip_byte.result names.rest.now c.strip_byte.ensures.value (sym c.is_some.ensures ∙ c.if-is_some.true) in
-    let no_tag = rw c.in_default.is at c.in_ok-key.ensures.value in
-    completes_fault (inr (m, tags, [], refl))
-    (names_malformed _ m tags names.rest.now left.dialect names.is_first mark.0 h c.if-names.true mark.1 no_tag) later
+returns-then-is_some-clause-steps c = λ left others later m tags h. grind (arith, completes_fault, names_malformed, stripped)
 
 pub returns-in_default-clause-steps : goal.returns-in_default-clause-steps
 returns-in_default-clause-steps c =

@@ -1,26 +1,25 @@
 -- What a line that is answered has: a tag in its tag set, no more columns than bytes, and no need of memory if it is light; and the
 -- item of a line that was given.
-use Rattle.std.proofs.Common.{◌≡◌, ℕ, ◌<◌, List, [], ◌∷◌, length, refl, ap, arith, Option, Ok, Err, Result, ◌+◌, ◌≤◌, ◌^◌, drop}
+use Rattle.std.proofs.Common.{◌≡◌, ℕ, ◌<◌, List, [], ◌∷◌, length, ap, arith, Option, Ok, Err, Result, ◌+◌, ◌≤◌, ◌^◌, drop}
 use Rattle.std.proofs.Common.{length-append, length-drop, true, IfSome, le-leb, leb-true}
 use Rattle.std.proofs.lemmas.{Bool.and_parts, List.length-map}
-use Rattle.lp_format.specs.format.{Dialect, Fault, Text, Reading, miss, fatal, reads, Pair, Line, tag, separated_list, tag_set, answer}
-use Rattle.lp_format.specs.format.{field, some_tags, spaces, byte, comma, space, a_measurement, Left}
+use Rattle.lp_format.specs.format.{Dialect, Fault, Text, Reading, reads, Pair, Line, tag, separated_list, tag_set, answer}
+use Rattle.lp_format.specs.format.{field, some_tags, spaces, byte, comma, a_measurement, Left}
 use Rattle.lp_format.proofs.lemmas.names.Inversions.{prepend_parts, count_is_of_the_most}
 use Rattle.lp_format.specs.laws.Meanings.{SeparatedBy, SeparatedAfterComma}
 use Rattle.lp_format.proofs.lemmas.meanings.{JoinedMeaning.the_most_is_read, ShorterRests.tag_no_longer, ShorterRests.field_no_longer}
-use Rattle.lp_format.specs.code.Light.{carries_no_text, count_after, fields_in, is_light_answer, is_light_in, is_single_line, read_count}
+use Rattle.lp_format.specs.code.Light.{carries_no_text, count_after, fields_in, is_light_in, is_single_line, read_count}
 use Rattle.lp_format.specs.code.Light.{tags_in, is_light}
 use Rattle.lp_values.specs.declared.{error.Error.Error}
 use Rattle.lp_values.proofs.lemmas.fields.ReadingLemmas.{bind_reads, name_ends}
 use Rattle.lp_values.specs.code.Outcomes.{IsNotOutOfMemory}
 use Rattle.lp_events.specs.code.LineSteps.{GaveLine}
-use Rattle.lp_events.proofs.lemmas.fields.ManyLemmas.{TagSetRead, fields_joined, set_separated, tag_set_read, TagSetRead.no_set}
-use Rattle.lp_events.proofs.lemmas.fields.ManyLemmas.{TagSetRead.some_set}
+use Rattle.lp_events.proofs.lemmas.fields.ManyLemmas.{fields_joined, set_separated, tag_set_read}
 use Rattle.lp_lines.specs.declared.parsed.ParsedLine.{ParsedLine}
 use Rattle.lp_lines.specs.code.Parsed.{Answers, FillsLine, line_read}
 use Rattle.lp_lines.specs.code.{ParseSteps.HasNoEmptyTagSet, ParseSteps.CanCountColumns, ParseSteps.GaveItem}
 use Rattle.lp_lines.specs.code.{ReadInto.item_in}
-use Rattle.lp_lines.proofs.lemmas.names.ParsedNames.{answer_parts, Parts}
+use Rattle.lp_lines.proofs.lemmas.names.ParsedNames.{answer_parts}
 
 -- what commas join is at least one
 pub joined_some : {A : Type 0} (one : List ℕ → Reading A) (line rest : List ℕ) (xs : List A)
@@ -38,7 +37,7 @@ line_some_tags dialect text l h = let parts = answer_parts dialect text l h in g
 -- the tag set of an item is not empty
 pub item_has_tags : (dialect : Dialect) (line : List ℕ) (item : Result ParsedLine Error) → Answers item (answer dialect line)
     → HasNoEmptyTagSet item
-item_has_tags dialect line (Ok parsed) h = let some = line_some_tags dialect line (line_read parsed) h in grind (arith, length-map)
+item_has_tags dialect line (Ok parsed) h = grind (arith, length-map, line_some_tags dialect line (line_read parsed))
 item_has_tags dialect line (Err e) h = tt
 
 module _ {A : Type 0} (one : List ℕ → Reading A)
@@ -64,15 +63,13 @@ line_room dialect text l h =
     let joined = fields_joined dialect suffix parts.fields_rest l.fields parts.fields in
     let full = (the_most_is_read field (λ t. (field_no_longer t).holds) suffix l.fields joined.0).0 joined.1 in
     let fields = room_of field (λ t. (field_no_longer t).holds) l.fields suffix joined.0 full.longest.separated in
-    let after = length-drop (spaces parts.tags_rest) parts.tags_rest in
-    omega (arith, ap length front.is, length-append front.front parts.measurement_rest, after)
+    grind (arith, length-append, length-drop)
 
 -- the columns of an item can be counted
 pub item_columns_fit : (dialect : Dialect) (line : List ℕ) (item : Result ParsedLine Error) → length line < 2 ^ 63
     → Answers item (answer dialect line) → CanCountColumns item
 item_columns_fit dialect line (Ok parsed) short h =
-    let room = line_room dialect line (line_read parsed) h in
-    grind (arith, length-map)
+    let room = line_room dialect line (line_read parsed) h in grind (arith, length-map)
 item_columns_fit dialect line (Err e) short h = tt
 
 -- as many are counted as commas join
@@ -88,31 +85,14 @@ joined_counted one no_longer text xs rest h =
 tags_counted : (text : List ℕ) (tags : Option (List (Pair Text Text))) (rest : List ℕ)
     → tag_set text ≡ Ok (record { value = tags; rest = rest })
     → count_after (byte comma text) (λ after. read_count tag after) ≡ length (some_tags tags)
-tags_counted text tags rest e = by_read (tag_set_read text rest tags e)
-  where
-    -- there are none, or those that commas join
-    by_read : {tags : Option (List (Pair Text Text))} {rest : List ℕ} → TagSetRead text tags rest
-        → count_after (byte comma text) (λ after. read_count tag after) ≡ length (some_tags tags)
-    by_read (no_set none) = rw none refl
-    by_read (some_set mark tags rest sign read) = rw sign (joined_counted tag (λ t. (tag_no_longer t).holds) mark tags rest read)
+tags_counted text tags rest e = grind (arith, tag_set_read, joined_counted tag (λ t. (tag_no_longer t).holds))
 
 module _ (dialect : Dialect) (line : List ℕ) where
-  -- what the test of a line that needs no memory in some room says
-  record IsLightIn (p q : ℕ) : Type 0 where
-    tags : tags_in line ≤ p
-    fields : fields_in line ≤ q
-    answered : is_light_answer line (answer dialect line) ≡ true
-
-  -- each line that passes the test has that
-  light_in : (p q : ℕ) → is_light_in p q dialect line ≡ true → IsLightIn p q
-  unfolding is_light_in
-  light_in p q light = grind (arith, and_parts, leb-true)
-
   -- a line that needs no memory in some room needs none in more
-  pub more_room : (p q more_tags more_fields : ℕ) → p ≤ more_tags → q ≤ more_fields → is_light_in p q dialect line ≡ true
+  pub more_room : (p q more_tags more_fields : ℕ) → is_light_in p q dialect line ≡ true → p ≤ more_tags → q ≤ more_fields
       → is_light_in more_tags more_fields dialect line ≡ true
   unfolding is_light_in
-  more_room p q more_tags more_fields h k light = grind (arith, light_in, le-leb)
+  more_room p q more_tags more_fields light h k = grind (arith, and_parts, leb-true, le-leb)
 
   -- as many tags were counted as the line has
   tags_are : (l : Line) → answer dialect line ≡ Ok l → tags_in line ≡ length (some_tags l.tags)
@@ -122,31 +102,23 @@ module _ (dialect : Dialect) (line : List ℕ) where
       rw parts.measurement (tags_counted parts.measurement_rest l.tags parts.tags_rest parts.tags)
 
   -- as many fields were counted as the line has
-  fields_are : (l : Line) → answer dialect line ≡ Ok l → (parts : Parts dialect line l) (r : Reading ℕ)
-      → byte space parts.tags_rest ≡ r → fields_in line ≡ length l.fields
+  fields_are : (l : Line) → answer dialect line ≡ Ok l → fields_in line ≡ length l.fields
   unfolding answer fields_in
-  fields_are l h parts miss s = absurd (let no = rw (parts.measurement, parts.tags, s) at h in cc)
-  fields_are l h parts (fatal f) s = absurd (let no = rw (parts.measurement, parts.tags, s) at h in cc)
-  fields_are l h parts (reads c gap) s =
-      let text = drop (spaces parts.tags_rest) parts.tags_rest in
-      let joined = fields_joined dialect text parts.fields_rest l.fields parts.fields in
-      rw (parts.measurement, parts.tags, s) (joined_counted field (λ t. (field_no_longer t).holds) text l.fields joined.0 joined.1)
+  fields_are l h =
+      let parts = answer_parts dialect line l h in
+      grind (arith, fields_joined, joined_counted field (λ t. (field_no_longer t).holds))
 
   -- a light line that is read has no copy, and fits the room
   pub light_line : (p q : ℕ) (l : Line) → answer dialect line ≡ Ok l → is_light_in p q dialect line ≡ true
       → (length (some_tags l.tags) ≤ p) × (length l.fields ≤ q) × (is_single_line l ≡ true)
-  light_line p q l h light =
-      let fits = light_in p q light in
-      let read = answer_parts dialect line l h in (
-        omega (arith, fits.tags, tags_are l h),
-        omega (arith, fits.fields, fields_are l h read (byte space read.tags_rest) refl),
-        rw h at fits.answered,
-      )
+  unfolding is_light_in
+  light_line p q l h light = grind (arith, and_parts, leb-true, tags_are, fields_are)
 
   -- the fault of a light line carries no text
   pub light_fault : (p q : ℕ) (fault : Fault) → answer dialect line ≡ Err fault → is_light_in p q dialect line ≡ true
       → carries_no_text fault ≡ true
-  light_fault p q fault h light = grind (arith, and_parts, light_in)
+  unfolding is_light_in
+  light_fault p q fault h light = grind (arith, and_parts)
 
 -- the item of the line that was given
 pub gave_item : (before : Left) (line : List ℕ) (item : Result ParsedLine Error) (others : List (List ℕ)) → GaveLine before line others

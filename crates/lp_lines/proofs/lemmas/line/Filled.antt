@@ -13,7 +13,7 @@ use Rattle.lp_events.specs.code.Events.{AreEventsOf, Event, TakesAll, ended, eve
 use Rattle.lp_lines.specs.declared.{filling.Filling.Filling, parsed.ParsedLine.ParsedLine}
 use Rattle.lp_lines.specs.code.Filling.{FilledLine, FillsAnswer, FillsBy, HasRead, KeepsRooms, beside_fields, beside_tags, fields_so_far}
 use Rattle.lp_lines.specs.code.Filling.{tags_so_far}
-use Rattle.lp_lines.specs.code.{Lookups.room_of, Lookups.some_items, Parsed.field_of, Parsed.line_read, Parsed.tag_of, Parsed.tags_of}
+use Rattle.lp_lines.specs.code.{Lookups.room_of, Lookups.some_items, Parsed.line_read, Parsed.tag_of, Parsed.tags_of}
 use Rattle.lp_lines.proofs.lemmas.line.AnsweredLines.{light_fault, light_line, HasSome, line_some_tags}
 
 -- what takes some events and then others takes the first ones before the others
@@ -22,8 +22,7 @@ pub takes_parted : {S : Type 0} (takes : S → Event → S → Type 0) (before a
     → (mid : S) × TakesAll takes before events mid × TakesAll takes mid others after
 takes_parted takes before after [] others told = (before, refl, told)
 takes_parted takes before after (event ∷ events) others (next, first, more) =
-    let parted = takes_parted takes next after events others more in
-    (parted.0, (next, first, parted.1), parted.2)
+    let parted = takes_parted takes next after events others more in (parted.0, (next, first, parted.1), parted.2)
 
 -- the rooms of a line do not shrink, whatever is told
 pub rooms_kept : (old new : Filling) (events : List Event) → TakesAll FillsBy old events new → KeepsRooms old.line.now new.line.now
@@ -129,7 +128,7 @@ pub is_line : (dialect : Dialect) (text : List ℕ) (l : Line) (filling : Fillin
     → line_read (filled_line_of filling set fields) ≡ l
 is_line dialect text l filling set fields answered read kept kept_fields some =
     let tags = same_tags l.tags set (line_some_tags dialect text l answered) some (ap (map tag_of) kept ∙ read.tags) in
-    rw (read.series, read.measurement, tags, ap (map field_of) kept_fields ∙ read.fields, read.timestamp) refl
+    grind (arith, read)
 
 module _ (old new : Filling) (none : old.fault ≡ None) where
   -- a fault that was kept is the answer
@@ -165,3 +164,6 @@ module _ (old new : Filling) (none : old.fault ≡ None) where
 
 -- what a line is once it was told
 pub ruleset filled_steps = (same_line, rooms_kept, filled_answer)
+
+-- what shows that no memory is refused to a light line that was told
+pub ruleset fill_steps = (fault_is_light, light_is_not_refused)

@@ -79,12 +79,11 @@ module _ (dialect : Dialect) (text : List ℕ) where
   -- each row gives its answer, by what the parts read
   row_answers : {a : Result Line Fault} → IsAnswer dialect text a → answer dialect text ≡ a
   unfolding answer
-  row_answers (fatal_measurement e h) = rw h (ap Err (name_fault a_measurement text e h))
+  row_answers (fatal_measurement e h) = grind (arith, name_fault)
   row_answers (no_measurement h) = rw h refl
   row_answers (fatal_tag m after tags rest e named most next) =
       let fault = (the_next_has_the_fault tag (λ t. (tag_no_longer t).holds) after e).1 (tags, rest, most, next) in
-      let over : e ≡ ends_with_backslash = grind (arith, tag_fault) in
-      rw (named, fault) (ap Err over)
+      grind (arith, tag_fault)
   row_answers (no_tag m after named h) = rw (named, h) refl
   row_answers (no_space m tags rest series gap) = let s = series_parts series in rw (s.named, s.set, no_byte space rest gap) refl
   row_answers (fatal_field m tags after fields rest e series gap most next) =
@@ -139,15 +138,8 @@ module _ (dialect : Dialect) (text : List ℕ) where
       (Err d, fatal_field m tags after f.0 f.1 d h gap f.2 f.3)
   by_fields series m tags after is h gap (reads fields last) e =
       let rest = without_comma dialect fields last in
-      by_stamp series m tags fields rest (λ t. record {
-        after_series = after;
-        series_is = is;
-        series_reads = h;
-        gap = gap;
-        after_fields = last;
-        fields_read = (the_most_is_read field (λ t. (field_no_longer t).holds) (after_spaces after) fields last).0 e;
-        rest_is = refl;
-      }) (timestamp rest) refl
+      let read = (the_most_is_read field (λ t. (field_no_longer t).holds) (after_spaces after) fields last).0 e in
+      by_stamp series m tags fields rest (λ t. grind arith) (timestamp rest) refl
 
   -- once a series is read
   by_series : (m : Text) (tags : Option (List (Pair Text Text))) (after : List ℕ) → ReadsSeries text m tags after → SomeRow

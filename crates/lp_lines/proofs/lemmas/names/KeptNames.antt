@@ -1,6 +1,6 @@
 -- The bytes of a name that is read: the text of a spelling is a parsed name.
 use Rattle.std.proofs.Common.{◌≡◌, ◌≢◌, ℕ, suc, ◌-◌, ◌<◌, List, [], ◌∷◌, ◌++◌, length, take, slice_index, Bool, true, false, not, ◌&&◌}
-use Rattle.std.proofs.Common.{◌||◌, refl, sym, ap, ◌∙◌, subst, arith, inl, inr, ◌==◌, eq-eqb, eqb-true}
+use Rattle.std.proofs.Common.{◌||◌, refl, sym, ap, ◌∙◌, arith, ◌==◌, eq-eqb, eqb-true}
 use Rattle.std.proofs.lemmas.Bool.{cases_Bool, false≢true, and_parts, and_from, or_left, or_right, or_cases, not_from_true, not_from_false}
 use Rattle.std.proofs.lemmas.Grind.{common_steps}
 use Rattle.lp_format.specs.format.{backslash, hash, is_one_of, without_escapes, Text, reads, NameKind, a_measurement}
@@ -29,10 +29,6 @@ unstopped_may kind b h = grind (arith, common_steps)
 pub escapable_may : (kind : NameKind) (b : ℕ) → is_escapable kind b ≡ true → may_hold kind b ≡ true
 escapable_may kind b h = grind (arith, common_steps)
 
--- the same of a byte at a place that is not escaped
-no_stop : (s : Bool) → (not s || false) ≡ true → s ≡ false
-no_stop x0 h = grind (arith, false≢true)
-
 -- what comes before the first bare stop holds none
 before_stop_closed : (kind : NameKind) (escaped : Bool) (text : List ℕ)
     → is_closed kind escaped (take (bare_len (is_stop kind) escaped text) text) ≡ true
@@ -44,27 +40,11 @@ logical_kept : (kind : NameKind) (after : Bool) (text : List ℕ) → is_closed 
     → is_kept kind after (logical kind text) ≡ true
 unfolding without_escapes
 logical_kept kind after [] h = refl
-logical_kept kind after (b ∷ []) h = grind (arith, unstopped_may, no_stop, and_parts, and_from, may_hold, or_left)
+logical_kept kind after (b ∷ []) h = grind (arith, unstopped_may, and_parts, and_from, may_hold, or_left)
 logical_kept kind after (b ∷ c ∷ rest) h =
-    let parts = and_parts (not (is_stop kind b) || false) (is_closed kind (b == backslash) (c ∷ rest)) h in
-    let may : may_hold kind b ≡ true = unstopped_may kind b (no_stop (is_stop kind b) parts.0) in
-    let first : (may_hold kind b || after) ≡ true = or_left (may_hold kind b) after may in
-    elim (cases_Bool (b == backslash)) [
-      | inl e ↦
-          let more : is_closed kind true (c ∷ rest) ≡ true = rw e at parts.1 in
-          let closed : is_closed kind false rest ≡ true = (and_parts (not (is_stop kind c) || true) (is_closed kind false rest) more).1 in
-          elim (cases_Bool (is_escapable kind c)) [
-            | inl known ↦ rw (e, known)
-                (and_from (may_hold kind c || after) _
-                (or_left (may_hold kind c) after (escapable_may kind c known)) (logical_kept kind (c == backslash) rest closed))
-            | inr unknown ↦ rw (e, unknown)
-                (and_from (may_hold kind b || after) _ first
-                (and_from (may_hold kind c || (b == backslash)) _ (or_right (may_hold kind c) (b == backslash) e)
-                (logical_kept kind (c == backslash) rest closed)))
-          ]
-      | inr e ↦
-          rw e (and_from (may_hold kind b || after) _ first (logical_kept kind (b == backslash) (c ∷ rest) (rw e at parts.1)))
-    ]
+    let more = logical_kept kind (c == backslash) rest in
+    let next = logical_kept kind (b == backslash) (c ∷ rest) in
+    grind (arith, cases_Bool, unstopped_may, and_parts, and_from, or_left, or_right, escapable_may, more, next)
 
 -- whether a text ends in a backslash, or, if it is empty, what is said of the place before it
 abbrev ends_after : Bool → List ℕ → Bool
@@ -94,12 +74,9 @@ kept_from : (kind : NameKind) (after : Bool) (n : List ℕ)
     → is_kept kind after n ≡ true
 kept_from kind after [] h = refl
 kept_from kind after (b ∷ n) h =
-    let first : (may_hold kind b || after) ≡ true = elim (cases_Bool (is_one_of (never_in kind) b)) [
-      | inl never ↦ or_right (may_hold kind b) after (h [] n b refl never)
-      | inr other ↦ or_left (may_hold kind b) after (not_from_false _ other)
-    ] in
-    and_from (may_hold kind b || after) _ first
-    (kept_from kind (b == backslash) n (λ front back c e never. h (b ∷ front) back c (ap (λ (xs : List ℕ). b ∷ xs) e) never))
+    let more = kept_from kind (b == backslash) n
+    (λ front back c e never. h (b ∷ front) back c (ap (λ (xs : List ℕ). b ∷ xs) e) never) in
+    grind (arith, cases_Bool, and_from, or_left, or_right, not_from_false, h [] n b refl)
 
 -- a parsed name, by the test of its bytes
 pub name_kept : (kind : NameKind) (n : List ℕ) → IsParsedName kind n → is_kept kind false n ≡ true
@@ -124,16 +101,14 @@ spelled_is_parsed : (kind : NameKind) (text : List ℕ) → length (spelled kind
     → ends_in_backslash (spelled kind text) ≡ false → BeginsNoComment kind text
     → IsParsedName kind (logical kind (spelled kind text))
 spelled_is_parsed kind text some ends begins =
-    let closed : is_closed kind false (spelled kind text) ≡ true =
-    subst (λ n. is_closed kind false (take n text) ≡ true) (sym (first_bare_len (is_stop kind) text))
-    (before_stop_closed kind false text) in
-    let kept = logical_kept kind false (spelled kind text) closed in
+    let closed = before_stop_closed kind false text in
+    let kept : is_kept kind false (logical kind (spelled kind text)) ≡ true = grind (arith, logical_kept, first_bare_len) in
     record {
       some = logical_some kind (spelled kind text) some;
       ends = logical_ends kind (spelled kind text) ∙ ends;
       begins = name_begins kind text begins;
       after_backslash = λ front back b e never.
-          sym (ends_from_start front) ∙ kept_place kind false front back b (subst (λ n. is_kept kind false n ≡ true) e kept) never;
+          sym (ends_from_start front) ∙ kept_place kind false front back b (rw e at kept) never;
     }
 
 -- each name that is read is a parsed name

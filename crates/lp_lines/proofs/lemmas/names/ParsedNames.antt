@@ -1,5 +1,5 @@
 -- Which names lines can have, and that they can have each of them.
-use Rattle.std.proofs.Common.{◌≡◌, ◌≢◌, ℕ, List, [], ◌∷◌, drop, map, slice_index, Bool, true, false, refl, sym, ap, subst, arith, inl}
+use Rattle.std.proofs.Common.{◌≡◌, ◌≢◌, ℕ, List, [], ◌∷◌, drop, map, slice_index, Bool, true, false, refl, subst, arith, inl}
 use Rattle.std.proofs.Common.{inr, Option, Ok, Result, ℤ, Contains, eqb-true}
 use Rattle.std.specs.List.{AllByRecursion}
 use Rattle.std.proofs.lemmas.{Bool.cases_Bool, Bool.or_parts, Bool.eqb-false, List.Elements.Contains-append_cases}
@@ -63,16 +63,9 @@ answer_parts dialect line l h = by_row ((answer_is_by_rows dialect line (Ok l)).
     by_row (all_read _ rest r stamp) =
         let s = series_parts r.series_reads in
         let fields = fields_read (after_spaces r.after_series) l.fields r.after_fields r.fields_read in
-        record {
-          measurement_rest = s.after;
-          tags_rest = r.after_series;
-          fields_rest = rest;
-          series = sym (front_is line l.series r.after_series r.series_is);
-          measurement = s.named;
-          tags = s.set;
-          fields = rw fields (ap (reads l.fields) (sym r.rest_is));
-          stamp = stamp;
-        }
+        let front = front_is line l.series r.after_series r.series_is in
+        let is = r.rest_is in
+        grind arith
 
 -- a text that is a timestamp to its end begins with a space
 stamp_begins : (text : List ℕ) (t : Option ℤ) → timestamp text ≡ Ok (record { value = t; rest = [] }) → IsNothingOrSpaced text

@@ -1,6 +1,6 @@
 -- Names by any of their spellings: a reader reads each back, and a splitter that is within a stretch stays within it.
 use Rattle.std.proofs.Common.{◌≡◌, ◌≢◌, ℕ, List, [], ◌∷◌, ◌++◌, true, false, refl, ap, subst, append_assoc, ◌<◌, length, drop, slice_index}
-use Rattle.std.proofs.Common.{◌||◌, sym, ◌∙◌, arith, inl, inr, append-nil, ◌==◌, eqb-true, ne_eqb, take_at, drop_at}
+use Rattle.std.proofs.Common.{◌||◌, sym, arith, inl, inr, append-nil, ◌==◌, eqb-true, ne_eqb, take_at, drop_at}
 use Rattle.std.proofs.lemmas.{List.Elements.All-nil, Bool.cases_Bool, Bool.and_parts, Bool.and_right, Grind.common_steps}
 use Rattle.std.proofs.Math.Bool.{or-false}
 use Rattle.std.specs.List.{list_all}
@@ -100,28 +100,19 @@ spelled_more kind b n may more = elim (cases_Bool (is_escapable kind b)) [
   | inr other ↦ (b ∷ more.0, plain b n more.0 other may more.1)
 ]
 
+-- a name with a backslash at the start, and then a byte that no escape keeps
+spelled_pair : (kind : NameKind) (b c : ℕ) (n : List ℕ) → b ≡ backslash → is_one_of (never_in kind) c ≡ true
+    → (s : List ℕ) × SpelledAs kind n s → (s : List ℕ) × SpelledAs kind (b ∷ c ∷ n) s
+spelled_pair kind b c n e never more = rw e (backslash ∷ c ∷ more.0, pair c n more.0 never more.1)
+
 -- each parsed name has a spelling
 pub spelled_as : (kind : NameKind) (n : List ℕ) → is_kept kind false n ≡ true → (s : List ℕ) × SpelledAs kind n s
 spelled_as kind [] h = ([], done)
 spelled_as kind (b ∷ []) h = spelled_more kind b [] (rw or-false at ((and_parts (may_hold kind b || false) true h).0)) ([], done)
 spelled_as kind (b ∷ c ∷ n) h =
-    let parts = and_parts (may_hold kind b || false) (is_kept kind (b == backslash) (c ∷ n)) h in
-    let may : may_hold kind b ≡ true = rw or-false at parts.0 in
-    elim (cases_Bool (b == backslash)) [
-      | inl e ↦
-          let after = and_parts (may_hold kind c || (b == backslash)) (is_kept kind (c == backslash) n) parts.1 in
-          elim (cases_Bool (is_one_of (never_in kind) c)) [
-            | inl never ↦
-                let other : (c == backslash) ≡ false = ne_eqb c backslash (no_backslash kind c (never_unescapable kind c never)) in
-                let more = spelled_as kind n (rw other at after.1) in (
-                  backslash ∷ c ∷ more.0,
-                  subst (λ x. SpelledAs kind (x ∷ c ∷ n) (backslash ∷ c ∷ more.0)) (sym (eqb-true b backslash e))
-                      (pair c n more.0 never more.1),
-                )
-            | inr other ↦ spelled_more kind b (c ∷ n) may (spelled_as kind (c ∷ n) (rw other (after.1)))
-          ]
-      | inr e ↦ spelled_more kind b (c ∷ n) may (spelled_as kind (c ∷ n) (rw e at parts.1))
-    ]
+    let next = spelled_as kind (c ∷ n) in
+    let more = spelled_as kind n in
+    grind (arith, cases_Bool, and_parts, spelled_more, spelled_pair, no_backslash, never_unescapable, ne_eqb, eqb-true, next, more)
 
 -- the builder's spelling is one where each byte may be bare
 pub spelling_as : (kind : NameKind) (n : List ℕ) → list_all (may_hold kind) n ≡ true → SpelledAs kind n (spelling kind n)
@@ -144,26 +135,20 @@ spelled_to : {kind : NameKind} {n s : List ℕ} → SpelledAs kind n s → (rest
 spelled_to done rest ends = grind arith
 spelled_to {kind = kind} (escape b n s known more) rest ends = grind (arith, backslash_no_stop, spelled_to more rest ends)
 spelled_to {kind = kind} (plain b n s other may more) rest ends = grind (arith, stop_escapable, ne_eqb, no_backslash, spelled_to more rest ends)
-spelled_to {kind = kind} (pair c n s never more) rest
-    ends = rw (backslash_no_stop kind, and_right (is_stop kind c) false refl, spelled_to more rest ends) refl
+spelled_to {kind = kind} (pair c n s never more) rest ends = grind (arith, backslash_no_stop, and_right, spelled_to more rest ends)
 
 -- the logical text of a spelling is its name
 pub spelled_logical : {kind : NameKind} {n s : List ℕ} → SpelledAs kind n s → logical kind s ≡ n
 unfolding without_escapes
 spelled_logical {kind = kind} done = refl
-spelled_logical {kind = kind} (escape b n s known more) = without_escapes_known (escapable kind) b s known
-    ∙ ap (λ (xs : List ℕ). b ∷ xs) (spelled_logical more)
-spelled_logical {kind = kind} (plain b n s other may more) = without_escapes_plain_byte (escapable kind) b s (no_backslash kind b other)
-    ∙ ap (λ (xs : List ℕ). b ∷ xs) (spelled_logical more)
-spelled_logical {kind = kind} (pair c n s never more) = rw (never_unescapable kind c never)
-    (ap (λ (xs : List ℕ). backslash ∷ c ∷ xs) (spelled_logical more))
+spelled_logical {kind = kind} (escape b n s known more) = grind (arith, without_escapes_known, spelled_logical more)
+spelled_logical {kind = kind} (plain b n s other may more) =
+    grind (arith, without_escapes_plain_byte, no_backslash, spelled_logical more)
+spelled_logical {kind = kind} (pair c n s never more) = grind (arith, never_unescapable, spelled_logical more)
 
 -- and is not empty if the name is not
 spelled_some : {kind : NameKind} {n s : List ℕ} → SpelledAs kind n s → 0 < length n → 0 < length s
-spelled_some done h = h
-spelled_some (escape b n s known more) h = omega arith
-spelled_some (plain b n s other may more) h = omega arith
-spelled_some (pair c n s never more) h = omega arith
+spelled_some h some = grind arith
 
 -- what is at the start of the stop
 record Front (kind : NameKind) (s rest : List ℕ) : Type 0 where
@@ -199,11 +184,11 @@ pub reaches_spelled : (part : Part) (e c : ℕ) {kind : NameKind} {n s : List �
     → SpelledAs kind n s → Leads (Reaches part e c) (Reaches part e c) s
 reaches_spelled part e c same done = leads_by_none (Reaches part e c)
 reaches_spelled part e c same (escape b n s known more) =
-    leads_then (Reaches part e c) (backslash ∷ b ∷ []) s (reaches_pair part e c b) (reaches_spelled part e c same more)
+    leads_then (Reaches part e c) _ s (reaches_pair part e c b) (reaches_spelled part e c same more)
 reaches_spelled part e c same (plain b n s other may more) =
-    leads_then (Reaches part e c) (b ∷ []) s (reaches_byte part e c b (same b may other)) (reaches_spelled part e c same more)
+    leads_then (Reaches part e c) _ s (reaches_byte part e c b (same b may other)) (reaches_spelled part e c same more)
 reaches_spelled part e c same (pair b n s never more) =
-    leads_then (Reaches part e c) (backslash ∷ b ∷ []) s (reaches_pair part e c b) (reaches_spelled part e c same more)
+    leads_then (Reaches part e c) _ s (reaches_pair part e c b) (reaches_spelled part e c same more)
 
 -- a text that begins with no blank, no newline and no `#`
 abbrev pub BeginsLine : List ℕ → Type 0
@@ -213,10 +198,7 @@ BeginsLine (b ∷ text) = is_one_of (hash ∷ space ∷ tab ∷ newline ∷ []) 
 -- a measurement that begins with no `#` begins a line so
 pub spelled_begins : {n s : List ℕ} → SpelledAs a_measurement n s → 0 < length n → slice_index n 0 ≢ hash
     → (rest : List ℕ) → BeginsLine (s ++ rest)
-spelled_begins done some no_hash rest = absurd (omega (arith, some))
-spelled_begins (escape b n s known more) some no_hash rest = refl
-spelled_begins (plain b n s other may more) some no_hash rest = grind (arith, common_steps)
-spelled_begins (pair c n s never more) some no_hash rest = refl
+spelled_begins h some no_hash rest = grind (arith, common_steps)
 
 -- so does an admitted one
 pub measurement_begins : (m rest : List ℕ) → is_admitted_name a_measurement m ≡ true → BeginsLine (spelling a_measurement m ++ rest)
@@ -225,10 +207,7 @@ measurement_begins m rest ok =
 
 -- no space is at the start of a spelling
 pub spelled_spaces : {kind : NameKind} {n s : List ℕ} → SpelledAs kind n s → 0 < length n → (rest : List ℕ) → spaces (s ++ rest) ≡ 0
-spelled_spaces done some rest = absurd (omega (arith, some))
-spelled_spaces (escape b n s known more) some rest = refl
-spelled_spaces {kind = kind} (plain b n s other may more) some rest = rw (ne_eqb b space (no_space kind b other)) refl
-spelled_spaces (pair c n s never more) some rest = refl
+spelled_spaces h some rest = grind (arith, ne_eqb, no_space)
 
 -- a text that begins so is no comment, and nothing is trimmed off it
 pub line_no_comment : (text : List ℕ) → BeginsLine text → begins_comment text ≡ false

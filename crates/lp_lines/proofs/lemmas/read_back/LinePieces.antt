@@ -1,6 +1,6 @@
 -- The line of an admitted point is a piece that a newline ends.
 use Rattle.std.proofs.Common.{◌≡◌, ◌≢◌, ℕ, ◌+◌, ◌^◌, ◌<◌, List, [], ◌∷◌, ◌++◌, length, Bool, true, false, refl, sym, ap, ◌∙◌, subst}
-use Rattle.std.proofs.Common.{get_or, arith, inl, inr, append_assoc, Option, Some, None, ℤ, not, codes, decimal, IfSome, flat_map}
+use Rattle.std.proofs.Common.{arith, inl, inr, append_assoc, Option, Some, None, ℤ, not, codes, decimal, IfSome, flat_map}
 use Rattle.std.specs.{List.AllByRecursion, List.list_all, Fmt.signed_decimal}
 use Rattle.std.proofs.lemmas.Bool.{cases_Bool, and_parts, and_from}
 use Rattle.std.proofs.lemmas.List.Sums.{AllPass-from_list_all, list_all-from_AllPass}
@@ -28,7 +28,8 @@ simple_same : (e c b : ℕ) → is_simple b ≡ true → ChangesNothing Plain e 
 simple_same e c b simple =
     let differs : (k : ℕ) → is_simple k ≡ false → b ≢ k = λ k no i. cc (simple, no, ap is_simple i) in (
       differs backslash refl,
-      λ q f h. Plain-other e c q b f (differs equals refl) (differs comma refl) (differs newline refl) (λ i. absurd (differs quote refl i)) h,
+      λ q f h. Plain-other e c q b f (differs equals refl) (differs comma refl) (differs newline refl)
+          (λ i. absurd (differs quote refl i)) h,
     )
 
 abbrev pub IsSimple : List ℕ → Type 0
@@ -47,11 +48,8 @@ reaches_simple e c (b ∷ text) all =
 
 -- a text of bytes that a float can hold is simple
 simple_number : (text : List ℕ) → AllPass in_float text → IsSimple text
-simple_number text all = list_all-from_AllPass is_simple text (λ i d within. simple_byte (get_or text i d) (all i d within))
-  where
-    -- such a byte is simple
-    simple_byte : (b : ℕ) → in_float b ≡ true → is_simple b ≡ true
-    simple_byte b held = grind (arith, common_steps)
+simple_number text all =
+    list_all-from_AllPass is_simple text (λ i d within. let held = all i d within in grind (arith, common_steps))
 
 -- the decimal text of a number
 simple_decimal : (n : ℕ) → n < 2 ^ 64 → IsSimple (decimal n)
@@ -67,18 +65,13 @@ reaches_quotable : (e c : ℕ) (s : List ℕ) → Leads (Reaches Quoted e c) (Re
 unfolding escaped
 reaches_quotable e c [] = leads_by_none (Reaches Quoted e c)
 reaches_quotable e c (b ∷ s) = elim (cases_Bool (is_one_of quotable b)) [
-  | inl found ↦ rw found
-      (leads_then (Reaches Quoted e c) (backslash ∷ b ∷ []) (escaped quotable s) (reaches_pair Quoted e c b) (reaches_quotable e c s))
-  | inr plain ↦ rw plain
-      (leads_then (Reaches Quoted e c) (b ∷ []) (escaped quotable s) (reaches_byte Quoted e c b (same plain)) (reaches_quotable e c s))
+  | inl found ↦
+      rw found (leads_then (Reaches Quoted e c) _ (escaped quotable s) (reaches_pair Quoted e c b) (reaches_quotable e c s))
+  | inr plain ↦
+      let none : b ≢ backslash = λ i. cc (plain, ap (is_one_of quotable) i) in
+      let same = reaches_byte Quoted e c b (none, λ q f h. Quoted-other e c q b f (λ i. cc (plain, ap (is_one_of quotable) i)) h) in
+      rw plain (leads_then (Reaches Quoted e c) (b ∷ []) (escaped quotable s) same (reaches_quotable e c s))
 ]
-  where
-    -- a byte that a string does not escape changes nothing in it
-    same : is_one_of quotable b ≡ false → ChangesNothing Quoted e c b
-    same plain = (
-      λ i. cc (plain, ap (is_one_of quotable) i),
-      λ q f h. Quoted-other e c q b f (λ i. cc (plain, ap (is_one_of quotable) i)) h,
-    )
 
 -- a string opens after an `=`, and closes
 reaches_string : (m : ℕ) (s : List ℕ) → Leads (Reaches Plain (m + 1) m) (Reaches Plain (m + 1) m) (built_value (string s))
@@ -125,7 +118,7 @@ reaches_fields (f ∷ fs) all = leads_then AfterFields (comma ∷ built_field f)
 -- the timestamp
 reaches_timestamp : (t : Option ℤ) → IfSome t (λ z. fits_i64 z ≡ true) → Leads AfterFields AfterFields (built_timestamp t)
 reaches_timestamp None ok = leads_by_none AfterFields
-reaches_timestamp (Some z) ok = λ piece r. (r.0, reaches_simple (r.0 + 1) r.0 (space ∷ signed_decimal z) (simple_signed z ok) piece r.1)
+reaches_timestamp (Some z) ok = λ piece r. (r.0, reaches_simple (r.0 + 1) r.0 _ (simple_signed z ok) piece r.1)
 
 -- the tags
 pub reaches_tags : (ts : List Tag) → AllByRecursion AdmittedTag ts → Leads (Reaches Head 0 0) (Reaches Head 0 0) (flat_map built_tag ts)

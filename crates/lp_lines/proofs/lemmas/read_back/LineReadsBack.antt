@@ -123,7 +123,7 @@ tag_set_reads_back [] rest all = refl
 tag_set_reads_back (t ∷ ts) rest all =
     let joined = joined_read tag tag_text read_tag AdmittedTag (λ us. flat_map built_tag us ++ space ∷ rest)
     (λ u us. append_assoc (built_tag u) (flat_map built_tag us) (space ∷ rest)) refl (λ u us ok. tag_before u us rest ok) t ts all.0 all.1 in
-    ap tag_set (append_assoc (built_tag t) (flat_map built_tag ts) (space ∷ rest)) ∙ rw joined refl
+    grind (arith, append_assoc)
 
 -- a field, before the end, a comma or a space
 pub field_reads_back : (f : Field) (rest : List ℕ) → AdmittedField f → Ends rest → field (built_field f ++ rest) ≡ reads (read_field f) rest

@@ -7,7 +7,7 @@ use Rattle.std.proofs.lemmas.Grind.{common_steps}
 use Rattle.std.proofs.Math.Bool.{and-false}
 use Rattle.std.specs.{BTreeMap.UpdatesBy, BTreeMap.get_by, BTreeMap.insert_entry, Cmp.Lexicographic.slice_cmp}
 use Rattle.std.specs.{Cmp.Lexicographic.nat_list_eq_equiv, List.list_all, List.list_any, List.range_with_len}
-use Rattle.std.specs.{List.IsAllAdjacentAnswer, Ordering.match_ordering}
+use Rattle.std.specs.{List.IsAllAdjacentAnswer}
 use Rattle.std.proofs.lemmas.List.FromFn.{length-range_with_len, get_or-range_with_len}
 use Rattle.std.proofs.lemmas.{List.map_more, List.length-map, List.get_or-map, List.Folds.list_all-map}
 use Rattle.std.proofs.lemmas.{List.Folds.list_any_more, List.Sums.fold_push}
@@ -52,23 +52,16 @@ pub first_repeated_is : (keys : List (List ℕ)) (n : ℕ) → n ≤ length keys
     → (n < length keys → is_repeated_at keys n ≡ true)
     → first_repeated keys ≡ n
 unfolding first_repeated
-first_repeated_is keys n fits none found =
-    let len : length (range_with_len 0 (length keys)) ≡ length keys = length-range_with_len 0 (length keys) in
-    position_or_len_is (is_repeated_at keys) (range_with_len 0 (length keys)) n 0 (omega arith)
-    (λ k h. rw (get_or-range_with_len 0 (length keys) k 0 (omega arith), zero-add k) (none k h))
-    (λ h. rw (get_or-range_with_len 0 (length keys) n 0 (omega arith), zero-add n) (found (omega arith)))
-
--- the bytes of what goes in at an order
-bytes_at : (o : Ordering) (a b c : List (Bor (List ℕ) × Bor (List ℕ)))
-    → map entry_bytes (match_ordering o a b c) ≡ match_ordering o (map entry_bytes a) (map entry_bytes b) (map entry_bytes c)
-bytes_at o a b c = grind (arith)
+first_repeated_is keys n fits none found = position_or_len_is (is_repeated_at keys) (range_with_len 0 (length keys)) n 0
+    (grind (arith, length-range_with_len)) (λ k h. grind (arith, get_or-range_with_len, none k h))
+    (λ h. grind (arith, get_or-range_with_len, length-range_with_len))
 
 -- an entry goes in by the bytes of its key
 pub insert_bytes : (es : List (Bor (List ℕ) × Bor (List ℕ))) (k v : Bor (List ℕ))
     → map entry_bytes (insert_entry (λ x y. slice_cmp nat_cmp x.now y.now) es k v) ≡ insert_entry
     (slice_cmp nat_cmp) (map entry_bytes es) k.now v.now
 insert_bytes [] k v = refl
-insert_bytes (e ∷ es) k v = rw (bytes_at (slice_cmp nat_cmp k.now e.0.now) _ _ _, insert_bytes es k v) refl
+insert_bytes (e ∷ es) k v = grind (arith, insert_bytes es k v)
 
 -- the map has a key if and only if it was among the keys so far: one key more
 some_or : (b : Bool) (o : Option (Bor (List ℕ))) (v : Bor (List ℕ)) (a : Bool) → is_some o ≡ a → is_some (cond b (Some v) o) ≡ (a || b)

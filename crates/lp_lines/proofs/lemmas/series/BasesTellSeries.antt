@@ -1,12 +1,11 @@
 -- Bases tell parsed series from one another.
-use Rattle.std.proofs.Common.{◌≡◌, ℕ, ◌+◌, true, false, List, [], ◌∷◌, ◌++◌, ◌&&◌, length, drop, refl, sym, ap, ◌∙◌, inl, inr}
+use Rattle.std.proofs.Common.{◌≡◌, ℕ, ◌+◌, true, false, List, [], ◌∷◌, ◌++◌, ◌&&◌, length, drop, sym, ap, ◌∙◌}
 use Rattle.std.proofs.Common.{append_assoc, Some, arith, flat_map, is_some, eq-eqb, drop-drop, take-append-drop}
 use Rattle.std.specs.List.{list_all, list_any}
 use Rattle.std.proofs.lemmas.Bool.{and_parts, cases_Bool, false≢true, not-true, or_cases, or_parts}
 use Rattle.lp_lines.specs.laws.BaseLaws.{IsClearSeries, IsParsedSeries, ClearSeriesHaveBases, SameSeriesHaveOneBase, base_bytes}
 use Rattle.lp_lines.specs.laws.BaseLaws.{is_tag_one_escape, spelled_tags}
 use Rattle.lp_lines.specs.code.Bases.{base_by_key, base_of, base_text, based_tag, by_key, first_repeated, in_order, keys_of}
-use Rattle.lp_lines.specs.code.Bases.{is_strictly_sorted}
 use Rattle.lp_format.specs.code.Light.{is_single_tag}
 use Rattle.lp_format.specs.format.{equals, tag, NameKind, a_measurement, a_tag_key, a_tag_value, escapable}
 use Rattle.lp_format.specs.format.{is_one_escape, name, read_text, spelled, spelled_len, Pair, Text, reads}
@@ -39,14 +38,9 @@ tag_parts text x rest e =
     let p = pair_parts a_tag_key (name a_tag_value) text x rest e in
     let key = name_parts a_tag_key text x.key (equals ∷ p.mid) p.key in
     let value = name_parts a_tag_value p.mid x.value rest p.value in
-    let there : drop (spelled_len a_tag_key text) text ≡ equals ∷ p.mid = sym key.1 in
-    let past : value_part text ≡ p.mid = sym (drop-drop 1 (spelled_len a_tag_key text) text) ∙ ap (λ (r : List ℕ). drop 1 r) there in
-    record {
-      key_is = key.0;
-      value_is = rw past value.0;
-      rest_is = rw past value.1;
-      text_is = rw past (sym (take-append-drop (spelled_len a_tag_key text) text) ∙ ap (λ (r : List ℕ). spelled a_tag_key text ++ r) there);
-    }
+    let past : value_part text ≡ p.mid = sym (drop-drop 1 (spelled_len a_tag_key text) text)
+    ∙ ap (λ (r : List ℕ). drop 1 r) (sym key.1) in
+    grind (arith, take-append-drop)
 
 -- tags that are parts of the text, none of their names an escape alone, are spelled as they are
 spells : (tags : List (Pair Text Text)) (text : List ℕ) → SeparatedAfterComma tag tags text []
@@ -54,24 +48,11 @@ spells : (tags : List (Pair Text Text)) (text : List ℕ) → SeparatedAfterComm
     → text ≡ flat_map based_tag (in_order tags)
 spells [] text h apart single = h
 spells (t ∷ tags) text h apart single =
-    let after = h.0 in
-    let p = tag_parts after t h.1 h.3 in
-    let v = value_part after in
-    let escapes = or_parts (is_tag_one_escape (spelled a_tag_key after, spelled a_tag_value v))
-    (list_any is_tag_one_escape (spelled_tags (length tags) (drop (spelled_len a_tag_value v) v))) (rw (h.2) at apart) in
-    let alone = or_parts (is_one_escape (escapable a_tag_key) (spelled a_tag_key after))
-    (is_one_escape (escapable a_tag_value) (spelled a_tag_value v)) escapes.0 in
-    let singles = and_parts (is_single_tag t) (list_all is_single_tag tags) single in
-    let both = and_parts t.key.is_single t.value.is_single singles.0 in
-    let value = single_same a_tag_value v t.value p.value_is alone.1 both.1 in
-    let more = spells tags h.1 h.4
-    (ap (λ (r : List ℕ). list_any is_tag_one_escape (spelled_tags (length tags) r)) p.rest_is ∙ escapes.1) singles.1 in
-    let split : v ≡ spelled a_tag_value v ++ h.1 = sym (take-append-drop (spelled_len a_tag_value v) v)
-    ∙ ap (λ (r : List ℕ). spelled a_tag_value v ++ r) (sym p.rest_is) in
-    let key = single_same a_tag_key after t.key p.key_is alone.0 both.0 in
-    let is = h.2 in
-    let whole = p.text_is in
-    grind (arith, append_assoc)
+    let p = tag_parts h.0 t h.1 h.3 in
+    let key = single_same a_tag_key h.0 t.key p.key_is in
+    let value = single_same a_tag_value (value_part h.0) t.value p.value_is in
+    let more = spells tags h.1 h.4 in
+    grind (arith, or_parts, and_parts, append_assoc, take-append-drop)
 
 -- the tags of a parsed series come after its measurement
 pub tags_separated : {raw : List ℕ} {m : Text} {tags : List (Pair Text Text)} (h : IsParsedSeries raw m tags)
@@ -84,30 +65,19 @@ raw_is : (raw : List ℕ) (m : Text) (tags : List (Pair Text Text)) → IsClearS
     → raw ≡ base_text m.bytes (in_order tags)
 raw_is raw m tags h single =
     let p = name_parts a_measurement raw m h.parsed.after h.parsed.measurement_is in
-    let singles = and_parts m.is_single (list_all is_single_tag tags) single in
-    let apart = or_parts (is_one_escape (escapable a_measurement) (spelled a_measurement raw))
-    (list_any is_tag_one_escape (spelled_tags (length tags) (drop (spelled_len a_measurement raw) raw))) h.no_escape_alone in
-    let more : h.parsed.after ≡ flat_map based_tag (in_order tags) =
-    spells tags h.parsed.after (tags_separated h.parsed)
-    (ap (λ (r : List ℕ). list_any is_tag_one_escape (spelled_tags (length tags) r)) p.1 ∙ apart.1) singles.1 in
-    let split : raw ≡ spelled a_measurement raw ++ h.parsed.after =
-    sym (take-append-drop (spelled_len a_measurement raw) raw) ∙ ap (λ (r : List ℕ). spelled a_measurement raw ++ r) (sym p.1) in
-    split ∙ ap (λ (r : List ℕ). spelled a_measurement raw ++ r) more
-    ∙ ap (λ (r : List ℕ). r ++ flat_map based_tag (in_order tags)) (sym (single_same a_measurement raw m p.0 apart.0 singles.0))
+    let name = single_same a_measurement raw m p.0 in
+    let more = spells tags h.parsed.after (tags_separated h.parsed) in
+    grind (arith, or_parts, and_parts, take-append-drop)
 
 -- the base of a clear series is its measurement and its tags by their keys
 pub base_is : (raw : List ℕ) (m : Text) (tags : List (Pair Text Text)) → IsClearSeries raw m tags
     → base_bytes (base_of raw m tags) ≡ Some (base_text m.bytes (by_key tags))
 unfolding base_of base_by_key
-base_is raw m tags h = elim (cases_Bool (is_strictly_sorted (keys_of tags))) [
-  | inr falls ↦ rw (falls, eq-eqb (first_repeated (keys_of tags)) (length tags) h.repeats_none) refl
-  | inl rise ↦
-      let sorted = by_key_in_order tags h.repeats_none rise in
-      elim (cases_Bool (m.is_single && list_all is_single_tag tags)) [
-        | inl single ↦ rw (rise, single, ← sorted) (ap (λ (x : List ℕ). Some x) (raw_is raw m tags h single))
-        | inr copied ↦ rw (rise, copied, sorted) refl
-      ]
-]
+base_is raw m tags h =
+    let once = eq-eqb (first_repeated (keys_of tags)) (length tags) h.repeats_none in
+    let sorted = by_key_in_order tags h.repeats_none in
+    let spelled_so = raw_is raw m tags h in
+    grind (arith, cases_Bool)
 
 -- two clear series are the same if their bases are
 pub clear_series_have_bases : ClearSeriesHaveBases

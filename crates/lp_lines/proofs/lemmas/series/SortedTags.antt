@@ -1,19 +1,18 @@
 -- Tags by their keys: one list for each set of tags without a repeated key, which has them in another order.
-use Rattle.std.proofs.Common.{◌≡◌, ℕ, false, List, [], ◌∷◌, ◌++◌, append-nil, sym, ◌∙◌, ◌<◌, ◌≤◌, true, length, take, refl, zero, suc}
-use Rattle.std.proofs.Common.{ap, subst, inl, inr, arith, zero-add, Ordering, Less, Equal, Greater, fold, Contains, All}
-use Rattle.std.proofs.Common.{IsPermutation, is_eq, nat_cmp, is_lt, bytes_eq, get_or}
+use Rattle.std.proofs.Common.{◌≡◌, ℕ, false, List, [], ◌∷◌, sym, ◌∙◌, ◌<◌, ◌≤◌, true, length, take, refl, zero, suc}
+use Rattle.std.proofs.Common.{ap, arith, zero-add, Ordering, Less, Equal, Greater, Contains, All}
+use Rattle.std.proofs.Common.{IsPermutation, is_eq, nat_cmp, is_lt, bytes_eq, get_or, ◌⊎◌}
 use Rattle.std.proofs.Math.Seq.{take-suc}
 use Rattle.std.specs.Ordering.{match_ordering, ordering_reverse}
-use Rattle.std.specs.{BTreeMap.insert_entry, Cmp.Lexicographic.slice_cmp, List.IsDistinct, List.list_any, List.range_with_len}
-use Rattle.std.specs.Cmp.Lexicographic.{nat_list_eq_equiv}
-use Rattle.std.proofs.lemmas.List.Elements.{All-cons, All-contains, All-from_recursion, All-nil, All-weaker}
-use Rattle.std.proofs.lemmas.List.Sorted.{All-permutation, IsPermutation-append_left, IsPermutation-cons, IsPermutation-map}
+use Rattle.std.specs.{BTreeMap.insert_entry, Cmp.Lexicographic.slice_cmp, List.list_any, List.range_with_len}
+use Rattle.std.proofs.lemmas.List.Elements.{All-cons, All-contains, All-nil, All-weaker}
+use Rattle.std.proofs.lemmas.List.Sorted.{All-permutation, IsPermutation-cons, IsPermutation-map}
 use Rattle.std.proofs.lemmas.List.Sorted.{IsPermutation-middle, IsPermutation-refl, IsPermutation-sym, IsPermutation-trans}
+use Rattle.std.proofs.lemmas.List.Sorted.{IsPermutation-push_more, list_any-IsPermutation}
 use Rattle.std.proofs.lemmas.List.Sorted.{Contains-permutation}
 use Rattle.std.proofs.lemmas.{Map.Text.is_eq-slice_cmp, Bool.false≢true, Bool.or_parts, Bool.and_parts, List.map-append}
 use Rattle.std.proofs.lemmas.{Cmp.nat_list_cmp_total, Cmp.tied_itself, List.FromFn.get_or-range_with_len, List.Sums.fails_before_first}
-use Rattle.std.proofs.lemmas.{List.Folds.list_any-append, List.Folds.list_any_none, List.length-map, List.take_all}
-use Rattle.std.proofs.lemmas.Map.Keys.{IsDistinct-IsPermutation, IsDistinct-head, IsDistinct-push}
+use Rattle.std.proofs.lemmas.{List.get_or-map, List.length-map, List.take-map, List.take_all, List.Sums.fold_push}
 use Rattle.lp_format.specs.format.{Pair, Text}
 use Rattle.lp_format.proofs.lemmas.lists.Elements.{first_element, first_or_later, later_element}
 use Rattle.lp_lines.specs.code.Bases.{by_key, in_order, first_repeated, is_repeated_at, keys_of, is_strictly_sorted}
@@ -67,30 +66,6 @@ placed (e ∷ es) k v rise absent =
     let apart = or_parts (bytes_eq k e.0) (list_any (bytes_eq k) (entry_keys es)) absent in
     at_place (slice_cmp nat_cmp k e.0) k v e es _ refl (is_eq-slice_cmp k e.0 ∙ apart.0) rise (placed es k v rise.1 apart.1)
 
--- tags go in, in some order, if no key is repeated
-tags_placed : (es : List (List ℕ × List ℕ)) (tags : List (Pair Text Text)) → Rise es
-    → IsDistinct bytes_eq (entry_keys (es ++ in_order tags))
-    → (let all = fold (λ entries t. insert_entry (slice_cmp nat_cmp) entries t.key.bytes t.value.bytes) es tags in
-    IsPermutation (es ++ in_order tags) all × Rise all)
-tags_placed es [] rise once = (rw (append-nil es) (IsPermutation-refl es), rise)
-tags_placed es (t ∷ tags) rise once =
-    let e : List ℕ × List ℕ = (t.key.bytes, t.value.bytes) in
-    let suffix = in_order tags in
-    let alike = λ (xs ys : List (List ℕ × List ℕ)) (moves : IsPermutation xs ys). IsDistinct-IsPermutation bytes_eq nat_list_eq_equiv.symm
-    (entry_keys xs) (entry_keys ys) (IsPermutation-map (λ (e : List ℕ × List ℕ). e.0) xs ys moves) in
-    let first = IsPermutation-middle es e suffix in
-    let none : list_any (bytes_eq e.0) (entry_keys (es ++ suffix)) ≡ false = list_any_none (bytes_eq e.0) (entry_keys (es ++ suffix))
-    (All-from_recursion (λ k. bytes_eq e.0 k ≡ false) (entry_keys (es ++ suffix))
-    (IsDistinct-head bytes_eq e.0 (entry_keys (es ++ suffix)) (alike (es ++ e ∷ suffix) (e ∷ (es ++ suffix)) first once))) in
-    let absent = or_parts (list_any (bytes_eq e.0) (entry_keys es)) (list_any (bytes_eq e.0) (entry_keys suffix))
-    (rw (map-append (λ (e : List ℕ × List ℕ). e.0) es suffix, list_any-append (bytes_eq e.0) (entry_keys es) (entry_keys suffix)) at none) in
-    let one = placed es e.0 e.1 rise absent.0 in
-    let more = insert_entry (slice_cmp nat_cmp) es e.0 e.1 in
-    let moves = IsPermutation-trans (es ++ e ∷ suffix) (e ∷ (es ++ suffix)) (more ++ suffix) first
-    (IsPermutation-append_left suffix (e ∷ es) more one.moves) in
-    let all = tags_placed more tags one.rise (alike (es ++ e ∷ suffix) (more ++ suffix) moves once) in
-    (IsPermutation-trans (es ++ e ∷ suffix) (more ++ suffix) _ moves all.0, all.1)
-
 -- no key is repeated if no first one is
 none_repeated : (keys : List (List ℕ)) → first_repeated keys ≡ length keys → (k : ℕ) → k < length keys → is_repeated_at keys k ≡ false
 unfolding first_repeated
@@ -98,27 +73,44 @@ none_repeated keys e k h =
     let fails = fails_before_first (is_repeated_at keys) (range_with_len 0 (length keys)) k 0 (omega arith) in
     rw (get_or-range_with_len 0 (length keys) k 0 h, zero-add k) at fails
 
--- so the first keys are apart from one another
-distinct_front : (keys : List (List ℕ)) → first_repeated keys ≡ length keys → (n : ℕ) → n ≤ length keys → IsDistinct bytes_eq (take n keys)
-unfolding IsDistinct
-distinct_front keys once zero fits = tt
-distinct_front keys once (suc n) fits = subst (IsDistinct bytes_eq) (sym (take-suc keys n [] (omega arith)))
-    (IsDistinct-push nat_list_eq_equiv (take n keys) (get_or keys n []) (distinct_front keys once n (omega arith))
-    (none_repeated keys once n (omega arith)))
-
 -- the keys of the tags as entries
 keys_in_order : (tags : List (Pair Text Text)) → entry_keys (in_order tags) ≡ keys_of tags
 keys_in_order [] = refl
 keys_in_order (t ∷ tags) = ap (λ (ks : List (List ℕ)). t.key.bytes ∷ ks) (keys_in_order tags)
 
+-- the first tags by their keys are these tags in another order, and rise, if no key is repeated
+first_placed : (d : Pair Text Text) (tags : List (Pair Text Text)) → first_repeated (keys_of tags) ≡ length tags
+    → (n : ℕ) → n ≤ length tags → IsPermutation (in_order (take n tags)) (by_key (take n tags)) × Rise (by_key (take n tags))
+unfolding by_key
+first_placed d tags once zero fits = (IsPermutation-refl [], tt)
+first_placed d tags once (suc n) fits =
+    let front = take n tags in
+    let t = get_or tags n d in
+    let key_of = λ (t : Pair Text Text). t.key.bytes in
+    let len = length-map tags key_of in
+    let so_far = first_placed d tags once n (omega arith) in
+    let key : get_or (keys_of tags) n [] ≡ t.key.bytes = get_or-map key_of tags n d [] (omega arith) in
+    let apart : list_any (bytes_eq t.key.bytes) (keys_of front) ≡ false =
+    rw (key, take-map key_of n tags) at (none_repeated (keys_of tags) (once ∙ sym len) n (omega arith)) in
+    let absent = sym (list_any-IsPermutation (bytes_eq t.key.bytes) (entry_keys (in_order front)) (entry_keys (by_key front))
+    (IsPermutation-map (λ (e : List ℕ × List ℕ). e.0) (in_order front) (by_key front) so_far.0))
+    ∙ ap (list_any (bytes_eq t.key.bytes)) (keys_in_order front) ∙ apart in
+    let one = placed (by_key front) t.key.bytes t.value.bytes so_far.1 absent in
+    rw (
+      take-suc tags n d (omega arith),
+      fold_push (λ (entries : List (List ℕ × List ℕ)) (t : Pair Text Text). insert_entry (slice_cmp nat_cmp) entries
+          t.key.bytes t.value.bytes) [] front t,
+      map-append {B = List ℕ × List ℕ} (λ t. (t.key.bytes, t.value.bytes)) front (t ∷ []),
+    )
+    (IsPermutation-push_more (in_order front) (by_key front) _ (t.key.bytes, t.value.bytes) so_far.0 one.moves, one.rise)
+
 -- the tags by their keys are the tags in another order, and rise
 pub by_key_placed : (tags : List (Pair Text Text)) → first_repeated (keys_of tags) ≡ length tags
     → IsPermutation (in_order tags) (by_key tags) × Rise (by_key tags)
 unfolding by_key
-by_key_placed tags once =
-    let len = length-map tags (λ (t : Pair Text Text). t.key.bytes) in
-    let distinct = distinct_front (keys_of tags) (once ∙ sym len) (length tags) (omega arith) in
-    tags_placed [] tags tt (rw (keys_in_order tags) (rw (take_all (length tags) (keys_of tags) (omega arith)) at distinct))
+by_key_placed [] once = (IsPermutation-refl [], tt)
+by_key_placed (t ∷ tags) once =
+    rw (take_all (length tags) tags (omega arith)) at (first_placed t (t ∷ tags) once (suc (length tags)) (omega arith))
 
 -- no key is less than itself
 not_below_itself : (k : List ℕ) → slice_cmp nat_cmp k k ≡ Less → ⊥
@@ -128,27 +120,10 @@ not_below_itself k h = let same = tied_itself nat_list_cmp_total k in cc
 abbrev IsWithin : List (List ℕ × List ℕ) → List (List ℕ × List ℕ) → Type 0
 IsWithin xs ys = (e : List ℕ × List ℕ) → Contains xs e → Contains ys e
 
--- two rising lists with the same entries begin with the same
-same_first : (x y : List ℕ × List ℕ) (xs ys : List (List ℕ × List ℕ)) → IsBefore x xs → IsBefore y ys
-    → IsWithin (x ∷ xs) (y ∷ ys) → IsWithin (y ∷ ys) (x ∷ xs) → x ≡ y
-same_first x y xs ys below under h k = elim (first_or_later y x ys (h x (first_element x xs))) [
-  | inl same ↦ sym same
-  | inr suffix ↦ elim (first_or_later x y xs (k y (first_element y ys))) [
-    | inl same ↦ same
-    | inr after ↦ absurd (not_below_itself x.0 (nat_list_cmp_total.trans x.0 y.0 x.0
-        (All-contains (λ f. slice_cmp nat_cmp x.0 f.0 ≡ Less) xs y below after)
-        (All-contains (λ f. slice_cmp nat_cmp y.0 f.0 ≡ Less) ys x under suffix)))
-  ]
-]
-
--- two rising lists with the same entries go on with the same
-within_after : (x y : List ℕ × List ℕ) (xs ys : List (List ℕ × List ℕ)) → x ≡ y → IsBefore x xs
-    → IsWithin (x ∷ xs) (y ∷ ys) → IsWithin xs ys
-within_after x y xs ys same below h e there = elim (first_or_later y e ys (h e (later_element x e xs there))) [
-  | inl is ↦ absurd (not_below_itself x.0
-      (ap (λ (z : List ℕ × List ℕ). slice_cmp nat_cmp x.0 z.0) (same ∙ is) ∙ All-contains (λ f. slice_cmp nat_cmp x.0 f.0 ≡ Less) xs e below there))
-  | inr after ↦ after
-]
+-- an element of a rising list is the first, or comes after it
+after_first : (x e : List ℕ × List ℕ) (xs : List (List ℕ × List ℕ)) → IsBefore x xs → Contains (x ∷ xs) e
+    → (e ≡ x) ⊎ (Contains xs e × (slice_cmp nat_cmp x.0 e.0 ≡ Less))
+after_first x e xs below h = grind (arith, first_or_later, All-contains (λ f. slice_cmp nat_cmp x.0 f.0 ≡ Less) xs e below)
 
 -- if keys rise, the elements fix the list
 same_elements : (xs ys : List (List ℕ × List ℕ)) → Rise xs → Rise ys → IsWithin xs ys → IsWithin ys xs → xs ≡ ys
@@ -156,8 +131,14 @@ same_elements [] [] rise up h k = refl
 same_elements [] (y ∷ ys) rise up h k = let l = (k y (first_element y ys)).1 in absurd (omega arith)
 same_elements (x ∷ xs) [] rise up h k = let l = (h x (first_element x xs)).1 in absurd (omega arith)
 same_elements (x ∷ xs) (y ∷ ys) rise up h k =
-    let same : x ≡ y = same_first x y xs ys rise.0 up.0 h k in
-    let more = same_elements xs ys rise.1 up.1 (within_after x y xs ys same rise.0 h) (within_after y x ys xs (sym same) up.0 k) in
+    let here = after_first y x ys up.0 (h x (first_element x xs)) in
+    let there = after_first x y xs rise.0 (k y (first_element y ys)) in
+    let same : x ≡ y = grind (arith, not_below_itself, nat_list_cmp_total.trans x.0 y.0 x.0) in
+    let more = same_elements xs ys rise.1 up.1
+    (λ e in_xs. let at = after_first y e ys up.0 (h e (later_element x e xs in_xs)) in
+    let less = All-contains (λ f. slice_cmp nat_cmp x.0 f.0 ≡ Less) xs e rise.0 in_xs in grind (arith, not_below_itself))
+    (λ e in_ys. let at = after_first x e xs rise.0 (k e (later_element y e ys in_ys)) in
+    let less = All-contains (λ f. slice_cmp nat_cmp y.0 f.0 ≡ Less) ys e up.0 in_ys in grind (arith, not_below_itself)) in
     cc
 
 -- so does any order of it
@@ -173,10 +154,7 @@ less_from_test o h = grind (arith)
 pub passes_rise : (es : List (List ℕ × List ℕ)) → is_strictly_sorted (entry_keys es) ≡ true → Rise es
 passes_rise [] h = tt
 passes_rise (e ∷ []) h = (All-nil (λ f. slice_cmp nat_cmp e.0 f.0 ≡ Less), tt)
-passes_rise (e ∷ f ∷ es) h =
-    let parts = and_parts (is_lt (slice_cmp nat_cmp e.0 f.0)) (is_strictly_sorted (entry_keys (f ∷ es))) h in
-    let more = passes_rise (f ∷ es) parts.1 in
-    (before_all e f es (less_from_test (slice_cmp nat_cmp e.0 f.0) parts.0) more.0, more)
+passes_rise (e ∷ f ∷ es) h = grind (arith, and_parts, less_from_test, before_all, passes_rise (f ∷ es))
 
 -- if the keys rise, that is their own order
 pub by_key_in_order : (tags : List (Pair Text Text)) → first_repeated (keys_of tags) ≡ length tags
