@@ -209,8 +209,7 @@ highest p at =
 
 -- they tell how many of those pass
 pub ones_low : (p : ℕ → Bool) (at w n : ℕ) → n ≤ w → count_ones (mask_at p at w % 2 ^ n) ≡ count_by p (range_with_len at n)
-ones_low p at w n few = ap count_ones
-    (grind (arith, mask_mod, length-map-range_with_len, take-map-range_with_len)) ∙ ones-mask_l p (range_with_len at n)
+ones_low p at w n few = grind (arith, mask_mod, length-map-range_with_len, take-map-range_with_len, ones-mask_l)
 
 -- a mask of places from the next one on, as one of places from this one on
 range_next : {X : Type 0} (f : ℕ → X) (n at : ℕ) → map f (range_with_len (at + 1) n) ≡ map (λ k. f (k + 1)) (range_with_len at n)

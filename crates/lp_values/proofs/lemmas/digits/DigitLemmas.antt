@@ -105,16 +105,7 @@ are_groups (suc k) (a ∷ []) e small = absurd (omega (arith, e))
 are_groups (suc k) (a ∷ (b ∷ [])) e small = absurd (omega (arith, e))
 are_groups (suc k) (a ∷ (b ∷ (c ∷ []))) e small = absurd (omega (arith, e))
 are_groups (suc k) (a ∷ (b ∷ (c ∷ (d ∷ ds)))) e (ha, (hb, (hc, (hd, small)))) =
-    let rest = are_groups k ds (omega (arith, e)) small in
-    let group = a * 1000 + b * 100 + c * 10 + d in
-    record {
-      firsts_fit = (omega (arith, ha), (omega arith, (omega arith, (omega arith, rest.firsts_fit))));
-      others_fit = (omega arith, (omega (arith, hb), (omega (arith, hc), (omega (arith, hd), rest.others_fit))));
-      sums = ap₂ (λ (x : ℕ) l. x ∷ l) (four_sum a b c d ha hb hc hd) rest.sums;
-      number = λ n. ap (λ m. number_from_digits_after 10 m ds) (omega arith) ∙ rest.number (n * 10000 + group);
-      below = (omega (arith, ha, hb, hc, hd), rest.below);
-      size = ap suc rest.size;
-    }
+    grind (arith, four_sum, (are_groups k ds (omega (arith, e)) small))
 
 -- four numbers below 10000, two and two
 two_and_two : (gs : List ℕ) → length gs ≡ 4

@@ -3,13 +3,15 @@ use Rattle.std.proofs.Common.{◌≡◌, ℕ, ◌<◌, Bool, List, [], ◌∷◌
 use Rattle.std.proofs.Common.{take, length, slice_index, ap, append_assoc, length-append, add-one, add-zero, drop-cons, ◌==◌, ◌&&◌, eq-eqb}
 use Rattle.std.proofs.Common.{eqb-true, ne_eqb, bytes_eq, append-nil, drop-drop, get_or-drop, length-drop, length-take-le, take-append-drop}
 use Rattle.std.proofs.Common.{length-take}
-use Rattle.std.proofs.lemmas.Bool.{and_parts, or_right, cases_Bool, or_parts}
+use Rattle.std.proofs.lemmas.Bool.{and_parts, or_right, cases_Bool, or_parts, cases_lt, cases_eq, false≢true, not-true}
 use Rattle.std.proofs.lemmas.{Grind.common_steps, Slice.Eq.bytes_eq-Decides, List.drop_all, List.take_rest, Slice.drop-put_mid, Slice.take-put_mid}
 use Rattle.lp_scan.specs.declared.sets.TokenKind.{TokenKind}
 use Rattle.lp_scan.specs.code.{stops_of, known_of, is_plain, IsRunAt}
 use Rattle.lp_format.specs.format.{backslash, is_one_of, without_escapes, is_one_escape, read_text, Text}
 use Rattle.lp_format.proofs.lemmas.names.NameLemmas.{no_backslash, without_escapes_same}
 use borrow.Rule.Slice.PartMut.{put_mid, same_len_mid}
+use Rattle.lp_values.specs.code.RawTokens.{IsTold}
+use Rattle.lp_format.proofs.lemmas.tokens.EscapeLemmas.{is_one_of_front}
 use Rattle.lp_values.proofs.lemmas.tokens.WalkLemmas.{run_is_plain}
 
 -- a backslash ends no token
@@ -19,6 +21,17 @@ backslash_goes_on kind = grind arith
 -- 0, which is read after the end of a text, is none of the bytes that a backslash may escape
 pub zero_is_not_known : (kind : TokenKind) → is_one_of (known_of kind) 0 ≡ false
 zero_is_not_known kind = grind arith
+
+-- a token ends after its first backslash
+past_first : (kind : TokenKind) (text : List ℕ) (at end : ℕ) → IsRunAt (is_plain (stops_of kind)) text 0 at → at < length text
+    → slice_index text at ≡ backslash → (end < length text → stops_of kind (slice_index text end) ≡ true) → at < end
+past_first kind text at end run within here stop = grind (arith, cases_lt, cases_eq, false≢true, or_right, not-true, backslash_goes_on)
+
+-- so what a walk counted up to its end is told
+pub walk_tells : (kind : TokenKind) (text : List ℕ) (at end found len : ℕ) → IsRunAt (is_plain (stops_of kind)) text 0 at → at < length text
+    → slice_index text at ≡ backslash → (end < length text → stops_of kind (slice_index text end) ≡ true)
+    → length (without_escapes (known_of kind) (take end text)) + found ≡ end → len ≡ end - found → IsTold (known_of kind) (take end text) len false
+walk_tells kind text at end found len run within here stop counted is = grind (arith, past_first, is_one_of_front)
 
 -- two texts with the same bytes and the same variant
 same_text : (a b : List ℕ) (s t : Bool) → a ≡ b → s ≡ t → let x : Text = record { bytes = a; is_single = s } in
@@ -146,17 +159,7 @@ pub stretch_put : (whole left start to stretch after new : List ℕ) (place k : 
     → left ≡ stretch ++ after → place + length stretch ≤ length to → k ≡ length stretch → new ≡ stretch
     → IsPut whole after start (put_mid place k to new) (place + length stretch)
 stretch_put whole left start to stretch after new place k was parts room as_long is =
-    let end = place + length stretch in
-    let size = ap length is in
-    let whole_len = same_len_mid place k to new (omega (arith, size, length-take k (drop place to), length-drop place to)) in
-    record {
-      within = omega (arith, whole_len);
-      front = ap (λ l. l ++ after) (take-put_mid place k to new end (omega (arith, size)) was.within ∙ ap (λ l. take place to ++ l) is)
-          ∙ append_assoc (take place to) stretch after ∙ ap (λ l. take place to ++ l) (sym parts) ∙ was.front;
-      back = drop-put_mid place k to new end (omega arith) was.within (omega (arith, size))
-          ∙ sym (drop-drop (length stretch) place to) ∙ ap (drop (length stretch)) was.back ∙ drop-drop (length stretch) place start;
-      len = whole_len ∙ was.len;
-    }
+    grind (arith, same_len_mid, length-take, length-drop, take-put_mid, append_assoc, drop-put_mid, drop-drop)
 
 -- once nothing is left, the whole is put
 pub whole_put : (whole start to : List ℕ) (place : ℕ) → IsPut whole [] start to place → to ≡ whole ++ drop (length whole) start

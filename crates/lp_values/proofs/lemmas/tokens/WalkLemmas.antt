@@ -59,6 +59,11 @@ module _ (known text : List ℕ) where
   escapes_more zero at j e = let here : at ≡ j = omega arith in rw (← here) (grind (arith, escapes_first))
   escapes_more (suc n) at j e = omega (arith, escapes_first at (suc n), escapes_first at n, escapes_more n (at + 1) j (omega arith))
 
+  -- none begins where no backslash is
+  none_escape : (n at : ℕ) → ((k : ℕ) → at ≤ k → k < at + n → (slice_index text k == backslash) ≡ false) → escapes_from at n ≡ 0
+  none_escape zero at none = refl
+  none_escape (suc n) at none = grind (arith, escapes_first, none_escape n (at + 1), none)
+
   -- the escapes of two stretches are those of both
   joined : (n at : ℕ) → escapes_from 0 (at + n) ≡ escapes_from 0 at + escapes_from at n
   joined zero at = rw (add-zero at) (omega arith)
@@ -131,49 +136,6 @@ module _ (known : List ℕ) (stops : ℕ → Bool) (text : List ℕ) where
   plain_parts : (b : ℕ) → is_plain stops b ≡ true → (stops b ≡ false) × ((b == backslash) ≡ false)
   plain_parts b h = or_parts (stops b) (b == backslash) (not-true _ h)
 
-  -- a plain byte further
-  walk_byte : (at found : ℕ) → EscapeScan known stops text at found → at < length text
-      → is_plain stops (slice_index text at) ≡ true → EscapeScan known stops text (at + 1) found
-  unfolding without_escapes
-  walk_byte at found w within plain =
-      record {
-        within = omega arith;
-        bare = rw (is_escaped_more text at within, w.bare, (plain_parts (slice_index text at) plain).1) refl;
-        passed = grind (arith, cases_Bool, eqb-true, eqb-false);
-        counted = omega (arith, kept_byte known text at within w.bare, w.counted);
-      }
-
-  -- some plain bytes further
-  pub walk_bytes : (n at found : ℕ) → EscapeScan known stops text at found → at + n ≤ length text
-      → AllPassBetween (is_plain stops) text at (at + n) → EscapeScan known stops text (at + n) found
-  walk_bytes zero at found w fits pass = rw add-zero w
-  walk_bytes (suc n) at found w fits pass =
-      let one = walk_byte at found w (omega arith) (pass at (omega arith) (omega arith)) in
-      let e : at + suc n ≡ at + 1 + n = omega arith in
-      rw e (walk_bytes n (at + 1) found one (omega arith) (λ k from to. pass k (omega arith) (omega arith)))
-
-  -- up to the end of the plain bytes
-  pub walk_run : (at end found : ℕ) → EscapeScan known stops text at found → IsRunAt (is_plain stops) text at end
-      → EscapeScan known stops text end found
-  walk_run at end found w run =
-      let e : at + (end - at) ≡ end = omega (arith, run.ordered) in
-      rw e at (walk_bytes (end - at) at found w (omega (arith, run.within, run.ordered)) (rw (← e) at run.passes))
-
-  -- over a backslash and the byte that it escapes, if it is no stop
-  pub walk_escape : (at found : ℕ) (t : Bool) → EscapeScan known stops text at found → at + 1 < length text
-      → slice_index text at ≡ backslash → stops backslash ≡ false
-      → is_one_of known (slice_index text (at + 1)) ≡ t → EscapeScan known stops text (at + 2) (found + cond t 1 0)
-  unfolding without_escapes
-  walk_escape at found t w within here kept is =
-      let two : at + 1 + 1 ≡ at + 2 = omega arith in
-      let escaped : is_escaped_after (take (at + 1) text) ≡ true = rw (is_escaped_more text at (omega arith), w.bare, here) refl in
-      record {
-        within = omega arith;
-        bare = rw (← two) (rw (is_escaped_more text (at + 1) within, escaped) refl);
-        passed = grind (arith, cases_lt, cases_eq, and_right);
-        counted = omega (arith, kept_pair known text at t within w.bare here is, w.counted);
-      }
-
   -- up to a bare place, with no bare stop on the way
   pub walk_to : (n at found : ℕ) → EscapeScan known stops text at found → at + n ≤ length text
       → is_escaped_after (take (at + n) text) ≡ false
@@ -186,12 +148,38 @@ module _ (known : List ℕ) (stops : ℕ → Bool) (text : List ℕ) where
     counted = omega (arith, w.counted, all_counted known text at w.within w.bare, all_counted known text (at + n) room bare, joined known text n at);
   }
 
-  -- the same, if the answer is added as a number
-  pub walk_counted : (at found n : ℕ) (t : Bool) → EscapeScan known stops text at found → at + 1 < length text
+  -- up to the end of the plain bytes
+  pub walk_run : (at end found : ℕ) → EscapeScan known stops text at found → IsRunAt (is_plain stops) text at end
+      → EscapeScan known stops text end found
+  walk_run at end found w run =
+      let place : at + (end - at) ≡ end = omega (arith, run.ordered) in
+      let plain : (k : ℕ) → at ≤ k → k < end → (stops (slice_index text k) ≡ false) × ((slice_index text k == backslash) ≡ false) =
+      λ k from to. plain_parts (slice_index text k) (run.passes k from to) in
+      let none = none_escape known text (end - at) at (λ k from to. (plain k from (omega arith)).1) in
+      let is_bare : is_escaped_after (take end text) ≡ false = elim (cases_eq end at) [
+        | inl e ↦ rw e w.bare
+        | inr more ↦
+            let last : end - 1 + 1 ≡ end = omega (arith, run.ordered) in
+            rw last at (is_escaped_more text (end - 1) (omega (arith, run.within, run.ordered)))
+            ∙ grind (arith, (plain (end - 1) (omega (arith, run.ordered)) (omega (arith, run.ordered))).1)
+      ] in
+      rw (place, none, add-zero) at (walk_to (end - at) at found w (omega (arith, run.within)) (rw place is_bare)
+      (λ k from to. grind (arith, (plain k from (omega arith)).0)))
+
+  -- over a backslash and the byte that it escapes, if it is no stop
+  pub walk_escape : (at found n : ℕ) (t : Bool) → EscapeScan known stops text at found → at + 1 < length text
       → slice_index text at ≡ backslash → stops backslash ≡ false
       → is_one_of known (slice_index text (at + 1)) ≡ t → n ≡ bool_byte t → EscapeScan known stops text (at + 2) (found + n)
-  walk_counted at found n true w within here kept is counted = rw counted (walk_escape at found true w within here kept is)
-  walk_counted at found n false w within here kept is counted = rw counted (walk_escape at found false w within here kept is)
+  unfolding without_escapes
+  walk_escape at found n t w within here kept is counted =
+      let two : at + 1 + 1 ≡ at + 2 = omega arith in
+      let escaped : is_escaped_after (take (at + 1) text) ≡ true = rw (is_escaped_more text at (omega arith), w.bare, here) refl in
+      record {
+        within = omega arith;
+        bare = rw (← two) (rw (is_escaped_more text (at + 1) within, escaped) refl);
+        passed = grind (arith, cases_lt, cases_eq, and_right);
+        counted = grind (arith, cases_Bool, kept_pair known text at t within w.bare here is, w.counted);
+      }
 
   -- the token ends where a stop or the end of the text is reached
   pub walk_ends : (end found : ℕ) → EscapeScan known stops text end found → (end < length text → stops (slice_index text end) ≡ true)
