@@ -71,6 +71,15 @@ module _ (known text : List ℕ) where
       let place : suc (at + n) ≡ at + suc n = omega arith in
       rw (← place) (omega (arith, escapes_more (at + n) 0 (at + n) (omega arith), escapes_more n at (at + n) refl, joined n at))
 
+  -- none begins at an escaped byte after others
+  and_next : (at n last : ℕ) → last ≤ 1 → (0 < last → is_escaped_after (take (at + n) text) ≡ true)
+      → escapes_from at (n + last) ≡ escapes_from at n
+  and_next at n zero few next = rw (add-zero n) refl
+  and_next at n (suc last) few next =
+      let one : n + suc last ≡ suc n = omega arith in
+      let flag = escaped_is_not_bare (λ b. b == backslash) text (at + n) (next (omega arith)) in
+      rw one (omega (arith, rw flag at (escapes_more n at (at + n) refl)))
+
   -- how many bytes the first so many take without their escapes
   abbrev kept : ℕ → ℕ
   kept k = length (without_escapes known (take k text))
@@ -183,26 +192,19 @@ module _ (known : List ℕ) (stops : ℕ → Bool) (text : List ℕ) where
 
   -- the token ends where a stop or the end of the text is reached
   pub walk_ends : (end found : ℕ) → EscapeScan known stops text end found → (end < length text → stops (slice_index text end) ≡ true)
-      → (first_bare stops text ≡ end) × (length (without_escapes known (take end text)) + found ≡ end)
-  walk_ends end found w stop = (
-    first_bare_is stops text end w.within w.passed (λ h. rw (stop h, w.bare) refl),
-    w.counted,
-  )
+      → first_bare stops text ≡ end
+  walk_ends end found w stop = first_bare_is stops text end w.within w.passed (λ h. rw (stop h, w.bare) refl)
 
   -- or after a backslash that is the last byte
   pub walk_ends_after : (at found : ℕ) → EscapeScan known stops text at found → at + 1 ≡ length text
       → slice_index text at ≡ backslash → stops backslash ≡ false
       → (first_bare stops text ≡ at + 1) × (length (without_escapes known (take (at + 1) text)) + found ≡ at + 1)
-  unfolding without_escapes
-  walk_ends_after at found w last here kept =
-      let first = take_more text at 0 (omega arith) in
-      let separated_list = without_escapes_append known (take at text) (slice_index text at ∷ []) w.bare in (
-        first_bare_is stops text (at + 1) (omega arith)
-            (λ k h. elim (cases_eq k at) [ inl e ↦ rw (e, here, kept) refl | inr other ↦ w.passed k (omega arith) ])
-            (λ h. absurd (omega arith)),
-        rw (first, separated_list, length-append (without_escapes known (take at text)) (slice_index text at ∷ []))
-            (omega (arith, w.counted)),
-      )
+  walk_ends_after at found w last here kept = (
+    first_bare_is stops text (at + 1) (omega arith)
+        (λ k h. elim (cases_eq k at) [ inl e ↦ rw (e, here, kept) refl | inr other ↦ w.passed k (omega arith) ])
+        (λ h. absurd (omega arith)),
+    omega (arith, kept_byte known text at (omega arith) w.bare, w.counted),
+  )
 
   -- a byte that is not plain and no backslash is a stop
   pub is_stop_then : (b : ℕ) → is_plain stops b ≡ false → b ≢ backslash → stops b ≡ true
@@ -224,8 +226,8 @@ module _ (known : List ℕ) (stops : ℕ → Bool) (text : List ℕ) where
   pub run_ends : (end : ℕ) → IsRunAt (is_plain stops) text 0 end → (end < length text → slice_index text end ≢ backslash)
       → (first_bare stops text ≡ end) × (length (without_escapes known (take end text)) ≡ end)
   run_ends end run other =
-      let ends = walk_ends end 0 (walk_run 0 end 0 walk_start run) (λ h. is_stop_then (slice_index text end) (run.stops h) (other h)) in
-      (ends.0, omega (arith, ends.1))
+      let walked = walk_run 0 end 0 walk_start run in
+      (walk_ends end 0 walked (λ h. is_stop_then (slice_index text end) (run.stops h) (other h)), omega (arith, walked.counted))
 
 -- the mask of the bare backslashes of which the next byte is known
 pub escapes_mask : (known text : List ℕ) (at m k : ℕ) → at + 64 < length text → m ≡ mask_at (is_bare_at (λ b. b == backslash) text) at 64
@@ -263,16 +265,6 @@ module _ (known : List ℕ) (stops : ℕ → Bool) (text : List ℕ) (at found :
       let whole : run ≡ 64 = omega (arith, lowest_within (is_bare_at stops text) at 64 run (omega arith) run_is) in
       let walked = walk_to known stops text (64 + last) at found w (omega arith)
       (next_bare text at room last is) (λ k from to. (to_next stops text at room passed run run_is last far is).passed k to) in
-      let same : escapes_from known text at (64 + last) ≡ n = elim (cases_eq last 0) [
-        | inl none ↦ ap (λ (k : ℕ). escapes_from known text at (64 + k)) none ∙ ap (escapes_from known text at) (sym whole) ∙ sym counted
-        | inr some ↦
-            let more : 64 + last ≡ 64 + 1 = omega arith in
-            let flag = one_escaped text at room last is (omega arith) in
-            let bare_not : is_bare_at (λ b. b == backslash) text (at + 64) ≡ false = escaped_is_not_bare (λ b. b == backslash) text (at + 64) flag in
-            let zero : cond {A = ℕ} (is_escape_at known text (at + 64)) 1 0 ≡ 0 =
-            ap (λ (t : Bool). cond {A = ℕ} (t && is_one_of known (slice_index text (at + 64 + 1))) 1 0) bare_not in
-            ap (escapes_from known text at) more
-            ∙ escapes_more known text 64 at (at + 64) refl ∙ ap (λ (k : ℕ). escapes_from known text at 64 + k) zero
-            ∙ omega (arith, ap (escapes_from known text at) whole, counted)
-      ] in
+      let same : escapes_from known text at (64 + last) ≡ n = and_next known text at 64 last one (one_escaped text at room last is)
+      ∙ ap (escapes_from known text at) (sym whole) ∙ sym counted in
       subst (λ (k : ℕ). EscapeScan known stops text (at + (64 + last)) (found + k)) same walked

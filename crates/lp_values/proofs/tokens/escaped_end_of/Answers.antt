@@ -9,7 +9,7 @@ loop-end-init c = walk_run _ _ _ 0 _ 0 (walk_start (known_of c.args.kind) _ _) c
 pub returns-then-next-end-clause-end : goal.returns-then-next-end-clause-end
 returns-then-next-end-clause-end c =
     let load = c.escapes_in_load-next.ensures in
-    sym (walk_ends _ _ _ _ _ load.walked (λ _. load.stops c.if-next-end.true)).0
+    sym (walk_ends _ _ _ _ _ load.walked (λ _. load.stops c.if-next-end.true))
 
 pub returns-then-next-end-clause-told : goal.returns-then-next-end-clause-told
 returns-then-next-end-clause-told c =

@@ -28,7 +28,7 @@ returns-then-end-bytes-clause-len c =
 pub returns-else-bytes-end-eq92-clause-value : goal.returns-else-bytes-end-eq92-clause-value
 returns-else-bytes-end-eq92-clause-value c =
     sym (walk_ends _ _ _ _ _ c.loop-end.invariant.walked (λ within. is_stop_then (known_of c.args.kind) (stops_of c.args.kind) c.args.bytes.now _
-    (c.loop-end.invariant.stopped within) c.if-bytes-end-eq92.false)).0
+    (c.loop-end.invariant.stopped within) c.if-bytes-end-eq92.false))
 
 pub returns-after-loop-end-clause-value : goal.returns-after-loop-end-clause-value
-returns-after-loop-end-clause-value c = sym (walk_ends _ _ _ _ _ c.loop-end.invariant.walked (λ within. absurd (omega arith))).0
+returns-after-loop-end-clause-value c = sym (walk_ends _ _ _ _ _ c.loop-end.invariant.walked (λ within. absurd (omega arith)))
