@@ -119,19 +119,15 @@ module _ (known text : List ℕ) where
             let pair_on : j + 2 ≡ suc (suc j) = omega arith in
             let pair = rw pair_on at (kept_pair j _ (omega arith) (not-true _ unescaped) slash refl) in
             let counted = all_counted j (omega arith) (not-true _ unescaped) in
-            let begins : is_escape_at known text j ≡ is_one_of known (slice_index text (j + 1)) = rw (here, not-true _ unescaped) refl in
-            let inside : is_escape_at known text (j + 1) ≡ false = ap (λ b. b && is_one_of known (slice_index text (j + 1 + 1)))
-            (escaped_is_not_bare (λ b. b == backslash) text (j + 1) escaped) in
-            omega (arith, pair, counted, rw begins at (escapes_more j 0 j (omega arith)), rw inside at (escapes_more (suc j) 0 (j + 1) (omega arith)))
+            let inside = escaped_is_not_bare (λ b. b == backslash) text (j + 1) escaped in
+            omega (arith, pair, counted, rw (here, not-true _ unescaped) at (escapes_more j 0 j (omega arith)), rw inside at (escapes_more (suc j) 0 (j + 1) (omega arith)))
         | inr other ↦
             let last : (slice_index text (j + 1) == backslash) ≡ false = sym (rw (two, other) at (is_escaped_more text (j + 1) (omega arith))) ∙ bare in
-            let plain : is_escape_at known text (j + 1) ≡ false =
-            ap (λ b. (b && not (is_escaped_after (take (j + 1) text))) && is_one_of known (slice_index text (j + 1 + 1))) last in
             omega (
               arith,
               all_counted (suc j) (omega arith) (rw one at other),
               rw (two, one) at (kept_byte (j + 1) (omega arith) other),
-              rw plain at (escapes_more (suc j) 0 (j + 1) (omega arith)),
+              rw last at (escapes_more (suc j) 0 (j + 1) (omega arith)),
             )
       ]
 
