@@ -280,6 +280,7 @@ pub(crate) fn stretch_at(kind: TokenKind, spelling: &[u8], at: usize) -> (usize,
 }
 
 // Puts after `to`, which has room for it, the logical text of `spelled`. It asks for no memory.
+#[tactic(auto, using(crate::proofs::lemmas::tokens::TokenLemmas::spelling_steps))]
 #[inline(always)]
 fn put(kind: TokenKind, spelled: &str, to: &mut String) -> Result<(), AllocError>
     requires empty { string_bytes to.old ≡ [] }

@@ -4,7 +4,7 @@ use Rattle.std.proofs.Common.{take, length, slice_index, ap, append_assoc, lengt
 use Rattle.std.proofs.Common.{eqb-true, ne_eqb, bytes_eq, append-nil, drop-drop, get_or-drop, length-drop, length-take-le, take-append-drop}
 use Rattle.std.proofs.Common.{length-take}
 use Rattle.std.proofs.lemmas.Bool.{and_parts, or_right, cases_Bool, or_parts, cases_lt, cases_eq, false≢true, not-true}
-use Rattle.std.proofs.lemmas.{Grind.common_steps, Slice.Eq.bytes_eq-Decides, List.drop_all, List.take_rest, Slice.drop-put_mid, Slice.take-put_mid}
+use Rattle.std.proofs.lemmas.{Grind.common_steps, Str.IsCharBoundary-start, Slice.Eq.bytes_eq-Decides, List.drop_all, List.take_rest, Slice.drop-put_mid, Slice.take-put_mid}
 use Rattle.lp_scan.specs.declared.sets.TokenKind.{TokenKind}
 use Rattle.lp_scan.specs.code.{stops_of, known_of, is_plain, IsRunAt}
 use Rattle.lp_format.specs.format.{backslash, is_one_of, without_escapes, is_one_escape, read_text, Text}
@@ -180,3 +180,6 @@ nothing_same ys = grind (arith, ne_eqb)
 
 -- the first byte of the logical text from a place on
 pub ruleset byte_steps = (common_steps, take_rest, byte_at, escape_at)
+
+-- what is known once a spelling is read
+pub ruleset spelling_steps = (common_steps, nothing_left, nothing_same, whole_put, append-nil, IsCharBoundary-start)
