@@ -10,8 +10,8 @@ use Rattle.std.proofs.lemmas.{Bool.cases_Bool, Bool.cases_lt, Bool.and_parts, Bo
 use Rattle.std.proofs.lemmas.{List.length-map, List.Sums.prefix_len-le-length, List.Sums.prefix_len_passes, List.Sums.prefix_len_stops}
 use Rattle.std.proofs.lemmas.Simd.{first_set_mask_l, bit_mask_l, mask_l-lt, ones-mask_l, map-map, pick_l-range_with_len}
 use lib.Lanes.{mask_l}
-use Rattle.lp_format.specs.format.{is_escaped_after, is_bare_at, IsBareAfter, IsPassed, backslash}
-use Rattle.lp_scan.specs.code.{first_set, mask_at, TellsEscaped, TellsBare, mask_of}
+use Rattle.lp_format.specs.format.{is_escaped_after, is_bare_at, IsBareAfter, backslash}
+use Rattle.lp_scan.specs.code.{first_set, mask_at, IsBarePassed, TellsEscaped, TellsBare, mask_of}
 use Rattle.lp_format.proofs.lemmas.tokens.EscapeLemmas.{is_escaped_more}
 use native.Mathlib.Nat.{pow-suc}
 use Rattle.lp_scan.proofs.lemmas.scan.MaskLemmas.{differs, and_of_maps, or_of_maps, xor_of_maps, not_of_map, mask_mod}
@@ -249,13 +249,13 @@ module _ (text : List ℕ) (at : ℕ) (room : at + 64 < length text) (last : ℕ
   next_bare = grind (arith, cases_Bool, escapes_next, escaped_is_not_bare, flag)
 
 -- from the mask of the bare stops of a load that begins at a bare place
-module _ (passes : ℕ → Bool) (text : List ℕ) (at : ℕ) (room : at + 64 < length text) (p : IsPassed passes text at) where
+module _ (passes : ℕ → Bool) (text : List ℕ) (at : ℕ) (room : at + 64 < length text) (p : IsBarePassed passes text at) where
   -- how many bytes come before the first bare stop
   module _ (r : ℕ) (found : r ≡ first_set (mask_at (is_bare_at passes text) at 64) 64) where
     -- no bare byte before the lowest bit passes
     none_to : (k : ℕ) → k < at + r → is_bare_at passes text k ≡ false
     none_to k to = elim (cases_lt k at) [
-      | inl early ↦ p.passed k early
+      | inl early ↦ p.none k early
       | inr late ↦ none_before (is_bare_at passes text) at 64 r (omega arith) found k late to
     ]
 
@@ -264,15 +264,15 @@ module _ (passes : ℕ → Bool) (text : List ℕ) (at : ℕ) (room : at + 64 < 
     here short = and_parts _ _ (lowest_passes (is_bare_at passes text) at 64 r (omega arith) found short)
 
     -- the lowest bit is the first bare byte that passes
-    pub to_stop : r < 64 → IsPassed passes text (at + r) × (passes (slice_index text (at + r)) ≡ true)
+    pub to_stop : r < 64 → IsBarePassed passes text (at + r) × (passes (slice_index text (at + r)) ≡ true)
     to_stop short = grind (arith, not-true, here, none_to)
 
     -- none is: the next load begins at a bare place too
-    pub to_next : (last : ℕ) → 64 ≤ r → last ≡ cond (is_bare_at (λ b. b == backslash) text (at + 63)) 1 0 → IsPassed passes text (at + (64 + last))
+    pub to_next : (last : ℕ) → 64 ≤ r → last ≡ cond (is_bare_at (λ b. b == backslash) text (at + 63)) 1 0 → IsBarePassed passes text (at + (64 + last))
     to_next last far is = record {
       within = omega (arith, at_most_one text at room last is);
-      is_bare = λ _. next_bare text at room last is;
-      passed = λ k to. elim (cases_lt k (at + 64)) [
+      is_bare = next_bare text at room last is;
+      none = λ k to. elim (cases_lt k (at + 64)) [
         | inl before ↦ none_to k (omega arith)
         | inr after ↦
             let place : k ≡ at + 64 = omega (arith, at_most_one text at room last is) in

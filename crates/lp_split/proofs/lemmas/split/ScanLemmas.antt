@@ -21,14 +21,7 @@ module _ (passes : ℕ → Bool) where
       ≡ bare_len passes (is_escaped_after front) text
   after_front front [] = refl
   after_front front (b ∷ text) =
-      let here : is_bare_at passes (front ++ b ∷ text) (length front) ≡ (passes b && not (is_escaped_after front)) =
-      rw (get_or-append_seam front b text 0, take-append_seam front (b ∷ text)) refl in
-      let next : length (front ++ b ∷ []) ≡ length front + 1 = omega (arith, length-append front (b ∷ [])) in
-      let more = rw (append_assoc front (b ∷ []) text, next, is_escaped_push front b) at (after_front (front ++ b ∷ []) text) in
-      elim (cases_Bool (passes b && not (is_escaped_after front))) [
-        | inl stop ↦ rw (here, stop) refl
-        | inr on ↦ rw (here, on) (omega (arith, more))
-      ]
+      grind (arith, get_or-append_seam, take-append_seam, length-append, append_assoc, is_escaped_push, cases_Bool, (after_front (front ++ b ∷ []) text))
 
   -- the two agree
   pub first_bare_len : (text : List ℕ) → first_bare passes text ≡ bare_len passes false text
@@ -69,9 +62,7 @@ module _ (passes : ℕ → Bool) where
       → AllFail (bare_after p front) × IsAtStop passes (p ++ front) after
   before_by p [] [] h = grind (arith, append-nil)
   before_by p [] (b ∷ after) h = grind (arith, append-nil, cases_Bool, and_parts, not-true)
-  before_by p (b ∷ front) after h =
-      let rest = before_by (p ++ b ∷ []) front after in
-      grind (arith, cases_Bool, append_assoc, len_more)
+  before_by p (b ∷ front) after h = grind (arith, cases_Bool, append_assoc, len_more, (before_by (p ++ b ∷ []) front after))
 
   -- the length of the front, by what it is
   first_len : (text : List ℕ) → first_bare passes text ≡ bare_len passes (is_escaped_after []) text

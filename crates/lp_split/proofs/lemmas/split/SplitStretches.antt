@@ -11,8 +11,8 @@ use Rattle.std.proofs.Math.Seq.{drop-append_seam, take-append-add, take-append_s
 use Rattle.lp_format.specs.format.{backslash, comma, newline, quote, space, Crate, is_bare_at, is_escaped_after, IsBareAfter, IsHead}
 use Rattle.lp_format.specs.format.{EndsQuoted, IsFirstCut}
 use Rattle.lp_split.specs.declared.split.Ahead.{Ahead}
-use Rattle.lp_split.specs.code.{IsAhead, IsBarePassed}
-use Rattle.lp_scan.specs.code.{first_set, mask_at}
+use Rattle.lp_split.specs.code.{IsAhead}
+use Rattle.lp_scan.specs.code.{first_set, mask_at, IsBarePassed}
 use Rattle.lp_scan.proofs.lemmas.scan.BareMasks.{at_most_one, lowest_passes, next_bare, none_before, one_escaped, ones_low}
 use Rattle.lp_scan.proofs.lemmas.scan.MaskLemmas.{mask_after, mask_fits, tz_below}
 use Rattle.lp_format.proofs.lemmas.split.SplitBare.{is_escaped-nil, is_escaped-append, is_escaped-push_other, flag_after, IsHead-bare}
@@ -156,8 +156,7 @@ module _ (bytes text : List ℕ) (is_bare : IsBareAfter bytes) where
       → map (is_bare_at passes (bytes ++ text)) (range_with_len to n) ≡ map (is_bare_at passes text) (range_with_len from n)
   tests_in_both passes zero from to place = refl
   tests_in_both passes (suc n) from to place =
-      ap₂ (λ (t : Bool) (ts : List Bool). t ∷ ts) (ap (is_bare_at passes (bytes ++ text)) (sym place) ∙ bare_in_both passes from)
-      (tests_in_both passes n (from + 1) (to + 1) (omega (arith, place)))
+      grind (arith, bare_in_both, (tests_in_both passes n (from + 1) (to + 1) (omega (arith, place))))
 
   -- so what a load shows of them it shows of both
   pub shown_in_both : (a : Ahead) → IsAhead text 0 a → IsAhead (bytes ++ text) (length bytes)

@@ -35,8 +35,7 @@ AreBlanks bytes = All (λ b. (b ≡ space) ⊎ (b ≡ tab)) bytes
 after_blanks : (bytes rest : List ℕ) → AreBlanks bytes → begins_comment (bytes ++ rest) ≡ begins_comment rest
 after_blanks [] rest h = refl
 after_blanks (b ∷ bytes) rest h =
-    let more = after_blanks bytes rest (All-tail (λ c. (c ≡ space) ⊎ (c ≡ tab)) b bytes h) in
-    grind (arith, All-head)
+    grind (arith, All-head, (after_blanks bytes rest (All-tail (λ c. (c ≡ space) ⊎ (c ≡ tab)) b bytes h)))
 
 -- blanks alone begin none
 pub blanks_begin_none : (bytes : List ℕ) → AreBlanks bytes → begins_comment bytes ≡ false

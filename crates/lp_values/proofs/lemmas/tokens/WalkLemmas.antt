@@ -6,12 +6,12 @@ use Rattle.std.proofs.lemmas.Bool.{cases_Bool, or_parts, not-true, not-false, or
 use Rattle.std.proofs.lemmas.{List.take_more, List.Folds.list_any_more, List.Sums.sum_by-cons}
 use Rattle.std.specs.List.{range_with_len}
 use mir.Val.{bool_byte}
-use Rattle.lp_format.specs.format.{backslash, is_one_of, is_escaped_after, is_bare_at, first_bare, without_escapes, EscapeScan, IsPassed}
-use Rattle.lp_scan.specs.code.{is_plain, AllPassBetween, IsRunAt, first_set, mask_of, mask_at}
+use Rattle.lp_format.specs.format.{backslash, is_one_of, is_escaped_after, is_bare_at, first_bare, without_escapes, EscapeScan}
+use Rattle.lp_scan.specs.code.{is_plain, AllPassBetween, IsBarePassed, IsRunAt, first_set, mask_of, mask_at}
 use Rattle.lp_format.proofs.lemmas.tokens.EscapeLemmas.{first_bare_is, is_escaped_more}
 use Rattle.lp_format.proofs.lemmas.names.NameLemmas.{without_escapes_plain_byte}
 use Rattle.lp_format.proofs.lemmas.split.SplitBare.{is_escaped-nil, is_escaped-append, is_escaped-after_other, flag_after}
-use Rattle.lp_scan.proofs.lemmas.scan.BareMasks.{at_most_one, escaped_is_not_bare, lowest_within, mask_next, next_bare, one_escaped}
+use Rattle.lp_scan.proofs.lemmas.scan.BareMasks.{at_most_one, escaped_is_not_bare, lowest_within, mask_next, one_escaped}
 use Rattle.lp_scan.proofs.lemmas.scan.BareMasks.{ones_low, to_next, to_stop}
 use Rattle.lp_scan.proofs.lemmas.scan.{BareMasks.of_places, MaskLemmas.and_of_maps}
 
@@ -237,8 +237,8 @@ module _ (known : List ℕ) (stops : ℕ → Bool) (text : List ℕ) (at found :
     (w : EscapeScan known stops text at found) (run : ℕ) (run_is : run ≡ first_set (mask_at (is_bare_at stops text) at 64) 64)
     (n : ℕ) (n_is : n ≡ count_ones (mask_at (is_escape_at known text) at 64 % 2 ^ run)) where
   -- no stop is before the load
-  passed : IsPassed stops text at
-  passed = record { within = w.within; is_bare = λ _. w.bare; passed = w.passed }
+  passed : IsBarePassed stops text at
+  passed = record { within = w.within; is_bare = w.bare; none = w.passed }
 
   -- the bits of the mask are counted as escapes
   counted : n ≡ escapes_from known text at run
@@ -248,8 +248,7 @@ module _ (known : List ℕ) (stops : ℕ → Bool) (text : List ℕ) (at found :
   pub load_stops : run < 64 → EscapeScan known stops text (at + run) (found + n) × (stops (slice_index text (at + run)) ≡ true)
   load_stops short =
       let stop = to_stop stops text at room passed run run_is short in (
-        rw counted (walk_to known stops text run at found w (omega arith) (stop.0.is_bare (omega arith))
-            (λ k from to. stop.0.passed k to)),
+        rw counted (walk_to known stops text run at found w stop.0.within stop.0.is_bare (λ k from to. stop.0.none k to)),
         stop.1,
       )
 
@@ -259,8 +258,8 @@ module _ (known : List ℕ) (stops : ℕ → Bool) (text : List ℕ) (at found :
   load_goes_on last far is =
       let one = at_most_one text at room last is in
       let whole : run ≡ 64 = omega (arith, lowest_within (is_bare_at stops text) at 64 run (omega arith) run_is) in
-      let walked = walk_to known stops text (64 + last) at found w (omega arith)
-      (next_bare text at room last is) (λ k from to. (to_next stops text at room passed run run_is last far is).passed k to) in
+      let next = to_next stops text at room passed run run_is last far is in
+      let walked = walk_to known stops text (64 + last) at found w next.within next.is_bare (λ k from to. next.none k to) in
       let same : escapes_from known text at (64 + last) ≡ n = and_next known text at 64 last one (one_escaped text at room last is)
       ∙ ap (escapes_from known text at) (sym whole) ∙ sym counted in
       subst (λ (k : ℕ). EscapeScan known stops text (at + (64 + last)) (found + k)) same walked
