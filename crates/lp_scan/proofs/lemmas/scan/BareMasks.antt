@@ -182,20 +182,14 @@ module _ (p : ℕ → Bool) (at n r : ℕ) (few : n ≤ 64) (found : r ≡ first
   pub none_before : (k : ℕ) → at ≤ k → k < at + r → p k ≡ false
   none_before k from to =
       let place : at + (k - at) ≡ k = omega arith in
-      let before : k - at < prefix_len (λ j. not (p j)) (range_with_len at n) = omega (arith, counted) in
-      let inside : k - at < n = omega (arith, lowest_within) in
-      not-true (p k)
-      (subst (λ (j : ℕ). not (p j) ≡ true) (get_or-range_with_len at n (k - at) 0 inside ∙ place)
-      (prefix_len_passes (λ j. not (p j)) (range_with_len at n) (k - at) 0 before))
+      let there = prefix_len_passes (λ j. not (p j)) (range_with_len at n) (k - at) 0 (omega (arith, counted)) in
+      not-true (p k) (rw (get_or-range_with_len at n (k - at) 0 (omega (arith, lowest_within)), place) at there)
 
   -- the place of the lowest bit passes
   pub lowest_passes : r < n → p (at + r) ≡ true
   lowest_passes short =
-      let inside : prefix_len (λ j. not (p j)) (range_with_len at n) < length (range_with_len at n) = omega (arith, counted, long) in
-      not-false (p (at + r))
-      (subst (λ (j : ℕ). not (p j) ≡ false)
-      (ap (λ (k : ℕ). get_or (range_with_len at n) k 0) (sym counted) ∙ get_or-range_with_len at n r 0 short)
-      (prefix_len_stops (λ j. not (p j)) (range_with_len at n) 0 inside))
+      let there = prefix_len_stops (λ j. not (p j)) (range_with_len at n) 0 (omega (arith, counted, long)) in
+      not-false (p (at + r)) (rw (← counted, get_or-range_with_len at n r 0 short) at there)
 
 -- the highest bit of a mask of 64 places tells of the last
 pub highest : (p : ℕ → Bool) (at : ℕ) → mask_at p at 64 / 2 ^ 63 ≡ cond (p (at + 63)) 1 0
