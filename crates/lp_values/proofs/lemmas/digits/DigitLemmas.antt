@@ -158,22 +158,23 @@ lanes_are_digits n bytes room few digits =
     ap (take n) (zip2_splat (λ (a b : ℕ). (a + (2 ^ 8 - b)) % 2 ^ 8) (take 16 bytes) 16 48 (length-take-le 16 bytes room))
     ∙ take-map less n (take 16 bytes) ∙ ap (map less) (take-take n 16 bytes few) ∙ less_zero (take n bytes) digits
 
--- the lanes of 16 digits are digits, and their number is what those write
-pub whole_lanes : (bytes lanes : List ℕ) → length bytes ≡ 16 → length lanes ≡ 16 → AllDigits 10 bytes
-    → ((n : ℕ) → n ≤ 16 → AllDigits 10 (take n bytes) → take n lanes ≡ map digit_value (take n bytes))
-    → AllBelowBase 10 lanes × (number_from_digits 10 lanes ≡ digits_value 10 bytes)
-whole_lanes bytes lanes long wide digits are =
-    let all = take_all 16 bytes (omega (arith, long)) in
-    let every : AllDigits 10 (take 16 bytes) = subst (AllDigits 10) (sym all) digits in
-    let is = sym (take_all 16 lanes (omega (arith, wide))) in
-    let same = are 16 (omega arith) every in
-    (moved_below 0 16 bytes lanes lanes is same every, moved_number 0 16 bytes lanes lanes is same ∙ ap (digits_value 10) all)
-
 -- digits at the start and the rest are digits
 pub digits_parts : (n : ℕ) (ds : List ℕ) → AllDigits 10 ds → AllDigits 10 (take n ds) × AllDigits 10 (drop n ds)
 digits_parts zero ds digits = (tt, digits)
 digits_parts (suc n) [] digits = (tt, tt)
 digits_parts (suc n) (d ∷ ds) (small, digits) = let parts = digits_parts n ds digits in ((small, parts.0), parts.1)
+
+-- the lanes of the last 16 digits are digits, and their number is what those write
+pub whole_lanes : (ds bytes lanes : List ℕ) → bytes ≡ drop (length ds - 16) ds → 16 < length ds → length lanes ≡ 16 → AllDigits 10 ds
+    → ((n : ℕ) → n ≤ 16 → AllDigits 10 (take n bytes) → take n lanes ≡ map digit_value (take n bytes))
+    → AllBelowBase 10 lanes × (number_from_digits 10 lanes ≡ digits_value 10 (drop (length ds - 16) ds))
+whole_lanes ds bytes lanes back least wide digits are =
+    let long : length bytes ≡ 16 = omega (arith, ap length back, length-drop (length ds - 16) ds) in
+    let all = take_all 16 bytes (omega (arith, long)) in
+    let every : AllDigits 10 (take 16 bytes) = rw (all, back) (digits_parts (length ds - 16) ds digits).1 in
+    let is = sym (take_all 16 lanes (omega (arith, wide))) in
+    let same = are 16 (omega arith) every in
+    (moved_below 0 16 bytes lanes lanes is same every, moved_number 0 16 bytes lanes lanes is same ∙ ap (digits_value 10) (all ∙ back))
 
 -- digits write on after others
 digits_append : (n : ℕ) (xs ys : List ℕ) → digits_value_after 10 n (xs ++ ys) ≡ digits_value_after 10 (digits_value_after 10 n xs) ys
