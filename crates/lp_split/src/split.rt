@@ -187,7 +187,6 @@ fn seen_past(ahead: Ahead, run: usize) -> Ahead
 #[tactic(auto, using(crate::proofs::lemmas::split::SplitStretches::quoted_ends))]
 #[inline(always)]
 fn quoted_end(text: &[u8], at: usize, ahead: Ahead) -> (usize, Ahead)
-    requires within { at ≤ length text.now }
     requires is_bare { IsBareAfter (take at text.now) }
     requires seen { IsAhead text.now at ahead }
     ensures ordered { (at ≤ result.0) × (result.0 ≤ length text.now) }

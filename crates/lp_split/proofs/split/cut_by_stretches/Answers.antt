@@ -23,7 +23,6 @@ loop-ahead-preserved-then-ahead-eq0 c =
     let from = was.seen.within in
     let few = few_past was.seen c.ones_below-equals.ensures c.ones_below-commas.ensures in
     record {
-      within = was.seen.fits;
       is_bare = was.seen.is_bare;
       plain = plain_past was.seen c.ones_below-equals.ensures c.ones_below-commas.ensures _ _ c.if-ahead-eq0.true was.plain;
       seen = c.load_ahead-ahead.ensures.seen;
@@ -36,9 +35,6 @@ bounds-text-end c = stop_within c.loop-ahead.invariant.seen (omega arith) refl
 pub returns-then-text-end-eq10 : goal.returns-then-text-end-eq10
 returns-then-text-end-eq10 c =
     plain_cut c.loop-ahead.invariant.seen (omega arith) refl _ _ c.loop-ahead.invariant.plain c.if-text-end-eq10.true
-
-pub quoted_end-requires-clause-within : goal.quoted_end-requires-clause-within
-quoted_end-requires-clause-within c = omega (arith, stop_within c.loop-ahead.invariant.seen (omega arith) refl)
 
 pub quoted_end-requires-clause-is_bare : goal.quoted_end-requires-clause-is_bare
 quoted_end-requires-clause-is_bare c = bare_after c.loop-ahead.invariant.seen (omega arith) refl
@@ -67,7 +63,6 @@ loop-ahead-preserved-then-commas-equals c =
     let inside : end < length text = grind (arith, common_steps) in
     let here : slice_index text end ≡ quote = grind (arith, common_steps) in
     record {
-      within = omega arith;
       is_bare = bare_past text end inside (omega (arith, here));
       plain = quoted_closes text end _ _ inside c.quoted_end.ensures.bare here
           (c.quoted_end.ensures.stays _ _
@@ -82,7 +77,6 @@ loop-ahead-preserved c =
     let was = c.loop-ahead.invariant in
     let few = few_to was.seen (omega arith) refl c.ones_below-equals-in-loop-ahead.ensures c.ones_below-commas-in-loop-ahead.ensures in
     record {
-      within = omega (arith, stop_within was.seen (omega arith) refl);
       is_bare = bare_after was.seen (omega arith) refl;
       plain = quote_stays was.seen (omega arith) refl c.ones_below-equals-in-loop-ahead.ensures c.ones_below-commas-in-loop-ahead.ensures _ _
           was.plain c.if-text-end-eq10.false c.if-commas-equals.false;

@@ -6,7 +6,6 @@ use Rattle.lp_split.proofs.split.cut_by_stretches.Given as goal
 -- the place is a bare one of a plain stretch
 abbrev pub invariant-loop-ahead : goal.invariant-loop-ahead
 invariant-loop-ahead l = record {
-  within : l.at ≤ length l.text;
   is_bare : IsBareAfter (take l.at l.text);
   plain : EndsIn Plain l.equals l.commas (take l.at l.text);
   seen : IsAhead l.text l.at l.ahead;
