@@ -187,8 +187,7 @@ fn seen_past(ahead: Ahead, run: usize) -> Ahead
 #[tactic(auto, using(crate::proofs::lemmas::split::SplitStretches::quoted_ends))]
 #[inline(always)]
 fn quoted_end(text: &[u8], at: usize, ahead: Ahead) -> (usize, Ahead)
-    requires is_bare { IsBareAfter (take at text.now) }
-    requires seen { IsAhead text.now at ahead }
+    requires { IsAhead text.now at ahead }
     ensures ordered { (at ≤ result.0) × (result.0 ≤ length text.now) }
     ensures bare { IsBareAfter (take result.0 text.now) }
     ensures stays { (e c : ℕ) → EndsIn Quoted e c (take at text.now) → EndsIn Quoted e c (take result.0 text.now) }

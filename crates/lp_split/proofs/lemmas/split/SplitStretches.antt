@@ -161,7 +161,7 @@ module _ (bytes text : List ℕ) (is_bare : IsBareAfter bytes) where
   -- so what a load shows of them it shows of both
   pub shown_in_both : (a : Ahead) → IsAhead text 0 a → IsAhead (bytes ++ text) (length bytes)
       (record { stops = a.stops; equals = a.equals; commas = a.commas; end = length bytes + a.end })
-  shown_in_both a are = grind (arith, take-append-add, bare_joined, tests_in_both, length-append)
+  shown_in_both a are = grind (arith, take-append-add, take-append_seam, bare_joined, tests_in_both, length-append)
 
 -- a head up to a bare place, which may end it
 module _ (text : List ℕ) (n : ℕ) (p : IsBarePassed (λ b. b == space || b == newline) text n) where
@@ -207,6 +207,7 @@ load_shows text at s e c last room is_bare s_is e_is c_is last_is =
     let one = at_most_one text at room last last_is in
     let place : at + (64 + last) ≡ at + 64 + last = omega arith in
     record {
+      starts_bare = is_bare;
       count = 64;
       few = omega arith;
       within = omega arith;
@@ -352,6 +353,7 @@ module _ {text : List ℕ} {at : ℕ} {a : Ahead} (are : IsAhead text at a) wher
         ap (λ (k : ℕ). k / 2 ^ run / 2) is ∙ ap (λ (k : ℕ). k / 2) (mask_after (bare_at p) at are.count run (left + 1) (omega arith))
         ∙ mask_after (bare_at p) (at + run) (left + 1) 1 left (omega arith) in
         record {
+          starts_bare = bare_after;
           count = left;
           few = omega (arith, are.few);
           within = omega arith;
