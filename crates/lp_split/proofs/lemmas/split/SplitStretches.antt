@@ -3,7 +3,8 @@ use Rattle.std.proofs.Common.{◌≡◌, ◌≢◌, ℕ, zero, suc, ◌+◌, ◌
 use Rattle.std.proofs.Common.{◌++◌, length, take, drop, map, slice_index, Some, count_ones, sym, ap, ap₂, ◌∙◌, subst, refl, inl, inr}
 use Rattle.std.proofs.Common.{arith, length-append, ◌==◌, ◌||◌, w64, count_by, ne_eqb, get_or-drop, take-add}
 use Rattle.std.specs.{Int.trailing_zeros, List.range_with_len}
-use Rattle.std.proofs.lemmas.{Bool.and_parts, Bool.cases_Bool, Bool.cases_lt, Bool.not-true, Bool.Decides.nat_tests, List.take_more}
+use Rattle.std.proofs.{Common.add-zero, Math.Bool.and-true}
+use Rattle.std.proofs.lemmas.{Bool.and_parts, Bool.and_right, Bool.cases_Bool, Bool.cases_lt, Bool.not-true, Bool.Decides.nat_tests, List.take_more}
 use Rattle.std.proofs.lemmas.{List.take_rest, List.Elements.All-nil, List.FromFn.length-map-range_with_len}
 use Rattle.std.proofs.lemmas.{List.FromFn.length-range_with_len, List.Sums.count_by-le-length, List.Sums.sum_by-cons, Simd.mask_l-mod}
 use Rattle.std.proofs.lemmas.{Simd.ones-mask_l}
@@ -42,6 +43,13 @@ bare_in_rest : (passes : ℕ → Bool) (text rest : List ℕ) (at k : ℕ) → r
     → is_bare_at passes text (at + k) ≡ is_bare_at passes rest k
 bare_in_rest passes text rest at k same is_bare = grind (arith, get_or-drop, take-add, bare_joined)
 
+-- a byte of a plain stretch is counted if it is bare
+plain_byte : (piece : List ℕ) (b e c : ℕ) (escaped : Bool) → is_escaped_after piece ≡ escaped → (ends_plain b && not escaped) ≡ false
+    → IsIn Plain e c piece → IsIn Plain (e + cond (b == equals && not escaped) 1 0) (c + cond (b == comma && not escaped) 1 0) (piece ++ b ∷ [])
+plain_byte piece b e c true f none h =
+    rw (and_right (b == equals) false refl, and_right (b == comma) false refl, add-zero e, add-zero c) (IsIn-escaped Plain e c piece b f h)
+plain_byte piece b e c false f none h = rw (and-true (b == equals), and-true (b == comma)) (Plain-any e c piece b f (rw and-true at none) h)
+
 module _ (text : List ℕ) where
   -- what each byte keeps that is no bare stop is kept along several
   along : (P : List ℕ → Type 0) (stop : ℕ → Bool)
@@ -70,32 +78,6 @@ module _ (text : List ℕ) where
     h.2,
   )
 
-  -- a byte of a plain stretch is counted if it is bare
-  plain_byte : (at e c x y : ℕ) → at < length text → is_bare_at ends_plain text at ≡ false → IsIn Plain e c (take at text)
-      → x ≡ e + cond (is_bare_at (λ b. b == equals) text at) 1 0 → y ≡ c + cond (is_bare_at (λ b. b == comma) text at) 1 0
-      → IsIn Plain x y (take (at + 1) text)
-  plain_byte at e c x y room none h to_x to_y =
-      let piece = take at text in
-      let b = slice_index text at in
-      rw (take_more text at 0 room) (elim (cases_Bool (is_escaped_after piece)) [
-        | inl escaped ↦
-            let same_x : x ≡ e = to_x ∙ not_counted (b == equals) (is_escaped_after piece) e escaped in
-            let same_y : y ≡ c = to_y ∙ not_counted (b == comma) (is_escaped_after piece) c escaped in
-            rw (same_x, same_y) (IsIn-escaped Plain e c piece b escaped h)
-        | inr is_bare ↦
-            let same_x = to_x ∙ counted (b == equals) (is_escaped_after piece) e is_bare in
-            let same_y = to_y ∙ counted (b == comma) (is_escaped_after piece) c is_bare in
-            rw (same_x, same_y) (Plain-any e c piece b is_bare (fails_bare _ _ none is_bare) h)
-      ])
-    where
-      -- a bare byte is
-      counted : (t f : Bool) (n : ℕ) → f ≡ false → n + cond (t && not f) 1 0 ≡ n + cond t 1 0
-      counted t f n h = grind arith
-
-      -- an escaped one is not
-      not_counted : (t f : Bool) (n : ℕ) → f ≡ true → n + cond (t && not f) 1 0 ≡ n
-      not_counted t f n h = grind arith
-
   -- along a plain stretch the bare `=` and `,` are counted
   plain_on : (n at e c x y : ℕ) → at + n ≤ length text → ((k : ℕ) → at ≤ k → k < at + n → is_bare_at ends_plain text k ≡ false)
       → IsIn Plain e c (take at text) → x ≡ e + count_by (is_bare_at (λ b. b == equals) text) (range_with_len at n)
@@ -105,7 +87,8 @@ module _ (text : List ℕ) where
       let place : at + 1 + n ≡ at + suc n = omega arith in
       let more : (p : ℕ → Bool) → count_by p (range_with_len at (suc n)) ≡ cond (p at) 1 0 + count_by p (range_with_len (at + 1) n) =
       λ p. sum_by-cons (λ k. cond (p k) 1 0) at (range_with_len (at + 1) n) in
-      let one = plain_byte at e c _ _ (omega arith) (none at (omega arith) (omega arith)) h refl refl in
+      let one = rw (← take_more text at 0 (omega arith)) at
+      (plain_byte (take at text) (slice_index text at) e c _ refl (none at (omega arith) (omega arith)) h) in
       subst (λ (k : ℕ). IsIn Plain x y (take k text)) place
       (plain_on n (at + 1) _ _ x y (omega arith) (λ k l m. none k (omega arith) (omega arith)) one
       (omega (arith, to_x, more (is_bare_at (λ b. b == equals) text))) (omega (arith, to_y, more (is_bare_at (λ b. b == comma) text))))
