@@ -2,7 +2,7 @@
 -- make of them.
 use Rattle.std.proofs.Common.{◌≡◌, ℕ, zero, suc, ◌+◌, ◌-◌, ◌*◌, ◌/◌, ◌^◌, ◌<◌, ◌≤◌, Bool, true, cond, not, List, [], ◌∷◌, map, length, take}
 use Rattle.std.proofs.Common.{drop, sym, ap, ◌∙◌, arith, ◌%◌, ◌++◌, get_or, refl, inl, inr, take-append-drop, subst, drop-drop, length-take}
-use Rattle.std.proofs.Common.{count_by, count_ones, w64, min, max, false, ◌&&◌, ◌||◌, bit_and, bit_or, bit_xor, ap₂}
+use Rattle.std.proofs.Common.{w64, min, max, false, ◌&&◌, ◌||◌, bit_and, bit_or, bit_xor, ap₂}
 use Rattle.std.proofs.Math.Nat.{pow-le-pow_right, mod-eq_of_lt}
 use native.Mathlib.Nat.{pow-suc, mul_comm, zero-div, div-one, div-div-eq-div-mul, add-mul-mod_self_right}
 use Rattle.std.proofs.lemmas.Simd.{length-chunk, first_set_mask_l, run_in_chunk_le, run_in_chunk_fails, run_in_chunk_stops}

@@ -1,6 +1,6 @@
 -- The first bare byte that passes a test, found from left to right, and the front before it.
-use Rattle.std.proofs.Common.{◌≡◌, ◌↔◌, ℕ, suc, ◌+◌, ◌≤◌, List, [], ◌∷◌, ◌++◌, length, take, Bool, true, false, not, ◌&&◌, cond, refl, sym, ap}
-use Rattle.std.proofs.Common.{◌∙◌, subst, inl, inr, ◌==◌, append_assoc, append-nil, length-append, length-take, All, arith}
+use Rattle.std.proofs.Common.{◌≡◌, ◌↔◌, ℕ, suc, ◌≤◌, List, [], ◌∷◌, ◌++◌, length, take, Bool, true, false, not, ◌&&◌, cond, refl, sym, ap}
+use Rattle.std.proofs.Common.{◌∙◌, subst, ◌==◌, append_assoc, append-nil, length-append, length-take, All, arith}
 use Rattle.std.specs.List.{position_or_len, range_with_len}
 use Rattle.std.proofs.lemmas.Bool.{cases_Bool, and_parts, and_right, not-true}
 use Rattle.std.proofs.lemmas.List.{FromFn.length-range_with_len, Sums.prefix_len-le-length}

@@ -1,6 +1,6 @@
 -- A piece, a stretch at a time, by what searches and loads show.
 use Rattle.std.proofs.Common.{◌≡◌, ◌≢◌, ℕ, zero, suc, ◌+◌, ◌-◌, ◌/◌, ◌%◌, ◌^◌, ◌<◌, ◌≤◌, Bool, true, false, cond, not, ◌&&◌, List, [], ◌∷◌}
-use Rattle.std.proofs.Common.{◌++◌, length, take, drop, map, slice_index, Some, count_ones, sym, ap, ap₂, ◌∙◌, subst, refl, inl, inr}
+use Rattle.std.proofs.Common.{◌++◌, length, take, drop, map, slice_index, Some, count_ones, sym, ap, ◌∙◌, subst, refl, inl, inr}
 use Rattle.std.proofs.Common.{arith, length-append, ◌==◌, ◌||◌, w64, count_by, ne_eqb, get_or-drop, take-add}
 use Rattle.std.specs.{Int.trailing_zeros, List.range_with_len}
 use Rattle.std.proofs.{Common.add-zero, Math.Bool.and-true}

@@ -3,7 +3,7 @@ use Rattle.std.proofs.Common.{◌≡◌, ◌≢◌, ℕ, ◌+◌, ◌<◌, ◌�
 use Rattle.std.proofs.Common.{not, count_by, ne_eqb, ◌==◌, ◌||◌}
 use Rattle.std.proofs.lemmas.{List.Sums.sum_by-append, Bool.Decides.nat_tests}
 use Rattle.lp_split.specs.code.{IsCountOf, Part}
-use Rattle.lp_format.specs.format.{is_escaped_after, IsBareAfter, HasMoreEquals, newline, quote, backslash}
+use Rattle.lp_format.specs.format.{is_escaped_after, IsBareAfter, newline, quote, backslash}
 use Rattle.lp_format.proofs.lemmas.split.SplitBare.{IsHead-escaped, IsHead-bare, EndsPlain-escaped, EndsPlain-bare, EndsPlain-start}
 use Rattle.lp_format.proofs.lemmas.split.SplitBare.{EndsQuoted-escaped, EndsQuoted-bare, EndsQuoted-start, EndsQuoted-close}
 use Rattle.lp_format.proofs.lemmas.tokens.EscapeLemmas.{is_escaped_push}

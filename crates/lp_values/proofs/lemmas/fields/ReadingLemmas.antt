@@ -8,7 +8,7 @@ use Rattle.lp_format.proofs.lemmas.values.ValueLemmas.{integer_decides, front_nu
 use Rattle.lp_format.proofs.lemmas.literals.FloatLemmas.{integer_len_fits, float_misses, float_reads, float_len_float}
 use Rattle.std.proofs.Common.{◌≡◌, ℕ, List, [], ◌∷◌, ◌++◌, take, drop, sym, ◌∙◌, ap, refl, append_assoc, arith, eqb-true, take-append-drop, rules}
 use Rattle.std.proofs.lemmas.{Bool.cases_Bool, Str.IsCharBoundary-start}
-use Rattle.lp_format.specs.format.{comma, equals, Text, Read, Reading, reads, ◌>>=◌, NameKind, name, a_tag_key, a_tag_value, escapable}
+use Rattle.lp_format.specs.format.{equals, Text, Read, Reading, reads, ◌>>=◌, NameKind, name, a_tag_key, a_tag_value, escapable}
 use Rattle.lp_format.specs.format.{spelled, spelled_len, read_text, Pair, byte, key_value, tag, after_comma, IsSigned, integer_len}
 
 -- the rest is the end of the text

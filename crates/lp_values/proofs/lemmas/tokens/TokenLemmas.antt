@@ -3,7 +3,7 @@ use Rattle.std.proofs.Common.{◌≡◌, ℕ, ◌<◌, Bool, List, [], ◌∷◌
 use Rattle.std.proofs.Common.{take, length, slice_index, ap, append_assoc, length-append, add-one, add-zero, drop-cons, ◌==◌, ◌&&◌, eq-eqb}
 use Rattle.std.proofs.Common.{eqb-true, ne_eqb, bytes_eq, append-nil, drop-drop, get_or-drop, length-drop, length-take-le, take-append-drop}
 use Rattle.std.proofs.Common.{length-take}
-use Rattle.std.proofs.lemmas.Bool.{and_parts, or_right, cases_Bool, or_parts, cases_lt, cases_eq, false≢true, not-true}
+use Rattle.std.proofs.lemmas.Bool.{and_parts, or_right, cases_Bool, cases_lt, cases_eq, false≢true, not-true}
 use Rattle.std.proofs.lemmas.{Grind.common_steps, Str.IsCharBoundary-start, Slice.Eq.bytes_eq-Decides, List.drop_all, List.take_rest, Slice.drop-put_mid, Slice.take-put_mid}
 use Rattle.lp_scan.specs.declared.sets.TokenKind.{TokenKind}
 use Rattle.lp_scan.specs.code.{stops_of, known_of, is_plain, AllPassBetween, IsRunAt}

@@ -1,6 +1,6 @@
 -- A walk over a token, from escape to escape and by the masks of one load.
 use Rattle.std.proofs.Common.{◌≡◌, ◌≢◌, ℕ, zero, suc, ◌+◌, ◌-◌, ◌<◌, ◌≤◌, Bool, List, [], ◌∷◌, ◌++◌, length, take, slice_index, true, false}
-use Rattle.std.proofs.Common.{cond, eqb, not, ◌&&◌, refl, sym, ap, ap₂, ◌∙◌, subst, arith, inl, inr, add-one, add-zero, append_assoc, ◌%◌}
+use Rattle.std.proofs.Common.{cond, eqb, ◌&&◌, refl, sym, ap, ap₂, ◌∙◌, subst, arith, inl, inr, add-one, add-zero, append_assoc, ◌%◌}
 use Rattle.std.proofs.Common.{◌^◌, bit_and, count_ones, ◌==◌, eqb-true, length-append, count_by}
 use Rattle.std.proofs.lemmas.Bool.{cases_Bool, or_parts, not-true, not-false, or_cases, eqb-false, cases_lt, cases_eq, and_right, and_parts}
 use Rattle.std.proofs.lemmas.{List.take_more, List.Folds.list_any_more, List.Sums.sum_by-cons}
