@@ -1,9 +1,9 @@
 -- A walk over a token, from escape to escape and by the masks of one load.
 use Rattle.std.proofs.Common.{◌≡◌, ◌≢◌, ℕ, zero, suc, ◌+◌, ◌-◌, ◌<◌, ◌≤◌, Bool, List, [], ◌∷◌, ◌++◌, length, take, slice_index, true, false}
-use Rattle.std.proofs.Common.{cond, eqb, ◌&&◌, refl, sym, ap, ap₂, ◌∙◌, subst, arith, inl, inr, add-one, add-zero, append_assoc, ◌%◌}
-use Rattle.std.proofs.Common.{◌^◌, bit_and, count_ones, ◌==◌, eqb-true, length-append, count_by}
+use Rattle.std.proofs.Common.{cond, eqb, ◌&&◌, refl, sym, ap, ap₂, ◌∙◌, subst, arith, inl, inr, add-zero, append_assoc, ◌%◌}
+use Rattle.std.proofs.Common.{◌^◌, bit_and, count_ones, ◌==◌, eqb-true, length-append, length-take, get_or-take, count_by}
 use Rattle.std.proofs.lemmas.Bool.{cases_Bool, or_parts, not-true, not-false, or_cases, eqb-false, cases_lt, cases_eq, and_right, and_parts}
-use Rattle.std.proofs.lemmas.{List.take_more, List.Folds.list_any_more, List.Sums.sum_by-cons}
+use Rattle.std.proofs.lemmas.{List.take_more, List.Folds.list_any_none, List.Elements.All-from_get_or, List.Sums.sum_by-cons}
 use Rattle.std.specs.List.{range_with_len}
 use mir.Val.{bool_byte}
 use Rattle.lp_format.specs.format.{backslash, is_one_of, is_escaped_after, is_bare_at, first_bare, without_escapes, EscapeScan}
@@ -206,17 +206,12 @@ module _ (known : List ℕ) (stops : ℕ → Bool) (text : List ℕ) where
   pub is_stop_then : (b : ℕ) → is_plain stops b ≡ false → b ≢ backslash → stops b ≡ true
   is_stop_then b not_plain other = grind (arith, or_cases, not-false, eqb-true)
 
-  -- plain bytes hold no backslash
-  plain_front : (n : ℕ) → n ≤ length text → AllPassBetween (is_plain stops) text 0 n → is_one_of (take n text) backslash ≡ false
-  plain_front zero fits pass = refl
-  plain_front (suc n) fits pass =
-      let last = (plain_parts (slice_index text n) (pass n (omega arith) (omega arith))).1 in
-      let more = list_any_more (λ b. b == backslash) text n 0 (omega arith) in
-      rw (← add-one n) (rw (more, (plain_front n (omega arith) (λ k from to. pass k from (omega arith)))) last)
-
   -- a stretch that nothing in it ends has no backslash
   pub run_is_plain : (end : ℕ) → IsRunAt (is_plain stops) text 0 end → is_one_of (take end text) backslash ≡ false
-  run_is_plain end run = plain_front end run.within run.passes
+  run_is_plain end run = list_any_none (λ b. b == backslash) (take end text)
+      (All-from_get_or (λ b. (b == backslash) ≡ false) (take end text) 0 (λ k l.
+      let inside : k < end = omega (arith, l, length-take end text) in
+      rw (get_or-take end text k 0 inside) (plain_parts (slice_index text k) (run.passes k (omega arith) inside)).1))
 
   -- a token without a backslash
   pub run_ends : (end : ℕ) → IsRunAt (is_plain stops) text 0 end → (end < length text → slice_index text end ≢ backslash)
