@@ -14,7 +14,7 @@ use Rattle.lp_format.specs.format.{is_escaped_after, is_bare_at, IsBareAfter, ba
 use Rattle.lp_scan.specs.code.{first_set, mask_at, IsBarePassed, TellsEscaped, TellsBare, mask_of}
 use Rattle.lp_format.proofs.lemmas.tokens.EscapeLemmas.{is_escaped_more}
 use native.Mathlib.Nat.{pow-suc}
-use Rattle.lp_scan.proofs.lemmas.scan.MaskLemmas.{differs, and_of_maps, or_of_maps, xor_of_maps, not_of_map, mask_mod}
+use Rattle.lp_scan.proofs.lemmas.scan.MaskLemmas.{differs, and_of_maps, or_of_maps, xor_of_maps, not_of_map, mask_mod, mask_fits}
 
 -- In what follows `ms` are the backslashes from a place on, `odd` says whether that place is an odd one, `after` whether a
 -- backslash comes before it, and `e` whether it is escaped.
@@ -195,11 +195,9 @@ module _ (p : ℕ → Bool) (at n r : ℕ) (few : n ≤ 64) (found : r ≡ first
 pub highest : (p : ℕ → Bool) (at : ℕ) → mask_at p at 64 / 2 ^ 63 ≡ cond (p (at + 63)) 1 0
 highest p at =
     let ms = map p (range_with_len at 64) in
-    let small : mask_l ms < 2 ^ 64 = subst (λ (n : ℕ). mask_l ms < 2 ^ n)
-    (length-map (range_with_len at 64) p ∙ length-range_with_len at 64) (mask_l-lt ms) in
     let bit : mask_l ms / 2 ^ 63 % 2 ≡ cond (p (at + 63)) 1 0 =
     bit_mask_l ms 63 ∙ ap (λ (t : Bool). cond t 1 0) (get_or-map-range_with_len p at 64 63 (at + 63) false (omega arith) refl) in
-    omega arith
+    omega (arith, mask_fits p at 64)
 
 -- they tell how many of those pass
 pub ones_low : (p : ℕ → Bool) (at w n : ℕ) → n ≤ w → count_ones (mask_at p at w % 2 ^ n) ≡ count_by p (range_with_len at n)

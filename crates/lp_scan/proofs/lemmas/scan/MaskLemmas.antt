@@ -93,9 +93,7 @@ next_is test bytes at n k r room few found =
 -- a mask of two lists of lanes is the first's mask with the second's above it
 mask_l-append : (xs ys : List Bool) → mask_l (xs ++ ys) ≡ mask_l xs + mask_l ys * 2 ^ length xs
 mask_l-append [] ys = omega arith
-mask_l-append (x ∷ xs) ys =
-    let rest = mask_l-append xs ys in
-    rw (pow-suc 2 (length xs)) (omega (arith, rest))
+mask_l-append (x ∷ xs) ys = rw (pow-suc 2 (length xs)) (omega (arith, mask_l-append xs ys))
 
 -- the lowest bits of a mask are the mask of its first lanes
 pub mask_mod : (ms : List Bool) (k : ℕ) → k ≤ length ms → mask_l ms % 2 ^ k ≡ mask_l (take k ms)
