@@ -126,8 +126,7 @@ tz_below m n r below few some lowest = elim (cases_lt r n) [
   | inr past ↦
       let fits : m < 2 ^ 64 = omega (arith, below, pow-le-pow_right {n = 2} (omega arith) few) in
       let set : bit_at m r ≡ 1 = ap (bit_at m) lowest ∙ (bit_at-trailing_zeros w64 m some fits).1 in
-      let clear = bit_at_above m n r below past in
-      absurd (omega (arith, set, clear))
+      absurd (omega (arith, set, bit_at_above m n r below past))
 ]
 
 -- one of two, and not both
