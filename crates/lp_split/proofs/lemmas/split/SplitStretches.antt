@@ -68,16 +68,6 @@ module _ (text : List ℕ) where
       ] in
       subst (λ (k : ℕ). P (take k text)) place (rw (take_more text (at + n) 0 (omega arith)) after)
 
-  -- bytes of which none is a bare quote stay in a quoted stretch
-  pub quoted_to : (e c at end : ℕ) (stop : ℕ → Bool) → ((b : ℕ) → stop b ≡ false → b ≢ quote) → at ≤ end → end ≤ length text
-      → ((k : ℕ) → at ≤ k → k < end → is_bare_at stop text k ≡ false) → IsIn Quoted e c (take at text) → IsIn Quoted e c (take end text)
-  quoted_to e c at end stop other low within none h = (
-    h.0,
-    along (λ piece. EndsQuoted piece h.0) stop (λ piece b f k. EndsQuoted-escaped b k f)
-        (λ piece b f g k. EndsQuoted-bare b k f (other b g)) (end - at) at end (omega arith) within none h.1,
-    h.2,
-  )
-
   -- along a plain stretch the bare `=` and `,` are counted
   plain_on : (n at e c x y : ℕ) → at + n ≤ length text → ((k : ℕ) → at ≤ k → k < at + n → is_bare_at ends_plain text k ≡ false)
       → IsIn Plain e c (take at text) → x ≡ e + count_by (is_bare_at (λ b. b == equals) text) (range_with_len at n)
@@ -320,8 +310,13 @@ module _ {text : List ℕ} {at : ℕ} {a : Ahead} (are : IsAhead text at a) wher
 
     -- a quoted stretch goes on up to it
     pub quoted_past : (e c : ℕ) → IsIn Quoted e c (take at text) → IsIn Quoted e c (take (at + run) text)
-    quoted_past e c h = quoted_to text e c at (at + run) ends_plain (λ b f. grind (arith, nat_tests)) (omega arith) (omega (arith, stop_within))
-        (none_before (bare_at ends_plain) at are.count run are.few found) h
+    quoted_past e c h = (
+      h.0,
+      along text (λ piece. EndsQuoted piece h.0) ends_plain (λ piece b f k. EndsQuoted-escaped b k f)
+          (λ piece b f g k. EndsQuoted-bare b k f (grind (arith, nat_tests))) run at (at + run) refl (omega (arith, stop_within))
+          (none_before (bare_at ends_plain) at are.count run are.few found) h.1,
+      h.2,
+    )
 
     -- what was seen after it
     pub seen_after : IsAhead text (at + run + 1)
