@@ -260,7 +260,8 @@ module _ (passes : ℕ → Bool) (text : List ℕ) (at : ℕ) (room : at + 64 < 
     to_stop short = grind (arith, not-true, here, none_to)
 
     -- none is: the next load begins at a bare place too
-    pub to_next : (last : ℕ) → 64 ≤ r → last ≡ cond (is_bare_at (λ b. b == backslash) text (at + 63)) 1 0 → IsBarePassed passes text (at + (64 + last))
+    pub to_next : (last : ℕ) → 64 ≤ r → last ≡ cond (is_bare_at (λ b. b == backslash) text (at + 63)) 1 0
+        → IsBarePassed passes text (at + (64 + last))
     to_next last far is = record {
       within = omega (arith, at_most_one text at room last is);
       is_bare = next_bare text at room last is;

@@ -21,7 +21,8 @@ module _ (passes : ℕ → Bool) where
       ≡ bare_len passes (is_escaped_after front) text
   after_front front [] = refl
   after_front front (b ∷ text) =
-      grind (arith, get_or-append_seam, take-append_seam, length-append, append_assoc, is_escaped_push, cases_Bool, (after_front (front ++ b ∷ []) text))
+      let more = after_front (front ++ b ∷ []) text in
+      grind (arith, get_or-append_seam, take-append_seam, length-append, append_assoc, is_escaped_push, cases_Bool)
 
   -- the two agree
   pub first_bare_len : (text : List ℕ) → first_bare passes text ≡ bare_len passes false text

@@ -10,7 +10,8 @@ returns-then-seen-ne0 c =
     let seen = c.requires in
     let fits = seen.within in
     record {
-      first = first_is _ _ 0 seen.count _ _ (omega arith) seen.few seen.are (omega arith) refl _ (omega arith) (λ k from to. absurd (omega arith));
+      first = first_is _ _ 0 seen.count _ _ (omega arith) seen.few seen.are (omega arith) refl _ (omega arith)
+          (λ k from to. absurd (omega arith));
       later = seen_later _ 0 seen.count _ _ _ (omega arith) seen.few seen.are (omega arith) refl (omega arith);
     }
 
@@ -32,7 +33,8 @@ pub returns-in_err-last-clause-first : goal.returns-in_err-last-clause-first
 returns-in_err-last-clause-first c =
     let l = c.loop-at in
     rw c.from_residual.ensures
-    (none_after (is_byte3 backslash newline quote) c.args.text.now _ l.at (omega arith) (take_rest c.args.text.now l.at) l.invariant.1 c.in_err-last.ensures)
+    (none_after (is_byte3 backslash newline quote) c.args.text.now _ l.at (omega arith) (take_rest c.args.text.now l.at)
+    l.invariant.1 c.in_err-last.ensures)
 
 pub returns-clause-first : goal.returns-clause-first
 returns-clause-first c =

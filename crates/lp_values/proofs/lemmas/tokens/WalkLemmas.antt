@@ -120,7 +120,8 @@ module _ (known text : List ℕ) where
             let pair = rw pair_on at (kept_pair j _ (omega arith) (not-true _ unescaped) slash refl) in
             let counted = all_counted j (omega arith) (not-true _ unescaped) in
             let inside = escaped_is_not_bare (λ b. b == backslash) text (j + 1) escaped in
-            omega (arith, pair, counted, rw (here, not-true _ unescaped) at (escapes_more j 0 j (omega arith)), rw inside at (escapes_more (suc j) 0 (j + 1) (omega arith)))
+            let begins = rw (here, not-true _ unescaped) at (escapes_more j 0 j (omega arith)) in
+            omega (arith, rw inside at (escapes_more (suc j) 0 (j + 1) (omega arith)))
         | inr other ↦
             let last : (slice_index text (j + 1) == backslash) ≡ false = sym (rw (two, other) at (is_escaped_more text (j + 1) (omega arith))) ∙ bare in
             omega (

@@ -14,7 +14,8 @@ returns-then-next-end-clause-end c =
 pub returns-then-next-end-clause-told : goal.returns-then-next-end-clause-told
 returns-then-next-end-clause-told c =
     let load = c.escapes_in_load-next.ensures in
-    walk_tells c.args.kind _ _ _ _ _ c.requires.run c.requires.within c.requires.here (λ _. load.stops c.if-next-end.true) load.walked.counted refl
+    walk_tells c.args.kind _ _ _ _ _ c.requires.run c.requires.within c.requires.here
+    (λ _. load.stops c.if-next-end.true) load.walked.counted refl
 
 pub returns-clause-told : goal.returns-clause-told
 returns-clause-told c =

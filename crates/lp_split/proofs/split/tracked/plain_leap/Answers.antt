@@ -14,7 +14,8 @@ returns-then-ahead-eq0-clause-leads c =
     let given = c.requires in
     let seen = c.load_ahead-ahead.ensures.seen in
     line_goes_on _ _ Plain (take c.load_ahead-ahead.result.end c.args.text.now) given.plain given.plain given.is_bare given.is_bare seen.is_bare
-    (λ bytes is_bare h. plain_bytes_past bytes _ is_bare _ seen _ _ _ _ h c.if-ahead-eq0.true c.ones_below.ensures c.ones_below-then-ahead-eq0.ensures)
+    (λ bytes is_bare h. plain_bytes_past bytes _ is_bare _ seen _ _ _ _ h c.if-ahead-eq0.true c.ones_below.ensures
+    c.ones_below-then-ahead-eq0.ensures)
 
 pub returns-then-ahead-eq0-clause-few : goal.returns-then-ahead-eq0-clause-few
 returns-then-ahead-eq0-clause-few c =

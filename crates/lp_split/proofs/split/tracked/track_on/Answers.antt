@@ -6,7 +6,8 @@ use Rattle.lp_split.proofs.split.tracked.track_on.Goals as goal
 pub returns-in-None : goal.returns-in-None
 returns-in-None c =
     let l = c.loop-at in
-    let front = leads_on c.args.text.now _ l.at c.leap-len.result.0 _ _ _ (take_rest c.args.text.now l.at) l.invariant.leads c.leap-len.ensures.leads in
+    let front = leads_on c.args.text.now _ l.at c.leap-len.result.0 _ _ _ (take_rest c.args.text.now l.at) l.invariant.leads
+    c.leap-len.ensures.leads in
     (omega arith, c.in-None.ensures.leads.0, λ dialect bytes h. c.in-None.ensures.leads.1 dialect _ (front dialect bytes h))
 
 pub loop-at-preserved : goal.loop-at-preserved
@@ -26,5 +27,7 @@ pub returns-then-at-text : goal.returns-then-at-text
 returns-then-at-text c =
     let text = c.args.text.now in
     let l = c.loop-at in
-    let front = leads_on text _ l.at c.leap-len.result.0 _ _ _ (take_rest text l.at) l.invariant.leads c.leap-len.ensures.leads in
-    (omega (arith, c.leap-len.ensures.few, l.invariant.few), λ dialect bytes h. rw (take_all (l.at + c.leap-len.result.0) text (omega arith)) at (front dialect bytes h))
+    let front = leads_on text _ l.at c.leap-len.result.0 _ _ _ (take_rest text l.at) l.invariant.leads c.leap-len.ensures.leads in (
+      omega (arith, c.leap-len.ensures.few, l.invariant.few),
+      λ dialect bytes h. rw (take_all (l.at + c.leap-len.result.0) text (omega arith)) at (front dialect bytes h),
+    )
