@@ -7,7 +7,7 @@ pub mod Streams
 pub mod Lending
 pub mod Bounded
 pub use Rules.{rules_of}
-pub use Stops.{is_stop, IsBarePassed}
+pub use Stops.{is_stop}
 pub use Ahead.{IsAhead, AreSeen}
 pub use Tracks.{IsCountOf, EndsIn, IsPlace, Steps, NeverComment, IsTrackOf, Leads, LeadsTo, most_counted, TracksOn, Part, Head, Plain}
 pub use Tracks.{Quoted, Place, Track, Comment, Blanks, Line}

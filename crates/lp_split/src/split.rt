@@ -6,8 +6,8 @@ ghost use Rattle.std.specs.Iterator.{at_most};
 ghost use Rattle.lp_format.specs.format.{backslash, newline, quote, IsBareAfter, begins_comment, IsFirstCut, GivesPiece, most_pieces, newlines_in};
 ghost use Rattle.lp_format.specs.format.{Crate};
 ghost use Rattle.memchr.specs.Find.{IsFirstByte, is_byte3};
-ghost use Rattle.lp_scan.specs.code.{mask_of};
-ghost use Rattle.lp_split.specs.code.{IsAhead, AreSeen, is_stop, IsBarePassed, EndsIn, Quoted, FindsCut, rules_of};
+ghost use Rattle.lp_scan.specs.code.{mask_of, IsBarePassed};
+ghost use Rattle.lp_split.specs.code.{IsAhead, AreSeen, is_stop, EndsIn, Quoted, FindsCut, rules_of};
 
 use lp_scan::lanes::first_set;
 use lp_scan::scan::{WIDE, bare, escapes_next, ones_below, places_of};
@@ -187,9 +187,7 @@ fn seen_past(ahead: Ahead, run: usize) -> Ahead
 #[tactic(auto, using(crate::proofs::lemmas::split::SplitStretches::quoted_ends))]
 #[inline(always)]
 fn quoted_end(text: &[u8], at: usize, ahead: Ahead) -> (usize, Ahead)
-    requires within { at ≤ length text.now }
-    requires is_bare { IsBareAfter (take at text.now) }
-    requires seen { IsAhead text.now at ahead }
+    requires { IsAhead text.now at ahead }
     ensures ordered { (at ≤ result.0) × (result.0 ≤ length text.now) }
     ensures bare { IsBareAfter (take result.0 text.now) }
     ensures stays { (e c : ℕ) → EndsIn Quoted e c (take at text.now) → EndsIn Quoted e c (take result.0 text.now) }

@@ -63,6 +63,7 @@ impl<'a> Spelled<'a> {
     /// ```text
     /// cpu\ load  is  "cpu load"
     /// ```
+    #[tactic(auto, using(crate::proofs::lemmas::tokens::TokenLemmas::spelling_steps))]
     pub fn eq_text(&self, other: &str) -> bool
         ensures { result ≡ bytes_eq (spelled_text self.now).bytes other.now }
     {
@@ -84,6 +85,7 @@ impl<'a> Spelled<'a> {
     /// ```text
     /// cpu\ load  puts  cpu load  to the first 8 bytes
     /// ```
+    #[tactic(auto, using(crate::proofs::lemmas::tokens::TokenLemmas::spelling_steps))]
     pub fn put(&self, to: &mut [u8])
         requires { length (spelled_text self.now).bytes ≤ length to.old }
         ensures { to.new ≡ (spelled_text self.now).bytes ++ drop (length (spelled_text self.now).bytes) to.old }

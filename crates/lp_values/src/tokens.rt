@@ -74,7 +74,6 @@ fn escapes_in_load(kind: TokenKind, bytes: &[u8], at: usize, found: usize) -> (u
     requires room { at + WIDE < length bytes.now }
     ensures walked { EscapeScan (known_of kind) (stops_of kind) bytes.now result.0 result.1 }
     ensures stops { result.0 < at + WIDE → stops_of kind (slice_index bytes.now result.0) ≡ true }
-    ensures further { at ≤ result.0 }
 {
     let backslashes = places_of(b'\\', bytes, at);
     let run = first_set(bare(stops_in(kind, bytes, at), backslashes), WIDE);
@@ -96,8 +95,6 @@ fn escapes_to_end(kind: TokenKind, bytes: &[u8], at: usize, found: usize) -> (us
     ensures within { result.0 ≤ length bytes.now }
     ensures stops { result.0 < length bytes.now → stops_of kind (slice_index bytes.now result.0) ≡ true }
     ensures len { length (without_escapes (known_of kind) (take result.0 bytes.now)) + result.1 ≡ result.0 }
-    ensures further { at ≤ result.0 }
-    ensures moves { at < length bytes.now → slice_index bytes.now at ≡ backslash → at < result.0 }
 {
     let mut end = plain_end(kind, bytes, at);
     let mut known = found;
@@ -111,18 +108,18 @@ fn escapes_to_end(kind: TokenKind, bytes: &[u8], at: usize, found: usize) -> (us
     (end, known)
 }
 
-// The end of the token at the start of `text`, of which the first backslash is at `at`, and how many bytes it takes without its
+// The end of the token at the start of `bytes`, of which the first backslash is at `at`, and how many bytes it takes without its
 // escapes.
 #[inline(always)]
-fn escaped_end_of(kind: TokenKind, text: &str, at: usize) -> (usize, usize)
-    requires run { IsRunAt (is_plain (stops_of kind)) text.now 0 at }
-    requires within { at < length text.now }
-    requires here { slice_index text.now at ≡ backslash }
-    ensures end { result.0 ≡ first_bare (stops_of kind) text.now }
-    ensures told { IsTold (known_of kind) (take result.0 text.now) result.1 false }
-    ensures boundary { IsCharBoundary text.now result.0 }
+fn escaped_end_of(kind: TokenKind, bytes: &[u8], at: usize) -> (usize, usize)
+    requires run { IsRunAt (is_plain (stops_of kind)) bytes.now 0 at }
+    requires here { slice_index bytes.now at ≡ backslash }
+    requires within { at < length bytes.now }
+    ensures end { result.0 ≡ first_bare (stops_of kind) bytes.now }
+    ensures told { IsTold (known_of kind) (take result.0 bytes.now) result.1 false }
+    ensures within { result.0 ≤ length bytes.now }
+    ensures stops { result.0 < length bytes.now → stops_of kind (slice_index bytes.now result.0) ≡ true }
 {
-    let bytes = text.as_bytes();
     let mut end = at;
     let mut known = 0;
     while bytes.len() - end > WIDE {
@@ -141,19 +138,20 @@ fn escaped_end_of(kind: TokenKind, text: &str, at: usize) -> (usize, usize)
 // all of them, events take 2.8 times the instructions on `escapes`.
 #[cold]
 #[inline(never)]
-fn escaped_end(kind: TokenKind, text: &str, at: usize) -> (usize, usize)
-    requires run { IsRunAt (is_plain (stops_of kind)) text.now 0 at }
-    requires within { at < length text.now }
-    requires here { slice_index text.now at ≡ backslash }
-    ensures end { result.0 ≡ first_bare (stops_of kind) text.now }
-    ensures told { IsTold (known_of kind) (take result.0 text.now) result.1 false }
-    ensures boundary { IsCharBoundary text.now result.0 }
+fn escaped_end(kind: TokenKind, bytes: &[u8], at: usize) -> (usize, usize)
+    requires run { IsRunAt (is_plain (stops_of kind)) bytes.now 0 at }
+    requires here { slice_index bytes.now at ≡ backslash }
+    requires within { at < length bytes.now }
+    ensures end { result.0 ≡ first_bare (stops_of kind) bytes.now }
+    ensures told { IsTold (known_of kind) (take result.0 bytes.now) result.1 false }
+    ensures within { result.0 ≤ length bytes.now }
+    ensures stops { result.0 < length bytes.now → stops_of kind (slice_index bytes.now result.0) ≡ true }
 {
     match kind {
-        TokenKind::Measurement => escaped_end_of(TokenKind::Measurement, text, at),
-        TokenKind::TagKey | TokenKind::FieldKey => { escaped_end_of(TokenKind::TagKey, text, at) }
-        TokenKind::TagValue => escaped_end_of(TokenKind::TagValue, text, at),
-        TokenKind::String => escaped_end_of(TokenKind::String, text, at),
+        TokenKind::Measurement => escaped_end_of(TokenKind::Measurement, bytes, at),
+        TokenKind::TagKey | TokenKind::FieldKey => { escaped_end_of(TokenKind::TagKey, bytes, at) }
+        TokenKind::TagValue => escaped_end_of(TokenKind::TagValue, bytes, at),
+        TokenKind::String => escaped_end_of(TokenKind::String, bytes, at),
     }
 }
 
@@ -167,7 +165,7 @@ fn scan_token(kind: TokenKind, text: &str) -> (usize, usize, bool)
     let bytes = text.as_bytes();
     let end = plain_end(kind, bytes, 0);
     if end < bytes.len() && bytes[end] == b'\\' {
-        let (end, len) = escaped_end(kind, text, end);
+        let (end, len) = escaped_end(kind, bytes, end);
         return (end, len, false);
     }
     (end, end, true)
@@ -282,6 +280,7 @@ pub(crate) fn stretch_at(kind: TokenKind, spelling: &[u8], at: usize) -> (usize,
 }
 
 // Puts after `to`, which has room for it, the logical text of `spelled`. It asks for no memory.
+#[tactic(auto, using(crate::proofs::lemmas::tokens::TokenLemmas::spelling_steps))]
 #[inline(always)]
 fn put(kind: TokenKind, spelled: &str, to: &mut String) -> Result<(), AllocError>
     requires empty { string_bytes to.old ≡ [] }

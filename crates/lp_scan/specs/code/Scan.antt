@@ -1,5 +1,5 @@
 -- Masks of the places of a text, and which of them are escaped.
-use Rattle.std.specs.Prelude.{◌≡◌, ℕ, ◌+◌, ◌≤◌, ◌==◌, if◌then◌else◌, Bool, List, length, map, take}
+use Rattle.std.specs.Prelude.{◌≡◌, ℕ, ◌+◌, ◌<◌, ◌≤◌, ◌==◌, if◌then◌else◌, Bool, false, List, length, map, take}
 use Rattle.std.specs.{List.range_with_len, Simd.Lanes.mask_l}
 use Rattle.lp_format.specs.format.{backslash, IsBareAfter, is_bare_at, is_escaped_after}
 use Rattle.lp_scan.specs.code.Lanes.{mask_of}
@@ -7,6 +7,12 @@ use Rattle.lp_scan.specs.code.Lanes.{mask_of}
 -- the mask of those of the n places from one on that pass the test
 abbrev pub mask_at : (ℕ → Bool) → ℕ → ℕ → ℕ
 mask_at test at n = mask_l (map test (range_with_len at n))
+
+-- no bare byte before a place of the text passes, and that place is bare
+pub record IsBarePassed (passes : ℕ → Bool) (text : List ℕ) (at : ℕ) : Type 0 where
+  pub within : at ≤ length text
+  pub is_bare : IsBareAfter (take at text)
+  pub none : (k : ℕ) → k < at → is_bare_at passes text k ≡ false
 
 -- of any 64 bytes of a text whose first is bare and whose backslashes have the one mask, the escaped ones have the other
 abbrev pub TellsEscaped : ℕ → ℕ → Type 0

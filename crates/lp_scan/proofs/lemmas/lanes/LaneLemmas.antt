@@ -7,19 +7,6 @@ use lib.Lanes.{chunk, mask_l, top, zip2}
 use Rattle.lp_scan.specs.code.{mask_of}
 use Rattle.lp_scan.proofs.lemmas.scan.MaskLemmas.{mask_by_lanes, mask_same}
 
--- a byte as a lane: all ones if it is this one
-abbrev pub lane : ℕ → ℕ → ℕ
-lane b x = cond (eqb x b) 255 0
-
--- the lanes that hold one byte
-pub lanes_of : {n : ℕ} (v : List ℕ) (b : ℕ) → length v ≡ n → zip2 (λ x y. cond (eqb x y) 255 0) v (replicate n b) ≡ map (lane b) v
-lanes_of {n} v b long = zip2_splat (λ x y. cond (eqb x y) 255 0) v n b long
-
--- the lanes that are in one of two
-pub lanes_or : (f g : ℕ → ℕ) (v : List ℕ) {xs ys : List ℕ} → xs ≡ map f v → ys ≡ map g v
-    → zip2 bit_or xs ys ≡ map (λ x. bit_or (f x) (g x)) v
-lanes_or f g v p q = zip2_of_maps bit_or f g v p q
-
 -- `swizzle_dyn` gives for each place what the table has there: a place that it makes 0 is none of the table's
 pub looked_up : (table : List ℕ) → length table ≤ 128 → (js : List ℕ) (i : ℕ) → i + length js ≤ 16
     → swz_l w8 16 table i js ≡ map (λ j. get_or table j 0) js
@@ -56,10 +43,11 @@ top_set e = grind arith
 
 -- a lane is set if its byte is one of those
 lanes_are : (t : Compared) (n : ℕ) (v : List ℕ) → length v ≡ n → lanes_in t n v ≡ map (λ x. cond (is_in t x) 255 0) v
-lanes_are (one b) n v long = lanes_of v b long
+lanes_are (one b) n v long = zip2_splat (λ x y. cond (eqb x y) 255 0) v n b long
 lanes_are (looked look) n v long = zip2_of_maps (λ x y. cond (eqb x y) 255 0) look (λ x. x) v refl (sym (map-id v))
 lanes_are (either s t) n v long =
-    lanes_or _ _ v (lanes_are s n v long) (lanes_are t n v long) ∙ ap (λ (f : ℕ → ℕ). map f v) (λ j x. either_set (is_in s x) (is_in t x) j)
+    zip2_of_maps bit_or _ _ v (lanes_are s n v long) (lanes_are t n v long)
+    ∙ ap (λ (f : ℕ → ℕ). map f v) (λ j x. either_set (is_in s x) (is_in t x) j)
 
 module _ (t : Compared) (bytes : List ℕ) (at n : ℕ) (room : at + n ≤ length bytes) (few : n ≤ 64) where
   -- the bits of the lanes are the mask of the bytes that are one of those

@@ -10,11 +10,11 @@ use Rattle.std.proofs.lemmas.{Bool.cases_Bool, Bool.cases_lt, Bool.and_parts, Bo
 use Rattle.std.proofs.lemmas.{List.length-map, List.Sums.prefix_len-le-length, List.Sums.prefix_len_passes, List.Sums.prefix_len_stops}
 use Rattle.std.proofs.lemmas.Simd.{first_set_mask_l, bit_mask_l, mask_l-lt, ones-mask_l, map-map, pick_l-range_with_len}
 use lib.Lanes.{mask_l}
-use Rattle.lp_format.specs.format.{is_escaped_after, is_bare_at, IsBareAfter, IsPassed, backslash}
-use Rattle.lp_scan.specs.code.{first_set, mask_at, TellsEscaped, TellsBare, mask_of}
+use Rattle.lp_format.specs.format.{is_escaped_after, is_bare_at, IsBareAfter, backslash}
+use Rattle.lp_scan.specs.code.{first_set, mask_at, IsBarePassed, TellsEscaped, TellsBare, mask_of}
 use Rattle.lp_format.proofs.lemmas.tokens.EscapeLemmas.{is_escaped_more}
 use native.Mathlib.Nat.{pow-suc}
-use Rattle.lp_scan.proofs.lemmas.scan.MaskLemmas.{differs, and_of_maps, or_of_maps, xor_of_maps, not_of_map, mask_mod}
+use Rattle.lp_scan.proofs.lemmas.scan.MaskLemmas.{differs, and_of_maps, or_of_maps, xor_of_maps, not_of_map, mask_mod, mask_fits}
 
 -- In what follows `ms` are the backslashes from a place on, `odd` says whether that place is an odd one, `after` whether a
 -- backslash comes before it, and `e` whether it is escaped.
@@ -182,35 +182,26 @@ module _ (p : ℕ → Bool) (at n r : ℕ) (few : n ≤ 64) (found : r ≡ first
   pub none_before : (k : ℕ) → at ≤ k → k < at + r → p k ≡ false
   none_before k from to =
       let place : at + (k - at) ≡ k = omega arith in
-      let before : k - at < prefix_len (λ j. not (p j)) (range_with_len at n) = omega (arith, counted) in
-      let inside : k - at < n = omega (arith, lowest_within) in
-      not-true (p k)
-      (subst (λ (j : ℕ). not (p j) ≡ true) (get_or-range_with_len at n (k - at) 0 inside ∙ place)
-      (prefix_len_passes (λ j. not (p j)) (range_with_len at n) (k - at) 0 before))
+      let there = prefix_len_passes (λ j. not (p j)) (range_with_len at n) (k - at) 0 (omega (arith, counted)) in
+      not-true (p k) (rw (get_or-range_with_len at n (k - at) 0 (omega (arith, lowest_within)), place) at there)
 
   -- the place of the lowest bit passes
   pub lowest_passes : r < n → p (at + r) ≡ true
   lowest_passes short =
-      let inside : prefix_len (λ j. not (p j)) (range_with_len at n) < length (range_with_len at n) = omega (arith, counted, long) in
-      not-false (p (at + r))
-      (subst (λ (j : ℕ). not (p j) ≡ false)
-      (ap (λ (k : ℕ). get_or (range_with_len at n) k 0) (sym counted) ∙ get_or-range_with_len at n r 0 short)
-      (prefix_len_stops (λ j. not (p j)) (range_with_len at n) 0 inside))
+      let there = prefix_len_stops (λ j. not (p j)) (range_with_len at n) 0 (omega (arith, counted, long)) in
+      not-false (p (at + r)) (rw (← counted, get_or-range_with_len at n r 0 short) at there)
 
 -- the highest bit of a mask of 64 places tells of the last
 pub highest : (p : ℕ → Bool) (at : ℕ) → mask_at p at 64 / 2 ^ 63 ≡ cond (p (at + 63)) 1 0
 highest p at =
     let ms = map p (range_with_len at 64) in
-    let small : mask_l ms < 2 ^ 64 = subst (λ (n : ℕ). mask_l ms < 2 ^ n)
-    (length-map (range_with_len at 64) p ∙ length-range_with_len at 64) (mask_l-lt ms) in
     let bit : mask_l ms / 2 ^ 63 % 2 ≡ cond (p (at + 63)) 1 0 =
     bit_mask_l ms 63 ∙ ap (λ (t : Bool). cond t 1 0) (get_or-map-range_with_len p at 64 63 (at + 63) false (omega arith) refl) in
-    omega arith
+    omega (arith, mask_fits p at 64)
 
 -- they tell how many of those pass
 pub ones_low : (p : ℕ → Bool) (at w n : ℕ) → n ≤ w → count_ones (mask_at p at w % 2 ^ n) ≡ count_by p (range_with_len at n)
-ones_low p at w n few = ap count_ones
-    (grind (arith, mask_mod, length-map-range_with_len, take-map-range_with_len)) ∙ ones-mask_l p (range_with_len at n)
+ones_low p at w n few = grind (arith, mask_mod, length-map-range_with_len, take-map-range_with_len, ones-mask_l)
 
 -- a mask of places from the next one on, as one of places from this one on
 range_next : {X : Type 0} (f : ℕ → X) (n at : ℕ) → map f (range_with_len (at + 1) n) ≡ map (λ k. f (k + 1)) (range_with_len at n)
@@ -250,13 +241,13 @@ module _ (text : List ℕ) (at : ℕ) (room : at + 64 < length text) (last : ℕ
   next_bare = grind (arith, cases_Bool, escapes_next, escaped_is_not_bare, flag)
 
 -- from the mask of the bare stops of a load that begins at a bare place
-module _ (passes : ℕ → Bool) (text : List ℕ) (at : ℕ) (room : at + 64 < length text) (p : IsPassed passes text at) where
+module _ (passes : ℕ → Bool) (text : List ℕ) (at : ℕ) (room : at + 64 < length text) (p : IsBarePassed passes text at) where
   -- how many bytes come before the first bare stop
   module _ (r : ℕ) (found : r ≡ first_set (mask_at (is_bare_at passes text) at 64) 64) where
     -- no bare byte before the lowest bit passes
     none_to : (k : ℕ) → k < at + r → is_bare_at passes text k ≡ false
     none_to k to = elim (cases_lt k at) [
-      | inl early ↦ p.passed k early
+      | inl early ↦ p.none k early
       | inr late ↦ none_before (is_bare_at passes text) at 64 r (omega arith) found k late to
     ]
 
@@ -265,15 +256,16 @@ module _ (passes : ℕ → Bool) (text : List ℕ) (at : ℕ) (room : at + 64 < 
     here short = and_parts _ _ (lowest_passes (is_bare_at passes text) at 64 r (omega arith) found short)
 
     -- the lowest bit is the first bare byte that passes
-    pub to_stop : r < 64 → IsPassed passes text (at + r) × (passes (slice_index text (at + r)) ≡ true)
+    pub to_stop : r < 64 → IsBarePassed passes text (at + r) × (passes (slice_index text (at + r)) ≡ true)
     to_stop short = grind (arith, not-true, here, none_to)
 
     -- none is: the next load begins at a bare place too
-    pub to_next : (last : ℕ) → 64 ≤ r → last ≡ cond (is_bare_at (λ b. b == backslash) text (at + 63)) 1 0 → IsPassed passes text (at + (64 + last))
+    pub to_next : (last : ℕ) → 64 ≤ r → last ≡ cond (is_bare_at (λ b. b == backslash) text (at + 63)) 1 0
+        → IsBarePassed passes text (at + (64 + last))
     to_next last far is = record {
       within = omega (arith, at_most_one text at room last is);
-      is_bare = λ _. next_bare text at room last is;
-      passed = λ k to. elim (cases_lt k (at + 64)) [
+      is_bare = next_bare text at room last is;
+      none = λ k to. elim (cases_lt k (at + 64)) [
         | inl before ↦ none_to k (omega arith)
         | inr after ↦
             let place : k ≡ at + 64 = omega (arith, at_most_one text at room last is) in

@@ -2,10 +2,10 @@
 -- make of them.
 use Rattle.std.proofs.Common.{◌≡◌, ℕ, zero, suc, ◌+◌, ◌-◌, ◌*◌, ◌/◌, ◌^◌, ◌<◌, ◌≤◌, Bool, true, cond, not, List, [], ◌∷◌, map, length, take}
 use Rattle.std.proofs.Common.{drop, sym, ap, ◌∙◌, arith, ◌%◌, ◌++◌, get_or, refl, inl, inr, take-append-drop, subst, drop-drop, length-take}
-use Rattle.std.proofs.Common.{count_by, count_ones, w64, min, max, false, ◌&&◌, ◌||◌, bit_and, bit_or, bit_xor, ap₂}
+use Rattle.std.proofs.Common.{w64, min, max, false, ◌&&◌, ◌||◌, bit_and, bit_or, bit_xor, ap₂}
 use Rattle.std.proofs.Math.Nat.{pow-le-pow_right, mod-eq_of_lt}
 use native.Mathlib.Nat.{pow-suc, mul_comm, zero-div, div-one, div-div-eq-div-mul, add-mul-mod_self_right}
-use Rattle.std.proofs.lemmas.Simd.{ones-mask_l, length-chunk, first_set_mask_l, run_in_chunk_le, run_in_chunk_fails, run_in_chunk_stops}
+use Rattle.std.proofs.lemmas.Simd.{length-chunk, first_set_mask_l, run_in_chunk_le, run_in_chunk_fails, run_in_chunk_stops}
 use Rattle.std.proofs.lemmas.Simd.{map-map, mask_l-mod, get_or-chunk, mask_l-lt}
 use Rattle.std.proofs.lemmas.{List.drop-take, List.drop-map, List.drop_all, List.length-map, List.get_or_past, Bool.cases_lt}
 use Rattle.std.proofs.lemmas.{Bool.agree_below, Bool.agree_below_at, Nat.Bits.bit_at-trailing_zeros, Nat.Bits.bit_at_above}
@@ -42,10 +42,6 @@ module _ (test : ℕ → Bool) (bytes : List ℕ) (at n : ℕ) where
   -- its lowest bit is the first byte that passes the test
   pub lowest : at + n ≤ length bytes → n ≤ 64 → first_set (mask_of test bytes at n) n ≡ prefix_len (λ b. not (test b)) (chunk at n bytes)
   lowest room few = first_set_mask_l test (chunk at n bytes) n (length-chunk at n bytes room) few
-
-  -- its bits count the bytes that pass the test
-  pub ones : count_ones (mask_of test bytes at n) ≡ count_by test (chunk at n bytes)
-  ones = ones-mask_l test (chunk at n bytes)
 
 -- if two tests agree on each byte of a list, they give one list of answers
 map_agree : (f g : ℕ → Bool) (v : List ℕ) → ((k : ℕ) → f (get_or v k 0) ≡ g (get_or v k 0)) → map f v ≡ map g v
@@ -97,9 +93,7 @@ next_is test bytes at n k r room few found =
 -- a mask of two lists of lanes is the first's mask with the second's above it
 mask_l-append : (xs ys : List Bool) → mask_l (xs ++ ys) ≡ mask_l xs + mask_l ys * 2 ^ length xs
 mask_l-append [] ys = omega arith
-mask_l-append (x ∷ xs) ys =
-    let rest = mask_l-append xs ys in
-    rw (pow-suc 2 (length xs)) (omega (arith, rest))
+mask_l-append (x ∷ xs) ys = rw (pow-suc 2 (length xs)) (omega (arith, mask_l-append xs ys))
 
 -- the lowest bits of a mask are the mask of its first lanes
 pub mask_mod : (ms : List Bool) (k : ℕ) → k ≤ length ms → mask_l ms % 2 ^ k ≡ mask_l (take k ms)
@@ -132,8 +126,7 @@ tz_below m n r below few some lowest = elim (cases_lt r n) [
   | inr past ↦
       let fits : m < 2 ^ 64 = omega (arith, below, pow-le-pow_right {n = 2} (omega arith) few) in
       let set : bit_at m r ≡ 1 = ap (bit_at m) lowest ∙ (bit_at-trailing_zeros w64 m some fits).1 in
-      let clear = bit_at_above m n r below past in
-      absurd (omega (arith, set, clear))
+      absurd (omega (arith, set, bit_at_above m n r below past))
 ]
 
 -- one of two, and not both
@@ -171,14 +164,10 @@ module _ {V : Type 0} (f g : V → Bool) where
   pub xor_of_maps : (vs : List V) → bit_xor (mask_l (map f vs)) (mask_l (map g vs)) ≡ mask_l (map (λ v. differs (f v) (g v)) vs)
   xor_of_maps = by_lanes bit_xor differ differs refl xor_step (grind arith) f g
 
--- the lanes that are not set
-not_more : (t : Bool) (a b n : ℕ) → a + b + 1 ≡ n → cond (not t) 1 0 + 2 * a + (cond t 1 0 + 2 * b) + 1 ≡ n * 2
-not_more t a b n h = grind arith
-
 -- the mask of the other places is what is missing to all ones
 mask_not : (ms : List Bool) → mask_l (map not ms) + mask_l ms + 1 ≡ 2 ^ length ms
 mask_not [] = refl
-mask_not (m ∷ ms) = rw (pow-suc 2 (length ms)) (not_more m (mask_l (map not ms)) (mask_l ms) (2 ^ length ms) (mask_not ms))
+mask_not (m ∷ ms) = grind (arith, pow-suc, mask_not ms)
 
 -- the places that do not pass, of 64
 pub not_of_map : {V : Type 0} (f : V → Bool) (vs : List V) → length vs ≡ 64

@@ -60,8 +60,7 @@ none_are_seen text = record { count = 0; within = omega arith; few = omega arith
 pub none_seen : (test : ℕ → Bool) (text : List ℕ) (at n m : ℕ) → at + n ≤ length text → n ≤ 64 → m ≡ mask_of test text at n → m ≡ 0
     → AllPassBetween (λ b. not (test b)) text 0 at → AllPassBetween (λ b. not (test b)) text 0 (at + n)
 none_seen test text at n m room few is empty before k from to =
-    let run = run_is test text at n room few n (ap (λ (k : ℕ). first_set k n) (sym empty ∙ is)) in
-    grind (arith, cases_lt, run)
+    grind (arith, cases_lt, run_is test text at n room few n (ap (λ (k : ℕ). first_set k n) (sym empty ∙ is)))
 
 module _ (test : ℕ → Bool) (text rest : List ℕ) (at : ℕ) (within : at ≤ length text) (same : rest ≡ drop at text)
     (quiet : AllPassBetween (λ b. not (test b)) text 0 at) where
@@ -80,8 +79,7 @@ module _ (test : ℕ → Bool) (text rest : List ℕ) (at : ℕ) (within : at �
         | inl early ↦ false≢true (sym (not-true (test (slice_index text k)) (quiet k (omega arith) early)) ∙ found)
         | inr late ↦
             let back : at + (k - at) ≡ k = omega arith in
-            let there = here (k - at) ∙ ap (λ (j : ℕ). slice_index text j) back in
-            none (k - at) (omega arith) (omega arith) (ap test there ∙ found)
+            none (k - at) (omega arith) (omega arith) (ap test (here (k - at) ∙ ap (λ (j : ℕ). slice_index text j) back) ∙ found)
       ]
 
   -- what is found in what is left is found in the text

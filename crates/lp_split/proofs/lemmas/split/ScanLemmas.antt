@@ -1,6 +1,6 @@
 -- The first bare byte that passes a test, found from left to right, and the front before it.
-use Rattle.std.proofs.Common.{◌≡◌, ◌↔◌, ℕ, suc, ◌+◌, ◌≤◌, List, [], ◌∷◌, ◌++◌, length, take, Bool, true, false, not, ◌&&◌, cond, refl, sym, ap}
-use Rattle.std.proofs.Common.{◌∙◌, subst, inl, inr, ◌==◌, append_assoc, append-nil, length-append, length-take, All, arith}
+use Rattle.std.proofs.Common.{◌≡◌, ◌↔◌, ℕ, suc, ◌≤◌, List, [], ◌∷◌, ◌++◌, length, take, Bool, true, false, not, ◌&&◌, cond, refl, sym, ap}
+use Rattle.std.proofs.Common.{◌∙◌, subst, ◌==◌, append_assoc, append-nil, length-append, length-take, All, arith}
 use Rattle.std.specs.List.{position_or_len, range_with_len}
 use Rattle.std.proofs.lemmas.Bool.{cases_Bool, and_parts, and_right, not-true}
 use Rattle.std.proofs.lemmas.List.{FromFn.length-range_with_len, Sums.prefix_len-le-length}
@@ -21,14 +21,8 @@ module _ (passes : ℕ → Bool) where
       ≡ bare_len passes (is_escaped_after front) text
   after_front front [] = refl
   after_front front (b ∷ text) =
-      let here : is_bare_at passes (front ++ b ∷ text) (length front) ≡ (passes b && not (is_escaped_after front)) =
-      rw (get_or-append_seam front b text 0, take-append_seam front (b ∷ text)) refl in
-      let next : length (front ++ b ∷ []) ≡ length front + 1 = omega (arith, length-append front (b ∷ [])) in
-      let more = rw (append_assoc front (b ∷ []) text, next, is_escaped_push front b) at (after_front (front ++ b ∷ []) text) in
-      elim (cases_Bool (passes b && not (is_escaped_after front))) [
-        | inl stop ↦ rw (here, stop) refl
-        | inr on ↦ rw (here, on) (omega (arith, more))
-      ]
+      let more = after_front (front ++ b ∷ []) text in
+      grind (arith, get_or-append_seam, take-append_seam, length-append, append_assoc, is_escaped_push, cases_Bool)
 
   -- the two agree
   pub first_bare_len : (text : List ℕ) → first_bare passes text ≡ bare_len passes false text
@@ -69,9 +63,7 @@ module _ (passes : ℕ → Bool) where
       → AllFail (bare_after p front) × IsAtStop passes (p ++ front) after
   before_by p [] [] h = grind (arith, append-nil)
   before_by p [] (b ∷ after) h = grind (arith, append-nil, cases_Bool, and_parts, not-true)
-  before_by p (b ∷ front) after h =
-      let rest = before_by (p ++ b ∷ []) front after in
-      grind (arith, cases_Bool, append_assoc, len_more)
+  before_by p (b ∷ front) after h = grind (arith, cases_Bool, append_assoc, len_more, (before_by (p ++ b ∷ []) front after))
 
   -- the length of the front, by what it is
   first_len : (text : List ℕ) → first_bare passes text ≡ bare_len passes (is_escaped_after []) text

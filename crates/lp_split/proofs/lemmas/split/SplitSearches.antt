@@ -3,25 +3,20 @@ use Rattle.std.proofs.Common.{◌≡◌, ◌≢◌, ℕ, zero, suc, ◌+◌, ◌
 use Rattle.std.proofs.Common.{None, length-drop, refl, ap, ◌∙◌, subst, inl, inr, arith, ◌%◌, ◌^◌, map}
 use Rattle.std.proofs.Common.{count_ones, ◌==◌, eqb-true, get_or-drop, count_by, take-add}
 use Rattle.std.proofs.lemmas.{Bool.and_right, Bool.cases_Bool, Bool.eqb-false, List.length-map, List.Sums.count_by-le-length}
-use Rattle.std.proofs.lemmas.{List.Sums.sum_by-append, Simd.length-chunk, Simd.mask_l-mod}
+use Rattle.std.proofs.lemmas.{List.Sums.sum_by-append, Simd.length-chunk, Simd.mask_l-mod, Simd.ones-mask_l}
 use Rattle.memchr.specs.Find.{Nowhere, Passes, IsFirstByte, is_byte3}
-use Rattle.lp_format.specs.format.{backslash, is_escaped_after, is_bare_at, IsPassed}
+use Rattle.lp_format.specs.format.{backslash, is_escaped_after, is_bare_at}
 use Rattle.lp_format.proofs.lemmas.{tokens.EscapeLemmas.is_escaped_more, split.SplitBare.is_escaped-nil}
 use Rattle.lp_split.specs.declared.split.Stops.{Stops}
-use Rattle.lp_split.specs.code.{IsBarePassed, is_stop}
+use Rattle.lp_split.specs.code.{is_stop}
 use Rattle.lp_split.proofs.lemmas.split.SplitStretches.{bare_past}
 use lib.Lanes.{chunk}
-use Rattle.lp_scan.specs.code.{mask_of}
-use Rattle.lp_scan.proofs.lemmas.scan.MaskLemmas.{ones}
+use Rattle.lp_scan.specs.code.{mask_of, IsBarePassed}
 
 module _ (passes : ℕ → Bool) (text : List ℕ) where
   -- before the first byte
   pub passed_start : IsBarePassed passes text 0
   passed_start = record { within = omega arith; is_bare = is_escaped-nil; none = λ k h. absurd (omega arith) }
-
-  -- what is passed up to a bare place
-  pub as_passed : (at : ℕ) → IsBarePassed passes text at → IsPassed passes text at
-  as_passed at p = record { within = p.within; is_bare = λ _. p.is_bare; passed = p.none }
 
   -- one place more is passed
   passed_more : (at : ℕ) → ((k : ℕ) → k < at → is_bare_at passes text k ≡ false) → is_bare_at passes text at ≡ false
@@ -92,7 +87,7 @@ module _ (p : ℕ → Bool) (text : List ℕ) (at m : ℕ) (room : at + 64 ≤ l
   load_counts =
       let ms = map p (chunk at 64 text) in
       let fits = mask_l-mod ms 64 (omega (arith, length-map (chunk at 64 text) p, length-chunk at 64 text room)) in
-      ap (λ (k : ℕ). count_ones (k % 2 ^ 64)) is ∙ ap count_ones fits ∙ ones p text at 64
+      ap (λ (k : ℕ). count_ones (k % 2 ^ 64)) is ∙ ap count_ones fits ∙ ones-mask_l p (chunk at 64 text)
 
   -- at most all
   pub load_at_most : count_ones (m % 2 ^ 64) ≤ 64

@@ -1,9 +1,10 @@
 -- A piece, a stretch at a time, by what searches and loads show.
 use Rattle.std.proofs.Common.{◌≡◌, ◌≢◌, ℕ, zero, suc, ◌+◌, ◌-◌, ◌/◌, ◌%◌, ◌^◌, ◌<◌, ◌≤◌, Bool, true, false, cond, not, ◌&&◌, List, [], ◌∷◌}
-use Rattle.std.proofs.Common.{◌++◌, length, take, drop, map, slice_index, Some, count_ones, sym, ap, ap₂, ◌∙◌, subst, refl, inl, inr}
+use Rattle.std.proofs.Common.{◌++◌, length, take, drop, map, slice_index, Some, count_ones, sym, ap, ◌∙◌, subst, refl, inl, inr}
 use Rattle.std.proofs.Common.{arith, length-append, ◌==◌, ◌||◌, w64, count_by, ne_eqb, get_or-drop, take-add}
 use Rattle.std.specs.{Int.trailing_zeros, List.range_with_len}
-use Rattle.std.proofs.lemmas.{Bool.and_parts, Bool.cases_Bool, Bool.cases_lt, Bool.not-true, Bool.Decides.nat_tests, List.take_more}
+use Rattle.std.proofs.{Common.add-zero, Math.Bool.and-true}
+use Rattle.std.proofs.lemmas.{Bool.and_parts, Bool.and_right, Bool.cases_Bool, Bool.cases_lt, Bool.not-true, Bool.Decides.nat_tests, List.take_more}
 use Rattle.std.proofs.lemmas.{List.take_rest, List.Elements.All-nil, List.FromFn.length-map-range_with_len}
 use Rattle.std.proofs.lemmas.{List.FromFn.length-range_with_len, List.Sums.count_by-le-length, List.Sums.sum_by-cons, Simd.mask_l-mod}
 use Rattle.std.proofs.lemmas.{Simd.ones-mask_l}
@@ -11,8 +12,8 @@ use Rattle.std.proofs.Math.Seq.{drop-append_seam, take-append-add, take-append_s
 use Rattle.lp_format.specs.format.{backslash, comma, newline, quote, space, Crate, is_bare_at, is_escaped_after, IsBareAfter, IsHead}
 use Rattle.lp_format.specs.format.{EndsQuoted, IsFirstCut}
 use Rattle.lp_split.specs.declared.split.Ahead.{Ahead}
-use Rattle.lp_split.specs.code.{IsAhead, IsBarePassed}
-use Rattle.lp_scan.specs.code.{first_set, mask_at}
+use Rattle.lp_split.specs.code.{IsAhead}
+use Rattle.lp_scan.specs.code.{first_set, mask_at, IsBarePassed}
 use Rattle.lp_scan.proofs.lemmas.scan.BareMasks.{at_most_one, lowest_passes, next_bare, none_before, one_escaped, ones_low}
 use Rattle.lp_scan.proofs.lemmas.scan.MaskLemmas.{mask_after, mask_fits, tz_below}
 use Rattle.lp_format.proofs.lemmas.split.SplitBare.{is_escaped-nil, is_escaped-append, is_escaped-push_other, flag_after, IsHead-bare}
@@ -42,6 +43,13 @@ bare_in_rest : (passes : ℕ → Bool) (text rest : List ℕ) (at k : ℕ) → r
     → is_bare_at passes text (at + k) ≡ is_bare_at passes rest k
 bare_in_rest passes text rest at k same is_bare = grind (arith, get_or-drop, take-add, bare_joined)
 
+-- a byte of a plain stretch is counted if it is bare
+plain_byte : (piece : List ℕ) (b e c : ℕ) (escaped : Bool) → is_escaped_after piece ≡ escaped → (ends_plain b && not escaped) ≡ false
+    → IsIn Plain e c piece → IsIn Plain (e + cond (b == equals && not escaped) 1 0) (c + cond (b == comma && not escaped) 1 0) (piece ++ b ∷ [])
+plain_byte piece b e c true f none h =
+    rw (and_right (b == equals) false refl, and_right (b == comma) false refl, add-zero e, add-zero c) (IsIn-escaped Plain e c piece b f h)
+plain_byte piece b e c false f none h = rw (and-true (b == equals), and-true (b == comma)) (Plain-any e c piece b f (rw and-true at none) h)
+
 module _ (text : List ℕ) where
   -- what each byte keeps that is no bare stop is kept along several
   along : (P : List ℕ → Type 0) (stop : ℕ → Bool)
@@ -60,42 +68,6 @@ module _ (text : List ℕ) where
       ] in
       subst (λ (k : ℕ). P (take k text)) place (rw (take_more text (at + n) 0 (omega arith)) after)
 
-  -- bytes of which none is a bare quote stay in a quoted stretch
-  pub quoted_to : (e c at end : ℕ) (stop : ℕ → Bool) → ((b : ℕ) → stop b ≡ false → b ≢ quote) → at ≤ end → end ≤ length text
-      → ((k : ℕ) → at ≤ k → k < end → is_bare_at stop text k ≡ false) → IsIn Quoted e c (take at text) → IsIn Quoted e c (take end text)
-  quoted_to e c at end stop other low within none h = (
-    h.0,
-    along (λ piece. EndsQuoted piece h.0) stop (λ piece b f k. EndsQuoted-escaped b k f)
-        (λ piece b f g k. EndsQuoted-bare b k f (other b g)) (end - at) at end (omega arith) within none h.1,
-    h.2,
-  )
-
-  -- a byte of a plain stretch is counted if it is bare
-  plain_byte : (at e c x y : ℕ) → at < length text → is_bare_at ends_plain text at ≡ false → IsIn Plain e c (take at text)
-      → x ≡ e + cond (is_bare_at (λ b. b == equals) text at) 1 0 → y ≡ c + cond (is_bare_at (λ b. b == comma) text at) 1 0
-      → IsIn Plain x y (take (at + 1) text)
-  plain_byte at e c x y room none h to_x to_y =
-      let piece = take at text in
-      let b = slice_index text at in
-      rw (take_more text at 0 room) (elim (cases_Bool (is_escaped_after piece)) [
-        | inl escaped ↦
-            let same_x : x ≡ e = to_x ∙ not_counted (b == equals) (is_escaped_after piece) e escaped in
-            let same_y : y ≡ c = to_y ∙ not_counted (b == comma) (is_escaped_after piece) c escaped in
-            rw (same_x, same_y) (IsIn-escaped Plain e c piece b escaped h)
-        | inr is_bare ↦
-            let same_x = to_x ∙ counted (b == equals) (is_escaped_after piece) e is_bare in
-            let same_y = to_y ∙ counted (b == comma) (is_escaped_after piece) c is_bare in
-            rw (same_x, same_y) (Plain-any e c piece b is_bare (fails_bare _ _ none is_bare) h)
-      ])
-    where
-      -- a bare byte is
-      counted : (t f : Bool) (n : ℕ) → f ≡ false → n + cond (t && not f) 1 0 ≡ n + cond t 1 0
-      counted t f n h = grind arith
-
-      -- an escaped one is not
-      not_counted : (t f : Bool) (n : ℕ) → f ≡ true → n + cond (t && not f) 1 0 ≡ n
-      not_counted t f n h = grind arith
-
   -- along a plain stretch the bare `=` and `,` are counted
   plain_on : (n at e c x y : ℕ) → at + n ≤ length text → ((k : ℕ) → at ≤ k → k < at + n → is_bare_at ends_plain text k ≡ false)
       → IsIn Plain e c (take at text) → x ≡ e + count_by (is_bare_at (λ b. b == equals) text) (range_with_len at n)
@@ -105,7 +77,8 @@ module _ (text : List ℕ) where
       let place : at + 1 + n ≡ at + suc n = omega arith in
       let more : (p : ℕ → Bool) → count_by p (range_with_len at (suc n)) ≡ cond (p at) 1 0 + count_by p (range_with_len (at + 1) n) =
       λ p. sum_by-cons (λ k. cond (p k) 1 0) at (range_with_len (at + 1) n) in
-      let one = plain_byte at e c _ _ (omega arith) (none at (omega arith) (omega arith)) h refl refl in
+      let one = rw (← take_more text at 0 (omega arith)) at
+      (plain_byte (take at text) (slice_index text at) e c _ refl (none at (omega arith) (omega arith)) h) in
       subst (λ (k : ℕ). IsIn Plain x y (take k text)) place
       (plain_on n (at + 1) _ _ x y (omega arith) (λ k l m. none k (omega arith) (omega arith)) one
       (omega (arith, to_x, more (is_bare_at (λ b. b == equals) text))) (omega (arith, to_y, more (is_bare_at (λ b. b == comma) text))))
@@ -156,13 +129,12 @@ module _ (bytes text : List ℕ) (is_bare : IsBareAfter bytes) where
       → map (is_bare_at passes (bytes ++ text)) (range_with_len to n) ≡ map (is_bare_at passes text) (range_with_len from n)
   tests_in_both passes zero from to place = refl
   tests_in_both passes (suc n) from to place =
-      ap₂ (λ (t : Bool) (ts : List Bool). t ∷ ts) (ap (is_bare_at passes (bytes ++ text)) (sym place) ∙ bare_in_both passes from)
-      (tests_in_both passes n (from + 1) (to + 1) (omega (arith, place)))
+      grind (arith, bare_in_both, (tests_in_both passes n (from + 1) (to + 1) (omega (arith, place))))
 
   -- so what a load shows of them it shows of both
   pub shown_in_both : (a : Ahead) → IsAhead text 0 a → IsAhead (bytes ++ text) (length bytes)
       (record { stops = a.stops; equals = a.equals; commas = a.commas; end = length bytes + a.end })
-  shown_in_both a are = grind (arith, take-append-add, bare_joined, tests_in_both, length-append)
+  shown_in_both a are = grind (arith, take-append-add, take-append_seam, bare_joined, tests_in_both, length-append)
 
 -- a head up to a bare place, which may end it
 module _ (text : List ℕ) (n : ℕ) (p : IsBarePassed (λ b. b == space || b == newline) text n) where
@@ -208,6 +180,7 @@ load_shows text at s e c last room is_bare s_is e_is c_is last_is =
     let one = at_most_one text at room last last_is in
     let place : at + (64 + last) ≡ at + 64 + last = omega arith in
     record {
+      starts_bare = is_bare;
       count = 64;
       few = omega arith;
       within = omega arith;
@@ -337,8 +310,13 @@ module _ {text : List ℕ} {at : ℕ} {a : Ahead} (are : IsAhead text at a) wher
 
     -- a quoted stretch goes on up to it
     pub quoted_past : (e c : ℕ) → IsIn Quoted e c (take at text) → IsIn Quoted e c (take (at + run) text)
-    quoted_past e c h = quoted_to text e c at (at + run) ends_plain (λ b f. grind (arith, nat_tests)) (omega arith) (omega (arith, stop_within))
-        (none_before (bare_at ends_plain) at are.count run are.few found) h
+    quoted_past e c h = (
+      h.0,
+      along text (λ piece. EndsQuoted piece h.0) ends_plain (λ piece b f k. EndsQuoted-escaped b k f)
+          (λ piece b f g k. EndsQuoted-bare b k f (grind (arith, nat_tests))) run at (at + run) refl (omega (arith, stop_within))
+          (none_before (bare_at ends_plain) at are.count run are.few found) h.1,
+      h.2,
+    )
 
     -- what was seen after it
     pub seen_after : IsAhead text (at + run + 1)
@@ -353,6 +331,7 @@ module _ {text : List ℕ} {at : ℕ} {a : Ahead} (are : IsAhead text at a) wher
         ap (λ (k : ℕ). k / 2 ^ run / 2) is ∙ ap (λ (k : ℕ). k / 2) (mask_after (bare_at p) at are.count run (left + 1) (omega arith))
         ∙ mask_after (bare_at p) (at + run) (left + 1) 1 left (omega arith) in
         record {
+          starts_bare = bare_after;
           count = left;
           few = omega (arith, are.few);
           within = omega arith;

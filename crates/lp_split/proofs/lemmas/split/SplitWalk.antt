@@ -1,9 +1,9 @@
 -- What a walk knows of a piece, a byte further.
-use Rattle.std.proofs.Common.{◌≡◌, ◌≢◌, ℕ, ◌+◌, ◌<◌, ◌≤◌, Bool, true, false, cond, eqb, List, [], ◌∷◌, ◌++◌, ◌∙◌, ap, arith, add-zero, ◌&&◌}
+use Rattle.std.proofs.Common.{◌≡◌, ◌≢◌, ℕ, ◌+◌, ◌<◌, ◌≤◌, Bool, true, false, cond, eqb, List, [], ◌∷◌, ◌++◌, ◌∙◌, ap, refl, arith, add-zero, ◌&&◌}
 use Rattle.std.proofs.Common.{not, count_by, ne_eqb, ◌==◌, ◌||◌}
 use Rattle.std.proofs.lemmas.{List.Sums.sum_by-append, Bool.Decides.nat_tests}
 use Rattle.lp_split.specs.code.{IsCountOf, Part}
-use Rattle.lp_format.specs.format.{is_escaped_after, IsBareAfter, HasMoreEquals, newline, quote, backslash}
+use Rattle.lp_format.specs.format.{is_escaped_after, IsBareAfter, newline, quote, backslash}
 use Rattle.lp_format.proofs.lemmas.split.SplitBare.{IsHead-escaped, IsHead-bare, EndsPlain-escaped, EndsPlain-bare, EndsPlain-start}
 use Rattle.lp_format.proofs.lemmas.split.SplitBare.{EndsQuoted-escaped, EndsQuoted-bare, EndsQuoted-start, EndsQuoted-close}
 use Rattle.lp_format.proofs.lemmas.tokens.EscapeLemmas.{is_escaped_push}
@@ -25,10 +25,6 @@ IsCountOf-push counted e c b h = grind (arith, count_by-push, eqb)
 IsCountOf-other : (counted : List ℕ) (e c b : ℕ) → IsCountOf counted e c → b ≢ equals → b ≢ comma → IsCountOf (counted ++ b ∷ []) e c
 IsCountOf-other counted e c b h n m = grind (arith, count_by-push, eqb, ne_eqb)
 
--- a count of `=` that is not greater says that there are not more
-not_more : (counted : List ℕ) (e c : ℕ) → IsCountOf counted e c → e ≤ c → ¬ HasMoreEquals counted
-not_more counted e c h l m = omega (arith, h.equals_is, h.commas_is)
-
 -- a byte that is escaped, and a backslash that is not
 pub IsIn-escaped : (part : Part) (e c : ℕ) (piece : List ℕ) (b : ℕ) → is_escaped_after piece ≡ true
     → IsIn part e c piece → IsIn part e c (piece ++ b ∷ [])
@@ -43,15 +39,22 @@ pub Head-other : (e c : ℕ) (piece : List ℕ) (b : ℕ) → IsBareAfter piece 
     → IsIn Head e c (piece ++ b ∷ [])
 Head-other e c piece b f n m h = (IsHead-bare piece b h.0 f n m, h.1)
 
+-- a bare byte that is no newline or quote stays in the plain stretch, and counts if it is `=` or `,`
+pub Plain-any : (e c : ℕ) (piece : List ℕ) (b : ℕ) → IsBareAfter piece → (b == newline || b == quote) ≡ false → IsIn Plain e c piece
+    → IsIn Plain (e + cond (eqb b equals) 1 0) (c + cond (eqb b comma) 1 0) (piece ++ b ∷ [])
+Plain-any e c piece b f none h = (
+  h.0 ++ b ∷ [],
+  EndsPlain-bare b h.1 f (grind (arith, nat_tests)) (λ q. absurd (grind (arith, nat_tests))),
+  IsCountOf-push h.0 e c b h.2,
+)
+
 -- a bare `=` is counted
 pub Plain-equals : (e c : ℕ) (piece : List ℕ) → IsBareAfter piece → IsIn Plain e c piece → IsIn Plain (e + 1) c (piece ++ equals ∷ [])
-Plain-equals e c piece f h =
-    (h.0 ++ equals ∷ [], EndsPlain-bare equals h.1 f (omega arith) (λ q. absurd (omega arith)), rw add-zero at (IsCountOf-push h.0 e c equals h.2))
+Plain-equals e c piece f h = rw add-zero at (Plain-any e c piece equals f refl h)
 
 -- a bare `,` is counted
 pub Plain-comma : (e c : ℕ) (piece : List ℕ) → IsBareAfter piece → IsIn Plain e c piece → IsIn Plain e (c + 1) (piece ++ comma ∷ [])
-Plain-comma e c piece f h =
-    (h.0 ++ comma ∷ [], EndsPlain-bare comma h.1 f (omega arith) (λ q. absurd (omega arith)), rw add-zero at (IsCountOf-push h.0 e c comma h.2))
+Plain-comma e c piece f h = rw add-zero at (Plain-any e c piece comma f refl h)
 
 -- a bare quote after more `=` than `,` opens a string
 pub Plain-opens : (e c : ℕ) (piece : List ℕ) → IsBareAfter piece → c < e → IsIn Plain e c piece → IsIn Quoted e c (piece ++ quote ∷ [])
@@ -61,16 +64,7 @@ Plain-opens e c piece f l h = (h.0, EndsQuoted-start h.1 f (omega (arith, h.2.eq
 pub Plain-other : (e c : ℕ) (piece : List ℕ) (b : ℕ) → IsBareAfter piece → b ≢ equals → b ≢ comma → b ≢ newline
     → (b ≡ quote → e ≤ c) → IsIn Plain e c piece → IsIn Plain e c (piece ++ b ∷ [])
 Plain-other e c piece b f n m l q h =
-    (h.0 ++ b ∷ [], EndsPlain-bare b h.1 f l (λ i. not_more h.0 e c h.2 (q i)), IsCountOf-other h.0 e c b h.2 n m)
-
--- a bare byte that is no newline or quote stays in the plain stretch, and counts if it is `=` or `,`
-pub Plain-any : (e c : ℕ) (piece : List ℕ) (b : ℕ) → IsBareAfter piece → (b == newline || b == quote) ≡ false → IsIn Plain e c piece
-    → IsIn Plain (e + cond (eqb b equals) 1 0) (c + cond (eqb b comma) 1 0) (piece ++ b ∷ [])
-Plain-any e c piece b f none h = (
-  h.0 ++ b ∷ [],
-  EndsPlain-bare b h.1 f (grind (arith, nat_tests)) (λ q. absurd (grind (arith, nat_tests))),
-  IsCountOf-push h.0 e c b h.2,
-)
+    (h.0 ++ b ∷ [], EndsPlain-bare b h.1 f l (λ i m. omega (arith, q i, h.2.equals_is, h.2.commas_is)), IsCountOf-other h.0 e c b h.2 n m)
 
 -- a bare quote closes a string
 pub Quoted-closes : (e c : ℕ) (piece : List ℕ) → IsBareAfter piece → IsIn Quoted e c piece → IsIn Plain e c (piece ++ quote ∷ [])

@@ -35,8 +35,7 @@ AreBlanks bytes = All (λ b. (b ≡ space) ⊎ (b ≡ tab)) bytes
 after_blanks : (bytes rest : List ℕ) → AreBlanks bytes → begins_comment (bytes ++ rest) ≡ begins_comment rest
 after_blanks [] rest h = refl
 after_blanks (b ∷ bytes) rest h =
-    let more = after_blanks bytes rest (All-tail (λ c. (c ≡ space) ⊎ (c ≡ tab)) b bytes h) in
-    grind (arith, All-head)
+    grind (arith, All-head, (after_blanks bytes rest (All-tail (λ c. (c ≡ space) ⊎ (c ≡ tab)) b bytes h)))
 
 -- blanks alone begin none
 pub blanks_begin_none : (bytes : List ℕ) → AreBlanks bytes → begins_comment bytes ≡ false
@@ -95,6 +94,15 @@ pub line_goes_on : (place next : Place) (part : Part) (text : List ℕ) → plac
     → EndsIn part next.equals next.commas (bytes ++ text))
     → LeadsTo text (Line place) (Line next)
 line_goes_on place next part text is_part next_part is_bare next_bare text_bare ends dialect bytes h = grind (arith, never_longer, bare_joined)
+
+-- so they do if the place stays
+pub line_stays : (track : Track) (place : Place) (part : Part) (text : List ℕ) → track ≡ Line place → place.part ≡ part
+    → place.is_escaped ≡ false → IsBareAfter text
+    → ((bytes : List ℕ) → IsBareAfter bytes → EndsIn part place.equals place.commas bytes
+    → EndsIn part place.equals place.commas (bytes ++ text))
+    → LeadsTo text track (Line place)
+line_stays track place part text is is_part is_bare text_bare ends =
+    rw is (line_goes_on place place part text is_part is_part is_bare is_bare text_bare ends)
 
 -- bytes lead on from what those before them lead to
 pub leads_on : (text rest : List ℕ) (at n : ℕ) (from via to : Track) → rest ≡ drop at text → LeadsTo (take at text) from via

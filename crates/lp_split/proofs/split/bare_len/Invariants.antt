@@ -1,5 +1,6 @@
 use Rattle.std.proofs.Common.{◌-◌, length}
-use Rattle.lp_split.specs.code.Stops.{is_stop, IsBarePassed}
+use Rattle.lp_scan.specs.code.{IsBarePassed}
+use Rattle.lp_split.specs.code.Stops.{is_stop}
 use Rattle.lp_split.proofs.split.bare_len.Given as goal
 
 -- what was walked over holds no bare byte that ends a stretch

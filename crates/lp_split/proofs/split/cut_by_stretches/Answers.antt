@@ -1,7 +1,7 @@
 use Rattle.std.proofs.Common.{◌<◌, ◌≡◌, arith, refl, length, slice_index}
 use Rattle.lp_format.specs.format.{quote}
 use Rattle.std.proofs.lemmas.Grind.{common_steps}
-use Rattle.lp_split.proofs.lemmas.split.SplitStretches.{bare_after, bare_past, few_past, few_to, plain_cut, plain_past, quote_opens, quote_stays}
+use Rattle.lp_split.proofs.lemmas.split.SplitStretches.{few_past, few_to, plain_cut, plain_past, quote_opens, quote_stays}
 use Rattle.lp_split.proofs.lemmas.split.SplitStretches.{quoted_closes, seen_after, stop_within}
 use Rattle.lp_split.proofs.split.cut_by_stretches.Goals as goal
 
@@ -23,8 +23,6 @@ loop-ahead-preserved-then-ahead-eq0 c =
     let from = was.seen.within in
     let few = few_past was.seen c.ones_below-equals.ensures c.ones_below-commas.ensures in
     record {
-      within = was.seen.fits;
-      is_bare = was.seen.is_bare;
       plain = plain_past was.seen c.ones_below-equals.ensures c.ones_below-commas.ensures _ _ c.if-ahead-eq0.true was.plain;
       seen = c.load_ahead-ahead.ensures.seen;
       counts = (omega (arith, few.0, was.counts.0), omega (arith, few.1, was.counts.1));
@@ -37,11 +35,8 @@ pub returns-then-text-end-eq10 : goal.returns-then-text-end-eq10
 returns-then-text-end-eq10 c =
     plain_cut c.loop-ahead.invariant.seen (omega arith) refl _ _ c.loop-ahead.invariant.plain c.if-text-end-eq10.true
 
-pub quoted_end-requires-clause-within : goal.quoted_end-requires-clause-within
-quoted_end-requires-clause-within c = omega (arith, stop_within c.loop-ahead.invariant.seen (omega arith) refl)
-
-pub quoted_end-requires-clause-is_bare : goal.quoted_end-requires-clause-is_bare
-quoted_end-requires-clause-is_bare c = bare_after c.loop-ahead.invariant.seen (omega arith) refl
+pub quoted_end-requires : goal.quoted_end-requires
+quoted_end-requires c = rw c.seen_past-ahead.ensures (seen_after c.loop-ahead.invariant.seen (omega arith) refl)
 
 pub cut_after-requires-in_default-get-clause-few : goal.cut_after-requires-in_default-get-clause-few
 cut_after-requires-in_default-get-clause-few c =
@@ -67,8 +62,6 @@ loop-ahead-preserved-then-commas-equals c =
     let inside : end < length text = grind (arith, common_steps) in
     let here : slice_index text end ≡ quote = grind (arith, common_steps) in
     record {
-      within = omega arith;
-      is_bare = bare_past text end inside (omega (arith, here));
       plain = quoted_closes text end _ _ inside c.quoted_end.ensures.bare here
           (c.quoted_end.ensures.stays _ _
           (quote_opens was.seen (omega arith) refl c.ones_below-equals-in-loop-ahead.ensures c.ones_below-commas-in-loop-ahead.ensures
@@ -82,8 +75,6 @@ loop-ahead-preserved c =
     let was = c.loop-ahead.invariant in
     let few = few_to was.seen (omega arith) refl c.ones_below-equals-in-loop-ahead.ensures c.ones_below-commas-in-loop-ahead.ensures in
     record {
-      within = omega (arith, stop_within was.seen (omega arith) refl);
-      is_bare = bare_after was.seen (omega arith) refl;
       plain = quote_stays was.seen (omega arith) refl c.ones_below-equals-in-loop-ahead.ensures c.ones_below-commas-in-loop-ahead.ensures _ _
           was.plain c.if-text-end-eq10.false c.if-commas-equals.false;
       seen = rw c.seen_past-ahead.ensures (seen_after was.seen (omega arith) refl);

@@ -105,16 +105,7 @@ are_groups (suc k) (a ∷ []) e small = absurd (omega (arith, e))
 are_groups (suc k) (a ∷ (b ∷ [])) e small = absurd (omega (arith, e))
 are_groups (suc k) (a ∷ (b ∷ (c ∷ []))) e small = absurd (omega (arith, e))
 are_groups (suc k) (a ∷ (b ∷ (c ∷ (d ∷ ds)))) e (ha, (hb, (hc, (hd, small)))) =
-    let rest = are_groups k ds (omega (arith, e)) small in
-    let group = a * 1000 + b * 100 + c * 10 + d in
-    record {
-      firsts_fit = (omega (arith, ha), (omega arith, (omega arith, (omega arith, rest.firsts_fit))));
-      others_fit = (omega arith, (omega (arith, hb), (omega (arith, hc), (omega (arith, hd), rest.others_fit))));
-      sums = ap₂ (λ (x : ℕ) l. x ∷ l) (four_sum a b c d ha hb hc hd) rest.sums;
-      number = λ n. ap (λ m. number_from_digits_after 10 m ds) (omega arith) ∙ rest.number (n * 10000 + group);
-      below = (omega (arith, ha, hb, hc, hd), rest.below);
-      size = ap suc rest.size;
-    }
+    grind (arith, four_sum, (are_groups k ds (omega (arith, e)) small))
 
 -- four numbers below 10000, two and two
 two_and_two : (gs : List ℕ) → length gs ≡ 4
@@ -167,22 +158,23 @@ lanes_are_digits n bytes room few digits =
     ap (take n) (zip2_splat (λ (a b : ℕ). (a + (2 ^ 8 - b)) % 2 ^ 8) (take 16 bytes) 16 48 (length-take-le 16 bytes room))
     ∙ take-map less n (take 16 bytes) ∙ ap (map less) (take-take n 16 bytes few) ∙ less_zero (take n bytes) digits
 
--- the lanes of 16 digits are digits, and their number is what those write
-pub whole_lanes : (bytes lanes : List ℕ) → length bytes ≡ 16 → length lanes ≡ 16 → AllDigits 10 bytes
-    → ((n : ℕ) → n ≤ 16 → AllDigits 10 (take n bytes) → take n lanes ≡ map digit_value (take n bytes))
-    → AllBelowBase 10 lanes × (number_from_digits 10 lanes ≡ digits_value 10 bytes)
-whole_lanes bytes lanes long wide digits are =
-    let all = take_all 16 bytes (omega (arith, long)) in
-    let every : AllDigits 10 (take 16 bytes) = subst (AllDigits 10) (sym all) digits in
-    let is = sym (take_all 16 lanes (omega (arith, wide))) in
-    let same = are 16 (omega arith) every in
-    (moved_below 0 16 bytes lanes lanes is same every, moved_number 0 16 bytes lanes lanes is same ∙ ap (digits_value 10) all)
-
 -- digits at the start and the rest are digits
 pub digits_parts : (n : ℕ) (ds : List ℕ) → AllDigits 10 ds → AllDigits 10 (take n ds) × AllDigits 10 (drop n ds)
 digits_parts zero ds digits = (tt, digits)
 digits_parts (suc n) [] digits = (tt, tt)
 digits_parts (suc n) (d ∷ ds) (small, digits) = let parts = digits_parts n ds digits in ((small, parts.0), parts.1)
+
+-- the lanes of the last 16 digits are digits, and their number is what those write
+pub whole_lanes : (ds bytes lanes : List ℕ) → bytes ≡ drop (length ds - 16) ds → 16 < length ds → length lanes ≡ 16 → AllDigits 10 ds
+    → ((n : ℕ) → n ≤ 16 → AllDigits 10 (take n bytes) → take n lanes ≡ map digit_value (take n bytes))
+    → AllBelowBase 10 lanes × (number_from_digits 10 lanes ≡ digits_value 10 (drop (length ds - 16) ds))
+whole_lanes ds bytes lanes back least wide digits are =
+    let long : length bytes ≡ 16 = omega (arith, ap length back, length-drop (length ds - 16) ds) in
+    let all = take_all 16 bytes (omega (arith, long)) in
+    let every : AllDigits 10 (take 16 bytes) = rw (all, back) (digits_parts (length ds - 16) ds digits).1 in
+    let is = sym (take_all 16 lanes (omega (arith, wide))) in
+    let same = are 16 (omega arith) every in
+    (moved_below 0 16 bytes lanes lanes is same every, moved_number 0 16 bytes lanes lanes is same ∙ ap (digits_value 10) (all ∙ back))
 
 -- digits write on after others
 digits_append : (n : ℕ) (xs ys : List ℕ) → digits_value_after 10 n (xs ++ ys) ≡ digits_value_after 10 (digits_value_after 10 n xs) ys

@@ -8,7 +8,7 @@ use Rattle.lp_format.proofs.lemmas.values.ValueLemmas.{integer_decides, front_nu
 use Rattle.lp_format.proofs.lemmas.literals.FloatLemmas.{integer_len_fits, float_misses, float_reads, float_len_float}
 use Rattle.std.proofs.Common.{◌≡◌, ℕ, List, [], ◌∷◌, ◌++◌, take, drop, sym, ◌∙◌, ap, refl, append_assoc, arith, eqb-true, take-append-drop, rules}
 use Rattle.std.proofs.lemmas.{Bool.cases_Bool, Str.IsCharBoundary-start}
-use Rattle.lp_format.specs.format.{comma, equals, Text, Read, Reading, reads, ◌>>=◌, NameKind, name, a_tag_key, a_tag_value, escapable}
+use Rattle.lp_format.specs.format.{equals, Text, Read, Reading, reads, ◌>>=◌, NameKind, name, a_tag_key, a_tag_value, escapable}
 use Rattle.lp_format.specs.format.{spelled, spelled_len, read_text, Pair, byte, key_value, tag, after_comma, IsSigned, integer_len}
 
 -- the rest is the end of the text
@@ -91,9 +91,7 @@ tag_ends text x rest e =
 pub after_comma_ends : {A : Type 0} (one : List ℕ → Reading A)
     → ((text : List ℕ) (x : A) (rest : List ℕ) → one text ≡ reads x rest → EndsIn text rest)
     → (text : List ℕ) (x : A) (rest : List ℕ) → after_comma one text ≡ reads x rest → EndsIn text rest
-after_comma_ends one ends text x rest e =
-    let mark = bind_reads (byte comma text) _ x rest e in
-    EndsIn-end text mark.mid rest (byte_ends comma text mark.first mark.mid mark.was) (ends mark.mid x rest mark.next)
+after_comma_ends one ends text x rest e = grind (arith, bind_reads, EndsIn-end, byte_ends)
 
 -- what tells which number a text begins with
 pub ruleset which_number = (common_steps, eqb-false, eqb-true, no_number, integer_decides, unsigned_is, float_is)

@@ -1,16 +1,17 @@
 -- The kinds of token, and the logical text of a token, stretch by stretch.
-use Rattle.std.proofs.Common.{◌≡◌, ℕ, ◌<◌, Bool, List, [], ◌∷◌, drop, true, false, refl, sym, ◌∙◌, arith, ◌≢◌, suc, ◌+◌, ◌-◌, ◌≤◌, ◌++◌}
+use Rattle.std.proofs.Common.{◌≡◌, ℕ, ◌<◌, Bool, List, [], ◌∷◌, drop, true, false, refl, sym, ◌∙◌, arith, ◌≢◌, zero, suc, ◌+◌, ◌-◌, ◌≤◌, ◌++◌}
 use Rattle.std.proofs.Common.{take, length, slice_index, ap, append_assoc, length-append, add-one, add-zero, drop-cons, ◌==◌, ◌&&◌, eq-eqb}
 use Rattle.std.proofs.Common.{eqb-true, ne_eqb, bytes_eq, append-nil, drop-drop, get_or-drop, length-drop, length-take-le, take-append-drop}
 use Rattle.std.proofs.Common.{length-take}
-use Rattle.std.proofs.lemmas.Bool.{and_parts, or_right, cases_Bool, or_parts}
-use Rattle.std.proofs.lemmas.{Grind.common_steps, Slice.Eq.bytes_eq-Decides, List.drop_all, List.take_rest, Slice.drop-put_mid, Slice.take-put_mid}
+use Rattle.std.proofs.lemmas.Bool.{and_parts, or_right, cases_Bool, cases_lt, cases_eq, false≢true, not-true}
+use Rattle.std.proofs.lemmas.{Grind.common_steps, Str.IsCharBoundary-start, Slice.Eq.bytes_eq-Decides, List.drop_all, List.take_rest, Slice.drop-put_mid, Slice.take-put_mid}
 use Rattle.lp_scan.specs.declared.sets.TokenKind.{TokenKind}
-use Rattle.lp_scan.specs.code.{stops_of, known_of, is_plain, IsRunAt}
+use Rattle.lp_scan.specs.code.{stops_of, known_of, is_plain, AllPassBetween, IsRunAt}
 use Rattle.lp_format.specs.format.{backslash, is_one_of, without_escapes, is_one_escape, read_text, Text}
 use Rattle.lp_format.proofs.lemmas.names.NameLemmas.{no_backslash, without_escapes_same}
 use borrow.Rule.Slice.PartMut.{put_mid, same_len_mid}
-use Rattle.lp_values.proofs.lemmas.tokens.WalkLemmas.{run_is_plain}
+use Rattle.lp_values.specs.code.RawTokens.{IsTold}
+use Rattle.lp_format.proofs.lemmas.tokens.EscapeLemmas.{is_one_of_front}
 
 -- a backslash ends no token
 pub backslash_goes_on : (kind : TokenKind) → stops_of kind backslash ≡ false
@@ -19,6 +20,17 @@ backslash_goes_on kind = grind arith
 -- 0, which is read after the end of a text, is none of the bytes that a backslash may escape
 pub zero_is_not_known : (kind : TokenKind) → is_one_of (known_of kind) 0 ≡ false
 zero_is_not_known kind = grind arith
+
+-- a token ends after its first backslash
+past_first : (kind : TokenKind) (text : List ℕ) (at end : ℕ) → IsRunAt (is_plain (stops_of kind)) text 0 at → at < length text
+    → slice_index text at ≡ backslash → (end < length text → stops_of kind (slice_index text end) ≡ true) → at < end
+past_first kind text at end run within here stop = grind (arith, cases_lt, cases_eq, false≢true, or_right, not-true, backslash_goes_on)
+
+-- so what a walk counted up to its end is told
+pub walk_tells : (kind : TokenKind) (text : List ℕ) (at end found len : ℕ) → IsRunAt (is_plain (stops_of kind)) text 0 at → at < length text
+    → slice_index text at ≡ backslash → (end < length text → stops_of kind (slice_index text end) ≡ true)
+    → length (without_escapes (known_of kind) (take end text)) + found ≡ end → len ≡ end - found → IsTold (known_of kind) (take end text) len false
+walk_tells kind text at end found len run within here stop counted is = grind (arith, past_first, is_one_of_front)
 
 -- two texts with the same bytes and the same variant
 same_text : (a b : List ℕ) (s t : Bool) → a ≡ b → s ≡ t → let x : Text = record { bytes = a; is_single = s } in
@@ -61,14 +73,6 @@ plain_byte : (known : List ℕ) (c : ℕ) (text : List ℕ) → (c == backslash)
 unfolding without_escapes
 plain_byte known c text h = grind arith
 
--- bytes without a backslash stand for themselves
-run_itself : (known front back : List ℕ) → is_one_of front backslash ≡ false
-    → without_escapes known (front ++ back) ≡ front ++ without_escapes known back
-run_itself known [] back h = refl
-run_itself known (b ∷ front) back h =
-    let parts = or_parts (b == backslash) (is_one_of front backslash) h in
-    plain_byte known b (front ++ back) parts.0 ∙ ap (λ l. b ∷ l) (run_itself known front back parts.1)
-
 -- any other byte stands for itself
 byte_itself : (kind : TokenKind) (b : ℕ) (text : List ℕ)
     → (b == backslash && is_one_of (known_of kind) (slice_index text 0)) ≡ false
@@ -99,21 +103,15 @@ pub byte_at : (kind : TokenKind) (text : List ℕ) (at : ℕ) → at < length te
     → without_escapes (known_of kind) (drop at text) ≡ slice_index text at ∷ without_escapes (known_of kind) (drop (at + 1) text)
 byte_at kind text at within h = grind (arith, common_steps, byte_of_itself, length-drop, add-zero, from_place)
 
--- bytes up to a backslash stand for themselves
-run_stays : (known text : List ℕ) (at end : ℕ) → IsRunAt (is_plain (λ b. false)) text at end
-    → without_escapes known (drop at text) ≡ take (end - at) (drop at text) ++ without_escapes known (drop end text)
-run_stays known text at end run =
-    let rest = drop at text in
-    let place : at + (end - at) ≡ end = omega (arith, run.ordered) in
-    let own : IsRunAt (is_plain (λ b. false)) rest 0 (end - at) = record {
-      ordered = omega arith;
-      within = omega (arith, length-drop at text, run.within);
-      passes = λ k low high. rw (get_or-drop at text k 0) (run.passes (at + k) (omega arith) (omega (arith, place, high)));
-      stops = λ more. rw (get_or-drop at text (end - at) 0, place) (run.stops (omega (arith, more, length-drop at text, place)));
-    } in
-    ap (without_escapes known) (sym (take-append-drop (end - at) rest))
-    ∙ run_itself known (take (end - at) rest) (drop (end - at) rest) (run_is_plain known (λ b. false) rest (end - at) own)
-    ∙ ap (λ l. take (end - at) rest ++ without_escapes known l) (drop-drop (end - at) at text ∙ ap (λ (k : ℕ). drop k text) place)
+-- bytes that are no backslashes stand for themselves
+run_stays : (known text : List ℕ) (n at : ℕ) → at + n ≤ length text → AllPassBetween (is_plain (λ b. false)) text at (at + n)
+    → without_escapes known (drop at text) ≡ take n (drop at text) ++ without_escapes known (drop (at + n) text)
+run_stays known text zero at fits plain = rw (add-zero at) refl
+run_stays known text (suc n) at fits plain =
+    let here : drop at text ≡ slice_index text at ∷ drop (at + 1) text = rw add-one (drop-cons text at 0 (omega arith)) in
+    let next : at + 1 + n ≡ at + suc n = omega arith in
+    let more = rw next at (run_stays known text n (at + 1) (omega arith) (λ k from to. plain k (omega arith) (omega arith))) in
+    rw here (plain_byte known _ _ (not-true _ (plain at (omega arith) (omega arith))) ∙ ap (λ l. slice_index text at ∷ l) more)
 
 -- so a byte and the bytes after it, up to a backslash, are a stretch
 pub stretch_stays : (known text : List ℕ) (from end : ℕ) → from < length text → IsRunAt (is_plain (λ b. false)) text (from + 1) end
@@ -122,7 +120,9 @@ pub stretch_stays : (known text : List ℕ) (from end : ℕ) → from < length t
 stretch_stays known text from end within run =
     let size : end - from ≡ suc (end - (from + 1)) = omega (arith, run.ordered) in
     let here : drop from text ≡ slice_index text from ∷ drop (from + 1) text = rw add-one (drop-cons text from 0 within) in
-    rw (size, here) (ap (λ l. slice_index text from ∷ l) (run_stays known text (from + 1) end run))
+    let place : from + 1 + (end - (from + 1)) ≡ end = omega (arith, run.ordered) in
+    let rest = run_stays known text (end - (from + 1)) (from + 1) (omega (arith, run.ordered, run.within)) (rw place run.passes) in
+    rw (size, here) (ap (λ l. slice_index text from ∷ l) (rw place at rest))
 
 -- nothing is left after the end of a spelling
 pub nothing_left : (known text : List ℕ) (at : ℕ) → length text ≤ at → without_escapes known (drop at text) ≡ []
@@ -146,17 +146,7 @@ pub stretch_put : (whole left start to stretch after new : List ℕ) (place k : 
     → left ≡ stretch ++ after → place + length stretch ≤ length to → k ≡ length stretch → new ≡ stretch
     → IsPut whole after start (put_mid place k to new) (place + length stretch)
 stretch_put whole left start to stretch after new place k was parts room as_long is =
-    let end = place + length stretch in
-    let size = ap length is in
-    let whole_len = same_len_mid place k to new (omega (arith, size, length-take k (drop place to), length-drop place to)) in
-    record {
-      within = omega (arith, whole_len);
-      front = ap (λ l. l ++ after) (take-put_mid place k to new end (omega (arith, size)) was.within ∙ ap (λ l. take place to ++ l) is)
-          ∙ append_assoc (take place to) stretch after ∙ ap (λ l. take place to ++ l) (sym parts) ∙ was.front;
-      back = drop-put_mid place k to new end (omega arith) was.within (omega (arith, size))
-          ∙ sym (drop-drop (length stretch) place to) ∙ ap (drop (length stretch)) was.back ∙ drop-drop (length stretch) place start;
-      len = whole_len ∙ was.len;
-    }
+    grind (arith, same_len_mid, length-take, length-drop, take-put_mid, append_assoc, drop-put_mid, drop-drop)
 
 -- once nothing is left, the whole is put
 pub whole_put : (whole start to : List ℕ) (place : ℕ) → IsPut whole [] start to place → to ≡ whole ++ drop (length whole) start
@@ -177,3 +167,6 @@ nothing_same ys = grind (arith, ne_eqb)
 
 -- the first byte of the logical text from a place on
 pub ruleset byte_steps = (common_steps, take_rest, byte_at, escape_at)
+
+-- what is known once a spelling is read
+pub ruleset spelling_steps = (common_steps, nothing_left, nothing_same, whole_put, append-nil, IsCharBoundary-start)

@@ -1,17 +1,17 @@
 -- A walk over a token, from escape to escape and by the masks of one load.
 use Rattle.std.proofs.Common.{◌≡◌, ◌≢◌, ℕ, zero, suc, ◌+◌, ◌-◌, ◌<◌, ◌≤◌, Bool, List, [], ◌∷◌, ◌++◌, length, take, slice_index, true, false}
-use Rattle.std.proofs.Common.{cond, eqb, not, ◌&&◌, refl, sym, ap, ap₂, ◌∙◌, subst, arith, inl, inr, add-one, add-zero, append_assoc, ◌%◌}
-use Rattle.std.proofs.Common.{◌^◌, bit_and, count_ones, ◌==◌, eqb-true, length-append, count_by}
+use Rattle.std.proofs.Common.{cond, eqb, ◌&&◌, refl, sym, ap, ap₂, ◌∙◌, subst, arith, inl, inr, add-zero, append_assoc, ◌%◌}
+use Rattle.std.proofs.Common.{◌^◌, bit_and, count_ones, ◌==◌, eqb-true, length-append, length-take, get_or-take, count_by}
 use Rattle.std.proofs.lemmas.Bool.{cases_Bool, or_parts, not-true, not-false, or_cases, eqb-false, cases_lt, cases_eq, and_right, and_parts}
-use Rattle.std.proofs.lemmas.{List.take_more, List.Folds.list_any_more, List.Sums.sum_by-cons}
+use Rattle.std.proofs.lemmas.{List.take_more, List.Folds.list_any_none, List.Elements.All-from_get_or, List.Sums.sum_by-cons}
 use Rattle.std.specs.List.{range_with_len}
 use mir.Val.{bool_byte}
-use Rattle.lp_format.specs.format.{backslash, is_one_of, is_escaped_after, is_bare_at, first_bare, without_escapes, EscapeScan, IsPassed}
-use Rattle.lp_scan.specs.code.{is_plain, AllPassBetween, IsRunAt, first_set, mask_of, mask_at}
+use Rattle.lp_format.specs.format.{backslash, is_one_of, is_escaped_after, is_bare_at, first_bare, without_escapes, EscapeScan}
+use Rattle.lp_scan.specs.code.{is_plain, AllPassBetween, IsBarePassed, IsRunAt, first_set, mask_of, mask_at}
 use Rattle.lp_format.proofs.lemmas.tokens.EscapeLemmas.{first_bare_is, is_escaped_more}
 use Rattle.lp_format.proofs.lemmas.names.NameLemmas.{without_escapes_plain_byte}
 use Rattle.lp_format.proofs.lemmas.split.SplitBare.{is_escaped-nil, is_escaped-append, is_escaped-after_other, flag_after}
-use Rattle.lp_scan.proofs.lemmas.scan.BareMasks.{at_most_one, escaped_is_not_bare, lowest_within, mask_next, next_bare, one_escaped}
+use Rattle.lp_scan.proofs.lemmas.scan.BareMasks.{at_most_one, escaped_is_not_bare, lowest_within, mask_next, one_escaped}
 use Rattle.lp_scan.proofs.lemmas.scan.BareMasks.{ones_low, to_next, to_stop}
 use Rattle.lp_scan.proofs.lemmas.scan.{BareMasks.of_places, MaskLemmas.and_of_maps}
 
@@ -59,12 +59,26 @@ module _ (known text : List ℕ) where
   escapes_more zero at j e = let here : at ≡ j = omega arith in rw (← here) (grind (arith, escapes_first))
   escapes_more (suc n) at j e = omega (arith, escapes_first at (suc n), escapes_first at n, escapes_more n (at + 1) j (omega arith))
 
+  -- none begins where no backslash is
+  none_escape : (n at : ℕ) → ((k : ℕ) → at ≤ k → k < at + n → (slice_index text k == backslash) ≡ false) → escapes_from at n ≡ 0
+  none_escape zero at none = refl
+  none_escape (suc n) at none = grind (arith, escapes_first, none_escape n (at + 1), none)
+
   -- the escapes of two stretches are those of both
   joined : (n at : ℕ) → escapes_from 0 (at + n) ≡ escapes_from 0 at + escapes_from at n
   joined zero at = rw (add-zero at) (omega arith)
   joined (suc n) at =
       let place : suc (at + n) ≡ at + suc n = omega arith in
       rw (← place) (omega (arith, escapes_more (at + n) 0 (at + n) (omega arith), escapes_more n at (at + n) refl, joined n at))
+
+  -- none begins at an escaped byte after others
+  and_next : (at n last : ℕ) → last ≤ 1 → (0 < last → is_escaped_after (take (at + n) text) ≡ true)
+      → escapes_from at (n + last) ≡ escapes_from at n
+  and_next at n zero few next = rw (add-zero n) refl
+  and_next at n (suc last) few next =
+      let one : n + suc last ≡ suc n = omega arith in
+      let flag = escaped_is_not_bare (λ b. b == backslash) text (at + n) (next (omega arith)) in
+      rw one (omega (arith, rw flag at (escapes_more n at (at + n) refl)))
 
   -- how many bytes the first so many take without their escapes
   abbrev kept : ℕ → ℕ
@@ -105,19 +119,16 @@ module _ (known text : List ℕ) where
             let pair_on : j + 2 ≡ suc (suc j) = omega arith in
             let pair = rw pair_on at (kept_pair j _ (omega arith) (not-true _ unescaped) slash refl) in
             let counted = all_counted j (omega arith) (not-true _ unescaped) in
-            let begins : is_escape_at known text j ≡ is_one_of known (slice_index text (j + 1)) = rw (here, not-true _ unescaped) refl in
-            let inside : is_escape_at known text (j + 1) ≡ false = ap (λ b. b && is_one_of known (slice_index text (j + 1 + 1)))
-            (escaped_is_not_bare (λ b. b == backslash) text (j + 1) escaped) in
-            omega (arith, pair, counted, rw begins at (escapes_more j 0 j (omega arith)), rw inside at (escapes_more (suc j) 0 (j + 1) (omega arith)))
+            let inside = escaped_is_not_bare (λ b. b == backslash) text (j + 1) escaped in
+            let begins = rw (here, not-true _ unescaped) at (escapes_more j 0 j (omega arith)) in
+            omega (arith, rw inside at (escapes_more (suc j) 0 (j + 1) (omega arith)))
         | inr other ↦
             let last : (slice_index text (j + 1) == backslash) ≡ false = sym (rw (two, other) at (is_escaped_more text (j + 1) (omega arith))) ∙ bare in
-            let plain : is_escape_at known text (j + 1) ≡ false =
-            ap (λ b. (b && not (is_escaped_after (take (j + 1) text))) && is_one_of known (slice_index text (j + 1 + 1))) last in
             omega (
               arith,
               all_counted (suc j) (omega arith) (rw one at other),
               rw (two, one) at (kept_byte (j + 1) (omega arith) other),
-              rw plain at (escapes_more (suc j) 0 (j + 1) (omega arith)),
+              rw last at (escapes_more (suc j) 0 (j + 1) (omega arith)),
             )
       ]
 
@@ -131,49 +142,6 @@ module _ (known : List ℕ) (stops : ℕ → Bool) (text : List ℕ) where
   plain_parts : (b : ℕ) → is_plain stops b ≡ true → (stops b ≡ false) × ((b == backslash) ≡ false)
   plain_parts b h = or_parts (stops b) (b == backslash) (not-true _ h)
 
-  -- a plain byte further
-  walk_byte : (at found : ℕ) → EscapeScan known stops text at found → at < length text
-      → is_plain stops (slice_index text at) ≡ true → EscapeScan known stops text (at + 1) found
-  unfolding without_escapes
-  walk_byte at found w within plain =
-      record {
-        within = omega arith;
-        bare = rw (is_escaped_more text at within, w.bare, (plain_parts (slice_index text at) plain).1) refl;
-        passed = grind (arith, cases_Bool, eqb-true, eqb-false);
-        counted = omega (arith, kept_byte known text at within w.bare, w.counted);
-      }
-
-  -- some plain bytes further
-  pub walk_bytes : (n at found : ℕ) → EscapeScan known stops text at found → at + n ≤ length text
-      → AllPassBetween (is_plain stops) text at (at + n) → EscapeScan known stops text (at + n) found
-  walk_bytes zero at found w fits pass = rw add-zero w
-  walk_bytes (suc n) at found w fits pass =
-      let one = walk_byte at found w (omega arith) (pass at (omega arith) (omega arith)) in
-      let e : at + suc n ≡ at + 1 + n = omega arith in
-      rw e (walk_bytes n (at + 1) found one (omega arith) (λ k from to. pass k (omega arith) (omega arith)))
-
-  -- up to the end of the plain bytes
-  pub walk_run : (at end found : ℕ) → EscapeScan known stops text at found → IsRunAt (is_plain stops) text at end
-      → EscapeScan known stops text end found
-  walk_run at end found w run =
-      let e : at + (end - at) ≡ end = omega (arith, run.ordered) in
-      rw e at (walk_bytes (end - at) at found w (omega (arith, run.within, run.ordered)) (rw (← e) at run.passes))
-
-  -- over a backslash and the byte that it escapes, if it is no stop
-  pub walk_escape : (at found : ℕ) (t : Bool) → EscapeScan known stops text at found → at + 1 < length text
-      → slice_index text at ≡ backslash → stops backslash ≡ false
-      → is_one_of known (slice_index text (at + 1)) ≡ t → EscapeScan known stops text (at + 2) (found + cond t 1 0)
-  unfolding without_escapes
-  walk_escape at found t w within here kept is =
-      let two : at + 1 + 1 ≡ at + 2 = omega arith in
-      let escaped : is_escaped_after (take (at + 1) text) ≡ true = rw (is_escaped_more text at (omega arith), w.bare, here) refl in
-      record {
-        within = omega arith;
-        bare = rw (← two) (rw (is_escaped_more text (at + 1) within, escaped) refl);
-        passed = grind (arith, cases_lt, cases_eq, and_right);
-        counted = omega (arith, kept_pair known text at t within w.bare here is, w.counted);
-      }
-
   -- up to a bare place, with no bare stop on the way
   pub walk_to : (n at found : ℕ) → EscapeScan known stops text at found → at + n ≤ length text
       → is_escaped_after (take (at + n) text) ≡ false
@@ -186,58 +154,72 @@ module _ (known : List ℕ) (stops : ℕ → Bool) (text : List ℕ) where
     counted = omega (arith, w.counted, all_counted known text at w.within w.bare, all_counted known text (at + n) room bare, joined known text n at);
   }
 
-  -- the same, if the answer is added as a number
-  pub walk_counted : (at found n : ℕ) (t : Bool) → EscapeScan known stops text at found → at + 1 < length text
+  -- up to the end of the plain bytes
+  pub walk_run : (at end found : ℕ) → EscapeScan known stops text at found → IsRunAt (is_plain stops) text at end
+      → EscapeScan known stops text end found
+  walk_run at end found w run =
+      let place : at + (end - at) ≡ end = omega (arith, run.ordered) in
+      let plain : (k : ℕ) → at ≤ k → k < end → (stops (slice_index text k) ≡ false) × ((slice_index text k == backslash) ≡ false) =
+      λ k from to. plain_parts (slice_index text k) (run.passes k from to) in
+      let none = none_escape known text (end - at) at (λ k from to. (plain k from (omega arith)).1) in
+      let is_bare : is_escaped_after (take end text) ≡ false = elim (cases_eq end at) [
+        | inl e ↦ rw e w.bare
+        | inr more ↦
+            let last : end - 1 + 1 ≡ end = omega (arith, run.ordered) in
+            rw last at (is_escaped_more text (end - 1) (omega (arith, run.within, run.ordered)))
+            ∙ grind (arith, (plain (end - 1) (omega (arith, run.ordered)) (omega (arith, run.ordered))).1)
+      ] in
+      rw (place, none, add-zero) at (walk_to (end - at) at found w (omega (arith, run.within)) (rw place is_bare)
+      (λ k from to. grind (arith, (plain k from (omega arith)).0)))
+
+  -- over a backslash and the byte that it escapes, if it is no stop
+  pub walk_escape : (at found n : ℕ) (t : Bool) → EscapeScan known stops text at found → at + 1 < length text
       → slice_index text at ≡ backslash → stops backslash ≡ false
       → is_one_of known (slice_index text (at + 1)) ≡ t → n ≡ bool_byte t → EscapeScan known stops text (at + 2) (found + n)
-  walk_counted at found n true w within here kept is counted = rw counted (walk_escape at found true w within here kept is)
-  walk_counted at found n false w within here kept is counted = rw counted (walk_escape at found false w within here kept is)
+  unfolding without_escapes
+  walk_escape at found n t w within here kept is counted =
+      let two : at + 1 + 1 ≡ at + 2 = omega arith in
+      let escaped : is_escaped_after (take (at + 1) text) ≡ true = rw (is_escaped_more text at (omega arith), w.bare, here) refl in
+      record {
+        within = omega arith;
+        bare = rw (← two) (rw (is_escaped_more text (at + 1) within, escaped) refl);
+        passed = grind (arith, cases_lt, cases_eq, and_right);
+        counted = grind (arith, cases_Bool, kept_pair known text at t within w.bare here is, w.counted);
+      }
 
   -- the token ends where a stop or the end of the text is reached
   pub walk_ends : (end found : ℕ) → EscapeScan known stops text end found → (end < length text → stops (slice_index text end) ≡ true)
-      → (first_bare stops text ≡ end) × (length (without_escapes known (take end text)) + found ≡ end)
-  walk_ends end found w stop = (
-    first_bare_is stops text end w.within w.passed (λ h. rw (stop h, w.bare) refl),
-    w.counted,
-  )
+      → first_bare stops text ≡ end
+  walk_ends end found w stop = first_bare_is stops text end w.within w.passed (λ h. rw (stop h, w.bare) refl)
 
   -- or after a backslash that is the last byte
   pub walk_ends_after : (at found : ℕ) → EscapeScan known stops text at found → at + 1 ≡ length text
       → slice_index text at ≡ backslash → stops backslash ≡ false
       → (first_bare stops text ≡ at + 1) × (length (without_escapes known (take (at + 1) text)) + found ≡ at + 1)
-  unfolding without_escapes
-  walk_ends_after at found w last here kept =
-      let first = take_more text at 0 (omega arith) in
-      let separated_list = without_escapes_append known (take at text) (slice_index text at ∷ []) w.bare in (
-        first_bare_is stops text (at + 1) (omega arith)
-            (λ k h. elim (cases_eq k at) [ inl e ↦ rw (e, here, kept) refl | inr other ↦ w.passed k (omega arith) ])
-            (λ h. absurd (omega arith)),
-        rw (first, separated_list, length-append (without_escapes known (take at text)) (slice_index text at ∷ []))
-            (omega (arith, w.counted)),
-      )
+  walk_ends_after at found w last here kept = (
+    first_bare_is stops text (at + 1) (omega arith)
+        (λ k h. elim (cases_eq k at) [ inl e ↦ rw (e, here, kept) refl | inr other ↦ w.passed k (omega arith) ])
+        (λ h. absurd (omega arith)),
+    omega (arith, kept_byte known text at (omega arith) w.bare, w.counted),
+  )
 
   -- a byte that is not plain and no backslash is a stop
   pub is_stop_then : (b : ℕ) → is_plain stops b ≡ false → b ≢ backslash → stops b ≡ true
   is_stop_then b not_plain other = grind (arith, or_cases, not-false, eqb-true)
 
-  -- plain bytes hold no backslash
-  plain_front : (n : ℕ) → n ≤ length text → AllPassBetween (is_plain stops) text 0 n → is_one_of (take n text) backslash ≡ false
-  plain_front zero fits pass = refl
-  plain_front (suc n) fits pass =
-      let last = (plain_parts (slice_index text n) (pass n (omega arith) (omega arith))).1 in
-      let more = list_any_more (λ b. b == backslash) text n 0 (omega arith) in
-      rw (← add-one n) (rw (more, (plain_front n (omega arith) (λ k from to. pass k from (omega arith)))) last)
-
   -- a stretch that nothing in it ends has no backslash
   pub run_is_plain : (end : ℕ) → IsRunAt (is_plain stops) text 0 end → is_one_of (take end text) backslash ≡ false
-  run_is_plain end run = plain_front end run.within run.passes
+  run_is_plain end run = list_any_none (λ b. b == backslash) (take end text)
+      (All-from_get_or (λ b. (b == backslash) ≡ false) (take end text) 0 (λ k l.
+      let inside : k < end = omega (arith, l, length-take end text) in
+      rw (get_or-take end text k 0 inside) (plain_parts (slice_index text k) (run.passes k (omega arith) inside)).1))
 
   -- a token without a backslash
   pub run_ends : (end : ℕ) → IsRunAt (is_plain stops) text 0 end → (end < length text → slice_index text end ≢ backslash)
       → (first_bare stops text ≡ end) × (length (without_escapes known (take end text)) ≡ end)
   run_ends end run other =
-      let ends = walk_ends end 0 (walk_run 0 end 0 walk_start run) (λ h. is_stop_then (slice_index text end) (run.stops h) (other h)) in
-      (ends.0, omega (arith, ends.1))
+      let walked = walk_run 0 end 0 walk_start run in
+      (walk_ends end 0 walked (λ h. is_stop_then (slice_index text end) (run.stops h) (other h)), omega (arith, walked.counted))
 
 -- the mask of the bare backslashes of which the next byte is known
 pub escapes_mask : (known text : List ℕ) (at m k : ℕ) → at + 64 < length text → m ≡ mask_at (is_bare_at (λ b. b == backslash) text) at 64
@@ -251,8 +233,8 @@ module _ (known : List ℕ) (stops : ℕ → Bool) (text : List ℕ) (at found :
     (w : EscapeScan known stops text at found) (run : ℕ) (run_is : run ≡ first_set (mask_at (is_bare_at stops text) at 64) 64)
     (n : ℕ) (n_is : n ≡ count_ones (mask_at (is_escape_at known text) at 64 % 2 ^ run)) where
   -- no stop is before the load
-  passed : IsPassed stops text at
-  passed = record { within = w.within; is_bare = λ _. w.bare; passed = w.passed }
+  passed : IsBarePassed stops text at
+  passed = record { within = w.within; is_bare = w.bare; none = w.passed }
 
   -- the bits of the mask are counted as escapes
   counted : n ≡ escapes_from known text at run
@@ -262,8 +244,7 @@ module _ (known : List ℕ) (stops : ℕ → Bool) (text : List ℕ) (at found :
   pub load_stops : run < 64 → EscapeScan known stops text (at + run) (found + n) × (stops (slice_index text (at + run)) ≡ true)
   load_stops short =
       let stop = to_stop stops text at room passed run run_is short in (
-        rw counted (walk_to known stops text run at found w (omega arith) (stop.0.is_bare (omega arith))
-            (λ k from to. stop.0.passed k to)),
+        rw counted (walk_to known stops text run at found w stop.0.within stop.0.is_bare (λ k from to. stop.0.none k to)),
         stop.1,
       )
 
@@ -273,18 +254,8 @@ module _ (known : List ℕ) (stops : ℕ → Bool) (text : List ℕ) (at found :
   load_goes_on last far is =
       let one = at_most_one text at room last is in
       let whole : run ≡ 64 = omega (arith, lowest_within (is_bare_at stops text) at 64 run (omega arith) run_is) in
-      let walked = walk_to known stops text (64 + last) at found w (omega arith)
-      (next_bare text at room last is) (λ k from to. (to_next stops text at room passed run run_is last far is).passed k to) in
-      let same : escapes_from known text at (64 + last) ≡ n = elim (cases_eq last 0) [
-        | inl none ↦ ap (λ (k : ℕ). escapes_from known text at (64 + k)) none ∙ ap (escapes_from known text at) (sym whole) ∙ sym counted
-        | inr some ↦
-            let more : 64 + last ≡ 64 + 1 = omega arith in
-            let flag = one_escaped text at room last is (omega arith) in
-            let bare_not : is_bare_at (λ b. b == backslash) text (at + 64) ≡ false = escaped_is_not_bare (λ b. b == backslash) text (at + 64) flag in
-            let zero : cond {A = ℕ} (is_escape_at known text (at + 64)) 1 0 ≡ 0 =
-            ap (λ (t : Bool). cond {A = ℕ} (t && is_one_of known (slice_index text (at + 64 + 1))) 1 0) bare_not in
-            ap (escapes_from known text at) more
-            ∙ escapes_more known text 64 at (at + 64) refl ∙ ap (λ (k : ℕ). escapes_from known text at 64 + k) zero
-            ∙ omega (arith, ap (escapes_from known text at) whole, counted)
-      ] in
+      let next = to_next stops text at room passed run run_is last far is in
+      let walked = walk_to known stops text (64 + last) at found w next.within next.is_bare (λ k from to. next.none k to) in
+      let same : escapes_from known text at (64 + last) ≡ n = and_next known text at 64 last one (one_escaped text at room last is)
+      ∙ ap (escapes_from known text at) (sym whole) ∙ sym counted in
       subst (λ (k : ℕ). EscapeScan known stops text (at + (64 + last)) (found + k)) same walked

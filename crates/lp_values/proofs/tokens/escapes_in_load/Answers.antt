@@ -11,7 +11,7 @@ returns-then-run-lt-WIDE c =
     let slashes = c.bare-2.ensures (λ b. b == backslash) c.args.bytes.now c.args.at (omega arith) w.bare given given in
     let load = load_stops _ _ _ _ _ c.requires.room w _ (rw stops at c.first_set-run.ensures) _
     (rw (escapes_mask _ _ _ _ _ c.requires.room slashes c.known_in.ensures) at c.ones_below.ensures) c.if-run-lt-WIDE.true in
-    record { walked = load.0; stops = λ _. load.1; further = omega arith }
+    record { walked = load.0; stops = λ _. load.1 }
 
 pub returns : goal.returns
 returns c =
@@ -22,4 +22,4 @@ returns c =
     let walked = load_goes_on _ _ _ _ _ c.requires.room w _ (rw stops at c.first_set-run.ensures) _
     (rw (escapes_mask _ _ _ _ _ c.requires.room slashes c.known_in.ensures) at c.ones_below.ensures) _
     c.if-run-lt-WIDE.false (c.escapes_next.ensures c.args.bytes.now c.args.at (omega arith) w.bare given) in
-    record { walked = walked; stops = λ short. absurd (omega arith); further = omega arith }
+    record { walked = walked; stops = λ short. absurd (omega arith) }

@@ -11,12 +11,10 @@ load_ahead-ahead-requires-clause-starts_bare c = is_escaped-nil
 
 pub returns-then-ahead-eq0-clause-leads : goal.returns-then-ahead-eq0-clause-leads
 returns-then-ahead-eq0-clause-leads c =
-    let p = c.args.place in
-    let text = c.args.text.now in
-    let a = c.load_ahead-ahead.result in
+    let given = c.requires in
     let seen = c.load_ahead-ahead.ensures.seen in
-    line_goes_on p _ Plain (take a.end text) c.requires.plain c.requires.plain c.requires.is_bare c.requires.is_bare seen.is_bare
-    (λ bytes is_bare h. plain_bytes_past bytes text is_bare a seen p.equals p.commas _ _ h c.if-ahead-eq0.true c.ones_below.ensures
+    line_goes_on _ _ Plain (take c.load_ahead-ahead.result.end c.args.text.now) given.plain given.plain given.is_bare given.is_bare seen.is_bare
+    (λ bytes is_bare h. plain_bytes_past bytes _ is_bare _ seen _ _ _ _ h c.if-ahead-eq0.true c.ones_below.ensures
     c.ones_below-then-ahead-eq0.ensures)
 
 pub returns-then-ahead-eq0-clause-few : goal.returns-then-ahead-eq0-clause-few
@@ -27,15 +25,11 @@ returns-then-ahead-eq0-clause-few c =
 
 pub returns-clause-leads : goal.returns-clause-leads
 returns-clause-leads c =
-    let p = c.args.place in
-    let text = c.args.text.now in
-    let a = c.load_ahead-ahead.result in
+    let given = c.requires in
     let seen = c.load_ahead-ahead.ensures.seen in
-    let run_bare = bare_to seen (omega arith) refl in
-    line_goes_on p _ Plain (take _ text) c.requires.plain c.requires.plain c.requires.is_bare c.requires.is_bare
-    (subst (λ (k : ℕ). IsBareAfter (take k text)) (omega arith) run_bare)
-    (λ bytes is_bare h. plain_bytes_to bytes text is_bare a seen p.equals p.commas _ _ h _ (omega arith) refl c.ones_below-2.ensures
-    c.ones_below-3.ensures)
+    line_goes_on _ _ Plain (take _ c.args.text.now) given.plain given.plain given.is_bare given.is_bare
+    (subst (λ (k : ℕ). IsBareAfter (take k c.args.text.now)) (omega arith) (bare_to seen (omega arith) refl))
+    (λ bytes is_bare h. plain_bytes_to bytes _ is_bare _ seen _ _ _ _ h _ (omega arith) refl c.ones_below-2.ensures c.ones_below-3.ensures)
 
 pub returns-clause-few : goal.returns-clause-few
 returns-clause-few c =

@@ -2,7 +2,7 @@ use Rattle.std.proofs.Common.{◌-◌, ◌∙◌, take, drop, sym, ap, arith, by
 use Rattle.std.proofs.lemmas.{Grind.common_steps, Bool.Decides.Decides-eqb, Slice.Eq.strip_prefix_is}
 use Rattle.lp_format.specs.format.{without_escapes}
 use Rattle.lp_scan.specs.code.{known_of}
-use Rattle.lp_values.proofs.lemmas.tokens.TokenLemmas.{nothing_left, nothing_same, other_front, same_after}
+use Rattle.lp_values.proofs.lemmas.tokens.TokenLemmas.{other_front, same_after}
 use Rattle.lp_values.proofs.spelled.Spelled.eq_text.Goals as goal
 
 pub returns-in_default : goal.returns-in_default
@@ -26,6 +26,3 @@ loop-at-preserved c =
       within = next.ensures.within;
       same = grind (arith, common_steps, same_after);
     }
-
-pub returns : goal.returns
-returns c = grind (arith, common_steps, nothing_left, nothing_same)

@@ -1,6 +1,5 @@
 use Rattle.std.proofs.Common.{arith, rules}
-use Rattle.std.proofs.lemmas.Grind.{common_steps}
-use Rattle.lp_values.proofs.lemmas.tokens.TokenLemmas.{nothing_left, room_left, stretch_put, whole_put}
+use Rattle.lp_values.proofs.lemmas.tokens.TokenLemmas.{room_left, stretch_put}
 use Rattle.lp_values.proofs.spelled.Spelled.put.Goals as goal
 
 pub loop-at-preserved : goal.loop-at-preserved
@@ -13,6 +12,3 @@ loop-at-preserved c =
       within = next.ensures.within;
       put = stretch_put _ _ _ _ _ _ _ _ _ was next.ensures.value room (omega arith) (search rules);
     }
-
-pub returns : goal.returns
-returns c = grind (arith, common_steps, nothing_left, whole_put)
