@@ -12,7 +12,7 @@ pub mod Lines
 pub mod Items
 pub use Bytes.{nul, tab, newline, space, quote, hash, comma, minus, equals, backslash, letter_i, letter_u, is_one_of, newlines_in}
 pub use Dialects.{Dialect, Crate, Strict}
-pub use Escapes.{IsBareAfter, bare_after, bare, is_bare_at, IsPassed, escaped_byte, EscapeScan}
+pub use Escapes.{IsBareAfter, bare_after, bare, is_bare_at, escaped_byte, EscapeScan}
 unfoldable pub use Escapes.{is_escaped_after, first_bare, without_escapes, escaped}
 pub use Readings.{Side, above, below, Fault, measurement_value_invalid, field_set_missing, ends_with_backslash, tag_set_malformed}
 pub use Readings.{take_while1, integer_value_invalid, uinteger_value_invalid, timestamp_value_invalid, cannot_parse_entire_line, Text, Read}

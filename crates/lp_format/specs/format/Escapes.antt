@@ -29,12 +29,6 @@ is_bare_at passes text place = passes (slice_index text place) && not (is_escape
 unfoldable pub first_bare : (ℕ → Bool) → List ℕ → ℕ
 first_bare passes text = position_or_len (is_bare_at passes text) (range_with_len 0 (length text))
 
--- no bare byte before a place of the text passes the test, and that place is bare, unless the text ends there
-pub record IsPassed (passes : ℕ → Bool) (text : List ℕ) (at : ℕ) : Type 0 where
-  pub within : at ≤ length text
-  pub is_bare : at < length text → IsBareAfter (take at text)
-  pub passed : (k : ℕ) → k < at → is_bare_at passes text k ≡ false
-
 -- the logical text of a text: a backslash before one of the known bytes goes, every other byte stays
 unfoldable pub without_escapes : List ℕ → List ℕ → List ℕ
 without_escapes known [] = []

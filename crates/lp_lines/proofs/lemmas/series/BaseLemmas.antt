@@ -1,7 +1,7 @@
 -- Bases: keys that rise, the first repeated key, and tags by their keys.
-use Rattle.std.proofs.Common.{◌≡◌, ℕ, suc, zero, ◌+◌, ◌<◌, ◌≤◌, Bool, true, false, not, cond, ◌&&◌, ◌||◌, List, [], ◌∷◌, length, take, drop}
-use Rattle.std.proofs.Common.{get_or, map, Some, Option, refl, ap, sym, ◌∙◌, arith, zero-add, length-drop, Bor, Ordering, BTreeMap, is_some}
-use Rattle.std.proofs.Common.{is_lt, is_ge, nat_cmp, bytes_eq}
+use Rattle.std.proofs.Common.{◌≡◌, ℕ, suc, zero, ◌+◌, ◌<◌, ◌≤◌, Bool, true, false, cond, ◌||◌, List, [], ◌∷◌, length, take}
+use Rattle.std.proofs.Common.{get_or, map, Some, Option, refl, ap, sym, ◌∙◌, arith, Bor, BTreeMap, is_some}
+use Rattle.std.proofs.Common.{is_lt, nat_cmp, bytes_eq}
 use borrow.Author.Count.{below_more}
 use Rattle.std.proofs.lemmas.Grind.{common_steps}
 use Rattle.std.proofs.Math.Bool.{and-false}

@@ -1,4 +1,4 @@
-use Rattle.std.proofs.Common.{◌≡◌, ℕ, Bool, leb, cond, not, take, refl, ap, ◌∙◌, arith, length-take-le}
+use Rattle.std.proofs.Common.{ℕ, Bool, leb, cond, not, take, refl, ap, ◌∙◌, arith, length-take-le}
 use Rattle.std.proofs.Math.Bool.{not-not}
 use Rattle.std.specs.{Char.is_ascii_digit, List.prefix_len}
 use Rattle.std.proofs.lemmas.Simd.{splat_is_map, zip2_of_maps, zip2_splat}

@@ -7,7 +7,7 @@ use Rattle.std.proofs.lemmas.{List.take_more, List.Folds.list_any_none, List.Ele
 use Rattle.std.specs.List.{range_with_len}
 use mir.Val.{bool_byte}
 use Rattle.lp_format.specs.format.{backslash, is_one_of, is_escaped_after, is_bare_at, first_bare, without_escapes, EscapeScan}
-use Rattle.lp_scan.specs.code.{is_plain, AllPassBetween, IsBarePassed, IsRunAt, first_set, mask_of, mask_at}
+use Rattle.lp_scan.specs.code.{is_plain, IsBarePassed, IsRunAt, first_set, mask_of, mask_at}
 use Rattle.lp_format.proofs.lemmas.tokens.EscapeLemmas.{first_bare_is, is_escaped_more}
 use Rattle.lp_format.proofs.lemmas.names.NameLemmas.{without_escapes_plain_byte}
 use Rattle.lp_format.proofs.lemmas.split.SplitBare.{is_escaped-nil, is_escaped-append, is_escaped-after_other, flag_after}
