@@ -6,11 +6,9 @@
 
 ghost use Rattle.std.specs.Prelude.{◌≡◌, ◌≢◌, ◌+◌, ◌<◌, ◌≤◌, ◌^◌, [], ◌∷◌, ◌++◌, length, IfOk, IfErr, IsOk, SomeIff};
 ghost use Rattle.std.specs.Fmt.{signed_decimal};
-ghost use Rattle.lp_build.specs.declared.builder.buffer.NoRoom.{NoRoom};
-ghost use Rattle.lp_build.specs.declared.builder.buffer.NoRoom.TheVariants.{TooLong};
-ghost use Rattle.lp_format.specs.format.{newline, space, comma, a_measurement, built_tag};
-ghost use Rattle.lp_format.specs.format.{field_text, spelling};
+ghost use Rattle.lp_build.specs.declared.builder.buffer.NoRoom.{NoRoom, TheVariants.TooLong};
 ghost use Rattle.lp_build.specs.code.Built.{Writes, buffer_of};
+ghost use Rattle.lp_format.specs.format.{newline, space, comma, a_measurement, built_tag, field_text, spelling};
 
 use lp_scan::sets::TokenKind;
 use std::alloc::Global;

@@ -3,13 +3,11 @@
 ghost use Rattle.std.specs.Prelude.{◌≡◌, ◌&&◌, ◌-◌, ◌^◌, ◌++◌, IfOk, OnOk, length, map, min, not, true, string_bytes, option_map};
 ghost use Rattle.std.specs.List.{list_all, list_any};
 ghost use Rattle.lp_lines.specs.code.Bases.{GivesBase, GivesMap, base_by_key, base_of, base_text, based_tag, entry_bytes};
-ghost use Rattle.lp_lines.specs.code.Bases.{in_order, is_ambiguous_name, is_ambiguous_tag, is_base_safe, is_borrowed, is_byte_alone};
-ghost use Rattle.lp_lines.specs.code.Bases.{is_strictly_sorted, keys_of};
-ghost use Rattle.lp_format.specs.code.Light.{is_single_tag};
-ghost use Rattle.lp_format.specs.format.{is_one_of, some_tags};
-ghost use Rattle.lp_values.specs.code.Outcomes.{IsNotOutOfMemory};
+ghost use Rattle.lp_lines.specs.code.Bases.{in_order, is_ambiguous_name, is_ambiguous_tag, is_base_safe, is_borrowed};
+ghost use Rattle.lp_lines.specs.code.Bases.{is_byte_alone, is_strictly_sorted, keys_of};
 ghost use Rattle.lp_lines.specs.code.Parsed.{tag_of, tags_of};
-ghost use Rattle.lp_values.specs.code.Texts.{is_single_slice, read_of, text_of};
+ghost use Rattle.lp_format.specs.{code.Light.is_single_tag, format.is_one_of, format.some_tags};
+ghost use Rattle.lp_values.specs.code.{Outcomes.IsNotOutOfMemory, Texts.is_single_slice, Texts.read_of, Texts.text_of};
 ghost use Rattle.lp_scan.specs.code.{known_of};
 
 use crate::parsed::tags_in;

@@ -6,11 +6,9 @@
 
 ghost use Rattle.std.specs.Prelude.{◌≡◌, ◌≤◌, ◌+◌, ◌⊎◌, ◌++◌, ◌∷◌, [], length, map, true, false};
 ghost use Rattle.lp_format.specs.code.Light.{is_single_field, is_single_tag, is_single_value};
-ghost use Rattle.lp_values.specs.code.ReadValues.{value_of};
-ghost use Rattle.lp_values.specs.code.SpelledParts.{spelled_text, spelled_value};
-ghost use Rattle.lp_values.specs.code.Texts.{read_of};
-ghost use Rattle.lp_events.specs.code.Events.{spelled_field, spelled_tag};
 ghost use Rattle.lp_format.specs.format.Lines.{answer};
+ghost use Rattle.lp_values.specs.code.{ReadValues.value_of, SpelledParts.spelled_text, SpelledParts.spelled_value, Texts.read_of};
+ghost use Rattle.lp_events.specs.code.Events.{spelled_field, spelled_tag};
 ghost use Rattle.lp_split.specs.code.Rules.{rules_of};
 ghost use Rattle.lp_lines.specs.code.Filling.{FillsAnswer, KeepsRooms, fields_so_far, first_read, tags_so_far};
 ghost use Rattle.lp_lines.specs.code.Parsed.{field_of, tag_of};

@@ -2,13 +2,12 @@
 
 ghost use Rattle.std.specs.Prelude.{◌≡◌, ◌<◌, ◌≤◌, [], length, max, take, true, Err, None, Some, IfSome, OnErr, option_map};
 ghost use Rattle.lp_format.specs.format.{Crate, answer, trimmed};
+ghost use Rattle.lp_format.specs.code.Light.{inline_fields, inline_tags, is_light_in};
 ghost use Rattle.lp_split.specs.code.{rules_of};
 ghost use Rattle.lp_values.specs.code.Outcomes.{IsNotOutOfMemory};
-ghost use Rattle.lp_format.specs.code.Light.{inline_fields, inline_tags, is_light_in};
-ghost use Rattle.lp_lines.specs.code.Lookups.{room_of, some_items};
-ghost use Rattle.lp_lines.specs.code.Parsed.{FillsLine};
+ghost use Rattle.lp_lines.specs.code.{Lookups.room_of, Lookups.some_items, Parsed.FillsLine, ReadInto.IsEmptyLine};
+ghost use Rattle.lp_lines.specs.code.{ReadInto.KeepsTagRoom};
 ghost use Rattle.lp_events.specs.code.LineSteps.{most_items};
-ghost use Rattle.lp_lines.specs.code.ReadInto.{IsEmptyLine, KeepsTagRoom};
 
 use crate::filling::{Filling, tell_line};
 use crate::freeing::{forget_line, free_line};

@@ -1,10 +1,8 @@
 //! What was read of a line: its series and its fields.
 
 ghost use Rattle.std.specs.Prelude.{◌≡◌, ◌^◌, Some, ◌<◌, None, map, option_map};
-ghost use Rattle.lp_lines.specs.code.Lookups.{some_items};
-ghost use Rattle.lp_lines.specs.code.Parsed.{tag_of, tags_of};
+ghost use Rattle.lp_lines.specs.code.{Lookups.some_items, Parsed.tag_of, Parsed.tags_of, ReadInto.IsEmptyLine};
 ghost use Rattle.lp_format.specs.format.{some_tags};
-ghost use Rattle.lp_lines.specs.code.ReadInto.{IsEmptyLine};
 
 use lp_values::{EscapedStr, FieldValue, Measurement};
 use smallvec::SmallVec;

@@ -1,9 +1,7 @@
 //! What is dropped at the start of a text: blanks and comments, spaces, one byte.
 
 ghost use Rattle.std.specs.Prelude.{◌≡◌, ◌<◌, drop, length, true, None, Some, IfSome, MatchOption};
-ghost use Rattle.lp_format.specs.format.Lines.{byte, spaces};
-ghost use Rattle.lp_format.specs.format.Trimming.{trimmed};
-ghost use Rattle.lp_format.specs.format.Readings.{miss, reads};
+ghost use Rattle.lp_format.specs.format.{Lines.byte, Lines.spaces, Trimming.trimmed, Readings.miss, Readings.reads};
 
 /// `text` without the blanks and comments at the start of it.
 #[inline(always)]

@@ -1,8 +1,7 @@
 //! What can be wrong with a line.
 
 ghost use Rattle.std.specs.Prelude.{◌≡◌, Some};
-ghost use Rattle.lp_values.specs.code.Faults.{error_text};
-ghost use Rattle.lp_values.specs.declared.error.Error.TheVariants.{OutOfMemory};
+ghost use Rattle.lp_values.specs.{code.Faults.error_text, declared.error.Error.TheVariants.OutOfMemory};
 
 use std::alloc::{AllocError, AllocFailed};
 use std::fmt;

@@ -1,10 +1,8 @@
 //! Display of values, and the texts of tokens with their backslashes.
 
-ghost use Rattle.std.specs.Prelude.{Some};
-ghost use Rattle.std.specs.Fmt.{DisplaysOnOk};
-ghost use Rattle.lp_format.specs.format.Escapes.{escaped};
+ghost use Rattle.std.specs.{Prelude.Some, Fmt.DisplaysOnOk};
+ghost use Rattle.lp_format.specs.{format.Escapes.escaped, code.Shown.shown_escapes, code.Shown.shown_value};
 ghost use Rattle.lp_scan.specs.code.Tokens.{known_of};
-ghost use Rattle.lp_format.specs.code.Shown.{shown_escapes, shown_value};
 ghost use Rattle.lp_values.specs.code.ReadValues.{value_of};
 
 use crate::FieldValue;

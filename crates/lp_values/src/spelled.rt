@@ -2,8 +2,7 @@
 
 ghost use Rattle.std.specs.Prelude.{◌≡◌, ◌≤◌, ◌+◌, ◌++◌, true, false, drop, length, not, IfOk, IsOk, bytes_eq};
 ghost use Rattle.lp_format.specs.format.{backslash, is_one_of};
-ghost use Rattle.lp_values.specs.code.SpelledParts.{spelled_text, spelling_of};
-ghost use Rattle.lp_values.specs.code.Texts.{read_of};
+ghost use Rattle.lp_values.specs.code.{SpelledParts.spelled_text, SpelledParts.spelling_of, Texts.read_of};
 
 use crate::error::{Error, ErrorKind, OutOfRange};
 use crate::escaped::EscapedStr;

@@ -1,12 +1,11 @@
 //! Tokens: names and the texts between quotes. Where each ends, and its logical text.
 
-ghost use Rattle.std.specs.Prelude.{◌≡◌, ◌+◌, ◌-◌, ◌<◌, ◌≤◌, ◌==◌, ◌&&◌, ◌++◌, ◌∷◌, [], true, false, length, take, drop, slice_index};
-ghost use Rattle.std.specs.Prelude.{string_bytes, IsCharBoundary, IfOk, IsOk, OnOk, string_capacity};
-ghost use Rattle.lp_format.specs.format.{backslash, is_one_of, EscapeScan, first_bare, without_escapes, ends_in_backslash, is_shared};
-ghost use Rattle.lp_format.specs.format.{read_text};
+ghost use Rattle.std.specs.Prelude.{◌≡◌, ◌+◌, ◌-◌, ◌<◌, ◌≤◌, ◌==◌, ◌&&◌, ◌++◌, ◌∷◌, [], true, false, length, take, drop};
+ghost use Rattle.std.specs.Prelude.{slice_index, string_bytes, IsCharBoundary, IfOk, IsOk, OnOk, string_capacity};
+ghost use Rattle.lp_format.specs.format.{backslash, is_one_of, EscapeScan, first_bare, without_escapes, ends_in_backslash};
+ghost use Rattle.lp_format.specs.format.{is_shared, read_text};
 ghost use Rattle.lp_scan.specs.code.{stops_of, known_of, is_plain, IsRunAt};
-ghost use Rattle.lp_values.specs.code.RawTokens.{IsTold};
-ghost use Rattle.lp_values.specs.code.Texts.{read_of};
+ghost use Rattle.lp_values.specs.code.{RawTokens.IsTold, Texts.read_of};
 
 use crate::escaped::EscapedStr;
 use lp_scan::lanes::{LANES, backslash_run, backslashes, first_set, known_in, plain_run, stops_in};

@@ -5,8 +5,7 @@ ghost use Rattle.std.specs.Prelude.{MatchOption};
 ghost use Rattle.std.specs.Char.{is_ascii_digit};
 ghost use Rattle.lp_format.specs.format.{minus, word_len, true_words, false_words};
 ghost use Rattle.lp_format.specs.code.Light.{is_single_value};
-ghost use Rattle.lp_values.specs.code.ReadValues.{is_same_variant, value_of};
-ghost use Rattle.lp_values.specs.code.SpelledParts.{spelled_value};
+ghost use Rattle.lp_values.specs.code.{ReadValues.is_same_variant, ReadValues.value_of, SpelledParts.spelled_value};
 
 use crate::escaped::EscapedStr;
 use crate::literals::FloatText;

@@ -1,6 +1,5 @@
 -- The events that calls of `next` on a `ParseEvents` give, one after another.
-use Rattle.std.specs.Prelude.{List, ◌++◌, map}
-use Rattle.std.specs.Iterator.{Drains, Yields}
+use Rattle.std.specs.{Prelude.List, Prelude.◌++◌, Prelude.map, Iterator.Drains, Iterator.Yields}
 use Rattle.lp_events.specs.code.{Events.Event, EventsLeft.GivesEvent, EventsLeft.HasEventsLeft, EventsLeft.told}
 use Rattle.lp_events.specs.declared.pull.Event as given
 use Rattle.lp_events.specs.declared.pull.ParseEvents.{ParseEvents}

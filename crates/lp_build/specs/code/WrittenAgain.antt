@@ -1,12 +1,11 @@
 -- The texts that the builder writes for the parts of a parsed line.
 use Rattle.std.specs.Prelude.{ℕ, List, [], ◌∷◌, ◌++◌, map, flat_map}
 use Rattle.lp_values.specs.declared.{escaped.EscapedStr.EscapedStr, values.FieldValue.FieldValue}
-use Rattle.lp_lines.specs.declared.parsed.ParsedLine.{ParsedLine}
-use Rattle.lp_format.specs.format.{newline, space, a_measurement, Tag}
-use Rattle.lp_format.specs.format.{spelling, built_tag, built_value, built_fields, built_timestamp, logical_tag, logical_field}
-use Rattle.lp_format.specs.format.{logical_value}
 use Rattle.lp_values.specs.code.{Texts.text_of, ReadValues.value_of}
+use Rattle.lp_lines.specs.declared.parsed.ParsedLine.{ParsedLine}
 use Rattle.lp_lines.specs.code.{Lookups.some_items, Parsed.tag_of, Parsed.field_of}
+use Rattle.lp_format.specs.format.{newline, space, a_measurement, Tag, spelling, built_tag, built_value, built_fields}
+use Rattle.lp_format.specs.format.{built_timestamp, logical_tag, logical_field, logical_value}
 
 -- the text of a value
 abbrev pub value_text : FieldValue → List ℕ

@@ -5,9 +5,8 @@ ghost use Rattle.std.specs.List.{list_all};
 ghost use Rattle.smallvec.specs.SmallVec.{small_vec_len};
 ghost use Rattle.lp_format.specs.format.{is_one_of, space, built, built_timestamp, built_value, field_text, is_admitted_field};
 ghost use Rattle.lp_format.specs.format.{is_admitted_name, is_admitted_point, is_admitted_tag, logical_field, never_in, float};
-ghost use Rattle.lp_values.specs.code.Outcomes.{kind_of};
+ghost use Rattle.lp_values.specs.code.{Outcomes.kind_of, Texts.literal_of, Texts.text_of};
 ghost use Rattle.lp_lines.specs.code.Parsed.{field_of, parsed_point};
-ghost use Rattle.lp_values.specs.code.Texts.{literal_of, text_of};
 ghost use Rattle.lp_build.specs.code.WrittenAgain.{fields_text, line_text, point_tag, tag_text, value_text};
 ghost use Rattle.lp_build.specs.code.Built.{Writes, buffer_of};
 

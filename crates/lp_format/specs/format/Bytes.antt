@@ -1,6 +1,5 @@
 -- The bytes that mean something in line protocol, by their names.
-use Rattle.std.specs.Prelude.{ℕ, Bool, List, ◌==◌}
-use Rattle.std.specs.List.{count_by, list_any}
+use Rattle.std.specs.{Prelude.ℕ, Prelude.Bool, Prelude.List, Prelude.◌==◌, List.count_by, List.list_any}
 
 -- the byte NUL
 abbrev pub nul : ℕ

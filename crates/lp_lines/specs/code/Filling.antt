@@ -1,13 +1,12 @@
 -- What a line is filled with as its parts are told.
-use Rattle.std.specs.Prelude.{◌≡◌, ◌≤◌, ◌⊎◌, ◌++◌, ◌∷◌, ℕ, List, [], length, map, take, true, false, Option, Some, Result, Ok, Err}
-use Rattle.std.specs.Prelude.{option_map}
+use Rattle.std.specs.Prelude.{◌≡◌, ◌≤◌, ◌⊎◌, ◌++◌, ◌∷◌, ℕ, List, [], length, map, take, true, false, Option, Some, Result, Ok}
+use Rattle.std.specs.Prelude.{Err, option_map}
 use Rattle.lp_format.specs.format.{Line, some_tags, Pair, Fault, Text, Value}
 use Rattle.lp_format.specs.code.Light.{is_single_field, is_single_line, is_single_tag}
-use Rattle.lp_values.specs.declared.spelled.SpelledFault.{SpelledFault}
-use Rattle.lp_values.specs.code.{SpelledParts.spelled_fault, Texts.read_of}
+use Rattle.lp_values.specs.{declared.spelled.SpelledFault.SpelledFault, code.SpelledParts.spelled_fault, code.Texts.read_of}
 use Rattle.lp_lines.specs.declared.{filling.Filling.Filling, parsed.ParsedLine.ParsedLine}
-use Rattle.lp_events.specs.code.Events.{Event, ended, failed, named, tagged, valued}
 use Rattle.lp_lines.specs.code.{Lookups.room_of, Lookups.some_items, Parsed.field_of, Parsed.tag_of}
+use Rattle.lp_events.specs.code.Events.{Event, ended, failed, named, tagged, valued}
 
 -- the first elements of a set, as they are read
 abbrev pub first_read : {X Y : Type 0} → (X → Y) → ℕ → List X → List Y

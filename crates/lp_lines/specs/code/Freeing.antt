@@ -1,8 +1,7 @@
 -- What is freed of a line that was read into.
 use Rattle.std.specs.Prelude.{◌≡◌, ◌≤◌, [], true}
-use Rattle.lp_lines.specs.declared.parsed.ParsedLine.{ParsedLine}
+use Rattle.lp_lines.specs.{declared.parsed.ParsedLine.ParsedLine, code.Lookups.room_of, code.Lookups.some_items}
 use Rattle.lp_format.specs.code.Light.{inline_fields, inline_tags}
-use Rattle.lp_lines.specs.code.Lookups.{room_of, some_items}
 use Rattle.lp_values.specs.code.Texts.{is_single_slice}
 
 -- the line holds no memory: its measurement is no copy, and its sets hold nothing and have no more room than new ones

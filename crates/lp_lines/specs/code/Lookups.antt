@@ -2,9 +2,8 @@
 use Rattle.std.specs.Prelude.{ℕ, ◌+◌, Bool, List, [], length, nat_eq, option_map, Option, Some, None, find}
 use Rattle.std.specs.Cmp.Lexicographic.{pointwise}
 use Rattle.smallvec.specs.SmallVec.{SmallVec}
-use Rattle.lp_values.specs.declared.escaped.EscapedStr.{EscapedStr}
+use Rattle.lp_values.specs.{declared.escaped.EscapedStr.EscapedStr, code.Texts.text_of}
 use Rattle.lp_lines.specs.declared.parsed.ParsedLine.{ParsedLine}
-use Rattle.lp_values.specs.code.Texts.{text_of}
 
 -- whether a pair has a key of this text
 abbrev pub has_key : {V : Type 0} → List ℕ → EscapedStr × V → Bool

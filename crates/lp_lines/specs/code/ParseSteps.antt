@@ -1,11 +1,9 @@
 -- What a call of `next` on a `ParseLines` gives.
 use Rattle.std.specs.Prelude.{◌≡◌, ℕ, ◌<◌, ◌^◌, true, List, ◌∷◌, [], ◌++◌, length, Option, Some, None, IfSome, Result, IfOk, All}
 use Rattle.lp_format.specs.format.{Dialect, Left, PiecesLeft, trimmed, answer}
-use Rattle.lp_values.specs.declared.error.Error.{Error}
-use Rattle.lp_lines.specs.declared.parsed.ParsedLine.{ParsedLine}
 use Rattle.lp_format.specs.code.Light.{is_light}
-use Rattle.lp_lines.specs.code.{Lookups.columns, Parsed.Answers}
-use Rattle.lp_values.specs.code.Outcomes.{IsNotOutOfMemory}
+use Rattle.lp_values.specs.{declared.error.Error.Error, code.Outcomes.IsNotOutOfMemory}
+use Rattle.lp_lines.specs.{declared.parsed.ParsedLine.ParsedLine, code.Lookups.columns, code.Parsed.Answers}
 pub use Rattle.lp_events.specs.code.LineSteps.{IsBlankPiece, GaveLine, HadBlankPieces, GivesLine, most_items}
 
 -- a line that was read has at least one tag, if it has a tag set

@@ -1,12 +1,9 @@
 -- What a call of `next_into` on a `ParseLines` gives, and the line that it reads into.
 use Rattle.std.specs.Prelude.{◌≡◌, ℕ, ◌≤◌, true, List, [], Option, Some, None, IfSome, Result, Ok, Err, OnErr}
-use Rattle.lp_values.specs.declared.error.Error.{Error}
-use Rattle.lp_lines.specs.declared.parsed.ParsedLine.{ParsedLine}
-use Rattle.lp_format.specs.code.Light.{is_light_in}
-use Rattle.lp_lines.specs.code.Lookups.{room_of, some_items}
-use Rattle.lp_values.specs.code.{Outcomes.IsNotOutOfMemory, Texts.text_of}
+use Rattle.lp_values.specs.{declared.error.Error.Error, code.Outcomes.IsNotOutOfMemory, code.Texts.text_of}
+use Rattle.lp_lines.specs.{declared.parsed.ParsedLine.ParsedLine, code.Lookups.room_of, code.Lookups.some_items}
+use Rattle.lp_format.specs.{code.Light.is_light_in, format.Pieces.Left, format.Pieces.PiecesLeft}
 use Rattle.lp_events.specs.code.LineSteps.{GaveLine}
-use Rattle.lp_format.specs.format.Pieces.{Left, PiecesLeft}
 
 -- a line that says nothing: it has no text, no name, no tags, no fields and no timestamp
 pub record IsEmptyLine (line : ParsedLine) : Type 0 where

@@ -1,16 +1,12 @@
 -- What a stream holds whose pieces have a greatest length, and what a call takes of it.
-use Rattle.std.specs.Prelude.{◌≡◌, ℕ, ◌+◌, ◌-◌, ◌^◌, ◌<◌, ◌≤◌, List, [], ◌∷◌, ◌++◌, length, take, drop, Option, Some, None, Result, Ok, Err}
-use Rattle.std.specs.Prelude.{IfSome}
+use Rattle.std.specs.Prelude.{◌≡◌, ℕ, ◌+◌, ◌-◌, ◌^◌, ◌<◌, ◌≤◌, List, [], ◌∷◌, ◌++◌, length, take, drop, Option, Some, None}
+use Rattle.std.specs.Prelude.{Result, Ok, Err, IfSome}
 use Rattle.std.specs.Borrow.{Bor}
 use Rattle.lp_format.specs.format.{Dialect, newline, newlines_in, IsCutPiece, IsLastPiece}
-use Rattle.lp_split.specs.declared.split.Mark.{Mark}
-use Rattle.lp_split.specs.declared.stream.bounded.Counted.{Counted}
-use Rattle.lp_split.specs.declared.stream.bounded.Skipped.{Skipped}
-use Rattle.lp_split.specs.declared.stream.bounded.Skipped.TheVariants.{Nothing, Within, Ended}
-use Rattle.lp_split.specs.declared.stream.bounded.PieceTooLong.{PieceTooLong}
-use Rattle.lp_split.specs.code.Searches.{FindsCut}
-use Rattle.lp_split.specs.code.Streams.{Held}
-use Rattle.lp_split.specs.code.Tracks.{IsTrackOf, most_counted}
+use Rattle.lp_split.specs.declared.{split.Mark.Mark, stream.bounded.Counted.Counted, stream.bounded.Skipped.Skipped}
+use Rattle.lp_split.specs.declared.{stream.bounded.Skipped.TheVariants.Nothing, stream.bounded.Skipped.TheVariants.Within}
+use Rattle.lp_split.specs.declared.{stream.bounded.Skipped.TheVariants.Ended, stream.bounded.PieceTooLong.PieceTooLong}
+use Rattle.lp_split.specs.code.{Searches.FindsCut, Streams.Held, Tracks.IsTrackOf, Tracks.most_counted}
 
 -- the bytes that are kept, and what is known of those that were skipped
 pub record HeldWithin : Type 0 where

@@ -1,10 +1,7 @@
 -- What a stream is once the piece that it lent is let go.
-use Rattle.std.specs.Borrow.{Fml, MutBor}
-use Rattle.std.specs.Io.BufRead.{Rests}
-use Rattle.lp_split.specs.code.{Bounded.HeldWithin, Streams.Held}
-use Rattle.lp_split.specs.declared.stream.LineStream.{LineStream}
-use Rattle.lp_split.specs.contracts.stream.LineStream.{the_row}
-use Rattle.lp_split.specs.declared.stream.bounded.BoundedLineStream.{BoundedLineStream}
+use Rattle.std.specs.{Borrow.Fml, Borrow.MutBor, Io.BufRead.Rests}
+use Rattle.lp_split.specs.{code.Bounded.HeldWithin, code.Streams.Held, declared.stream.LineStream.LineStream}
+use Rattle.lp_split.specs.{contracts.stream.LineStream.the_row, declared.stream.bounded.BoundedLineStream.BoundedLineStream}
 use Rattle.lp_split.specs.contracts.stream.bounded.BoundedLineStream.{the_row as bounded_row}
 
 -- it came to what it then holds by a call that did this

@@ -2,10 +2,8 @@
 use Rattle.std.specs.Prelude.{ℕ, ◌+◌, ◌≤◌, List, length, take, drop, Option, Some, None, Result, Ok, Err}
 use Rattle.lp_format.specs.format.{Dialect, IsFirstCut, IsLastPiece}
 use Rattle.lp_split.specs.declared.split.Mark.{Mark}
-use Rattle.lp_split.specs.declared.split.resumed.Search.{Search}
-use Rattle.lp_split.specs.declared.split.resumed.Search.TheVariants.{Begins, Quiet, Within}
-use Rattle.lp_split.specs.code.Ahead.{AreSeen}
-use Rattle.lp_split.specs.code.Tracks.{IsTrackOf, most_counted, Track}
+use Rattle.lp_split.specs.declared.split.resumed.Search.{Search, TheVariants.Begins, TheVariants.Quiet, TheVariants.Within}
+use Rattle.lp_split.specs.code.{Ahead.AreSeen, Tracks.IsTrackOf, Tracks.most_counted, Tracks.Track}
 
 -- what a search knows of a text: the marks that were seen at its start, that its first bytes hold no cut, or their track
 abbrev pub IsKnown : Dialect → List ℕ → Search → Type 0

@@ -1,5 +1,4 @@
-use Rattle.std.proofs.Common.{◌∷◌, arith}
-use Rattle.std.proofs.lemmas.Str.{IsUtf8-append}
+use Rattle.std.proofs.{Common.◌∷◌, Common.arith, lemmas.Str.IsUtf8-append}
 use Rattle.lp_format.specs.format.{newline}
 use Rattle.influxdb_line_protocol.proofs.lemmas.laws.NamesInLines.{utf8_around, utf8_push}
 use Rattle.influxdb_line_protocol.proofs.laws.utf8_by_pieces.Goals as goal

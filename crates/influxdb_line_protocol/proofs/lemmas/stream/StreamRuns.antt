@@ -1,14 +1,13 @@
 -- The pieces that a stream gives, and their answers, are those of all that was pushed.
-use Rattle.std.proofs.Common.{◌≡◌, ℕ, List, [], ◌∷◌, ◌++◌, subst, sym, ◌∙◌, arith, append_assoc, append-nil, refl, ap}
-use Rattle.std.proofs.Common.{Result, All}
+use Rattle.std.proofs.Common.{◌≡◌, ℕ, List, [], ◌∷◌, ◌++◌, subst, sym, ◌∙◌, arith, append_assoc, append-nil, refl, ap, Result}
+use Rattle.std.proofs.Common.{All}
 use Rattle.std.proofs.lemmas.Grind.{flat_map-append}
-use Rattle.lp_format.specs.format.{IsLastPiece, newline, Dialect, Fault, Line, HasAnswers, answers_of}
-use Rattle.lp_format.specs.format.{Pieces.Pieces, Pieces.Pieces.cut, Pieces.Pieces.last}
-use Rattle.influxdb_line_protocol.specs.laws.StreamLaws.{TakenIsFirst, RunsGivePieces, RunsEnd}
-use Rattle.influxdb_line_protocol.specs.laws.StreamLaws.{HaveAnswers, StreamsGiveAnswers, StreamsAnswerAll, Run}
-use Rattle.influxdb_line_protocol.specs.laws.StreamLaws.Run.{begun, pushed, taken}
 use Rattle.std.proofs.lemmas.List.Elements.{All-head, All-nil, All-push, All-tail}
+use Rattle.lp_format.specs.format.{IsLastPiece, newline, Dialect, Fault, Line, HasAnswers, answers_of, Pieces.Pieces}
+use Rattle.lp_format.specs.format.{Pieces.Pieces.cut, Pieces.Pieces.last}
 use Rattle.lp_format.proofs.lemmas.split.SplitPieces.{IsLastPiece-cut, same_pieces}
+use Rattle.influxdb_line_protocol.specs.laws.StreamLaws.{TakenIsFirst, RunsGivePieces, RunsEnd, HaveAnswers, StreamsGiveAnswers}
+use Rattle.influxdb_line_protocol.specs.laws.StreamLaws.{StreamsAnswerAll, Run, Run.begun, Run.pushed, Run.taken}
 
 -- whatever comes then, the piece that was taken is the first
 pub taken_is_first : TakenIsFirst

@@ -2,9 +2,8 @@
 use Rattle.std.proofs.Common.{◌≡◌, List, [], ◌∷◌, length, refl, arith}
 use Rattle.std.proofs.lemmas.List.Folds.{flat_map-map, list_all-map}
 use Rattle.lp_values.specs.declared.{escaped.EscapedStr.EscapedStr, values.FieldValue.FieldValue}
-use Rattle.lp_lines.specs.declared.parsed.ParsedLine.{ParsedLine}
+use Rattle.lp_lines.specs.{declared.parsed.ParsedLine.ParsedLine, code.Parsed.parsed_point}
 use Rattle.lp_format.specs.format.{comma, space, built, line_of}
-use Rattle.lp_lines.specs.code.Parsed.{parsed_point}
 use Rattle.lp_build.specs.code.WrittenAgain.{fields_text, line_text}
 
 -- what comes before the first field is one byte, whichever it is

@@ -1,5 +1,4 @@
-use Rattle.std.proofs.Common.{rules, arith}
-use Rattle.std.proofs.lemmas.Result.{err_from_is_err_and}
+use Rattle.std.proofs.{Common.rules, Common.arith, lemmas.Result.err_from_is_err_and}
 use Rattle.lp_format.specs.format.Lines.{field}
 use Rattle.lp_events.specs.code.Events.{valued}
 use Rattle.lp_events.proofs.lemmas.events.LineEvents.{told_fatal, told_last, told_next}

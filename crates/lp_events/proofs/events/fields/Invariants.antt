@@ -2,8 +2,7 @@ use Rattle.std.proofs.Common.{◌+◌, ◌≤◌, length}
 use denote.Text.{Utf8}
 use denote.Shadow.{shadow}
 use Rattle.lp_format.specs.format.Lines.{field}
-use Rattle.lp_events.specs.code.Events.{valued}
-use Rattle.lp_events.proofs.lemmas.events.LineEvents.{ToldSoFar}
+use Rattle.lp_events.{specs.code.Events.valued, proofs.lemmas.events.LineEvents.ToldSoFar}
 use Rattle.lp_events.proofs.events.fields.Given as goal
 
 abbrev pub invariant-loop-key : goal.invariant-loop-key

@@ -1,5 +1,4 @@
-use Rattle.std.proofs.Common.{arith}
-use Rattle.std.proofs.lemmas.{Grind.common_steps, Result.err_from_is_err_and}
+use Rattle.std.proofs.{Common.arith, lemmas.Grind.common_steps, lemmas.Result.err_from_is_err_and}
 use Rattle.lp_format.specs.format.{answer}
 use Rattle.lp_values.specs.declared.error.ErrorKind.TheVariants.{TakeWhile1}
 use Rattle.lp_values.specs.declared.spelled.SpelledFault.TheVariants.{CannotParseEntireLine, FieldSetMissing, GenericParsingError}

@@ -1,8 +1,6 @@
-use Rattle.std.proofs.Common.{[], refl, arith, ◌∙◌}
-use Rattle.std.proofs.lemmas.Grind.{common_steps}
+use Rattle.std.proofs.{Common.[], Common.refl, Common.arith, Common.◌∙◌, lemmas.Grind.common_steps}
 use Rattle.lp_split.specs.code.{rules_of}
-use Rattle.lp_events.specs.code.Events.{AreEventsOfText}
-use Rattle.lp_events.specs.code.EventsLeft.{AreEventsLeft}
+use Rattle.lp_events.specs.code.{Events.AreEventsOfText, EventsLeft.AreEventsLeft}
 use Rattle.lp_events.proofs.lemmas.events.LineEvents.{blank_events, told_to_end, told_line, told_then}
 use Rattle.lp_events.proofs.events.read_events_in.Goals as goal
 

@@ -1,8 +1,6 @@
 use Rattle.std.proofs.Common.{◌≡◌}
 use Rattle.lp_split.specs.code.{rules_of}
-use Rattle.lp_events.specs.code.Events.{AreEventsOfText}
-use Rattle.lp_events.specs.code.EventsLeft.{AreEventsLeft}
-use Rattle.lp_events.specs.code.LineSteps.{most_items}
+use Rattle.lp_events.specs.code.{Events.AreEventsOfText, EventsLeft.AreEventsLeft, LineSteps.most_items}
 use Rattle.lp_events.proofs.lemmas.events.LineEvents.{ToldTo}
 use Rattle.lp_events.proofs.events.read_events_in.Given as goal
 

@@ -1,7 +1,6 @@
 use Rattle.std.proofs.Common.{refl}
-use Rattle.lp_events.specs.code.Events.{failed}
+use Rattle.lp_events.{specs.code.Events.failed, proofs.lemmas.events.LineEvents.takes_more}
 use Rattle.lp_values.specs.code.SpelledParts.{spelled_fault}
-use Rattle.lp_events.proofs.lemmas.events.LineEvents.{takes_more}
 use Rattle.lp_events.proofs.events.read_line_events.Goals as goal
 
 pub returns-in-Err : goal.returns-in-Err

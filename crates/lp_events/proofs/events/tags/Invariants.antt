@@ -2,8 +2,7 @@ use Rattle.std.proofs.Common.{◌+◌, ◌≤◌, length}
 use denote.Text.{Utf8}
 use denote.Shadow.{shadow}
 use Rattle.lp_format.specs.format.Lines.{tag}
-use Rattle.lp_events.specs.code.Events.{tagged}
-use Rattle.lp_events.proofs.lemmas.events.LineEvents.{ToldSoFar}
+use Rattle.lp_events.{specs.code.Events.tagged, proofs.lemmas.events.LineEvents.ToldSoFar}
 use Rattle.lp_events.proofs.events.tags.Given as goal
 
 abbrev pub invariant-loop-key : goal.invariant-loop-key

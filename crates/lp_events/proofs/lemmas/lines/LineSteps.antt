@@ -1,11 +1,10 @@
 -- The pieces that a call of `next_line` skips, and how many bytes, pieces and items are left after it.
-use Rattle.std.proofs.Common.{◌≡◌, ℕ, ◌+◌, ◌<◌, ◌≤◌, List, [], ◌∷◌, ◌++◌, length, Bool, true, false, ap, refl, sym, arith, append_assoc}
-use Rattle.std.proofs.Common.{cond, length-append, Option, Some, None, Bor, All}
+use Rattle.std.proofs.Common.{◌≡◌, ℕ, ◌+◌, ◌<◌, ◌≤◌, List, [], ◌∷◌, ◌++◌, length, Bool, true, false, ap, refl, sym, arith}
+use Rattle.std.proofs.Common.{append_assoc, cond, length-append, Option, Some, None, Bor, All}
 use Rattle.std.proofs.lemmas.List.Elements.{All-push}
 use Rattle.lp_format.specs.format.{newline, Dialect, Left, PiecesLeft, most_pieces, trimmed}
 use Rattle.lp_format.specs.format.Pieces.{Pieces, Pieces.last, Pieces.cut}
-use Rattle.lp_format.proofs.lemmas.line.TrimLemmas.{left_of, trimmed_is}
-use Rattle.lp_format.proofs.lemmas.split.SplitPieces.{pieces_exist}
+use Rattle.lp_format.proofs.lemmas.{line.TrimLemmas.left_of, line.TrimLemmas.trimmed_is, split.SplitPieces.pieces_exist}
 use Rattle.lp_events.specs.code.LineSteps.{GivesLine, IsBlankPiece, most_items}
 
 -- blank pieces were left before these

@@ -5,14 +5,13 @@ use Rattle.std.proofs.Common.{Result, Ok, Err, is_some, IfOk, MatchResult, Bor, 
 use Rattle.std.proofs.Math.Seq.{take-append_seam}
 use Rattle.std.proofs.lemmas.{Bool.cases_Bool, Bool.Decides.nat_tests, Grind.common_steps, List.map_push, Result.err_from_is_err_and}
 use Rattle.lp_events.specs.declared.pull.Event as given
-use Rattle.lp_format.specs.format.{comma, space, Dialect, after_comma, answer, byte, field, field_set, front_before, spaces, tag, timestamp}
-use Rattle.lp_format.specs.format.{without_comma, NameKind, name, Left, Pair, Fault, Text, cannot_parse_entire_line, fatal, miss}
-use Rattle.lp_format.specs.format.{reads, tag_set_malformed, Value}
+use Rattle.lp_format.specs.format.{comma, space, Dialect, after_comma, answer, byte, field, field_set, front_before, spaces, tag}
+use Rattle.lp_format.specs.format.{timestamp, without_comma, NameKind, name, Left, Pair, Fault, Text, cannot_parse_entire_line}
+use Rattle.lp_format.specs.format.{fatal, miss, reads, tag_set_malformed, Value}
 use Rattle.lp_values.proofs.lemmas.fields.ReadingLemmas.{EndsIn, bind_reads, byte_parts, name_ends, name_parts}
 use Rattle.lp_values.specs.declared.spelled.SpelledFault.{SpelledFault}
 use Rattle.lp_events.specs.code.Events.{AreEventsOf, AreFrontEvents, Event, ended, failed, front_events, tagged, valued}
-use Rattle.lp_events.specs.code.EventsLeft.{AreEventsLeft, Completes, FieldsRead, NamesRead, SeriesRead, Steps}
-use Rattle.lp_events.specs.code.EventsLeft.{most_of_line}
+use Rattle.lp_events.specs.code.EventsLeft.{AreEventsLeft, Completes, FieldsRead, NamesRead, SeriesRead, Steps, most_of_line}
 use Rattle.lp_events.specs.declared.{place.Place.Place}
 use Rattle.lp_events.proofs.lemmas.fields.ManyLemmas.{so_far_end, so_far_fatal, so_far_more, so_far_start, comma_cases}
 use Rattle.lp_events.proofs.lemmas.events.LineEvents.{complete_none, complete_some}

@@ -1,14 +1,11 @@
 -- What is left after what was read is no longer than the text.
-use Rattle.std.proofs.lemmas.Grind.{common_steps}
-use Rattle.std.proofs.lemmas.Bool.Decides.{nat_tests}
-use Rattle.std.proofs.lemmas.Bool.{cases_Bool}
-use Rattle.std.proofs.Common.{◌≡◌, ℕ, zero, suc, add-one, List, arith, ◌≤◌, length, drop, Bool, cond, ap}
-use Rattle.std.proofs.Common.{length-drop, IsUtf8, IsCharBoundary, eqb-true}
-use Rattle.std.proofs.lemmas.List.Sums.{prefix_len_passes, prefix_len-le-length}
-use Rattle.std.proofs.lemmas.Str.{IsCharBoundary-after_ascii, IsCharBoundary-start}
-use Rattle.lp_format.specs.format.{byte, spaces, key_value, tag, field, reads, Fault, Read, Reading, miss, fatal, ◌>>=◌, ◌otherwise◌}
-use Rattle.lp_format.specs.format.{equals, NameKind, a_tag_key, a_tag_value, a_field_key, name, value, integer_at, unsigned_at, float_at}
-use Rattle.lp_format.specs.format.{string_at, boolean_at}
+use Rattle.std.proofs.lemmas.{Grind.common_steps, Bool.Decides.nat_tests, Bool.cases_Bool, List.Sums.prefix_len_passes}
+use Rattle.std.proofs.lemmas.{List.Sums.prefix_len-le-length, Str.IsCharBoundary-after_ascii, Str.IsCharBoundary-start}
+use Rattle.std.proofs.Common.{◌≡◌, ℕ, zero, suc, add-one, List, arith, ◌≤◌, length, drop, Bool, cond, ap, length-drop, IsUtf8}
+use Rattle.std.proofs.Common.{IsCharBoundary, eqb-true}
+use Rattle.lp_format.specs.format.{byte, spaces, key_value, tag, field, reads, Fault, Read, Reading, miss, fatal, ◌>>=◌}
+use Rattle.lp_format.specs.format.{◌otherwise◌, equals, NameKind, a_tag_key, a_tag_value, a_field_key, name, value, integer_at}
+use Rattle.lp_format.specs.format.{unsigned_at, float_at, string_at, boolean_at}
 
 -- after spaces a text may be cut
 pub spaces_boundary : (text : List ℕ) (n : ℕ) → IsUtf8 text → n ≡ spaces text → IsCharBoundary text n

@@ -1,19 +1,18 @@
 -- Each text has exactly one list of pieces, the pieces and the answers of joined texts are joined, and a comment changes none.
-use Rattle.std.proofs.Common.{◌≡◌, ◌≢◌, ℕ, ◌+◌, ◌<◌, true, false, ◌⊎◌, inl, inr, eqb, List, [], ◌∷◌, ◌++◌, length, get_or}
-use Rattle.std.proofs.Common.{take, drop, Option, Some, None, MatchOption, slice_range, sym, ◌∙◌, ap, refl, subst, arith, append_assoc}
+use Rattle.std.proofs.Common.{◌≡◌, ◌≢◌, ℕ, ◌+◌, ◌<◌, true, false, ◌⊎◌, inl, inr, eqb, List, [], ◌∷◌, ◌++◌, length, get_or, take}
+use Rattle.std.proofs.Common.{drop, Option, Some, None, MatchOption, slice_range, sym, ◌∙◌, ap, refl, subst, arith, append_assoc}
 use Rattle.std.proofs.Common.{append-nil, All, count_by, take_at, take-append-drop, length-append, Result, ◌==◌, ne_eqb}
 use Rattle.std.proofs.lemmas.{Grind.common_steps, Grind.flat_map-append, List.drop_more, List.get_or_at}
 use Rattle.std.proofs.lemmas.List.Elements.{All-head, All-tail, All-cons, All-push, All-take, All-append}
 use Rattle.std.proofs.lemmas.Bool.{cases_lt, cases_eq, cases_Bool, false≢true, both_ways}
-use Rattle.lp_format.specs.format.{Dialect, Crate, Strict, is_escaped_after, begins_comment, IsComment}
-use Rattle.lp_format.specs.format.{IsCutPiece, IsLastPiece, IsFirstCut, comma, equals, newline, quote, space, Fault, HasAnswers}
-use Rattle.lp_format.specs.format.{answers_of_piece, Line}
-use Rattle.lp_format.specs.format.{Pieces.Pieces, Pieces.Pieces.last, Pieces.Pieces.cut}
-use Rattle.lp_format.proofs.lemmas.split.SplitBare.{IsHead-escaped, IsHead-bare, EndsPlain-escaped, EndsPlain-bare, EndsPlain-start}
-use Rattle.lp_format.proofs.lemmas.split.SplitBare.{EndsQuoted-escaped, EndsQuoted-bare, EndsQuoted-start, EndsQuoted-close}
-use Rattle.lp_format.proofs.lemmas.split.SplitBare.{place_in_append, nil_has_no_place, cut_not_within}
 use Rattle.std.specs.List.{join_with_byte}
+use Rattle.lp_format.specs.format.{Dialect, Crate, Strict, is_escaped_after, begins_comment, IsComment, IsCutPiece, IsLastPiece}
+use Rattle.lp_format.specs.format.{IsFirstCut, comma, equals, newline, quote, space, Fault, HasAnswers, answers_of_piece, Line}
+use Rattle.lp_format.specs.format.{Pieces.Pieces, Pieces.Pieces.last, Pieces.Pieces.cut}
 use Rattle.lp_format.specs.laws.Laws.{CommentTextIsIgnored}
+use Rattle.lp_format.proofs.lemmas.split.SplitBare.{IsHead-escaped, IsHead-bare, EndsPlain-escaped, EndsPlain-bare}
+use Rattle.lp_format.proofs.lemmas.split.SplitBare.{EndsPlain-start, EndsQuoted-escaped, EndsQuoted-bare, EndsQuoted-start}
+use Rattle.lp_format.proofs.lemmas.split.SplitBare.{EndsQuoted-close, place_in_append, nil_has_no_place, cut_not_within}
 use Rattle.lp_format.proofs.lemmas.line.TrimLemmas.{left_of, trimmed_is, skip_comment}
 
 -- a byte more is a cut, or lengthens the piece

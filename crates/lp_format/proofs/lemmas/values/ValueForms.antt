@@ -1,16 +1,15 @@
 -- The first bytes of a value decide its form; strings at the start of a text.
-use Rattle.std.proofs.lemmas.Bool.{cases_Bool}
+use Rattle.std.proofs.lemmas.Bool.{cases_Bool, and_parts, cases_lt, false_from_ne_true, cases_eq, eqb-false, or_parts}
+use Rattle.std.proofs.lemmas.List.{FromFn.length-range_with_len, FromFn.get_or-range_with_len, Sums.passes_at_first}
+use Rattle.std.proofs.lemmas.{Grind.common_steps, Bool.Decides.nat_tests}
 use Rattle.std.proofs.Common.{◌≡◌, ◌≢◌, ℕ, ◌<◌, List, [], ◌∷◌, length, take, drop, slice_index, true, false, refl, ap, arith}
 use Rattle.std.proofs.Common.{zero-add, ◌⊎◌, ◌==◌, nat_lt, ◌||◌, eq-eqb, eqb-true, ne_eqb, lt-ltb, ltb-true, length-drop}
-use Rattle.std.proofs.lemmas.Bool.{and_parts, cases_lt, false_from_ne_true, cases_eq, eqb-false, or_parts}
 use Rattle.std.specs.{Char.is_ascii_digit}
-use Rattle.std.proofs.lemmas.List.{FromFn.length-range_with_len, FromFn.get_or-range_with_len, Sums.passes_at_first}
 use Rattle.lp_format.specs.format.{quote, first_bare, byte, read_text, miss, reads, ◌otherwise◌, quotable, body_len, string}
-use Rattle.lp_format.specs.format.{string_at, value, integer_at, unsigned_at, float_at, boolean_at, integer_len, true_words, false_words}
-use Rattle.lp_format.specs.format.{letter_i, letter_u, minus}
-use Rattle.lp_format.proofs.lemmas.values.ValueLemmas.{byte_at_drop, after_byte, boolean_misses}
-use Rattle.lp_format.proofs.lemmas.values.ValueLemmas.{integer_unmarked, unsigned_reads, unsigned_overflows}
-use Rattle.std.proofs.lemmas.{Grind.common_steps, Bool.Decides.nat_tests}
+use Rattle.lp_format.specs.format.{string_at, value, integer_at, unsigned_at, float_at, boolean_at, integer_len, true_words}
+use Rattle.lp_format.specs.format.{false_words, letter_i, letter_u, minus}
+use Rattle.lp_format.proofs.lemmas.values.ValueLemmas.{byte_at_drop, after_byte, boolean_misses, integer_unmarked, unsigned_reads}
+use Rattle.lp_format.proofs.lemmas.values.ValueLemmas.{unsigned_overflows}
 
 -- if a byte misses, the text does not begin with it
 pub byte_missing : (b : ℕ) (text : List ℕ) → byte b text ≡ miss → (rest : List ℕ) → text ≢ b ∷ rest

@@ -1,6 +1,5 @@
-use Rattle.std.proofs.Common.{rules, is_lt, nat_cmp}
+use Rattle.std.proofs.{Common.rules, Common.is_lt, Common.nat_cmp, lemmas.List.Sorted.answers_always}
 use Rattle.std.specs.Cmp.Lexicographic.{slice_cmp}
-use Rattle.std.proofs.lemmas.List.Sorted.{answers_always}
 use Rattle.lp_lines.proofs.lemmas.series.BaseLemmas.{keys_rise_is}
 use Rattle.lp_values.specs.code.Texts.{text_of}
 use Rattle.lp_lines.proofs.base.keys_rise.Goals as goal

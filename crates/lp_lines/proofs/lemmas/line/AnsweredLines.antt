@@ -3,23 +3,21 @@
 use Rattle.std.proofs.Common.{◌≡◌, ℕ, ◌<◌, List, [], ◌∷◌, length, ap, arith, Option, Ok, Err, Result, ◌+◌, ◌≤◌, ◌^◌, drop}
 use Rattle.std.proofs.Common.{length-append, length-drop, true, IfSome, le-leb, leb-true}
 use Rattle.std.proofs.lemmas.{Bool.and_parts, List.length-map}
-use Rattle.lp_format.specs.format.{Dialect, Fault, Text, Reading, reads, Pair, Line, tag, separated_list, tag_set, answer}
-use Rattle.lp_format.specs.format.{field, some_tags, spaces, byte, comma, a_measurement, Left}
-use Rattle.lp_format.proofs.lemmas.names.Inversions.{prepend_parts, count_is_of_the_most}
+use Rattle.lp_format.specs.format.{Dialect, Fault, Text, Reading, reads, Pair, Line, tag, separated_list, tag_set, answer, field}
+use Rattle.lp_format.specs.format.{some_tags, spaces, byte, comma, a_measurement, Left}
 use Rattle.lp_format.specs.laws.Meanings.{SeparatedBy, SeparatedAfterComma}
-use Rattle.lp_format.proofs.lemmas.meanings.{JoinedMeaning.the_most_is_read, ShorterRests.tag_no_longer, ShorterRests.field_no_longer}
-use Rattle.lp_format.specs.code.Light.{carries_no_text, count_after, fields_in, is_light_in, is_single_line, read_count}
-use Rattle.lp_format.specs.code.Light.{tags_in, is_light}
-use Rattle.lp_values.specs.declared.{error.Error.Error}
+use Rattle.lp_format.specs.code.Light.{carries_no_text, count_after, fields_in, is_light_in, is_single_line, read_count, tags_in}
+use Rattle.lp_format.specs.code.Light.{is_light}
+use Rattle.lp_format.proofs.lemmas.names.Inversions.{prepend_parts, count_is_of_the_most}
+use Rattle.lp_format.proofs.lemmas.meanings.{JoinedMeaning.the_most_is_read, ShorterRests.tag_no_longer}
+use Rattle.lp_format.proofs.lemmas.meanings.{ShorterRests.field_no_longer}
+use Rattle.lp_values.specs.{declared.error.Error.Error, code.Outcomes.IsNotOutOfMemory}
 use Rattle.lp_values.proofs.lemmas.fields.ReadingLemmas.{bind_reads, name_ends}
-use Rattle.lp_values.specs.code.Outcomes.{IsNotOutOfMemory}
 use Rattle.lp_events.specs.code.LineSteps.{GaveLine}
 use Rattle.lp_events.proofs.lemmas.fields.ManyLemmas.{fields_joined, set_separated, tag_set_read}
-use Rattle.lp_lines.specs.declared.parsed.ParsedLine.{ParsedLine}
-use Rattle.lp_lines.specs.code.Parsed.{Answers, FillsLine, line_read}
-use Rattle.lp_lines.specs.code.{ParseSteps.HasNoEmptyTagSet, ParseSteps.CanCountColumns, ParseSteps.GaveItem}
-use Rattle.lp_lines.specs.code.{ReadInto.item_in}
-use Rattle.lp_lines.proofs.lemmas.names.ParsedNames.{answer_parts}
+use Rattle.lp_lines.{specs.declared.parsed.ParsedLine.ParsedLine, specs.code.Parsed.Answers, specs.code.Parsed.FillsLine}
+use Rattle.lp_lines.{specs.code.Parsed.line_read, specs.code.ParseSteps.HasNoEmptyTagSet, specs.code.ParseSteps.CanCountColumns}
+use Rattle.lp_lines.{specs.code.ParseSteps.GaveItem, specs.code.ReadInto.item_in, proofs.lemmas.names.ParsedNames.answer_parts}
 
 -- what commas join is at least one
 pub joined_some : {A : Type 0} (one : List ℕ → Reading A) (line rest : List ℕ) (xs : List A)

@@ -1,25 +1,24 @@
 -- Which names lines can have, and that they can have each of them.
-use Rattle.std.proofs.Common.{◌≡◌, ◌≢◌, ℕ, List, [], ◌∷◌, drop, map, slice_index, Bool, true, false, refl, subst, arith, inl}
-use Rattle.std.proofs.Common.{inr, Option, Ok, Result, ℤ, Contains, eqb-true}
-use Rattle.std.specs.List.{AllByRecursion}
+use Rattle.std.proofs.Common.{◌≡◌, ◌≢◌, ℕ, List, [], ◌∷◌, drop, map, slice_index, Bool, true, false, refl, subst, arith, inl, inr}
+use Rattle.std.proofs.Common.{Option, Ok, Result, ℤ, Contains, eqb-true}
 use Rattle.std.proofs.lemmas.{Bool.cases_Bool, Bool.or_parts, Bool.eqb-false, List.Elements.Contains-append_cases}
 use Rattle.std.proofs.lemmas.List.Elements.{All-contains, All-from_recursion}
-use Rattle.lp_format.specs.format.{Dialect, Strict, Fault, Text, reads, NameKind, a_measurement, a_tag_key, a_tag_value, a_field_key, name}
-use Rattle.lp_format.specs.format.{Value, Pair, Point, Tag, Line, point_of, logical_tag, logical_field, some_tags, tag, field}
-use Rattle.lp_format.specs.format.{tag_set, field_set, spaces, timestamp, front_before, answer, HasAnswers, answers_of_piece, answers_of}
-use Rattle.lp_format.specs.format.{hash}
+use Rattle.std.specs.List.{AllByRecursion}
+use Rattle.lp_format.specs.format.{Dialect, Strict, Fault, Text, reads, NameKind, a_measurement, a_tag_key, a_tag_value}
+use Rattle.lp_format.specs.format.{a_field_key, name, Value, Pair, Point, Tag, Line, point_of, logical_tag, logical_field}
+use Rattle.lp_format.specs.format.{some_tags, tag, field, tag_set, field_set, spaces, timestamp, front_before, answer, HasAnswers}
+use Rattle.lp_format.specs.format.{answers_of_piece, answers_of, hash}
 use Rattle.lp_format.specs.laws.NamesOfLines.{names_of, IsParsedName, IsNothingOrSpaced}
 use Rattle.lp_format.specs.laws.Laws.{NamesAreParsed, StrictFieldsEnd}
 use Rattle.lp_format.specs.laws.MeaningsOfAnswers.{after_spaces, IsAnswer, IsAnswer.all_read}
-use Rattle.lp_format.proofs.lemmas.line.TrimLemmas.{left_of, trimmed_is}
+use Rattle.lp_format.proofs.lemmas.{line.TrimLemmas.left_of, line.TrimLemmas.trimmed_is, names.Inversions.after_all}
+use Rattle.lp_format.proofs.lemmas.{names.Inversions.joined_of, meanings.ShorterRests.field_no_longer}
+use Rattle.lp_format.proofs.lemmas.{lists.Elements.first_or_later}
 use Rattle.lp_lines.proofs.lemmas.names.KeptNames.{name_parsed}
-use Rattle.lp_format.proofs.lemmas.names.Inversions.{after_all, joined_of}
 use Rattle.lp_lines.proofs.lemmas.meanings.AnswerMeaning.{answer_is_by_rows, fields_read, series_parts}
-use Rattle.lp_format.proofs.lemmas.meanings.ShorterRests.{field_no_longer}
-use Rattle.lp_events.proofs.lemmas.fields.ManyLemmas.{fields_joined, set_separated}
 use Rattle.lp_lines.proofs.lemmas.read_back.LineReadsBack.{front_is}
+use Rattle.lp_events.proofs.lemmas.fields.ManyLemmas.{fields_joined, set_separated}
 use Rattle.lp_values.proofs.lemmas.fields.ReadingLemmas.{pair_parts}
-use Rattle.lp_format.proofs.lemmas.lists.Elements.{first_or_later}
 
 -- both names of a tag are parsed names
 abbrev pub HasParsedNames : Tag → Type 0

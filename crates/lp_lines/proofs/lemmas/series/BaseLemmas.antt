@@ -3,21 +3,18 @@ use Rattle.std.proofs.Common.{◌≡◌, ℕ, suc, zero, ◌+◌, ◌<◌, ◌�
 use Rattle.std.proofs.Common.{get_or, map, Some, Option, refl, ap, sym, ◌∙◌, arith, Bor, BTreeMap, is_some}
 use Rattle.std.proofs.Common.{is_lt, nat_cmp, bytes_eq}
 use borrow.Author.Count.{below_more}
-use Rattle.std.proofs.lemmas.Grind.{common_steps}
+use Rattle.std.proofs.lemmas.{Grind.common_steps, List.FromFn.length-range_with_len, List.FromFn.get_or-range_with_len}
+use Rattle.std.proofs.lemmas.{List.map_more, List.length-map, List.get_or-map, List.Folds.list_all-map, List.Folds.list_any_more}
+use Rattle.std.proofs.lemmas.{List.Sums.fold_push, List.Sums.position_or_len_is, Map.Text.btree_map_updates_str}
 use Rattle.std.proofs.Math.Bool.{and-false}
 use Rattle.std.specs.{BTreeMap.UpdatesBy, BTreeMap.get_by, BTreeMap.insert_entry, Cmp.Lexicographic.slice_cmp}
 use Rattle.std.specs.{Cmp.Lexicographic.nat_list_eq_equiv, List.list_all, List.list_any, List.range_with_len}
 use Rattle.std.specs.{List.IsAllAdjacentAnswer}
-use Rattle.std.proofs.lemmas.List.FromFn.{length-range_with_len, get_or-range_with_len}
-use Rattle.std.proofs.lemmas.{List.map_more, List.length-map, List.get_or-map, List.Folds.list_all-map}
-use Rattle.std.proofs.lemmas.{List.Folds.list_any_more, List.Sums.fold_push}
-use Rattle.std.proofs.lemmas.{List.Sums.position_or_len_is, Map.Text.btree_map_updates_str}
-use Rattle.lp_values.specs.declared.escaped.EscapedStr.{EscapedStr}
-use Rattle.lp_lines.specs.code.Bases.{by_key, entry_bytes, first_repeated, is_repeated_at, is_ambiguous_tag, keys_of, is_strictly_sorted}
+use Rattle.lp_values.specs.{declared.escaped.EscapedStr.EscapedStr, code.Texts.text_of}
+use Rattle.lp_lines.specs.code.Bases.{by_key, entry_bytes, first_repeated, is_repeated_at, is_ambiguous_tag, keys_of}
+use Rattle.lp_lines.specs.code.Bases.{is_strictly_sorted}
 use Rattle.lp_lines.specs.code.Parsed.{tag_of}
-use Rattle.lp_format.specs.code.Light.{is_single_tag}
-use Rattle.lp_format.specs.format.{Pair, Text}
-use Rattle.lp_values.specs.code.Texts.{text_of}
+use Rattle.lp_format.specs.{code.Light.is_single_tag, format.Pair, format.Text}
 
 -- keys rise if each is greater than the one before it
 pub keys_rise_is : (tags : List (EscapedStr × EscapedStr)) (r : Bool)

@@ -1,8 +1,7 @@
 use Rattle.std.proofs.Common.{◌∷◌, [], take, map}
 use Rattle.std.specs.{Fmt.HasWritten, Fmt.IsPlainFormatter, List.join_by}
-use Rattle.lp_format.specs.format.Bytes.{comma}
+use Rattle.lp_format.specs.{format.Bytes.comma, code.Shown.shown_field}
 use Rattle.lp_lines.specs.code.Parsed.{field_of}
-use Rattle.lp_format.specs.code.Shown.{shown_field}
 use Rattle.lp_lines.proofs.shown.show_fields.Given as goal
 
 abbrev pub invariant-loop-place : goal.invariant-loop-place

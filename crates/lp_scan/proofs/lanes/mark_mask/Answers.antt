@@ -1,6 +1,5 @@
 -- A lane is set exactly if its byte is a mark of the kind, at each of the 256 bytes.
-use Rattle.std.proofs.Common.{refl, arith, inl, inr}
-use Rattle.std.proofs.lemmas.Grind.{common_steps}
+use Rattle.std.proofs.{Common.refl, Common.arith, Common.inl, Common.inr, lemmas.Grind.common_steps}
 use Rattle.lp_scan.proofs.lemmas.lanes.LaneLemmas.{either, looked, mask_as, one, same_tests}
 use Rattle.lp_scan.proofs.lanes.mark_mask.Goals as goal
 use Rattle.lp_format.specs.format.{comma}

@@ -4,8 +4,7 @@ use Rattle.std.proofs.Common.{refl, sym, ap, ◌∙◌, map-id, arith, [], ◌�
 use Rattle.std.proofs.lemmas.Simd.{length-chunk, zip2_splat, zip2_of_maps, swz_l}
 use Rattle.std.proofs.lemmas.{Bool.agree_below, Bool.cases_lt, List.get_or_past}
 use lib.Lanes.{chunk, mask_l, top, zip2}
-use Rattle.lp_scan.specs.code.{mask_of}
-use Rattle.lp_scan.proofs.lemmas.scan.MaskLemmas.{mask_by_lanes, mask_same}
+use Rattle.lp_scan.{specs.code.mask_of, proofs.lemmas.scan.MaskLemmas.mask_by_lanes, proofs.lemmas.scan.MaskLemmas.mask_same}
 
 -- `swizzle_dyn` gives for each place what the table has there: a place that it makes 0 is none of the table's
 pub looked_up : (table : List ℕ) → length table ≤ 128 → (js : List ℕ) (i : ℕ) → i + length js ≤ 16

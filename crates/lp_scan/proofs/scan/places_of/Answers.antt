@@ -1,5 +1,4 @@
-use Rattle.std.proofs.Common.{eqb, arith}
-use Rattle.std.proofs.lemmas.Simd.{bitmask_splat, length-chunk}
+use Rattle.std.proofs.{Common.eqb, Common.arith, lemmas.Simd.bitmask_splat, lemmas.Simd.length-chunk}
 use lib.Lanes.{chunk}
 use mir.Syntax.{w8}
 use Rattle.lp_scan.proofs.scan.places_of.Goals as goal

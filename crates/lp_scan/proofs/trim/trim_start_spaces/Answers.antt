@@ -1,6 +1,5 @@
 use Rattle.std.proofs.Common.{◌≡◌}
-use Rattle.lp_format.specs.format.Lines.{spaces}
-use Rattle.lp_format.proofs.lemmas.meanings.ShorterRests.{spaces_boundary}
+use Rattle.lp_format.{specs.format.Lines.spaces, proofs.lemmas.meanings.ShorterRests.spaces_boundary}
 use Rattle.lp_scan.proofs.trim.trim_start_spaces.Goals as goal
 
 pub range_from-requires : goal.range_from-requires

@@ -1,5 +1,4 @@
-use Rattle.std.proofs.Common.{◌≡◌, drop, false}
-use Rattle.std.specs.Prelude.{IsCharBoundary}
+use Rattle.std.{proofs.Common.◌≡◌, proofs.Common.drop, proofs.Common.false, specs.Prelude.IsCharBoundary}
 use Rattle.lp_format.proofs.lemmas.line.TrimLemmas.{left_of}
 use Rattle.lp_scan.proofs.trim.trimmed.Given as goal
 

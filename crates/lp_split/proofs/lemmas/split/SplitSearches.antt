@@ -1,15 +1,13 @@
 -- What loads and searches tell: the first bare byte that passes a test, how many bytes pass it, and which end a stretch.
-use Rattle.std.proofs.Common.{◌≡◌, ◌≢◌, ℕ, zero, suc, ◌+◌, ◌<◌, ◌≤◌, List, length, take, drop, slice_index, Bool, true, false, ◌||◌, Some}
-use Rattle.std.proofs.Common.{None, length-drop, refl, ap, ◌∙◌, subst, inl, inr, arith, ◌%◌, ◌^◌, map}
-use Rattle.std.proofs.Common.{count_ones, ◌==◌, eqb-true, get_or-drop, count_by, take-add}
+use Rattle.std.proofs.Common.{◌≡◌, ◌≢◌, ℕ, zero, suc, ◌+◌, ◌<◌, ◌≤◌, List, length, take, drop, slice_index, Bool, true, false}
+use Rattle.std.proofs.Common.{◌||◌, Some, None, length-drop, refl, ap, ◌∙◌, subst, inl, inr, arith, ◌%◌, ◌^◌, map, count_ones}
+use Rattle.std.proofs.Common.{◌==◌, eqb-true, get_or-drop, count_by, take-add}
 use Rattle.std.proofs.lemmas.{Bool.and_right, Bool.cases_Bool, Bool.eqb-false, List.length-map, List.Sums.count_by-le-length}
 use Rattle.std.proofs.lemmas.{List.Sums.sum_by-append, Simd.length-chunk, Simd.mask_l-mod, Simd.ones-mask_l}
 use Rattle.memchr.specs.Find.{Nowhere, Passes, IsFirstByte, is_byte3}
 use Rattle.lp_format.specs.format.{backslash, is_escaped_after, is_bare_at}
 use Rattle.lp_format.proofs.lemmas.{tokens.EscapeLemmas.is_escaped_more, split.SplitBare.is_escaped-nil}
-use Rattle.lp_split.specs.declared.split.Stops.{Stops}
-use Rattle.lp_split.specs.code.{is_stop}
-use Rattle.lp_split.proofs.lemmas.split.SplitStretches.{bare_past}
+use Rattle.lp_split.{specs.declared.split.Stops.Stops, specs.code.is_stop, proofs.lemmas.split.SplitStretches.bare_past}
 use lib.Lanes.{chunk}
 use Rattle.lp_scan.specs.code.{mask_of, IsBarePassed}
 

@@ -1,26 +1,24 @@
 -- A piece, a stretch at a time, by what searches and loads show.
-use Rattle.std.proofs.Common.{◌≡◌, ◌≢◌, ℕ, zero, suc, ◌+◌, ◌-◌, ◌/◌, ◌%◌, ◌^◌, ◌<◌, ◌≤◌, Bool, true, false, cond, not, ◌&&◌, List, [], ◌∷◌}
-use Rattle.std.proofs.Common.{◌++◌, length, take, drop, map, slice_index, Some, count_ones, sym, ap, ◌∙◌, subst, refl, inl, inr}
-use Rattle.std.proofs.Common.{arith, length-append, ◌==◌, ◌||◌, w64, count_by, ne_eqb, get_or-drop, take-add}
-use Rattle.std.specs.{Int.trailing_zeros, List.range_with_len}
+use Rattle.std.proofs.Common.{◌≡◌, ◌≢◌, ℕ, zero, suc, ◌+◌, ◌-◌, ◌/◌, ◌%◌, ◌^◌, ◌<◌, ◌≤◌, Bool, true, false, cond, not, ◌&&◌, List}
+use Rattle.std.proofs.Common.{[], ◌∷◌, ◌++◌, length, take, drop, map, slice_index, Some, count_ones, sym, ap, ◌∙◌, subst, refl}
+use Rattle.std.proofs.Common.{inl, inr, arith, length-append, ◌==◌, ◌||◌, w64, count_by, ne_eqb, get_or-drop, take-add}
 use Rattle.std.proofs.{Common.add-zero, Math.Bool.and-true}
-use Rattle.std.proofs.lemmas.{Bool.and_parts, Bool.and_right, Bool.cases_Bool, Bool.cases_lt, Bool.not-true, Bool.Decides.nat_tests, List.take_more}
-use Rattle.std.proofs.lemmas.{List.take_rest, List.Elements.All-nil, List.FromFn.length-map-range_with_len}
-use Rattle.std.proofs.lemmas.{List.FromFn.length-range_with_len, List.Sums.count_by-le-length, List.Sums.sum_by-cons, Simd.mask_l-mod}
-use Rattle.std.proofs.lemmas.{Simd.ones-mask_l}
+use Rattle.std.proofs.lemmas.{Bool.and_parts, Bool.and_right, Bool.cases_Bool, Bool.cases_lt, Bool.not-true}
+use Rattle.std.proofs.lemmas.{Bool.Decides.nat_tests, List.take_more, List.take_rest, List.Elements.All-nil}
+use Rattle.std.proofs.lemmas.{List.FromFn.length-map-range_with_len, List.FromFn.length-range_with_len}
+use Rattle.std.proofs.lemmas.{List.Sums.count_by-le-length, List.Sums.sum_by-cons, Simd.mask_l-mod, Simd.ones-mask_l}
 use Rattle.std.proofs.Math.Seq.{drop-append_seam, take-append-add, take-append_seam}
-use Rattle.lp_format.specs.format.{backslash, comma, newline, quote, space, Crate, is_bare_at, is_escaped_after, IsBareAfter, IsHead}
-use Rattle.lp_format.specs.format.{EndsQuoted, IsFirstCut}
-use Rattle.lp_split.specs.declared.split.Ahead.{Ahead}
-use Rattle.lp_split.specs.code.{IsAhead}
+use Rattle.std.specs.{Int.trailing_zeros, List.range_with_len}
+use Rattle.lp_format.specs.format.{backslash, comma, newline, quote, space, Crate, is_bare_at, is_escaped_after, IsBareAfter}
+use Rattle.lp_format.specs.format.{IsHead, EndsQuoted, IsFirstCut, Bytes.equals}
+use Rattle.lp_format.proofs.lemmas.split.SplitBare.{is_escaped-nil, is_escaped-append, is_escaped-push_other, flag_after}
+use Rattle.lp_format.proofs.lemmas.split.SplitBare.{IsHead-bare, IsHead-escaped, EndsQuoted-bare, EndsQuoted-escaped}
+use Rattle.lp_split.specs.{declared.split.Ahead.Ahead, code.IsAhead}
+use Rattle.lp_split.proofs.lemmas.split.SplitWalk.{Head, IsIn, IsIn-escaped, Head-space, Plain, Plain-any, Plain-opens}
+use Rattle.lp_split.proofs.lemmas.split.SplitWalk.{Plain-other, Quoted, Quoted-closes}
 use Rattle.lp_scan.specs.code.{first_set, mask_at, IsBarePassed}
 use Rattle.lp_scan.proofs.lemmas.scan.BareMasks.{at_most_one, lowest_passes, next_bare, none_before, one_escaped, ones_low}
 use Rattle.lp_scan.proofs.lemmas.scan.MaskLemmas.{mask_after, mask_fits, tz_below}
-use Rattle.lp_format.proofs.lemmas.split.SplitBare.{is_escaped-nil, is_escaped-append, is_escaped-push_other, flag_after, IsHead-bare}
-use Rattle.lp_format.proofs.lemmas.split.SplitBare.{IsHead-escaped, EndsQuoted-bare, EndsQuoted-escaped}
-use Rattle.lp_split.proofs.lemmas.split.SplitWalk.{Head, IsIn, IsIn-escaped, Head-space, Plain, Plain-any, Plain-opens, Plain-other, Quoted}
-use Rattle.lp_split.proofs.lemmas.split.SplitWalk.{Quoted-closes}
-use Rattle.lp_format.specs.format.Bytes.{equals}
 
 -- a newline or a quote
 abbrev pub ends_plain : ℕ → Bool

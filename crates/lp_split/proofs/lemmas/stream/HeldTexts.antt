@@ -8,9 +8,8 @@ use Rattle.lp_split.specs.declared.split.resumed.Search.TheVariants.{Within}
 use Rattle.lp_split.specs.code.{IsKnown, IsHeldAt, AreSeen, Held, HeldWithin, IsTrackOf, TracksOn, Track, HoldsBy, Holds, IsTooLong, Counts}
 pub use Rattle.lp_split.proofs.lemmas.split.TrackedPieces.{tracked_is_last}
 use Rattle.lp_split.specs.declared.stream.bounded.Counted.{Counted}
+use Rattle.lp_split.specs.declared.stream.bounded.Skipped.{Skipped, TheVariants.Within, TheVariants.Ended}
 use Rattle.std.proofs.lemmas.List.Sums.{sum_by-append}
-use Rattle.lp_split.specs.declared.stream.bounded.Skipped.{Skipped}
-use Rattle.lp_split.specs.declared.stream.bounded.Skipped.TheVariants.{Within, Ended}
 use Rattle.lp_format.proofs.lemmas.split.SplitPieces.{no_cut_within, split_at}
 
 -- the marks that were seen

@@ -1,5 +1,4 @@
-use Rattle.std.proofs.Common.{arith}
-use Rattle.std.proofs.lemmas.List.{take_rest}
+use Rattle.std.proofs.{Common.arith, lemmas.List.take_rest}
 use Rattle.lp_split.specs.code.Stops.{is_stop}
 use Rattle.lp_split.proofs.lemmas.split.SplitSearches.{found_after, passed_start, search_goes_on, search_ends}
 use Rattle.lp_split.proofs.split.bare_len.Goals as goal

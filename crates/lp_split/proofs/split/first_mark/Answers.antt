@@ -1,5 +1,4 @@
-use Rattle.std.proofs.Common.{refl, arith}
-use Rattle.std.proofs.lemmas.List.{take_rest}
+use Rattle.std.proofs.{Common.refl, Common.arith, lemmas.List.take_rest}
 use Rattle.memchr.specs.Find.{is_byte3}
 use Rattle.lp_format.specs.format.{backslash, newline, quote}
 use Rattle.lp_split.proofs.lemmas.split.FirstMarks.{first_is, seen_later, none_seen, found_after, none_after}

@@ -1,5 +1,4 @@
-use Rattle.std.proofs.Common.{refl, arith}
-use Rattle.std.proofs.lemmas.List.{take_rest}
+use Rattle.std.proofs.{Common.refl, Common.arith, lemmas.List.take_rest}
 use Rattle.lp_split.proofs.lemmas.split.SplitStretches.{bare_to, quoted_on, quoted_past, stop_within}
 use Rattle.lp_split.proofs.split.quoted_end.Goals as goal
 

@@ -1,5 +1,4 @@
-use Rattle.std.proofs.lemmas.{List.take_rest, Grind.common_steps}
-use Rattle.std.proofs.Common.{arith}
+use Rattle.std.proofs.{lemmas.List.take_rest, lemmas.Grind.common_steps, Common.arith}
 use Rattle.lp_format.proofs.lemmas.values.ValueLemmas.{digits_end, negative_end}
 use Rattle.lp_values.proofs.literals.integer_len.Goals as goal
 

@@ -1,11 +1,10 @@
-use Rattle.std.proofs.Common.{◌≡◌, ℕ, ◌+◌, ◌-◌, ◌<◌, ◌≤◌, true, false, List, [], ◌∷◌, ◌++◌, length, get_or, slice_index, take, drop, refl}
-use Rattle.std.proofs.Common.{rules, arith, append_assoc, append-nil, length-drop}
+use Rattle.std.proofs.Common.{◌≡◌, ℕ, ◌+◌, ◌-◌, ◌<◌, ◌≤◌, true, false, List, [], ◌∷◌, ◌++◌, length, get_or, slice_index, take}
+use Rattle.std.proofs.Common.{drop, refl, rules, arith, append_assoc, append-nil, length-drop}
 use Rattle.std.proofs.{Math.Nat.sub_self, Output.has_written_append, Output.has_written_of_eq}
 use Rattle.std.proofs.lemmas.{Grind.common_steps, Grind.flat_map-append, List.take_more}
 use Rattle.std.proofs.lemmas.Str.{IsCharBoundary-start, IsCharBoundary-before_ascii}
-use Rattle.lp_format.specs.format.{backslash, is_one_of, escaped, escaped_byte}
+use Rattle.lp_format.specs.{format.backslash, format.is_one_of, format.escaped, format.escaped_byte, code.Shown.shown_escapes}
 use Rattle.lp_scan.specs.{code.known_of, declared.sets.TokenKind.TokenKind}
-use Rattle.lp_format.specs.code.Shown.{shown_escapes}
 use Rattle.lp_values.proofs.shown.show_escaped.Goals as goal
 use Rattle.lp_values.proofs.shown.show_escaped.Goals.{then-bytes-at-ne92+then-is_known+in_ok-write_str+in_ok-write_str-2}
 use Rattle.lp_values.proofs.shown.show_escaped.Goals.{else-bytes-at-ne92}

@@ -1,8 +1,7 @@
 use Rattle.std.proofs.Common.{◌≡◌, ◌-◌, ◌≤◌, List, ℕ, ◌++◌, take, drop, IsCharBoundary}
 use Rattle.std.specs.Fmt.{HasWritten, IsPlainFormatter}
-use Rattle.lp_format.specs.format.{escaped}
+use Rattle.lp_format.specs.{format.escaped, code.Shown.shown_escapes}
 use Rattle.lp_scan.specs.code.{known_of}
-use Rattle.lp_format.specs.code.Shown.{shown_escapes}
 use Rattle.lp_values.proofs.shown.show_escaped.Given as goal
 
 -- what is written, and the run that is not yet written, are the bytes so far with their backslashes

@@ -1,5 +1,4 @@
-use Rattle.std.proofs.Common.{◌≡◌, arith}
-use Rattle.std.proofs.lemmas.Grind.{common_steps}
+use Rattle.std.proofs.{Common.◌≡◌, Common.arith, lemmas.Grind.common_steps}
 use Rattle.lp_values.specs.code.Outcomes.{kind_of}
 use Rattle.lp_format.specs.format.Names.{spelled}
 use Rattle.lp_format.proofs.lemmas.names.NameLemmas.{name_misses, name_fatal, name_reads}

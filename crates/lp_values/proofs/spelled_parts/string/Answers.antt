@@ -1,5 +1,4 @@
-use Rattle.std.proofs.Common.{◌∙◌, arith}
-use Rattle.std.proofs.lemmas.Grind.{common_steps}
+use Rattle.std.proofs.{Common.◌∙◌, Common.arith, lemmas.Grind.common_steps}
 use Rattle.lp_values.proofs.lemmas.fields.ReadingLemmas.{byte_parts}
 use Rattle.lp_format.proofs.lemmas.values.ValueForms.{byte_missing, string_misses, string_open, string_reads}
 use Rattle.lp_format.specs.format.Bytes.{quote}

@@ -1,6 +1,5 @@
 use Rattle.std.proofs.Common.{◌≡◌, ◌+◌, ◌-◌, ◌/◌, ◌^◌, length, false, ap, ◌∙◌, arith}
-use Rattle.lp_scan.specs.code.{is_end, first_set}
-use Rattle.lp_scan.proofs.lemmas.scan.MaskLemmas.{next_is}
+use Rattle.lp_scan.{specs.code.is_end, specs.code.first_set, proofs.lemmas.scan.MaskLemmas.next_is}
 use Rattle.lp_values.proofs.tokens.backslash_tail.Goals as goal
 
 pub returns : goal.returns

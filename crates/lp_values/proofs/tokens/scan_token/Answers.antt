@@ -1,5 +1,4 @@
-use Rattle.std.proofs.Common.{ap, not, sym, arith}
-use Rattle.std.proofs.lemmas.Grind.{common_steps}
+use Rattle.std.proofs.{Common.ap, Common.not, Common.sym, Common.arith, lemmas.Grind.common_steps}
 use Rattle.lp_scan.specs.code.Tokens.{known_of}
 use Rattle.lp_values.proofs.lemmas.tokens.WalkLemmas.{run_ends, run_is_plain}
 use Rattle.lp_values.proofs.tokens.scan_token.Goals as goal

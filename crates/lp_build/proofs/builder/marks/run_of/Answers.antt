@@ -1,7 +1,6 @@
 use Rattle.std.proofs.Common.{ap, arith, ◌∙◌}
 use Rattle.lp_format.specs.format.Bytes.{is_one_of}
-use Rattle.lp_scan.specs.code.{first_set}
-use Rattle.lp_scan.proofs.lemmas.scan.MaskLemmas.{run_is}
+use Rattle.lp_scan.{specs.code.first_set, proofs.lemmas.scan.MaskLemmas.run_is}
 use Rattle.lp_build.proofs.lemmas.builder.BuilderLemmas.{mask_of_load}
 use Rattle.lp_build.proofs.builder.marks.run_of.Goals as goal
 

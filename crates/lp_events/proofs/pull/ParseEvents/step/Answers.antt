@@ -3,9 +3,8 @@ use Rattle.std.proofs.lemmas.Grind.{common_steps}
 use Rattle.lp_split.specs.code.{rules_of}
 use Rattle.lp_events.specs.code.{EventsLeft.AreLeftFrom, EventsLeft.Completes, EventsLeft.HasEventsLeft, LineSteps.GivesLine}
 use Rattle.lp_events.specs.declared.place.Place.TheVariants.{Fields}
-use Rattle.lp_events.proofs.lemmas.pull.EventSteps.{steps_from, step_less}
-use Rattle.lp_events.proofs.lemmas.events.LineEvents.{blank_events, line_left}
-use Rattle.lp_events.proofs.lemmas.lines.LineSteps.{line_less, none_comes}
+use Rattle.lp_events.proofs.lemmas.{pull.EventSteps.steps_from, pull.EventSteps.step_less, events.LineEvents.blank_events}
+use Rattle.lp_events.proofs.lemmas.{events.LineEvents.line_left, lines.LineSteps.line_less, lines.LineSteps.none_comes}
 use Rattle.lp_events.proofs.pull.ParseEvents.step.Goals as goal
 
 pub returns-in_err-next_line-in-Between-clause-steps : goal.returns-in_err-next_line-in-Between-clause-steps

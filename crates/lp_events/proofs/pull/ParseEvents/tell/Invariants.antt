@@ -1,5 +1,4 @@
-use Rattle.lp_events.specs.code.EventsLeft.{HasEventsLeft}
-use Rattle.lp_events.proofs.lemmas.events.LineEvents.{ToldTo}
+use Rattle.lp_events.{specs.code.EventsLeft.HasEventsLeft, proofs.lemmas.events.LineEvents.ToldTo}
 use Rattle.lp_events.proofs.pull.ParseEvents.tell.Given as goal
 
 abbrev pub invariant-loop-event : goal.invariant-loop-event

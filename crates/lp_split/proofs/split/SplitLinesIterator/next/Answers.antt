@@ -1,6 +1,5 @@
 use Rattle.lp_split.specs.code.Rules.{rules_of}
-use Rattle.std.proofs.Common.{subst, arith}
-use Rattle.std.proofs.lemmas.Str.{IsCharBoundary-after_ascii}
+use Rattle.std.proofs.{Common.subst, Common.arith, lemmas.Str.IsCharBoundary-after_ascii}
 use Rattle.lp_format.specs.format.Pieces.{IsLastPiece, Pieces.last}
 use Rattle.lp_format.proofs.lemmas.split.SplitPieces.{Pieces-cut_at}
 use Rattle.lp_split.proofs.split.SplitLinesIterator.next.Goals as goal

@@ -1,6 +1,5 @@
-use Rattle.std.proofs.Common.{arith}
+use Rattle.std.proofs.{Common.arith, lemmas.List.take_rest}
 use Rattle.lp_split.specs.code.{rules_of}
-use Rattle.std.proofs.lemmas.List.{take_rest}
 use Rattle.lp_split.proofs.lemmas.split.TrackedPieces.{all_quiet, still_last}
 use Rattle.lp_split.proofs.split.resumed.search_on.Goals as goal
 

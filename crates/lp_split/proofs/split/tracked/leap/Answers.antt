@@ -1,7 +1,6 @@
 use Rattle.std.proofs.lemmas.Bool.{not-true}
 use Rattle.lp_split.specs.code.{Head, Quoted}
-use Rattle.lp_split.proofs.lemmas.split.SplitStretches.{head_bytes, quoted_bytes}
-use Rattle.lp_split.proofs.lemmas.split.TrackedPieces.{line_stays}
+use Rattle.lp_split.proofs.lemmas.split.{SplitStretches.head_bytes, SplitStretches.quoted_bytes, TrackedPieces.line_stays}
 use Rattle.lp_split.proofs.split.tracked.leap.Goals as goal
 
 pub returns-in-Head-clause-leads : goal.returns-in-Head-clause-leads

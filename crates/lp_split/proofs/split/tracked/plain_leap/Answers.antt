@@ -3,8 +3,7 @@ use Rattle.lp_split.specs.declared.split.resumed.Part.TheVariants.{Plain}
 use Rattle.lp_split.proofs.lemmas.split.SplitStretches.{bare_to, few_past, few_to, plain_bytes_past, plain_bytes_to}
 use Rattle.lp_split.proofs.lemmas.split.TrackedPieces.{line_goes_on}
 use Rattle.lp_split.proofs.split.tracked.plain_leap.Goals as goal
-use Rattle.lp_format.specs.format.Escapes.{IsBareAfter}
-use Rattle.lp_format.proofs.lemmas.split.SplitBare.{is_escaped-nil}
+use Rattle.lp_format.{specs.format.Escapes.IsBareAfter, proofs.lemmas.split.SplitBare.is_escaped-nil}
 
 pub load_ahead-ahead-requires-clause-starts_bare : goal.load_ahead-ahead-requires-clause-starts_bare
 load_ahead-ahead-requires-clause-starts_bare c = is_escaped-nil
