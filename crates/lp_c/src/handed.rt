@@ -15,7 +15,7 @@ use influxdb_line_protocol::{
 };
 use std::alloc::Global;
 
-// The text of a view. If copies are told apart, a copy is copied.
+// The text of a view: a copy of it if the view says that it was copied and `copies` asks for that, and else the bytes that it lends.
 fn text_in<'a>(alloc: Global, copies: bool, view: &View<'a>) -> Result<EscapedStr<'a>, Answer>
     ensures ok { IfOk result (λ t. IsUtf8 view.now.text.now × (read_of t ≡ text_in copies view.now)) }
     ensures err { IfErr result (λ e. RefusesFor (IsUtf8 view.now.text.now) e) }

@@ -1,6 +1,6 @@
 //! The library for callers in C.
 //!
-//! A text that crosses is a pointer and a length. The caller owns all memory: what is read lies in what it lends, and the
+//! A text crosses the border to C as a pointer and a length. The caller owns all memory: what is read lies in what it lends, and the
 //! texts of it are parts of the input or of the lent room. No call keeps anything, ends the program or calls back.
 #![tactic(auto)]
 

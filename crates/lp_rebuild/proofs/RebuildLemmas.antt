@@ -28,7 +28,7 @@ use Rattle.lp_rebuild.specs.Rebuilding.{RebuildsIn, batch_of, carried_point, fau
 use Rattle.lp_rebuild.specs.Rebuilding.{refused_of, is_carried_answer, refusal_text}
 use Rattle.lp_rebuild.specs.RebuildSteps.{Refuses, Takes, fault_line_at}
 
--- an answer that is not carried was refused with its text
+-- if an answer is not carried, and what is wrong with it was told, it was taken
 pub refused_answer : (old : Progress) (answer : Result Line Fault) (new : Progress)
     → is_carried_answer answer ≡ false → Refuses old (refusal_text answer) new → Takes old answer new
 refused_answer old (Ok line) new e r =
@@ -91,7 +91,7 @@ counts_add_up [] = refl
 counts_add_up (answer ∷ answers) =
     omega (arith, carried_cons answer answers, refused_cons answer answers, one_of_two (is_carried_answer answer), counts_add_up answers)
 
--- one answer more, at the end
+-- the fault of an answer comes after the faults of those before it
 faults_push : (number : ℕ) (answers : List (Result Line Fault)) (answer : Result Line Fault)
     → faults_from number (answers ++ answer ∷ []) ≡ faults_from number answers ++ fault_of (number + length answers) answer
 faults_push number [] answer = append-nil (fault_of number answer) ∙ ap (λ (n : ℕ). fault_of n answer) {y = number + 0} (omega arith)

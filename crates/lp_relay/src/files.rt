@@ -1,4 +1,4 @@
-//! The files that a relay writes, both in their places or none.
+//! The files that a relay writes, each beside its place until all of both is on the device.
 use crate::noted::Notes;
 use crate::output::{Lines, Output};
 use crate::words::Request;
@@ -20,7 +20,7 @@ pub(crate) struct Files<'a> {
     refused: Option<Output<'a>>,
 }
 
-// Notes what the system says of a file, which could not be written.
+// Notes what the system says of a file that could not be written.
 fn fault(note: &Cell<Option<io::Error>>, error: io::Error) -> RunFault {
     note.set(Some(error));
     RunFault::Write
@@ -65,7 +65,7 @@ fn put(file: &Option<Output<'_>>, note: &Cell<Option<io::Error>>) -> Result<(), 
 }
 
 impl<'a> Files<'a> {
-    /// The files that a request names. They have not the same place.
+    /// The files that a request names. Their places differ.
     ///
     /// # Errors
     ///
@@ -132,6 +132,7 @@ impl<'a> Files<'a> {
         answer
     }
 
+    // Puts each file in its place. After an error the first may be there already.
     fn put_each(&self, notes: &Notes<'_>) -> Result<(), RunFault> {
         sync(&self.lines, &notes.output)?;
         sync(&self.refused, &notes.refused)?;

@@ -7,7 +7,7 @@ use Rattle.lp_format.specs.format.Escapes.{escaped}
 use Rattle.lp_format.specs.format.Names.{NameKind, a_measurement, a_tag_key, a_tag_value, a_field_key, escapable, ends_in_backslash}
 use Rattle.lp_format.specs.format.Values.{IsFloat, Value, integer, unsigned, float, string, boolean, quotable, fits_i64}
 
--- a key and the logical text of it: a tag, or a field
+-- a key and its value: a tag, or a field
 pub record Pair (K A : Type 0) : Type 0 where
   pub key : K
   pub value : A

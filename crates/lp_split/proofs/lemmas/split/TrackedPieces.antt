@@ -118,16 +118,16 @@ line_track part bytes e c is_bare h = (tt, record { escaped_is = is_bare; ends_i
 place_is_last : (part : Part) (e c : ℕ) (bytes : List ℕ) → EndsIn part e c bytes → IsClosed bytes ⊎ IsOpen bytes
 place_is_last part e c bytes h = grind arith
 
--- bytes that have a track are one piece
+-- no newline in bytes that have a track ends a piece
 pub tracked_is_last : (dialect : Dialect) (bytes : List ℕ) (track : Track) → IsTrackOf dialect bytes track → IsLastPiece dialect bytes
 tracked_is_last dialect bytes track h = grind (arith, blanks_begin_none, place_is_last, no_comment)
 
--- bytes that go on from a track end the first piece of a text, or have a track together with those before them
+-- bytes after those of a track end the first piece of a text, if they end one
 pub tracks_cut : (dialect : Dialect) (text rest : List ℕ) (at i : ℕ) (track : Track) → rest ≡ drop at text → at ≤ length text
     → IsTrackOf dialect (take at text) track → TracksOn rest track (Ok i) → IsFirstCut dialect text (Some (at + i))
 tracks_cut dialect text rest at i track same within is tracks = grind (arith, get_or-drop, take-add, length-drop)
 
--- so if they end none
+-- and if they end none, they have a track together with the bytes before them
 pub tracks_on : (dialect : Dialect) (text rest : List ℕ) (at : ℕ) (from to : Track) → rest ≡ drop at text → at ≤ length text
     → IsTrackOf dialect (take at text) from → TracksOn rest from (Err to) → IsTrackOf dialect text to
 tracks_on dialect text rest at from to same within is tracks = grind (arith, take-append-drop)
