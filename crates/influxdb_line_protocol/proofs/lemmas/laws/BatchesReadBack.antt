@@ -1,6 +1,6 @@
 -- Batches of points: those with admitted names read back, and no others do.
 use Rattle.std.proofs.Common.{◌≡◌, [], ◌∷◌, ◌++◌, refl, ap, subst, append_assoc, Ok, ℕ, ◌+◌, List, map, true, false, ◌&&◌, sym, ◌∙◌, arith}
-use Rattle.std.proofs.Common.{inl, inr, Err, Result, Contains, flat_map, length-append}
+use Rattle.std.proofs.Common.{inl, inr, Err, Result, Contains, flat_map}
 use Rattle.lp_format.specs.format.{Dialect, Point, line_of, built_all, IsPoint, Tag, Field, IsValue, is_admitted_name, is_admitted_tag}
 use Rattle.lp_format.specs.format.{is_admitted_field, is_admitted_point, spelling, built_tag, built_field, built_fields, built_value}
 use Rattle.lp_format.specs.format.{built_timestamp, answers_of_piece, HasAnswers, item_of, answers_of, newline, equals, space, comma, Fault}
@@ -10,23 +10,23 @@ use Rattle.lp_format.specs.laws.Laws.{IsAdmittedPoint, AdmittedBatchesReadBack, 
 use Rattle.lp_format.specs.laws.Laws.{OtherPointsEndWithBackslash}
 use Rattle.lp_format.specs.laws.NamesOfLines.{IsParsedName, names_of, HasReadableNames}
 use Rattle.lp_lines.proofs.lemmas.read_back.LinePieces.{IsAdmitted, admitted_point, line_begins, line_is_cut_piece, reaches_tags}
-use Rattle.lp_lines.proofs.lemmas.read_back.LinePieces.{reaches_field, AdmittedTag, AdmittedField, admitted_tags, line_parts}
+use Rattle.lp_lines.proofs.lemmas.read_back.LinePieces.{reaches_field, AdmittedTag, admitted_tags, line_parts}
 use Rattle.lp_lines.proofs.lemmas.read_back.LineReadsBack.{line_reads_back, measurement_reads_back, tag_set_reads_back, field_reads_back}
 use Rattle.lp_format.proofs.lemmas.read_back.NameReadsBack.{read_line, read_line_is, admitted_parts, read_field}
 use Rattle.lp_lines.proofs.lemmas.names.Spellings.{line_trimmed, line_some, admitted_spelled, name_reads_back, measurement_begins}
 use Rattle.lp_lines.proofs.lemmas.names.Spellings.{spelled_spaces, reaches_name, reaches_other, reaches_gap, reaches_field_key, Reaches}
-use Rattle.lp_lines.proofs.lemmas.names.Spellings.{reaches_start}
-use Rattle.lp_lines.proofs.lemmas.names.ParsedNames.{ParsedPoint, names_are_parsed, nothing_in_nil}
+use Rattle.lp_lines.proofs.lemmas.names.Spellings.{reaches_start, Leads, leads_then, turns}
+use Rattle.lp_lines.proofs.lemmas.names.ParsedNames.{names_are_parsed, nothing_in_nil}
 use Rattle.std.specs.List.{AllByRecursion, list_all}
-use Rattle.std.proofs.lemmas.Bool.{and_parts, cases_Bool, false≢true, and_from}
+use Rattle.std.proofs.lemmas.Bool.{and_parts, cases_Bool, and_from}
 use Rattle.std.proofs.lemmas.{List.length-map, List.get_or-map, List.map-append, Simd.map-map}
-use Rattle.std.proofs.lemmas.List.Elements.{All-contains_itself, All-weaker, Contains-append_left, Contains-append_right, recursion_from_All}
+use Rattle.std.proofs.lemmas.List.Elements.{All-contains, All-from_recursion, Contains-append_left, Contains-append_right}
 use Rattle.lp_split.specs.code.{Head, Plain}
 use Rattle.lp_split.proofs.lemmas.split.SplitWalk.{Plain-comma}
-use Rattle.lp_format.proofs.lemmas.split.{SplitPieces.pieces_exist, SplitPieces.same_pieces, SplitBare.is_escaped-push_other}
-use Rattle.influxdb_line_protocol.proofs.lemmas.laws.FatalLines.{Fails, first_fails, NameStops, name_stops, measurement_fails, StopsEarly}
+use Rattle.lp_format.proofs.lemmas.split.SplitPieces.{pieces_exist, same_pieces}
+use Rattle.influxdb_line_protocol.proofs.lemmas.laws.FatalLines.{Fails, first_fails, name_stops, measurement_fails, StopsEarly}
 use Rattle.influxdb_line_protocol.proofs.lemmas.laws.FatalLines.{and_more, and_before, stops_as, ManyFail, first_of_many, later_of_many}
-use Rattle.influxdb_line_protocol.proofs.lemmas.laws.FatalLines.{first_failing, second_fails, TagsFail, tags_fail}
+use Rattle.influxdb_line_protocol.proofs.lemmas.laws.FatalLines.{first_failing, second_fails, TagsFail, tags_fail, elements_fail}
 use Rattle.std.proofs.lemmas.Grind.{flat_map-append}
 use Rattle.lp_format.proofs.lemmas.lists.Elements.{first_element, first_or_later, later_element}
 
@@ -74,63 +74,40 @@ InPlain piece = (counted : List ℕ) × EndsPlain piece counted
 
 -- fields of which one stops too early, without the byte before them
 abbrev FieldsFail : List Field → Type 0
-FieldsFail fs = (text : List ℕ) × ((c : ℕ) → built_fields c fs ≡ c ∷ text)
-    × StopsEarly (λ front. (m : ℕ) (piece : List ℕ) → Reaches Plain m m piece → InPlain (piece ++ front))
-    (λ at. (spaces at ≡ 0) × ManyFail field at) text
-
--- the first field stops too early
-first_field_fails : (f : Field) (fs : List Field) → NameStops a_field_key f.key → FieldsFail (f ∷ fs)
-unfolding field
-first_field_fails f fs g = (
-  built_field f ++ built_fields comma fs,
-  (λ c. refl),
-  and_more (built_fields comma fs) (and_more (equals ∷ built_value f.value)
-      (stops_as (λ front r m piece h. let named = reaches_field_key m r.spelled piece h in (named.1.0, named.1.1))
-      (λ front rest r e. (spelled_spaces r.spelled r.some rest, first_of_many field (front ++ rest) (rw e refl))) g)),
-)
-
--- a field is read, and a later one stops too early
-later_field_fails : (f : Field) (fs : List Field) → AdmittedField f → FieldsFail fs → FieldsFail (f ∷ fs)
-later_field_fails f fs ok g =
-    let text = built_field f in (
-      text ++ comma ∷ g.0,
-      (λ c. ap (λ (xs : List ℕ). c ∷ (text ++ xs)) (g.1 comma)),
-      and_before text comma (λ front r m piece h.
-          let first = reaches_field m f ok piece h in
-          let sign : Reaches Plain (m + 1) (m + 1) ((piece ++ text) ++ comma ∷ []) =
-          (is_escaped-push_other (piece ++ text) comma (omega arith), Plain-comma (m + 1) m (piece ++ text) first.0 first.1) in
-          subst InPlain (append_assoc (piece ++ text) (comma ∷ []) front ∙ append_assoc piece text (comma ∷ front))
-          (r (m + 1) ((piece ++ text) ++ comma ∷ []) sign))
-          (λ front rest r e.
-          let more = front ++ rest in (
-            ap spaces (append_assoc (spelling a_field_key f.key) (equals ∷ built_value f.value) (comma ∷ more))
-                ∙ spelled_spaces (admitted_spelled a_field_key f.key ok.0) (admitted_parts a_field_key f.key ok.0).some _,
-            later_of_many field (text ++ comma ∷ more) more (read_field f) (field_reads_back f (comma ∷ more) ok refl)
-                (omega (arith, length-append text (comma ∷ more))) e.1,
-          )) g.2,
-    )
+FieldsFail fs = (text : List ℕ) × (built_fields comma fs ≡ comma ∷ text)
+    × StopsEarly (λ front. (m : ℕ) → Leads (Reaches Plain m m) InPlain front) (λ at. (spaces at ≡ 0) × ManyFail field at) text
 
 -- fields whose keys are parsed names, not all of them admitted
-fields_fail : (fs : List Field) → AllByRecursion (λ f. IsParsedName a_field_key f.key) fs
-    → AllByRecursion (λ f. IsValue f.value) fs → list_all is_admitted_field fs ≡ false → FieldsFail fs
-fields_fail [] names values bad = absurd (false≢true (sym bad))
-fields_fail (f ∷ fs) names values bad = elim (cases_Bool (is_admitted_field f)) [
-  | inl ok ↦ later_field_fails f fs (ok, values.0)
-      (fields_fail fs names.1 values.1 (second_fails (is_admitted_field f) (list_all is_admitted_field fs) bad ok))
-  | inr refused ↦ first_field_fails f fs (name_stops a_field_key f.key names.0 refused)
-]
+fields_fail : (fs : List Field) → ((f : Field) → Contains fs f → IsParsedName a_field_key f.key × IsValue f.value)
+    → list_all is_admitted_field fs ≡ false → FieldsFail fs
+unfolding field
+fields_fail fs known bad = elements_fail is_admitted_field built_field (built_fields comma) (λ f more. refl)
+    (λ f known refused. and_more (equals ∷ built_value f.value)
+    (stops_as (λ front r m piece h. let named = reaches_field_key m r.spelled piece h in (named.1.0, named.1.1))
+    (λ front rest r e. (spelled_spaces r.spelled r.some rest, first_of_many field (front ++ rest) (rw e refl)))
+    (name_stops a_field_key f.key known.0 refused)))
+    (λ f known ok front r m. leads_then InPlain (built_field f) (comma ∷ front) (reaches_field m f (ok, known.1))
+    (leads_then InPlain (comma ∷ []) front
+    (turns Plain (m + 1) m Plain (m + 1) (m + 1) comma (omega arith) (Plain-comma (m + 1) m)) (r (m + 1))))
+    (λ f known ok more e. (
+      ap spaces (append_assoc (spelling a_field_key f.key) (equals ∷ built_value f.value) (comma ∷ more))
+          ∙ spelled_spaces (admitted_spelled a_field_key f.key ok) (admitted_parts a_field_key f.key ok).some _,
+      later_of_many field (built_field f) more (read_field f) (field_reads_back f (comma ∷ more) (ok, known.1) refl) e.1,
+    ))
+    fs known bad
 
 -- a line whose fields stop too early
 fields_line_fails : (m : List ℕ) (ts : List Tag) (fs : List Field) (more : List ℕ)
     → is_admitted_name a_measurement m ≡ true → AllByRecursion AdmittedTag ts → FieldsFail fs
     → Fails (spelling a_measurement m ++ (flat_map built_tag ts ++ (built_fields space fs ++ more)))
 unfolding answer
-fields_line_fails m ts fs more named tagged f =
+fields_line_fails m ts [] more named tagged f = absurd (let is = f.1 in cc)
+fields_line_fails m ts (g ∷ fs) more named tagged f =
     let first = spelling a_measurement m in
     let tags = flat_map built_tag ts in
     let head = reaches_tags ts tagged first (reaches_name a_measurement m named [] reaches_start) in
-    let regrouped : (first ++ tags) ++ space ∷ (f.0 ++ more) ≡ first ++ (tags ++ (built_fields space fs ++ more)) =
-    append_assoc first tags (space ∷ (f.0 ++ more)) ∙ ap (λ (xs : List ℕ). first ++ (tags ++ (xs ++ more))) (sym (f.1 space)) in
+    let regrouped : (first ++ tags) ++ space ∷ (f.0 ++ more) ≡ first ++ (tags ++ (built_fields space (g ∷ fs) ++ more)) =
+    let is = f.1 in grind (arith, append_assoc) in
     subst Fails regrouped
     (and_before (first ++ tags) space
     (λ front r. inr (subst InPlain (append_assoc (first ++ tags) (space ∷ []) front)
@@ -146,8 +123,12 @@ fields_line_fails m ts fs more named tagged f =
       ) refl,
     )) (and_more more f.2))
 
+-- what is made of an element is among what is made of all
+made_element : {X Y : Type 0} (make : X → Y) (xs : List X) (x : X) → Contains xs x → Contains (map make xs) (make x)
+made_element make xs x h = grind (arith, length-map, get_or-map)
+
 -- the line of a point whose names are parsed names, not all of them admitted
-pub point_fails : (p : Point) → IsPoint p → ParsedPoint p → is_admitted_point p ≡ false → Fails (line_of p)
+pub point_fails : (p : Point) → IsPoint p → HasReadableNames p → is_admitted_point p ≡ false → Fails (line_of p)
 unfolding is_admitted_point
 point_fails p h names bad =
     let end = built_timestamp p.timestamp in
@@ -158,35 +139,22 @@ point_fails p h names bad =
             let last = second_fails (is_admitted_name a_measurement p.measurement && list_all is_admitted_tag
             p.tags) (list_all is_admitted_field p.fields) bad (and_from _ _ named tagged) in
             fields_line_fails p.measurement p.tags p.fields end named (admitted_tags p.tags tagged)
-            (fields_fail p.fields names.fields h.values last)
+            (fields_fail p.fields (λ f here. (
+              names a_field_key f.key (made_element (λ f. f.key) p.fields f here),
+              All-contains (λ f. IsValue f.value) p.fields f (All-from_recursion (λ f. IsValue f.value) p.fields h.values) here,
+            )) last)
         | inr refused ↦
-            tags_line_fails p.measurement p.tags (built_fields space p.fields ++ end) named (tags_fail p.tags names.tags refused)
+            tags_line_fails p.measurement p.tags (built_fields space p.fields ++ end) named (tags_fail p.tags (λ t here. (
+              names a_tag_key t.key (made_element (λ t. t.key) p.tags t here),
+              names a_tag_value t.value (made_element (λ t. t.value) p.tags t here),
+            )) refused)
       ]
-      | inr refused ↦ measurement_fails p.measurement
-          (flat_map built_tag p.tags ++ (built_fields space p.fields ++ end)) names.measurement
-          (name_stops a_measurement p.measurement names.measurement refused)
+      | inr refused ↦
+          let first = names a_measurement p.measurement (first_element p.measurement []) in
+          measurement_fails p.measurement (flat_map built_tag p.tags ++ (built_fields space p.fields ++ end)) first
+          (name_stops a_measurement p.measurement first refused)
     ] in
     subst Fails (sym (line_parts p)) parts
-
--- what holds of each element holds of all
-all_elements : {X : Type 0} (P : X → Type 0) (xs : List X) → ((x : X) → Contains xs x → P x) → AllByRecursion P xs
-all_elements P xs each = recursion_from_All P xs (All-weaker (Contains xs) P each xs (All-contains_itself xs))
-
--- what is made of an element is among what is made of all
-made_element : {X Y : Type 0} (make : X → Y) (xs : List X) (x : X) → Contains xs x → Contains (map make xs) (make x)
-made_element make xs x h = grind (arith, length-map, get_or-map)
-
--- a point whose names lines can have, by its lists
-readable_point : (p : Point) → HasReadableNames p → ParsedPoint p
-readable_point p h =
-    record {
-      measurement = h a_measurement p.measurement (first_element p.measurement []);
-      tags = all_elements _ p.tags (λ t here. (
-        h a_tag_key t.key (made_element (λ t. t.key) p.tags t here),
-        h a_tag_value t.value (made_element (λ t. t.value) p.tags t here),
-      ));
-      fields = all_elements _ p.fields (λ f here. h a_field_key f.key (made_element (λ f. f.key) p.fields f here));
-    }
 
 -- the line of a point among the items
 line_of_item : (answers : List (Result Line Fault)) (p : Point) → Contains (map item_of answers) (Ok p) → (line : Line)
@@ -219,7 +187,7 @@ other_points_end_with_backslash dialect before p after t answers ok is_point bad
     let joined : built_all before ++ u ≡ built_all (before ++ p ∷ after) ++ t = grind (arith, flat_map-append, append_assoc) in
     let same : answers ≡ map Ok batch.0 ++ more =
     h.answered ∙ ap (answers_of dialect) (same_pieces dialect (sym joined) h.are batch.2.are) ∙ sym batch.2.answered in
-    let f = point_fails p is_point (readable_point p names) bad in
+    let f = point_fails p is_point names bad in
     let is : u ≡ f.front ++ f.stop ∷ (f.after ++ newline ∷ (built_all after ++ t)) = grind (arith, append_assoc, f.is) in
     let one = first_fails dialect (line_of p) f (f.after ++ newline ∷ (built_all after ++ t)) is suffix.1 in
     (batch.0, one.0, batch.1, same ∙ ap (λ xs. map Ok batch.0 ++ xs) one.1)

@@ -1,7 +1,7 @@
 -- A line with a name whose spelling stops too early: the name is fatal, and so is the line, at a measurement or a tag.
 use Rattle.std.proofs.Common.{◌≡◌, ◌≢◌, ℕ, ◌<◌, List, [], ◌∷◌, ◌++◌, length, slice_index, true, false, refl, sym, ap, ◌∙◌, subst, arith}
 use Rattle.std.proofs.Common.{inl, inr, append_assoc, append-nil, Err, Result, Bool, ◌&&◌, flat_map, ne_eqb, length-append}
-use Rattle.std.specs.List.{list_all, AllByRecursion}
+use Rattle.std.specs.List.{list_all, Contains}
 use Rattle.std.proofs.lemmas.Bool.{cases_Bool, false≢true, both_ways, and_right, and_parts}
 use Rattle.std.proofs.lemmas.{Grind.flat_map-append, List.get_or_append_left}
 use Rattle.lp_format.specs.format.{Dialect, Crate, Strict, is_one_of, newline, comma, equals, space, backslash, escaped, Fault}
@@ -14,7 +14,8 @@ use Rattle.lp_format.proofs.lemmas.split.{SplitPieces.no_cut_within, SplitBare.p
 use Rattle.lp_format.proofs.lemmas.read_back.NameReadsBack.{may_hold, escaped_plain, read_tag}
 use Rattle.lp_lines.proofs.lemmas.names.Spellings.{reaches_start, Reaches, SpelledAs, never_unescapable, never_stops, spelling_as}
 use Rattle.lp_lines.proofs.lemmas.names.Spellings.{spelled_fatal, spelled_begins, reaches_head, BeginsLine, line_no_comment, line_trimmed}
-use Rattle.lp_lines.proofs.lemmas.names.Spellings.{line_some, name_reads_back, reaches_name, reaches_other}
+use Rattle.lp_lines.proofs.lemmas.names.Spellings.{line_some, name_reads_back, reaches_name, reaches_other, Leads, leads_then}
+use Rattle.lp_format.proofs.lemmas.lists.Elements.{first_element, later_element}
 use Rattle.lp_split.specs.code.{Head}
 use Rattle.lp_lines.proofs.lemmas.read_back.{LineReadsBack.tag_text, LineReadsBack.tag_reads_back, LinePieces.AdmittedTag}
 
@@ -166,33 +167,44 @@ module _ {A : Type 0} (one : List ℕ → Reading A) where
   first_of_many text e = grind arith
 
   -- one is read, and then one is fatal
-  pub later_of_many : (text more : List ℕ) (x : A) → one text ≡ reads x (comma ∷ more) → length more < length text
-      → ManyFail one more → ManyFail one text
-  later_of_many text more x e less h = grind arith
+  pub later_of_many : (front more : List ℕ) (x : A) → one (front ++ comma ∷ more) ≡ reads x (comma ∷ more)
+      → ManyFail one more → ManyFail one (front ++ comma ∷ more)
+  later_of_many front more x e h = grind (arith, length-append)
+
+-- elements with commas before them: if one fails a test and stops too early, all of them stop so, from after the first comma on
+pub elements_fail : {E : Type 0} {Known : E → Type 0} {R A : List ℕ → Type 0} (test : E → Bool) (text : E → List ℕ)
+    (all : List E → List ℕ) → ((e : E) (es : List E) → all (e ∷ es) ≡ comma ∷ (text e ++ all es))
+    → ((e : E) → Known e → test e ≡ false → StopsEarly R A (text e))
+    → ((e : E) → Known e → test e ≡ true → (front : List ℕ) → R front → R (text e ++ comma ∷ front))
+    → ((e : E) → Known e → test e ≡ true → (more : List ℕ) → A more → A (text e ++ comma ∷ more))
+    → (es : List E) → ((e : E) → Contains es e → Known e) → list_all test es ≡ false
+    → (after : List ℕ) × (all es ≡ comma ∷ after) × StopsEarly R A after
+elements_fail test text all next stops reached fails [] known bad = absurd (false≢true (sym bad))
+elements_fail test text all next stops reached fails (e ∷ es) known bad = elim (cases_Bool (test e)) [
+  | inl ok ↦
+      let refused = second_fails (test e) (list_all test es) bad ok in
+      let more = elements_fail test text all next stops reached fails es (λ x h. known x (later_element e x es h)) refused in (
+        text e ++ comma ∷ more.0,
+        next e es ∙ ap (λ (xs : List ℕ). comma ∷ (text e ++ xs)) more.1,
+        and_before (text e) comma (reached e (known e (first_element e es)) ok)
+            (λ front rest r h. fails e (known e (first_element e es)) ok (front ++ rest) h) more.2,
+      )
+  | inr refused ↦ (text e ++ all es, next e es, and_more (all es) (stops e (known e (first_element e es)) refused))
+]
 
 -- what leaves a text in its head
 abbrev ReachesHead : List ℕ → Type 0
-ReachesHead front = (piece : List ℕ) → Reaches Head 0 0 piece → Reaches Head 0 0 (piece ++ front)
-
--- a tag that stops too early, without the comma before it
-abbrev TagFails : Tag → Type 0
-TagFails t = StopsEarly ReachesHead (λ text. tag text ≡ fatal ends_with_backslash) (tag_text t)
+ReachesHead front = Leads (Reaches Head 0 0) (Reaches Head 0 0) front
 
 -- a key, a byte that neither ends a head nor escapes, and what comes after it
 reaches_after : (front : List ℕ) (b : ℕ) (more : List ℕ) → b ≢ backslash → b ≢ space → b ≢ newline → ReachesHead front → ReachesHead more
     → ReachesHead (front ++ b ∷ more)
-reaches_after front b more e s n before after piece r =
-    let sign = reaches_other b e s n (piece ++ front) (before piece r) in
-    subst (Reaches Head 0 0) (simp append_assoc) (after ((piece ++ front) ++ b ∷ []) sign)
-
--- a tag whose value is fatal
-value_fatal : (key text : List ℕ) → is_admitted_name a_tag_key key ≡ true → name a_tag_value text ≡ fatal ends_with_backslash
-    → tag (spelling a_tag_key key ++ equals ∷ text) ≡ fatal ends_with_backslash
-unfolding tag
-value_fatal key text ok e = rw (name_reads_back a_tag_key key text equals ok refl, e) refl
+reaches_after front b more e s n before after = leads_then (Reaches Head 0 0) front (b ∷ more) before
+    (leads_then (Reaches Head 0 0) (b ∷ []) more (reaches_other b e s n) after)
 
 -- a tag whose names are parsed names, not both of them admitted
-tag_fails : (t : Tag) → IsParsedName a_tag_key t.key × IsParsedName a_tag_value t.value → is_admitted_tag t ≡ false → TagFails t
+tag_fails : (t : Tag) → IsParsedName a_tag_key t.key × IsParsedName a_tag_value t.value → is_admitted_tag t ≡ false
+    → StopsEarly ReachesHead (ManyFail tag) (tag_text t)
 unfolding tag
 tag_fails t names bad =
     let key = spelling a_tag_key t.key in
@@ -201,11 +213,14 @@ tag_fails t names bad =
           let refused = second_fails (is_admitted_name a_tag_key t.key) (is_admitted_name a_tag_value t.value) bad ok in
           and_before key equals
           (λ front r. reaches_after key equals front (omega arith) (omega arith) (omega arith)
-          (reaches_name a_tag_key t.key ok) (λ piece h. reaches_head r.spelled piece h))
-          (λ front rest r e. value_fatal t.key (front ++ rest) ok e)
+          (reaches_name a_tag_key t.key ok) (reaches_head r.spelled))
+          (λ front rest r e.
+          let stops : name a_tag_value (front ++ rest) ≡ fatal ends_with_backslash = e in
+          first_of_many tag (key ++ equals ∷ (front ++ rest))
+          (rw (name_reads_back a_tag_key t.key (front ++ rest) equals ok refl, stops) refl))
           (name_stops a_tag_value t.value names.1 refused)
       | inr refused ↦ and_more (equals ∷ spelling a_tag_value t.value)
-          (stops_as (λ front r piece h. reaches_head r.spelled piece h) (λ front rest r e. rw e refl)
+          (stops_as (λ front r. reaches_head r.spelled) (λ front rest r e. first_of_many tag (front ++ rest) (rw e refl))
           (name_stops a_tag_key t.key names.0 refused))
     ]
 
@@ -213,33 +228,16 @@ tag_fails t names bad =
 abbrev pub TagsFail : List Tag → Type 0
 TagsFail ts = (text : List ℕ) × (flat_map built_tag ts ≡ comma ∷ text) × StopsEarly ReachesHead (ManyFail tag) text
 
--- a tag is read, and a later one stops too early
-later_tag_fails : (t : Tag) (ts : List Tag) → AdmittedTag t → TagsFail ts → TagsFail (t ∷ ts)
-later_tag_fails t ts ok f =
-    let text = tag_text t in
-    let here : ReachesHead text =
-    reaches_after (spelling a_tag_key t.key) equals (spelling a_tag_value t.value) (omega arith) (omega arith) (omega arith)
-    (reaches_name a_tag_key t.key ok.0) (reaches_name a_tag_value t.value ok.1) in (
-      text ++ comma ∷ f.0,
-      ap (λ (xs : List ℕ). comma ∷ (text ++ xs)) f.1,
-      and_before text comma (λ front r. reaches_after text comma front (omega arith) (omega arith) (omega arith) here r) (λ front rest r e.
-          let more = front ++ rest in
-          later_of_many tag (text ++ comma ∷ more) more (read_tag t) (tag_reads_back t more comma ok refl)
-          (omega (arith, length-append text (comma ∷ more))) e) f.2,
-    )
-
 -- tags whose names are parsed names, not all of them admitted
-pub tags_fail : (ts : List Tag) → AllByRecursion (λ t. IsParsedName a_tag_key t.key × IsParsedName a_tag_value t.value) ts
+pub tags_fail : (ts : List Tag) → ((t : Tag) → Contains ts t → IsParsedName a_tag_key t.key × IsParsedName a_tag_value t.value)
     → list_all is_admitted_tag ts ≡ false → TagsFail ts
-tags_fail [] names bad = absurd (false≢true (sym bad))
-tags_fail (t ∷ ts) names bad = elim (cases_Bool (is_admitted_tag t)) [
-  | inl ok ↦ later_tag_fails t ts
-      (and_parts (is_admitted_name a_tag_key t.key) (is_admitted_name a_tag_value t.value) ok)
-      (tags_fail ts names.1 (second_fails (is_admitted_tag t) (list_all is_admitted_tag ts) bad ok))
-  | inr refused ↦ (
-    tag_text t ++ flat_map built_tag ts,
-    refl,
-    and_more (flat_map built_tag ts) (stops_as (λ front r. r) (λ front rest r e. first_of_many tag (front ++ rest) e)
-        (tag_fails t names.0 refused)),
-  )
-]
+tags_fail ts names bad = elements_fail is_admitted_tag tag_text (flat_map built_tag) (λ t more. refl) tag_fails
+    (λ t known ok front r. reaches_after (tag_text t) comma front (omega arith) (omega arith) (omega arith)
+    (reaches_after (spelling a_tag_key t.key) equals (spelling a_tag_value t.value) (omega arith) (omega arith) (omega arith)
+    (reaches_name a_tag_key t.key (admitted t ok).0) (reaches_name a_tag_value t.value (admitted t ok).1)) r)
+    (λ t known ok more e. later_of_many tag (tag_text t) more (read_tag t) (tag_reads_back t more comma (admitted t ok) refl) e)
+    ts names bad
+  where
+    -- the two tests of a tag
+    admitted : (t : Tag) → is_admitted_tag t ≡ true → AdmittedTag t
+    admitted t ok = and_parts (is_admitted_name a_tag_key t.key) (is_admitted_name a_tag_value t.value) ok

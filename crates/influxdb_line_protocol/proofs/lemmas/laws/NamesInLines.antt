@@ -16,7 +16,7 @@ use Rattle.lp_lines.proofs.lemmas.names.Spellings.{reaches_gap, reaches_field_ke
 use Rattle.lp_lines.proofs.lemmas.names.Spellings.SpelledAs.{done, escape, plain, pair}
 use Rattle.lp_lines.proofs.lemmas.names.KeptNames.{name_kept}
 use Rattle.lp_split.{specs.code.Plain, proofs.lemmas.split.SplitWalk.Plain-equals}
-use Rattle.lp_format.specs.laws.{NamesOfLines.IsParsedName, NamesOfLines.names_of, Laws.ParsedNamesAreInLines}
+use Rattle.lp_format.specs.laws.{NamesOfLines.IsParsedName, NamesOfLines.BeginsNoComment, NamesOfLines.names_of, Laws.ParsedNamesAreInLines}
 use Rattle.lp_format.proofs.lemmas.split.SplitBare.{is_escaped-push_other}
 use Rattle.lp_lines.proofs.lemmas.read_back.{LinePieces.reaches_simple, LineReadsBack.answer_from_parts}
 
@@ -33,9 +33,10 @@ utf8_around front rest b u ascii =
       subst IsUtf8 (drop_at (front ++ b ∷ []) rest (length front + 1) (length-append front (b ∷ []))) (rw regrouped at after),
     )
 
--- an ASCII byte before a text that is UTF-8
-pub utf8_push : (b : ℕ) (text : List ℕ) → b < 128 → IsUtf8 text → IsUtf8 (b ∷ text)
-utf8_push b text h u = IsUtf8-append (b ∷ []) text (IsUtf8-from_ascii (b ∷ []) (IsAscii-cons b [] h (λ i. omega arith))) u
+-- texts that are UTF-8 with an ASCII byte between them
+pub utf8_joined : {front rest : List ℕ} {b : ℕ} → IsUtf8 front → b < 128 → IsUtf8 rest → IsUtf8 (front ++ b ∷ rest)
+utf8_joined {front = front} {rest = rest} {b = b} u h v = IsUtf8-append front (b ∷ rest) u
+    (IsUtf8-append (b ∷ []) rest (IsUtf8-from_ascii (b ∷ []) (IsAscii-cons b [] h (λ i. omega arith))) v)
 
 -- a spelling after this front is UTF-8 if the name after that front is
 spelled_after : {kind : NameKind} {n s : List ℕ} → SpelledAs kind n s → (front : List ℕ) → IsUtf8 (front ++ n) → IsUtf8 (front ++ s)
@@ -43,27 +44,27 @@ spelled_after {kind = kind} done front u = u
 spelled_after {kind = kind} (escape b n s known more) front u =
     let ascii : b < 128 = grind (arith, common_steps) in
     let parts = utf8_around front n b u ascii in
-    IsUtf8-append front (backslash ∷ b ∷ s) parts.0
-    (utf8_push backslash (b ∷ s) (omega arith) (utf8_push b s ascii (spelled_after more [] parts.1)))
+    utf8_joined parts.0 (omega arith) (utf8_joined IsUtf8-nil ascii (spelled_after more [] parts.1))
 spelled_after {kind = kind} (plain b n s other may more) front u = subst IsUtf8 (append_assoc front (b ∷ []) s)
     (spelled_after more (front ++ b ∷ []) (subst IsUtf8 (sym (append_assoc front (b ∷ []) n)) u))
 spelled_after {kind = kind} (pair c n s never more) front u =
     let ascii : c < 128 = grind (arith, common_steps) in
     let parts = utf8_around front (c ∷ n) backslash u (omega arith) in
-    IsUtf8-append front (backslash ∷ c ∷ s) parts.0
-    (utf8_push backslash (c ∷ s) (omega arith) (utf8_push c s ascii (spelled_after more [] (utf8_around [] n c parts.1 ascii).1)))
+    utf8_joined parts.0 (omega arith) (utf8_joined IsUtf8-nil ascii (spelled_after more [] (utf8_around [] n c parts.1 ascii).1))
 
--- a name that is not empty and does not end in a backslash, with a spelling
-record Spelled (kind : NameKind) (n s : List ℕ) : Type 0 where
+-- a name that is not empty, does not end in a backslash and begins no comment, with a spelling that is UTF-8 if `U` holds
+record Spelled (U : Type 0) (kind : NameKind) (n s : List ℕ) : Type 0 where
   spelled : SpelledAs kind n s
   some : 0 < length n
   ends : ends_in_backslash n ≡ false
+  begins : BeginsNoComment kind n
+  utf8 : U → IsUtf8 s
 
 -- a parsed name has a spelling
-has_spelling : (kind : NameKind) (n : List ℕ) → IsParsedName kind n → (s : List ℕ) × Spelled kind n s
+has_spelling : (kind : NameKind) (n : List ℕ) → IsParsedName kind n → (s : List ℕ) × Spelled (IsUtf8 n) kind n s
 has_spelling kind n h =
     let found = spelled_as kind n (name_kept kind n h) in
-    (found.0, record { spelled = found.1; some = h.some; ends = h.ends })
+    (found.0, record { spelled = found.1; some = h.some; ends = h.ends; begins = h.begins; utf8 = spelled_after found.1 [] })
 
 -- a text of one name reads as it
 abbrev text : NameKind → List ℕ → Text
@@ -105,7 +106,7 @@ line_of m k v f =
     }
 
 -- what is read of it
-tag_read : {k n v x : List ℕ} → Spelled a_tag_key n k → Spelled a_tag_value x v → (f : List ℕ)
+tag_read : {U : Type 0} {k n v x : List ℕ} → Spelled U a_tag_key n k → Spelled U a_tag_value x v → (f : List ℕ)
     → tag (from_key k v f) ≡ reads (tag_of k v) (space ∷ from_field f)
 unfolding tag
 tag_read {v = v} key value
@@ -115,32 +116,17 @@ tag_read {v = v} key value
     ) refl
 
 -- and the set of its field
-fields_read : (dialect : Dialect) {f n : List ℕ} → Spelled a_field_key n f → field_set dialect (from_field f) ≡ reads (field_of f ∷ []) []
+fields_read : {U : Type 0} (dialect : Dialect) {f n : List ℕ} → Spelled U a_field_key n f
+    → field_set dialect (from_field f) ≡ reads (field_of f ∷ []) []
 unfolding field value integer_at
 fields_read Crate h = rw (spelled_reads h.spelled h.some h.ends (equals ∷ 49 ∷ letter_i ∷ []) refl) refl
 fields_read Strict h = rw (spelled_reads h.spelled h.some h.ends (equals ∷ 49 ∷ letter_i ∷ []) refl) refl
 
--- a line has this name, and its text is UTF-8 if the name is
-abbrev InLine : Dialect → NameKind → List ℕ → Type 0
-InLine dialect kind n =
-    (text : List ℕ) × (line : Line) × HasAnswers dialect text (Ok line ∷ []) × Contains (names_of kind (point_of line)) n
-    × (IsUtf8 n → IsUtf8 text)
-
--- a line whose names are spelled in UTF-8 is UTF-8
-whole_utf8 : {m k v f : List ℕ} → IsUtf8 m → IsUtf8 k → IsUtf8 v → IsUtf8 f → IsUtf8 (whole m k v f)
-whole_utf8 {m = m} {k = k} {v = v} {f = f} a b c d =
-    let end = utf8_push equals (49 ∷ letter_i ∷ []) (omega arith)
-    (utf8_push 49 (letter_i ∷ []) (omega arith) (utf8_push letter_i [] (omega arith) IsUtf8-nil)) in
-    let field = IsUtf8-append f (equals ∷ 49 ∷ letter_i ∷ []) d end in
-    let from_v = IsUtf8-append v (space ∷ from_field f) c (utf8_push space (from_field f) (omega arith) field) in
-    let from_k = IsUtf8-append k (equals ∷ from_value v f) b (utf8_push equals (from_value v f) (omega arith) from_v) in
-    IsUtf8-append m (comma ∷ from_key k v f) a (utf8_push comma (from_key k v f) (omega arith) from_k)
-
-module _ {m k v f m' k' v' f' : List ℕ} (first : Spelled a_measurement m' m) (no_hash : slice_index m' 0 ≢ hash)
-    (key : Spelled a_tag_key k' k) (value : Spelled a_tag_value v' v) (field : Spelled a_field_key f' f) where
+module _ {U : Type 0} {m k v f m' k' v' f' : List ℕ} (first : Spelled U a_measurement m' m) (key : Spelled U a_tag_key k' k)
+    (value : Spelled U a_tag_value v' v) (field : Spelled U a_field_key f' f) where
   -- it begins with no blank, no newline and no `#`
   begins : BeginsLine (whole m k v f)
-  begins = spelled_begins first.spelled first.some no_hash (comma ∷ from_key k v f)
+  begins = spelled_begins first.spelled first.some first.begins (comma ∷ from_key k v f)
 
   -- it ends in a plain stretch
   reaches_end : Reaches Plain 1 0 (whole m k v f)
@@ -180,35 +166,37 @@ module _ {m k v f m' k' v' f' : List ℕ} (first : Spelled a_measurement m' m) (
 
   -- so the line has each of its names
   in_line : (dialect : Dialect) (kind : NameKind) (n : List ℕ) → Contains (names_of kind (point_of (line_of m k v f))) n
-      → (IsUtf8 n → IsUtf8 m × IsUtf8 k × IsUtf8 v × IsUtf8 f) → InLine dialect kind n
-  in_line dialect kind n here utf8 =
-      (whole m k v f, line_of m k v f, only_answer dialect, here, λ u. let w = utf8 u in whole_utf8 w.0 w.1 w.2 w.3)
+      → (text : List ℕ) × (line : Line) × HasAnswers dialect text (Ok line ∷ []) × Contains (names_of kind (point_of line)) n
+      × (U → IsUtf8 text)
+  in_line dialect kind n here =
+      let all : U → IsUtf8 (whole m k v f) = λ u. utf8_joined (first.utf8 u) (omega arith) (utf8_joined (key.utf8 u) (omega arith)
+      (utf8_joined (value.utf8 u) (omega arith) (utf8_joined (field.utf8 u) (omega arith)
+      (utf8_joined IsUtf8-nil (omega arith) (utf8_joined IsUtf8-nil (omega arith) IsUtf8-nil))))) in
+      (whole m k v f, line_of m k v f, only_answer dialect, here, all)
 
 -- the name of one letter
-letter : (kind : NameKind) → Spelled kind (120 ∷ []) (120 ∷ [])
-letter a_measurement = record { spelled = plain 120 [] [] refl refl done; some = omega arith; ends = refl }
-letter a_tag_value = record { spelled = plain 120 [] [] refl refl done; some = omega arith; ends = refl }
-letter other = record { spelled = plain 120 [] [] refl refl done; some = omega arith; ends = refl }
-
--- the name of one letter is UTF-8
-x_utf8 : IsUtf8 (120 ∷ [])
-x_utf8 = utf8_push 120 [] (omega arith) IsUtf8-nil
+x : {U : Type 0} (kind : NameKind) → Spelled U kind (120 ∷ []) (120 ∷ [])
+x kind =
+    let is_utf8 = utf8_joined IsUtf8-nil (omega arith) IsUtf8-nil in
+    record { spelled = (as_it_is kind).0; some = omega arith; ends = refl; begins = (as_it_is kind).1; utf8 = λ u. is_utf8 }
+  where
+    -- its spelling
+    as_it_is : (kind : NameKind) → SpelledAs kind (120 ∷ []) (120 ∷ []) × BeginsNoComment kind (120 ∷ [])
+    as_it_is a_measurement = (plain 120 [] [] refl refl done, omega arith)
+    as_it_is a_tag_value = (plain 120 [] [] refl refl done, tt)
+    as_it_is other = (plain 120 [] [] refl refl done, tt)
 
 -- each parsed name, in the line whose other names are one letter
 pub parsed_names_are_in_lines : ParsedNamesAreInLines
 parsed_names_are_in_lines dialect a_measurement n h =
-    let s = has_spelling a_measurement n h in
-    in_line s.1 h.begins (letter a_tag_key) (letter a_tag_value) (letter a_field_key) dialect a_measurement n
-    (0, omega arith, spelled_logical s.1.spelled) (λ u. (spelled_after s.1.spelled [] u, x_utf8, x_utf8, x_utf8))
+    let s = (has_spelling a_measurement n h).1 in
+    in_line s (x a_tag_key) (x a_tag_value) (x a_field_key) dialect a_measurement n (0, omega arith, spelled_logical s.spelled)
 parsed_names_are_in_lines dialect a_tag_key n h =
-    let s = has_spelling a_tag_key n h in
-    in_line (letter a_measurement) (omega arith) s.1 (letter a_tag_value) (letter a_field_key) dialect a_tag_key n
-    (0, omega arith, spelled_logical s.1.spelled) (λ u. (x_utf8, spelled_after s.1.spelled [] u, x_utf8, x_utf8))
+    let s = (has_spelling a_tag_key n h).1 in
+    in_line (x a_measurement) s (x a_tag_value) (x a_field_key) dialect a_tag_key n (0, omega arith, spelled_logical s.spelled)
 parsed_names_are_in_lines dialect a_tag_value n h =
-    let s = has_spelling a_tag_value n h in
-    in_line (letter a_measurement) (omega arith) (letter a_tag_key) s.1 (letter a_field_key) dialect a_tag_value n
-    (0, omega arith, spelled_logical s.1.spelled) (λ u. (x_utf8, x_utf8, spelled_after s.1.spelled [] u, x_utf8))
+    let s = (has_spelling a_tag_value n h).1 in
+    in_line (x a_measurement) (x a_tag_key) s (x a_field_key) dialect a_tag_value n (0, omega arith, spelled_logical s.spelled)
 parsed_names_are_in_lines dialect a_field_key n h =
-    let s = has_spelling a_field_key n h in
-    in_line (letter a_measurement) (omega arith) (letter a_tag_key) (letter a_tag_value) s.1 dialect a_field_key n
-    (0, omega arith, spelled_logical s.1.spelled) (λ u. (x_utf8, x_utf8, x_utf8, spelled_after s.1.spelled [] u))
+    let s = (has_spelling a_field_key n h).1 in
+    in_line (x a_measurement) (x a_tag_key) (x a_tag_value) s dialect a_field_key n (0, omega arith, spelled_logical s.spelled)
