@@ -1,9 +1,9 @@
 //! Lines that come in parts.
 
-ghost use Rattle.std.specs.Prelude.{◌≡◌, ◌++◌, ◌-◌, ◌≤◌, [], drop, length, vec_len, IsUtf8, MatchResult, OnOk, OnErr, Some};
+ghost use Rattle.std.specs.Prelude.{◌≡◌, ◌++◌, ◌-◌, ◌≤◌, [], drop, length, take, vec_len, IsUtf8, MatchResult, OnOk, OnErr, Some};
 ghost use Rattle.std.specs.Borrow.{sem};
 ghost use Rattle.lp_format.specs.format.{Crate, IsLastPiece};
-ghost use Rattle.lp_split.specs.code.{rules_of, FindsCut, GivesCut, GivesCutText, GivesLast, GivesLastText};
+ghost use Rattle.lp_split.specs.code.{rules_of, FindsCut, GivesCut, GivesCutText, GivesFront, GivesLast, GivesLastText};
 
 use crate::split::{Dialect, Mark, Search, first_cut, search_on};
 use simdutf8::basic;
@@ -190,6 +190,27 @@ impl LineStream {
         self.start = self.buffer.len();
         self.known = Search::Begins(0);
         &self.buffer[from..]
+    }
+
+    // Takes so many bytes, and gives the first of them.
+    fn take_front(&mut self, len: usize, taken: usize) -> &[u8]
+        requires within { (len ≤ taken) × (taken ≤ length self.old.bytes) }
+        ensures* after { sem 𝓛 (EndsBy self.entry (λ before held. GivesFront before len taken result.now held)) }
+    {
+        let from = self.start;
+        self.start = from + taken;
+        self.known = Search::Begins(0);
+        &self.buffer[from..from + len]
+    }
+
+    // Keeps so many bytes, the first ones.
+    #[tactic(auto, using(crate::proofs::lemmas::stream::HeldTexts::front_of_rest))]
+    fn keep_front(&mut self, len: usize)
+        requires within { len ≤ length self.old.bytes }
+        ensures { self.new ≡ record { dialect = self.old.dialect; bytes = take len self.old.bytes } }
+    {
+        self.buffer.truncate(self.start + len);
+        self.known = Search::Begins(0);
     }
 
     // What is held.

@@ -1,5 +1,5 @@
 -- What a stream of pieces holds, and what a call takes of it.
-use Rattle.std.specs.Prelude.{◌≡◌, ℕ, List, [], ◌∷◌, ◌++◌, Option, Some, None, Result, Ok, Err, IsUtf8}
+use Rattle.std.specs.Prelude.{◌≡◌, ℕ, List, [], ◌∷◌, ◌++◌, take, drop, Option, Some, None, Result, Ok, Err, IsUtf8}
 use Rattle.std.specs.Borrow.{Bor}
 use Rattle.lp_format.specs.format.{Dialect, newline, IsCutPiece, IsLastPiece}
 
@@ -37,3 +37,8 @@ GivesLast before piece after = (piece ≡ before.bytes) × (after ≡ record { d
 abbrev pub GivesLastText : {E : Type 0} → Held → Result (Bor (List ℕ)) E → Held → Type 0
 GivesLastText before (Ok text) after = GivesLast before text.now after × IsUtf8 text.now
 GivesLastText before (Err _) after = GivesLast before before.bytes after × (¬ IsUtf8 before.bytes)
+
+-- a call gives the first bytes that were held, and takes so many of them
+abbrev pub GivesFront : Held → (len taken : ℕ) → List ℕ → Held → Type 0
+GivesFront before len taken front after =
+    (front ≡ take len before.bytes) × (after ≡ record { dialect = before.dialect; bytes = drop taken before.bytes })

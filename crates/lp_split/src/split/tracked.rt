@@ -103,18 +103,6 @@ impl Track {
             Dialect::Strict => Track::Blanks(place),
         }
     }
-
-    /// Whether so many bytes more can be counted.
-    pub(crate) fn has_room(self, len: usize) -> bool
-        ensures { result ≡ true → most_counted self + len < 2 ^ 64 }
-    {
-        match self {
-            Track::Comment => true,
-            Track::Blanks(place) | Track::Line(place) => {
-                place.equals.max(place.commas).checked_add(len).is_some()
-            }
-        }
-    }
 }
 
 // How many bytes of a plain stretch a load at the start of the text shows, and the place after them: those up to the first

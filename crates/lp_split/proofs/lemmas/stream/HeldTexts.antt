@@ -1,11 +1,15 @@
 -- What a stream holds, with more after it, and if pieces have a greatest length.
-use Rattle.std.proofs.Common.{◌≡◌, ℕ, Bool, cond, List, ◌++◌, drop, sym, ap, ◌∙◌, subst, arith, length-append, ◌⊎◌, ◌+◌, [], ◌∷◌}
-use Rattle.std.proofs.Common.{take, append_assoc, Ok, Err}
-use Rattle.std.proofs.lemmas.List.{take-append-le, drop-append-le}
-use Rattle.lp_format.specs.format.{Dialect, IsLastPiece, IsCutPiece, newline, newlines_in}
+use Rattle.std.proofs.Common.{◌≡◌, ℕ, Bool, cond, List, ◌++◌, drop, sym, ap, ◌∙◌, subst, arith, length-append, ◌+◌, [], ◌∷◌}
+use Rattle.std.proofs.Common.{take, length, append_assoc, Ok, Err, Some, ◌≤◌, ◌<◌, ◌-◌, ◌^◌}
+use Rattle.std.proofs.lemmas.List.{take-append-le, drop-append-le, drop-take, length-take, length-take-le, take-take}
+use Rattle.std.proofs.Math.Seq.{take-append_seam, drop-append_seam}
+use Rattle.lp_format.specs.format.{Dialect, IsLastPiece, IsCutPiece, IsFirstCut, newline, newlines_in}
 use Rattle.lp_split.specs.declared.split.resumed.Search.{Search}
 use Rattle.lp_split.specs.declared.split.resumed.Search.TheVariants.{Within}
-use Rattle.lp_split.specs.code.{IsKnown, IsHeldAt, AreSeen, Held, IsTrackOf, TracksOn, Track, HoldsBy, IsTooLong}
+use Rattle.lp_split.specs.code.{IsKnown, IsHeldAt, AreSeen, Held, HeldWithin, IsTrackOf, TracksOn, Track, HoldsBy, Holds, IsTooLong, Counts, CutsTo}
+use Rattle.lp_split.specs.code.{IsLongFirst}
+pub use Rattle.lp_split.proofs.lemmas.split.TrackedPieces.{tracked_is_last}
+use Rattle.lp_split.specs.declared.stream.bounded.Counted.{Counted}
 use Rattle.std.proofs.lemmas.List.Sums.{sum_by-append}
 use Rattle.lp_split.specs.declared.stream.bounded.Skipped.{Skipped}
 use Rattle.lp_split.specs.declared.stream.bounded.Skipped.TheVariants.{Nothing, Within, Ended}
@@ -29,42 +33,58 @@ held_longer dialect items part new start known ok h e = grind (arith, length-app
 longer_is_too_long : (limit : ℕ) (text part : List ℕ) → IsTooLong limit text → IsTooLong limit (text ++ part)
 longer_is_too_long limit text part h = (omega (arith, length-append text part, h.0), h.1)
 
--- the newlines of a text and those of a part after it
-more_newlines : (text part : List ℕ) (n more : ℕ) → n ≡ newlines_in text → more ≡ newlines_in part → n + more ≡ newlines_in (text ++ part)
-more_newlines text part n more h g = grind (arith, sum_by-append)
+-- the first bytes that are held are those up to a place in the buffer
+pub front_of_rest : (items : List ℕ) (start n : ℕ) → drop start (take (start + n) items) ≡ take n (drop start items)
+front_of_rest items start n = drop-take start n items
+
+-- the first bytes of a text that is longer stay the first bytes
+front_stays : (limit : ℕ) (text part : List ℕ) → IsTooLong limit text → take limit (text ++ part) ≡ take limit text
+front_stays limit text part h = take-append-le limit text part (omega (arith, h.0))
+
+-- what was counted of a text and of a part after it
+counts_more : (counted more : Counted) (text part : List ℕ) → more.len ≡ counted.len + length part
+    → more.newlines ≡ counted.newlines + newlines_in part → Counts counted text → Counts more (text ++ part)
+counts_more counted more text part len newlines h = grind (arith, length-append, sum_by-append)
 
 -- a part that goes on in a piece that is too long
-pub skips_more : (limit : ℕ) (held : Held) (skipped : Skipped) (from to : Track) (n more : ℕ) (part : List ℕ) → skipped ≡ Within from n
-    → TracksOn part from (Err to) → more ≡ newlines_in part → (text : List ℕ) → HoldsBy limit held skipped text
-    → HoldsBy limit held (Within to (n + more)) (text ++ part)
-skips_more limit held skipped from to n more part is tracks counted text h =
-    let k = subst (λ (s : Skipped). HoldsBy limit held s text) is h in
-    (k.0, longer_is_too_long limit text part k.1, tracks.1 held.dialect text k.2, more_newlines text part n more k.3 counted)
-
--- a part that ends one
-pub skips_to_end : (limit : ℕ) (old new : Held) (skipped : Skipped) (from : Track) (n more : ℕ) (part : List ℕ) (i : ℕ)
-    → skipped ≡ Within from n → TracksOn part from (Ok i) → new.dialect ≡ old.dialect → new.bytes ≡ old.bytes ++ drop (i + 1) part
-    → more ≡ newlines_in (take i part) → (text : List ℕ) → HoldsBy limit old skipped text
-    → HoldsBy limit new (Ended (n + more)) (text ++ part)
-skips_to_end limit old new skipped from n more part i is tracks dialect bytes counted text h =
-    let k = subst (λ (s : Skipped). HoldsBy limit old s text) is h in
-    let after : new.bytes ≡ drop (i + 1) part = bytes ∙ ap (λ (t : List ℕ). t ++ drop (i + 1) part) k.0 in
-    let split = sym (split_at part i tracks.0 tracks.1) in (
-      text ++ take i part,
-      longer_is_too_long limit text (take i part) k.1,
-      (
-        sym (append_assoc text (take i part) (newline ∷ new.bytes)
-            ∙ (ap (λ (t : List ℕ). text ++ (take i part ++ newline ∷ t)) after ∙ ap (λ (t : List ℕ). text ++ t) split)),
-        subst (λ (d : Dialect). IsCutPiece d (text ++ take i part)) (sym dialect) (tracks.2 old.dialect text k.2),
-      ),
-      more_newlines text (take i part) n more k.3 counted,
+pub skips_more : (limit : ℕ) (held : Held) (skipped : Skipped) (from to : Track) (counted more : Counted) (part : List ℕ)
+    → skipped ≡ Within from counted → TracksOn part from (Err to) → more.len ≡ counted.len + length part
+    → more.newlines ≡ counted.newlines + newlines_in part → (text : List ℕ) → HoldsBy limit held skipped text
+    → HoldsBy limit held (Within to more) (text ++ part)
+skips_more limit held skipped from to counted more part is tracks len newlines text h =
+    let k = subst (λ (s : Skipped). HoldsBy limit held s text) is h in (
+      longer_is_too_long limit text part k.0,
+      k.1 ∙ sym (front_stays limit text part k.0),
+      tracks.1 held.dialect text k.2,
+      counts_more counted more text part len newlines k.3,
     )
 
--- what is held was let go, since it is too long
-pub goes_within : (limit : ℕ) (held after : Held) (bytes : List ℕ) (d : Dialect) (track : Track) (n : ℕ) → bytes ≡ held.bytes
-    → d ≡ held.dialect → IsTooLong limit bytes → IsTrackOf d bytes track → n ≡ newlines_in held.bytes
-    → after ≡ record { dialect = held.dialect; bytes = [] } → HoldsBy limit after (Within track n) held.bytes
-goes_within limit held after bytes d track n same dialect long tracked counted empty = grind arith
+-- a part that ends one
+pub skips_to_end : (limit : ℕ) (old new : Held) (skipped : Skipped) (from : Track) (counted more : Counted) (part : List ℕ) (i : ℕ)
+    → skipped ≡ Within from counted → TracksOn part from (Ok i) → new.dialect ≡ old.dialect
+    → new.bytes ≡ old.bytes ++ drop (i + 1) part → more.len ≡ counted.len + length (take i part)
+    → more.newlines ≡ counted.newlines + newlines_in (take i part) → (text : List ℕ) → HoldsBy limit old skipped text
+    → HoldsBy limit new (Ended more) (text ++ part)
+skips_to_end limit old new skipped from counted more part i is tracks dialect bytes len newlines text h =
+    let k = subst (λ (s : Skipped). HoldsBy limit old s text) is h in
+    let rest = drop (i + 1) part in
+    let split = split_at part i tracks.0 tracks.1 in (
+      text ++ take i part,
+      rest,
+      longer_is_too_long limit text (take i part) k.0,
+      bytes ∙ ap (λ (t : List ℕ). t ++ rest) (k.1 ∙ sym (front_stays limit text (take i part) k.0)),
+      (
+        ap (λ (t : List ℕ). text ++ t) split ∙ sym (append_assoc text (take i part) (newline ∷ rest)),
+        subst (λ (d : Dialect). IsCutPiece d (text ++ take i part)) (sym dialect) (tracks.2 old.dialect text k.2),
+      ),
+      counts_more counted more text (take i part) len newlines k.3,
+    )
+
+-- of what is held, which is too long, the front is kept
+pub goes_within : (limit : ℕ) (held after : Held) (d : Dialect) (track : Track) (counted : Counted)
+    → d ≡ held.dialect → IsTooLong limit held.bytes → IsTrackOf d held.bytes track → Counts counted held.bytes
+    → after ≡ record { dialect = held.dialect; bytes = take limit held.bytes } → HoldsBy limit after (Within track counted) held.bytes
+goes_within limit held after d track counted dialect long tracked counts front = grind arith
 
 -- what is one piece has no newline that ends it
 pub no_end_within : (dialect : Dialect) (bytes : List ℕ) (track : Track) (i : ℕ) → IsTrackOf dialect [] track
@@ -73,16 +93,45 @@ no_end_within dialect bytes track i begins tracks is_last =
     no_cut_within dialect (take i bytes) (drop (i + 1) bytes) (tracks.2 dialect [] begins)
     (subst (λ (t : List ℕ). IsLastPiece dialect t) (split_at bytes i tracks.0 tracks.1) is_last)
 
--- what is held, which is more than a piece may have, is the text if no bytes were skipped
-pub held_is_too_long : (limit : ℕ) (held : Held) (skipped : Skipped) (n : ℕ) → skipped ≡ Nothing → IsTooLong limit held.bytes
-    → n ≡ newlines_in held.bytes → (text : List ℕ) → HoldsBy limit held skipped text → IsTooLong limit text × (n ≡ newlines_in text)
-held_is_too_long limit held skipped n is long counted text h = grind arith
+-- no more is kept of a piece that is skipped than a piece may have
+pub few_kept : (stream : HeldWithin) (track : Track) (counted : Counted) (text : List ℕ)
+    → stream.skipped ≡ Within track counted → Holds stream text → length stream.held.bytes ≤ stream.limit
+few_kept stream track counted text is h =
+    let k = subst (λ (s : Skipped). HoldsBy stream.limit stream.held s text) is h in
+    omega (arith, ap length k.1, length-take stream.limit text)
 
--- so many newlines of the bytes that were skipped were counted
-abbrev pub HasCounted : Skipped → ℕ → Type 0
-HasCounted skipped n = ((track : Track) × (skipped ≡ Within track n)) ⊎ (skipped ≡ Ended n)
+-- what is kept of a piece that was skipped, and what came after it
+front_then_rest : (limit : ℕ) (piece rest bytes : List ℕ) → limit < length piece → bytes ≡ take limit piece ++ rest
+    → (take limit bytes ≡ take limit piece) × (drop limit bytes ≡ rest)
+front_then_rest limit piece rest bytes h e =
+    let front = take limit piece in
+    let n : length front ≡ limit = length-take-le limit piece (omega arith) in
+    rw e (
+      subst (λ (m : ℕ). take m (front ++ rest) ≡ front) n (take-append_seam front rest),
+      subst (λ (m : ℕ). drop m (front ++ rest) ≡ rest) n (drop-append_seam front rest),
+    )
 
--- a text that is one piece is too long if bytes were skipped, and has the newlines that were counted
-pub skipped_is_too_long : (limit : ℕ) (held : Held) (skipped : Skipped) (n : ℕ) → HasCounted skipped n → (text : List ℕ)
-    → HoldsBy limit held skipped text → IsLastPiece held.dialect text → IsTooLong limit text × (n ≡ newlines_in text)
-skipped_is_too_long limit held skipped n is text h is_last = grind (arith, no_cut_within)
+-- a piece that was skipped to its end is the first one
+pub ended_is_first : (stream : HeldWithin) (counted : Counted) (text : List ℕ) → stream.skipped ≡ Ended counted → Holds stream text
+    → IsLongFirst stream counted stream.limit text
+ended_is_first stream counted text is h =
+    let k = subst (λ (s : Skipped). HoldsBy stream.limit stream.held s text) is h in
+    let kept = front_then_rest stream.limit k.0 k.1 stream.held.bytes k.2.0 k.3 in
+    (k.0, k.2, subst (λ (rest : List ℕ). CutsTo stream.held.dialect text k.0 rest) (sym kept.1) k.4, k.5, kept.0)
+
+-- the piece before a cut is the first one
+pub cut_is_first : (stream : HeldWithin) (counted : Counted) (text : List ℕ) (at : ℕ) → stream.skipped ≡ Nothing
+    → IsFirstCut stream.held.dialect stream.held.bytes (Some at) → stream.limit < at → stream.limit < 2 ^ 64 - 1
+    → Counts counted (take at stream.held.bytes) → Holds stream text → IsLongFirst stream counted (at + 1) text
+cut_is_first stream counted text at is cut long limited counts h =
+    let k = subst (λ (s : Skipped). HoldsBy stream.limit stream.held s text) is h in
+    let bytes = stream.held.bytes in (
+      take at bytes,
+      (omega (arith, length-take at bytes, cut.0), limited),
+      (k ∙ split_at bytes at cut.0 cut.1, cut.2),
+      counts,
+      sym (take-take stream.limit at bytes (omega arith)),
+    )
+
+-- the first piece, if it is too long or does not end yet
+pub ruleset first_pieces = (tracked_is_last, few_kept, ended_is_first, cut_is_first)

@@ -8,15 +8,15 @@ pub returns-in_ok-push-in-Ok-clause-ok : goal.returns-in_ok-push-in-Ok-clause-ok
 returns-in_ok-push-in-Ok-clause-ok c = λ text h.
     let s = c.self.inside in
     let end = c.in-Ok.end in
-    skips_to_end s.limit s.stream c.push-in-Ok.new.self s.skipped c.in-Within.track c.in-Within.newlines c.newlines_in.result
+    skips_to_end s.limit s.stream c.push-in-Ok.new.self s.skipped c.in-Within.track c.in-Within.counted c.with-counted.result
     c.args.part.now end c.in-Within.is
     c.in-Ok.ensures c.push-in-Ok.ensures.dialect
     (c.in_ok-push-in-Ok.ensures.ok ∙ ap (λ (t : List ℕ). s.stream.bytes ++ t) (take_rest c.args.part.now (end + 1)))
-    c.newlines_in.ensures.value text (subst (λ (v : HeldWithin). Holds v text) (sym c.self.view_is) h)
+    c.with-counted.ensures.len c.with-counted.ensures.newlines text (subst (λ (v : HeldWithin). Holds v text) (sym c.self.view_is) h)
 
 pub returns-in-Err-clause-ok : goal.returns-in-Err-clause-ok
 returns-in-Err-clause-ok c = λ text h.
     let s = c.self.inside in
-    skips_more s.limit s.stream s.skipped c.in-Within.track c.in-Err.track c.in-Within.newlines c.newlines_in-in-Err.result
-    c.args.part.now c.in-Within.is c.in-Err.ensures c.newlines_in-in-Err.ensures.value text
+    skips_more s.limit s.stream s.skipped c.in-Within.track c.in-Err.track c.in-Within.counted c.with-counted-in-Err.result
+    c.args.part.now c.in-Within.is c.in-Err.ensures c.with-counted-in-Err.ensures.len c.with-counted-in-Err.ensures.newlines text
     (subst (λ (v : HeldWithin). Holds v text) (sym c.self.view_is) h)
