@@ -1,5 +1,5 @@
 -- Where reading stops in a text at fault.
-use Rattle.std.specs.Prelude.{ℕ, zero, suc, ◌-◌, List, length, drop, Result, Ok, Err}
+use Rattle.std.specs.Prelude.{ℕ, zero, suc, List, length, drop, Result, Ok, Err}
 use Rattle.influxdb_line_protocol.specs.format.{Dialects.Dialect, Bytes.space, Bytes.comma, Bytes.equals}
 use Rattle.influxdb_line_protocol.specs.format.Readings.{Fault, Read, Reading, reads, ◌>>=◌}
 use Rattle.influxdb_line_protocol.specs.format.Names.{NameKind, a_measurement, a_tag_key, a_field_key, name}
@@ -37,7 +37,3 @@ stop_text dialect line =
     let fields = drop (spaces rest) rest in
     left_of (field_set dialect fields) (list_stop a_field_key field fields) (λ rest.
     left_if (timestamp rest) (drop (spaces rest) rest) (λ rest. rest)))))
-
--- how many bytes of a trimmed text come before the byte at which reading stops
-abbrev pub stop_of : Dialect → List ℕ → ℕ
-stop_of dialect line = length line - length (stop_text dialect line)

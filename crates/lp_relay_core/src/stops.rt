@@ -6,7 +6,7 @@ ghost use Rattle.influxdb_line_protocol.specs.format.{Points.Pair, Readings.Text
 ghost use Rattle.influxdb_line_protocol.specs.code.Rules.{rules_of};
 ghost use Rattle.lp_values.specs.code.Outcomes.{kind_of};
 ghost use Rattle.lp_values.specs.code.SpelledParts.{GivesSpelled};
-ghost use Rattle.lp_relay_core.specs.Stops.{list_stop, pair_stop, stop_of, stop_text};
+ghost use Rattle.lp_relay_core.specs.Stops.{list_stop, pair_stop, stop_text};
 ghost use Rattle.lp_relay_core.specs.StopSteps.{GivesFields, GivesList, GivesSet, key_of, pair_in, value_in};
 
 use influxdb_line_protocol::Dialect;
@@ -132,8 +132,10 @@ fn fields<'a>(dialect: Dialect, text: &'a str) -> Result<&'a str, &'a str>
     }
 }
 
-// What is left of a trimmed text where reading stops.
-fn stop_text<'a>(dialect: Dialect, text: &'a str) -> &'a str
+// What is left of a trimmed text where reading stops. It reads the text again, and takes no memory.
+#[cold]
+#[inline(never)]
+pub(crate) fn stop_text<'a>(dialect: Dialect, text: &'a str) -> &'a str
     ensures { result.now ≡ stop_text (rules_of dialect) text.now }
 {
     let Ok(Some((_, rest))) = name(NameKind::Measurement, text) else {
@@ -154,13 +156,4 @@ fn stop_text<'a>(dialect: Dialect, text: &'a str) -> &'a str
         Ok((_, rest)) => rest,
         Err(_) => trim_start_spaces(rest),
     }
-}
-
-// How many bytes of a trimmed text come before the byte at which reading stops. It reads the text again, and takes no memory.
-#[cold]
-#[inline(never)]
-pub(crate) fn stop_of(dialect: Dialect, text: &str) -> usize
-    ensures { result ≡ stop_of (rules_of dialect) text.now }
-{
-    text.len().saturating_sub(stop_text(dialect, text).len())
 }
