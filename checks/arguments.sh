@@ -536,7 +536,7 @@ given 2 '' "${unwritten}/dev/null: it is no regular file\n" -o /dev/null a
 given 2 '' "${unwritten}none/x: $none\n" -o none/x a
 given 2 '' "${unwritten}a/x: Not a directory (os error 20)\n" -o a/x a
 [ -c /dev/null ]
-# The refused pieces, each as it came, with its newline, and nothing of a line that is too long; `kept STATUS REFUSED FAULTS WORD..`.
+# The refused pieces, each as it came, with its newline, and of a line that is too long its front; `kept STATUS REFUSED FAULTS WORD..`.
 kept() {
     local wanted=$2
     given "$1" "$lines" "$3" --refused refused "${@:4}"
@@ -554,7 +554,7 @@ kept 1 "${pieces}y\n" "${begun}item 8: $x\n" --check bad
 lines='m a=1i\nm a=2i\nm a=123456789i\n'
 kept 1 "${pieces}y\n" "${begun}item 8: $x\n" bad
 lines='m a=1i\nm a=2i\n'
-kept 1 "${pieces}y\n" "${begun}item 7: the line is too long\nitem 8: $x\n" --max-line 12 bad
+kept 1 "${pieces}m a=12345678\ny\n" "${begun}item 7: the line is too long: its first 12 bytes are kept\nitem 8: $x\n" --max-line 12 bad
 lines='m a=1i\nm a=123456789i\n'
 kept 1 "${pieces}m  a=2i\ny\n" "${begun}item 6: not as written: the spaces\nitem 8: $x\n" --canonical bad
 lines='m a=1i\n'

@@ -50,8 +50,8 @@ input; ./-x names a file -x.
                      `B bytes, L lines, N items: C carried, R refused`
   --check            writes no line, but the faults and the status are as ever
   --output FILE, -o  writes the lines to FILE, which is there, and whole, once the status is 0 or 1
-  --refused FILE     writes each piece that is refused to FILE as it came, with its newline; FILE is
-                     there as that of --output is, and has nothing of a line that is too long
+  --refused FILE     writes each piece that is refused to FILE as it came, with its newline, and of a
+                     line that is too long its first BYTES; FILE is there as that of --output is
   --cut PARTS        prints where the input, which is held whole, can be cut into so many parts of
                      about one length, 1000000 at most, to be relayed apart: the end of each, in
                      bytes, a line each

@@ -57,7 +57,7 @@ fault_by_number number (answered front (Err fault)) = refl
 fault_by_number number (as_it_came piece) = refl
 fault_by_number number (not_as_written front wrong) = refl
 fault_by_number number not_utf8 = refl
-fault_by_number number too_long = refl
+fault_by_number number (too_long kept) = refl
 
 -- what is told of an item is its fault line, as it is told
 abbrev IsLines : Faults → Type 0

@@ -1,5 +1,5 @@
 -- The items of a relay, one after another.
-use Rattle.std.proofs.Common.{◌≡◌, ℕ, ◌+◌, ◌≤◌, nat_lt, false, not, cond, List, [], ◌∷◌, ◌++◌, length, map}
+use Rattle.std.proofs.Common.{◌≡◌, ℕ, ◌+◌, ◌≤◌, nat_lt, false, not, cond, List, [], ◌∷◌, ◌++◌, length, take, map}
 use Rattle.std.proofs.Common.{refl, sym, ap, ◌∙◌, arith, append_assoc, append-nil, inl, inr}
 use Rattle.std.specs.Str.{IsUtf8, is_utf8}
 use Rattle.std.proofs.lemmas.Bool.{cases_Bool}
@@ -18,7 +18,7 @@ use Rattle.lp_relay_core.specs.Told.{told}
 use Rattle.lp_relay_core.specs.Objects.{stop_of_bytes, stop_of_piece}
 use Rattle.lp_relay_core.specs.Relaying.{Item, item_of, not_utf8, too_long, limit_of, is_too_long, items_of_bytes, items_of_piece, items_of}
 use Rattle.lp_relay_core.specs.Relaying.{is_carried_item, items_batch, item_fault, item_faults, carried_items, refused_items}
-use Rattle.lp_relay_core.specs.Relaying.{refused_lines, refused_piece}
+use Rattle.lp_relay_core.specs.Relaying.{kept_of, refused_lines, refused_piece}
 use Rattle.lp_rebuild.proofs.RebuildLemmas.{one_of_two}
 
 -- the batch of items and others
@@ -85,7 +85,7 @@ pub items_of_short : (s : Settings) (piece : List ℕ) → length piece ≤ s.li
 items_of_short s piece h = grind (arith, cases_Bool, items_of_fitting)
 
 -- the item of a piece that is too long
-pub item_of_long : (s : Settings) (piece : List ℕ) → IsTooLong s.limit piece → items_of_piece s piece ≡ too_long ∷ []
+pub item_of_long : (s : Settings) (piece : List ℕ) → IsTooLong s.limit piece → items_of_piece s piece ≡ too_long (kept_of s) ∷ []
 unfolding items_of_piece
 item_of_long s piece h = grind (arith, nat_lt)
 
@@ -96,9 +96,10 @@ unfolding refused_piece
 refused_short s piece h = grind (arith, cases_Bool, nat_tests)
 
 -- and of one that is too long
-pub refused_long : (s : Settings) (piece : List ℕ) → IsTooLong s.limit piece → refused_piece s piece ≡ []
+pub refused_long : (s : Settings) (piece : List ℕ) → IsTooLong s.limit piece
+    → refused_piece s piece ≡ refused_lines s.puts_refused (take s.limit piece) (too_long (kept_of s) ∷ [])
 unfolding refused_piece
-refused_long s piece h = grind (arith, nat_lt)
+refused_long s piece h = grind (arith, nat_lt, item_of_long)
 
 -- where reading stops in a piece that is not too long
 pub stop_short : (s : Settings) (line : ℕ) (piece : List ℕ) → length piece ≤ s.limit

@@ -25,9 +25,9 @@ use Rattle.lp_relay_core.specs.declared.taking.Settings.{Settings}
 use Rattle.lp_relay_core.specs.Differing.{at_start, differing_part, part_text}
 use Rattle.lp_relay_core.specs.LineFaults.{item_text}
 use Rattle.lp_relay_core.specs.Objects.{answer_kind, fault_kind, front_given, item_front, item_kind, item_object, kind_given, line_kind, object, stop_given, stop_members}
-use Rattle.lp_relay_core.specs.Relaying.{Item, canonical_item, front_of, is_carried_item, item_of, items_of_bytes, not_utf8, too_long}
+use Rattle.lp_relay_core.specs.Relaying.{Item, canonical_item, front_of, is_carried_item, item_of, items_of_bytes, kept_of, not_utf8, too_long}
 use Rattle.lp_relay_core.specs.RelaySteps.{as_object, form_given, form_of, Made, TakesItems, TakesRaw, faults_at, items_given, line_or_none, object_given}
-use Rattle.lp_relay_core.specs.Stops.{stop_text}
+use Rattle.lp_relay_core.specs.ReadingStops.{stop_text}
 use Rattle.lp_relay_core.specs.Verdicts.{fault_in}
 use Rattle.lp_values.specs.code.SpelledParts.{spelled_fault}
 use Rattle.lp_values.specs.declared.spelled.SpelledFault.{SpelledFault}
@@ -109,12 +109,12 @@ piece_described lines dialect piece item is refused =
     ]
 
 -- what is told of what a call gave, whose item is refused
-described : (lines : Lines) (dialect : Dialect) (given : Result (Bor (List ℕ)) PieceTooLong) (item : Item)
-    → items_given lines dialect given ≡ item ∷ [] → is_carried_item item ≡ false
-    → IsDescribed (front_given given) (kind_given dialect given) item
-described lines dialect (Ok piece) item is refused = piece_described lines dialect piece item is refused
-described lines dialect (Err fault) item is refused =
-    let one : too_long ≡ item = cc in subst (IsDescribed [] (λ text. codes "too_long")) one (refl, refl)
+described : (s : Settings) (given : Result (Bor (List ℕ)) PieceTooLong) (item : Item)
+    → items_given s given ≡ item ∷ [] → is_carried_item item ≡ false
+    → IsDescribed (front_given given) (kind_given (rules_of s.dialect) given) item
+described s (Ok piece) item is refused = piece_described s.lines (rules_of s.dialect) piece item is refused
+described s (Err fault) item is refused =
+    let one : too_long (kept_of s) ≡ item = cc in subst (IsDescribed [] (λ text. codes "too_long")) one (refl, refl)
 
 -- objects of the same members
 pub object_same : (number : ℕ) {line l offset o : ℕ} {kind k text t stop s : List ℕ} → line ≡ l → offset ≡ o → kind ≡ k → text ≡ t → stop ≡ s
@@ -122,17 +122,18 @@ pub object_same : (number : ℕ) {line l offset o : ℕ} {kind k text t stop s :
 object_same number lines offsets kinds texts stops = rw (lines, offsets, kinds, texts, stops) refl
 
 -- its object is that of its item
-object_is : (lines : Lines) (dialect : Dialect) (line : Option ℕ) (offset number : ℕ) (given : Result (Bor (List ℕ)) PieceTooLong)
-    (item : Item) → items_given lines dialect given ≡ item ∷ [] → is_carried_item item ≡ false
-    → object_given dialect line offset number given (item_text item)
-    ≡ item_object number (line_or_none line) offset (stop_given dialect (line_or_none line) given) item ++ []
-object_is lines dialect line offset number given item is refused =
-    let (front, kind) = described lines dialect given item is refused in
+object_is : (s : Settings) (line : Option ℕ) (offset number : ℕ) (given : Result (Bor (List ℕ)) PieceTooLong) (item : Item)
+    → items_given s given ≡ item ∷ [] → is_carried_item item ≡ false
+    → object_given (rules_of s.dialect) line offset number given (item_text item)
+    ≡ item_object number (line_or_none line) offset (stop_given (rules_of s.dialect) (line_or_none line) given) item ++ []
+object_is s line offset number given item is refused =
+    let d = rules_of s.dialect in
+    let (front, kind) = described s given item is refused in
     let text = item_text item in
-    let stop = stop_given dialect (line_or_none line) given in
+    let stop = stop_given d (line_or_none line) given in
     let after = λ (f k : List ℕ). object number (line_or_none line + newlines_in f) (offset + length f) k text stop in
     let told = after (item_front item) (item_kind item) in
-    ap (λ (f : List ℕ). after f (kind_given dialect given text)) front ∙ ap (after (item_front item)) kind
+    ap (λ (f : List ℕ). after f (kind_given d given text)) front ∙ ap (after (item_front item)) kind
     ∙ sym (append-nil told) ∙ ap (λ (b : Bool). cond b [] told ++ []) (sym refused)
 
 -- what a call gave was taken, and then its object was told in place of its fault line
@@ -141,10 +142,10 @@ pub takes_object : (first : ℕ) (s : Settings) (given : Result (Bor (List ℕ))
     → ((text : List ℕ) → drop from mid.faults ≡ fault_line_at mid.line (mid.carried + mid.refused) text
     → new.faults ≡ take from mid.faults ++ object_given (rules_of s.dialect) mid.line offset (mid.carried + mid.refused) given text)
     → new.batch ≡ mid.batch → new.carried ≡ mid.carried → new.refused ≡ mid.refused
-    → TakesItems (form_given s (record { line = old.line; offset = offset }) given) old (items_given s.lines (rules_of s.dialect) given) new
+    → TakesItems (form_given s (record { line = old.line; offset = offset }) given) old (items_given s given) new
 takes_object first s given from offset old mid new is t some told batch carried refused =
     let d = rules_of s.dialect in
-    let items = items_given s.lines d given in
+    let items = items_given s given in
     let number = old.carried + old.refused + 1 in
     let one = refused_one s given from old mid t some in
     let text = item_text one.item in
@@ -154,7 +155,7 @@ takes_object first s given from offset old mid new is t some told batch carried 
     let object : object_given d mid.line offset (mid.carried + mid.refused) given text ≡ faults_at (as_object offset stop) old.line number items =
     ap (λ (n : ℕ). object_given d mid.line offset n given text) one.number
     ∙ ap (λ (l : Option ℕ). object_given d l offset number given text) t.line
-    ∙ object_is s.lines d old.line offset number given one.item one.is one.refused
+    ∙ object_is s old.line offset number given one.item one.is one.refused
     ∙ sym (ap (faults_at (as_object offset stop) old.line number) one.is) in
     subst (λ f. TakesItems (form_of f offset stop) old items new) (sym is) (record {
       batch = batch ∙ t.takes.batch;

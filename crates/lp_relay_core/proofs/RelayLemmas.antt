@@ -20,8 +20,7 @@ use Rattle.lp_rebuild.specs.RebuildSteps.{Refuses, Takes}
 use Rattle.lp_rebuild.specs.Running.{AppendsFront}
 use Rattle.lp_relay_core.specs.declared.taking.Lines.{Lines}
 use Rattle.lp_relay_core.specs.declared.taking.Lines.TheVariants.{Rebuilt, Verbatim}
-use Rattle.lp_relay_core.specs.Relaying.{Item, answered, as_it_came, front_of, item_of, not_utf8, too_long, items_of_bytes, items_batch}
-use Rattle.influxdb_line_protocol.specs.code.Rules.{rules_of}
+use Rattle.lp_relay_core.specs.Relaying.{Item, answered, as_it_came, front_of, item_of, kept_of, long_text, not_utf8, too_long, items_of_bytes, items_batch}
 use Rattle.influxdb_line_protocol.specs.types.PieceTooLong.{PieceTooLong}
 use Rattle.lp_relay_core.specs.declared.taking.Pending.{Pending}
 use Rattle.lp_relay_core.specs.declared.taking.Settings.{Settings}
@@ -48,9 +47,9 @@ takes_no_text : (old new : Progress) → Refuses old (codes "the line is not UTF
 takes_no_text old new r = grind (arith, append-nil, string_bytes)
 
 -- so is one that is too long
-pub takes_too_long : (old new : Progress) → Refuses old (codes "the line is too long") new
-    → TakesItems as_raw (made old) (too_long ∷ []) (made new)
-takes_too_long old new r = grind (arith, append-nil, string_bytes)
+pub takes_too_long : (s : Settings) (old new : Progress) (text : List ℕ) → text ≡ long_text (kept_of s) → Refuses old text new
+    → TakesItems as_raw (made old) (too_long (kept_of s) ∷ []) (made new)
+takes_too_long s old new text is r = grind (arith, append-nil, string_bytes)
 
 -- a blank text has no item
 pub blank_items : (lines : Lines) (dialect : Dialect) (piece : List ℕ) → IsUtf8 piece → length (trimmed piece) ≡ 0
@@ -292,8 +291,8 @@ part_of_none old a xs fs ps =
 pub relays_poured : (s : Settings) (old now next poured : Unwritten) (a b c : Known) (xs : List Item) (fs ps : List ℕ)
     (result : Result (Bor (List ℕ)) PieceTooLong) → RelaysItems old now a b xs fs ps → TakesGiven s now result next
     → RelaysItems next poured b c [] [] []
-    → RelaysItems old poured a c (xs ++ items_given s.lines (rules_of s.dialect) result)
-    (fs ++ faults_next (form_given s (start_of now) result) now.made (items_given s.lines (rules_of s.dialect) result)) (ps ++ refused_given s result)
+    → RelaysItems old poured a c (xs ++ items_given s result)
+    (fs ++ faults_next (form_given s (start_of now) result) now.made (items_given s result)) (ps ++ refused_given s result)
 relays_poured s old now next poured a b c xs fs ps result p t q =
     relays_then old next poured a b c _ _ _
     (relays_more old now next a b b xs _ fs _ ps _ p (relays_taken (form_given s (start_of now) result) now next b _ _ t.items t.pieces)) q
@@ -302,8 +301,8 @@ relays_poured s old now next poured a b c xs fs ps result p t q =
 pub part_poured : (s : Settings) (old now next : Unwritten) (a b c : Known) (xs : List Item) (fs ps : List ℕ)
     (result : Result (Bor (List ℕ)) PieceTooLong) → RelaysItems old now a b xs fs ps → TakesGiven s now result next
     → RelaysPart next b c [] [] []
-    → RelaysPart old a c (xs ++ items_given s.lines (rules_of s.dialect) result)
-    (fs ++ faults_next (form_given s (start_of now) result) now.made (items_given s.lines (rules_of s.dialect) result)) (ps ++ refused_given s result)
+    → RelaysPart old a c (xs ++ items_given s result)
+    (fs ++ faults_next (form_given s (start_of now) result) now.made (items_given s result)) (ps ++ refused_given s result)
 part_poured s old now next a b c xs fs ps result p t q =
     part_then old next a b c _ _ _
     (relays_more old now next a b b xs _ fs _ ps _ p (relays_taken (form_given s (start_of now) result) now next b _ _ t.items t.pieces)) q

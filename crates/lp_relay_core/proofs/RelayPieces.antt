@@ -11,7 +11,7 @@ use Rattle.influxdb_line_protocol.specs.types.PieceTooLong.{PieceTooLong}
 use Rattle.influxdb_line_protocol.specs.laws.StreamLaws.{Run, Run.taken}
 use Rattle.lp_relay_core.specs.declared.taking.Settings.{Settings}
 use Rattle.influxdb_line_protocol.specs.code.Rules.{rules_of}
-use Rattle.lp_relay_core.specs.Relaying.{Item, items_of_piece, items_of, refused_piece, refused_pieces}
+use Rattle.lp_relay_core.specs.Relaying.{Item, items_of_piece, items_of, refused_piece, refused_pieces, kept_of, refused_lines, too_long}
 use Rattle.lp_relay_core.specs.RelaySteps.{RelaysAllPieces, RelaysItems, RelaysLast, RelaysLastPart, RelaysPart, RelaysSome, RelaysTo}
 use Rattle.lp_relay_core.specs.RelaySteps.{Form, Start, Unwritten, faults_next, faults_past, form_at, form_given, form_of, items_given, len_given}
 use Rattle.lp_relay_core.specs.RelaySteps.{line_or_none, newlines_given, start_after, start_of, start_past}
@@ -29,7 +29,7 @@ pub record Given (s : Settings) (text : List ℕ) (result : Result (Bor (List �
   pub piece : List ℕ
   pub text_is : text ≡ piece ++ newline ∷ rest
   pub is_cut : IsCutPiece (rules_of s.dialect) piece
-  pub items : items_given s.lines (rules_of s.dialect) result ≡ items_of_piece s piece
+  pub items : items_given s result ≡ items_of_piece s piece
   pub newlines : newlines_given result ≡ newlines_in piece
   pub len : len_given result ≡ length piece
   pub stop : (line : ℕ) → stop_given (rules_of s.dialect) line result ≡ stop_of_piece s line piece
@@ -52,7 +52,7 @@ given_long s text piece fault rest tells cuts =
       newlines = tells.1;
       len = tells.2;
       stop = λ line. sym (stop_long s line piece tells.0);
-      put = sym (refused_long s piece tells.0);
+      put = ap (λ f. refused_lines s.puts_refused f (too_long (kept_of s) ∷ [])) tells.3 ∙ sym (refused_long s piece tells.0);
     }
 
 -- the stream gave one, and holds the rest
@@ -68,7 +68,7 @@ given_on s text result rest t g = grind (arith, append_assoc)
 
 -- the items of the last piece
 pub last_items : (s : Settings) (text : List ℕ) (result : Result (Bor (List ℕ)) PieceTooLong)
-    → IsLastOf s.limit text result → items_given s.lines (rules_of s.dialect) result ≡ items_of_piece s text
+    → IsLastOf s.limit text result → items_given s result ≡ items_of_piece s text
 last_items s text e h = grind (arith, items_of_short, item_of_long)
 
 -- where reading stops in it
@@ -79,10 +79,10 @@ last_stop s line text e h = grind (arith, stop_short, stop_long)
 -- its fault lines
 last_faults : (s : Settings) (old : Unwritten) (text : List ℕ) (result : Result (Bor (List ℕ)) PieceTooLong)
     → IsLastOf s.limit text result
-    → faults_next (form_given s (start_of old) result) old.made (items_given s.lines (rules_of s.dialect) result)
+    → faults_next (form_given s (start_of old) result) old.made (items_given s result)
     ≡ faults_next (form_at s (start_of old) text) old.made (items_of_piece s text)
 last_faults s old text result last =
-    ap (λ form. faults_next form old.made (items_given s.lines (rules_of s.dialect) result))
+    ap (λ form. faults_next form old.made (items_given s result))
     (ap (form_of s.faults old.offset) (last_stop s (line_or_none old.made.line) text result last))
     ∙ ap (faults_next (form_at s (start_of old) text) old.made) (last_items s text result last)
 
@@ -189,7 +189,7 @@ to_more s text mid rest old now next poured a b c result p one takes start q =
       taken = takes_one (rules_of s.dialect) text mid rest p.pieces one.piece p.taken one.text_is one.is_cut;
       start = next_start (start_of old) (start_of now) (start_of poured) _ _ p.pieces one.piece p.start one.newlines one.len start;
       relays = relays_same old poured a c _ _ _ _ _ _
-          (next_items s p.pieces one.piece (items_given s.lines (rules_of s.dialect) result) one.items)
+          (next_items s p.pieces one.piece (items_given s result) one.items)
           (next_faults s old now a b p.pieces one.piece _ _ _ _ p.relays p.start one.items (form_is s mid result rest (start_of now) one))
           (next_put s p.pieces one.piece (refused_given s result) one.put)
           (relays_poured s old now next poured a b c _ _ _ result p.relays takes q);
@@ -205,7 +205,7 @@ to_part s text mid rest old now next a b c result p one takes q =
       rest = rest;
       taken = takes_one (rules_of s.dialect) text mid rest p.pieces one.piece p.taken one.text_is one.is_cut;
       part = part_same old a c _ _ _ _ _ _
-          (next_items s p.pieces one.piece (items_given s.lines (rules_of s.dialect) result) one.items)
+          (next_items s p.pieces one.piece (items_given s result) one.items)
           (next_faults s old now a b p.pieces one.piece _ _ _ _ p.relays p.start one.items (form_is s mid result rest (start_of now) one))
           (next_put s p.pieces one.piece (refused_given s result) one.put)
           (part_poured s old now next a b c _ _ _ result p.relays takes q);

@@ -8,7 +8,7 @@ use Rattle.influxdb_line_protocol.specs.format.Names.{NameKind, a_field_key, a_t
 use Rattle.influxdb_line_protocol.specs.format.{Points.Pair, Values.Value, Dialects.Dialect}
 use Rattle.influxdb_line_protocol.specs.format.Lines.{after_comma, byte, field, field_set, many, one_and_more, prepend, separated_list, tag, tag_set, without_comma}
 use Rattle.lp_relay_core.specs.declared.stops.Pairs.TheVariants.{Tags, Fields}
-use Rattle.lp_relay_core.specs.Stops.{last_tried, list_stop, pair_stop}
+use Rattle.lp_relay_core.specs.ReadingStops.{last_tried, list_stop, pair_stop}
 use Rattle.lp_relay_core.specs.StopSteps.{Fails, blank, pair_in}
 use Rattle.lp_values.proofs.lemmas.fields.ReadingLemmas.{byte_parts}
 

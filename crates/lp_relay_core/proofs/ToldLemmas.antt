@@ -22,7 +22,7 @@ use Rattle.lp_relay_core.specs.LineFaults.{item_text}
 use Rattle.lp_relay_core.specs.Objects.{stop_of_bytes}
 use Rattle.lp_relay_core.specs.Relaying.{Item, is_carried_item, items_of_bytes, refused_lines}
 use Rattle.lp_relay_core.specs.RelaySteps.{EndsPiece, Made, TakesItems, TakesGiven, TakesRaw, Unwritten, faults_at, faults_next}
-use Rattle.lp_relay_core.specs.RelaySteps.{Form, as_raw, as_object, as_one_line, form_given, form_of, items_given, line_or_none, made, raw_fault, refused_given, told_item, unwritten_of}
+use Rattle.lp_relay_core.specs.RelaySteps.{Form, bytes_given, as_raw, as_object, as_one_line, form_given, form_of, items_given, line_or_none, made, raw_fault, refused_given, told_item, unwritten_of}
 use Rattle.lp_relay_core.specs.Told.{told}
 use Rattle.lp_relay_core.proofs.RelayLemmas.{blank_items, text_item}
 use Rattle.lp_relay_core.proofs.ItemLemmas.{item_of_no_text, items_add_up}
@@ -76,16 +76,15 @@ few_items lines dialect piece =
     ]
 
 -- so has what a call gave
-pub few_given : (lines : Lines) (dialect : Dialect) (result : Result (Bor (List ℕ)) PieceTooLong)
-    → length (items_given lines dialect result) ≤ 1
-few_given lines dialect (Ok piece) = few_items lines dialect piece.now
-few_given lines dialect (Err fault) = omega arith
+pub few_given : (s : Settings) (result : Result (Bor (List ℕ)) PieceTooLong) → length (items_given s result) ≤ 1
+few_given s (Ok piece) = few_items s.lines (rules_of s.dialect) piece.now
+few_given s (Err fault) = omega arith
 
 -- what was added since comes after what was there
 grown : (s : Settings) (given : Result (Bor (List ℕ)) PieceTooLong) (from : ℕ) (old mid : Made) → TakesRaw s given from old mid
-    → length mid.faults ≡ from + length (faults_next as_raw old (items_given s.lines (rules_of s.dialect) given))
+    → length mid.faults ≡ from + length (faults_next as_raw old (items_given s given))
 grown s given from old mid t =
-    let raw = faults_next as_raw old (items_given s.lines (rules_of s.dialect) given) in
+    let raw = faults_next as_raw old (items_given s given) in
     omega (arith, t.from_is, ap length t.takes.faults, length-append old.faults raw)
 
 -- the fault lines are no fewer bytes than before
@@ -95,11 +94,11 @@ within s given from old mid t = omega (arith, grown s given from old mid t)
 
 -- if they are as many, nothing is told
 pub takes_same : (form : Form) (s : Settings) (given : Result (Bor (List ℕ)) PieceTooLong) (from : ℕ) (old new : Made)
-    → TakesRaw s given from old new → from ≡ length new.faults → TakesItems form old (items_given s.lines (rules_of s.dialect) given) new
+    → TakesRaw s given from old new → from ≡ length new.faults → TakesItems form old (items_given s given) new
 takes_same form s given from old new t same =
-    let items = items_given s.lines (rules_of s.dialect) given in
+    let items = items_given s given in
     let number = old.carried + old.refused + 1 in
-    let few = few_given s.lines (rules_of s.dialect) given in
+    let few = few_given s given in
     let none : length (faults_at as_raw old.line number items) ≡ 0 = omega (arith, same, grown s given from old new t) in
     record {
       batch = t.takes.batch;
@@ -113,9 +112,9 @@ takes_same form s given from old new t same =
 pub takes_one_line : (s : Settings) (given : Result (Bor (List ℕ)) PieceTooLong) (from offset : ℕ) (stop : List ℕ) (old mid new : Made)
     → s.faults ≡ OneLine → TakesRaw s given from old mid → new.faults ≡ take from mid.faults ++ told OneLine (drop from mid.faults)
     → new.batch ≡ mid.batch → new.carried ≡ mid.carried → new.refused ≡ mid.refused
-    → TakesItems (form_of s.faults offset stop) old (items_given s.lines (rules_of s.dialect) given) new
+    → TakesItems (form_of s.faults offset stop) old (items_given s given) new
 takes_one_line s given from offset stop old mid new is t faults batch carried refused =
-    let items = items_given s.lines (rules_of s.dialect) given in
+    let items = items_given s given in
     let raw = faults_next as_raw old items in
     subst (λ f. TakesItems (form_of f offset stop) old items new) (sym is) (record {
       batch = batch ∙ t.takes.batch;
@@ -124,7 +123,7 @@ takes_one_line s given from offset stop old mid new is t faults batch carried re
           ∙ ap (λ (l : List ℕ). l ++ told OneLine (drop (length old.faults) (old.faults ++ raw))) (take-append_seam old.faults raw)
           ∙ ap (λ (l : List ℕ). old.faults ++ told OneLine l) (drop-append_seam old.faults raw)
           ∙ ap (λ (l : List ℕ). old.faults ++ l)
-          (one_told old.line (old.carried + old.refused + 1) items (few_given s.lines (rules_of s.dialect) given));
+          (one_told old.line (old.carried + old.refused + 1) items (few_given s given));
       carried = carried ∙ t.takes.carried;
       refused = refused ∙ t.takes.refused;
     })
@@ -132,7 +131,7 @@ takes_one_line s given from offset stop old mid new is t faults batch carried re
 -- what a call gave has one item, which is refused, and its fault line was added
 pub record RefusedOne (s : Settings) (given : Result (Bor (List ℕ)) PieceTooLong) (from : ℕ) (old mid : Made) : Type 0 where
   pub item : Item
-  pub is : items_given s.lines (rules_of s.dialect) given ≡ item ∷ []
+  pub is : items_given s given ≡ item ∷ []
   pub refused : is_carried_item item ≡ false
   pub number : mid.carried + mid.refused ≡ old.carried + old.refused + 1
   pub line : drop from mid.faults ≡ fault_line_at mid.line (mid.carried + mid.refused) (item_text item)
@@ -160,11 +159,11 @@ one_fault line number (item ∷ other ∷ items) few some = absurd (omega (arith
 pub refused_one : (s : Settings) (given : Result (Bor (List ℕ)) PieceTooLong) (from : ℕ) (old mid : Made) → TakesRaw s given from old mid
     → from < length mid.faults → RefusedOne s given from old mid
 refused_one s given from old mid t some =
-    let items = items_given s.lines (rules_of s.dialect) given in
+    let items = items_given s given in
     let number = old.carried + old.refused + 1 in
     let raw = faults_at as_raw old.line number items in
     let more : 0 < length raw = omega (arith, some, grown s given from old mid t) in
-    let one = one_fault old.line number items (few_given s.lines (rules_of s.dialect) given) more in
+    let one = one_fault old.line number items (few_given s given) more in
     let text = item_text one.item in
     let counts : mid.carried + mid.refused ≡ number =
     omega (arith, t.takes.carried, t.takes.refused, items_add_up items, ap length one.is) in
@@ -180,20 +179,18 @@ refused_one s given from old mid t some =
 
 -- what is put out of what a call gave, if its item is refused
 abbrev pub put_of : Bool → Result (Bor (List ℕ)) PieceTooLong → List ℕ
-put_of goes_out (Ok piece) = if goes_out then piece.now ++ newline ∷ [] else []
-put_of goes_out (Err fault) = []
+put_of goes_out given = if goes_out then bytes_given given ++ newline ∷ [] else []
 
 -- which is nothing, if refused pieces do not go out
 pub put_unasked : (pieces : List ℕ) (goes_out : Bool) (result : Result (Bor (List ℕ)) PieceTooLong) → goes_out ≡ false
     → pieces ≡ pieces ++ put_of goes_out result
-put_unasked pieces false (Ok piece) unasked = sym (append-nil pieces)
-put_unasked pieces false (Err fault) unasked = sym (append-nil pieces)
+put_unasked pieces false result unasked = sym (append-nil pieces)
 put_unasked pieces true result unasked = absurd (cc)
 
--- and else the piece, if there is one
-pub put_asked : (pieces : List ℕ) (goes_out : Bool) (result : Result (Bor (List ℕ)) PieceTooLong) (piece : Bor (List ℕ))
-    → result ≡ Ok piece → goes_out ≡ true → pieces ++ (piece.now ++ newline ∷ []) ≡ pieces ++ put_of goes_out result
-put_asked pieces goes_out result piece is asked = rw (is, asked) refl
+-- and else its bytes
+pub put_asked : (pieces put : List ℕ) (goes_out : Bool) (result : Result (Bor (List ℕ)) PieceTooLong)
+    → put ≡ bytes_given result → goes_out ≡ true → pieces ++ (put ++ newline ∷ []) ≡ pieces ++ put_of goes_out result
+put_asked pieces put goes_out result is asked = rw (is, asked) refl
 
 -- nothing goes out as refused of one item at most that has no fault line
 put_none : (goes_out : Bool) (piece : List ℕ) (line : Option ℕ) (number : ℕ) (items : List Item) → length items ≤ 1
@@ -212,11 +209,9 @@ put_none true piece line number (item ∷ other ∷ items) few none = absurd (om
 
 -- so it is of what a call gave
 given_none : (s : Settings) (given : Result (Bor (List ℕ)) PieceTooLong) (line : Option ℕ) (number : ℕ)
-    → length (faults_at as_raw line number (items_given s.lines (rules_of s.dialect) given)) ≡ 0 → refused_given s given ≡ []
-given_none s (Ok piece) line number none =
-    put_none s.puts_refused piece.now line number (items_given s.lines (rules_of s.dialect) (Ok piece))
-    (few_given s.lines (rules_of s.dialect) (Ok piece)) none
-given_none s (Err fault) line number none = refl
+    → length (faults_at as_raw line number (items_given s given)) ≡ 0 → refused_given s given ≡ []
+given_none s given line number none =
+    put_none s.puts_refused (bytes_given given) line number (items_given s given) (few_given s given) none
 
 -- of an item that is refused, its piece goes out
 put_one : (goes_out : Bool) (piece : List ℕ) (item : Item) → is_carried_item item ≡ false
@@ -226,11 +221,10 @@ put_one true piece item refused = rw refused (append-nil (piece ++ newline ∷ [
 
 -- so it is of what a call gave
 given_one : (s : Settings) (given : Result (Bor (List ℕ)) PieceTooLong) (item : Item)
-    → items_given s.lines (rules_of s.dialect) given ≡ item ∷ [] → is_carried_item item ≡ false
+    → items_given s given ≡ item ∷ [] → is_carried_item item ≡ false
     → refused_given s given ≡ put_of s.puts_refused given
-given_one s (Ok piece) item is refused =
-    ap (refused_lines s.puts_refused piece.now) is ∙ put_one s.puts_refused piece.now item refused
-given_one s (Err fault) item is refused = refl
+given_one s given item is refused =
+    ap (refused_lines s.puts_refused (bytes_given given)) is ∙ put_one s.puts_refused (bytes_given given) item refused
 
 -- a piece that has no fault line ends as it is
 pub ends_same : (s : Settings) (given : Result (Bor (List ℕ)) PieceTooLong) (from : ℕ) (mid : Pending)
@@ -238,7 +232,7 @@ pub ends_same : (s : Settings) (given : Result (Bor (List ℕ)) PieceTooLong) (f
 ends_same s given from mid same old t =
     let now = made mid.so_far in
     let number = old.carried + old.refused + 1 in
-    let none : length (faults_at as_raw old.line number (items_given s.lines (rules_of s.dialect) given)) ≡ 0 =
+    let none : length (faults_at as_raw old.line number (items_given s given)) ≡ 0 =
     omega (arith, same, grown s given from old now t) in
     record {
       items = takes_same (form_given s (record { line = old.line; offset = mid.offset }) given) s given from old now t same;
@@ -250,7 +244,7 @@ pub ends_told : (s : Settings) (given : Result (Bor (List ℕ)) PieceTooLong) (f
     → from < length (string_bytes mid.so_far.faults)
     → ((old : Made) → TakesRaw s given from old (made mid.so_far)
     → TakesItems (form_given s (record { line = old.line; offset = mid.offset }) given) old
-    (items_given s.lines (rules_of s.dialect) given) (made new.so_far))
+    (items_given s given) (made new.so_far))
     → new.pieces.items ≡ mid.pieces.items ++ put_of s.puts_refused given → EndsPiece s from given mid new
 ends_told s given from mid new some told put old t =
     let one = refused_one s given from old (made mid.so_far) t some in

@@ -6,7 +6,7 @@ pub mod Objects
 pub mod Relaying
 pub mod RelaySteps
 pub mod Relays
-pub mod Stops
+pub mod ReadingStops
 pub mod StopSteps
 pub mod TakenBack
 pub mod Told

@@ -5,7 +5,7 @@ use Rattle.influxdb_line_protocol.specs.format.Bytes.{newlines_in}
 use Rattle.lp_rebuild.specs.Rebuilding.{refusal_text}
 use Rattle.lp_rebuild.specs.RebuildSteps.{fault_line_on}
 use Rattle.lp_relay_core.specs.Relaying.{Item, answered, as_it_came, not_as_written, not_utf8, too_long, is_carried_item}
-use Rattle.lp_relay_core.specs.Relaying.{items_of_piece}
+use Rattle.lp_relay_core.specs.Relaying.{items_of_piece, long_text}
 use Rattle.lp_relay_core.specs.declared.taking.Settings.{Settings}
 use Rattle.lp_relay_core.specs.Told.{told}
 
@@ -15,7 +15,7 @@ item_text (answered front answer) = refusal_text answer
 item_text (as_it_came piece) = []
 item_text (not_as_written front wrong) = wrong
 item_text not_utf8 = codes "the line is not UTF-8"
-item_text too_long = codes "the line is too long"
+item_text (too_long kept) = long_text kept
 
 -- the fault line of an item that is not carried, whose piece begins on this line
 abbrev pub line_fault : ℕ → Item → List ℕ

@@ -15,7 +15,7 @@ use Rattle.lp_relay_core.specs.LineFaults.{item_text}
 use Rattle.influxdb_line_protocol.specs.code.Rules.{rules_of}
 use Rattle.lp_relay_core.specs.Relaying.{Item, answered, as_it_came, not_as_written, not_utf8, too_long, front_of, is_carried_item, items_of_piece}
 use Rattle.lp_relay_core.specs.Relaying.{is_too_long, limit_of}
-use Rattle.lp_relay_core.specs.Stops.{stop_text}
+use Rattle.lp_relay_core.specs.ReadingStops.{stop_text}
 use Rattle.lp_relay_core.specs.Told.{hex_digit}
 
 -- whether a byte has an escape in a string of JSON: a quote, a backslash, and what ASCII does not print
@@ -55,7 +55,7 @@ item_kind (answered front (Err fault)) = fault_kind fault
 item_kind (as_it_came piece) = []
 item_kind (not_as_written front wrong) = codes "not_as_written"
 item_kind not_utf8 = codes "not_utf8"
-item_kind too_long = codes "too_long"
+item_kind (too_long kept) = codes "too_long"
 
 -- what comes before the text of an item in its piece: nothing if the piece has no text
 abbrev pub item_front : Item → List ℕ
@@ -63,7 +63,7 @@ item_front (answered front answer) = front
 item_front (as_it_came piece) = []
 item_front (not_as_written front wrong) = front
 item_front not_utf8 = []
-item_front too_long = []
+item_front (too_long kept) = []
 
 -- the column after these bytes, from this one on: each newline begins a line
 abbrev pub column_after : ℕ → List ℕ → ℕ

@@ -13,7 +13,6 @@ use Rattle.influxdb_line_protocol.specs.laws.StreamLaws.{Run}
 use Rattle.influxdb_line_protocol.specs.code.Rules.{rules_of}
 use Rattle.lp_rebuild.specs.declared.batch.Progress.{Progress}
 use Rattle.lp_relay_core.specs.declared.taking.Pending.{Pending}
-use Rattle.lp_relay_core.specs.declared.taking.Lines.{Lines}
 use Rattle.lp_relay_core.specs.declared.taking.Numbering.{Numbering}
 use Rattle.lp_relay_core.specs.declared.taking.Numbering.TheVariants as named
 use Rattle.lp_relay_core.specs.declared.taking.Settings.{Settings}
@@ -25,14 +24,14 @@ use Rattle.lp_rebuild.specs.declared.program.RunFault.TheVariants.{Read, NotUtf8
 use Rattle.lp_rebuild.specs.RebuildSteps.{fault_line_at}
 use Rattle.lp_relay_core.specs.LineFaults.{item_text}
 use Rattle.lp_relay_core.specs.Objects.{front_given, item_object, kind_given, object, stop_given, stop_of_piece}
-use Rattle.lp_relay_core.specs.Relaying.{Item, first_of, too_long, is_carried_item, items_of_bytes, items_of_piece, items_of, items_batch, carried_items}
+use Rattle.lp_relay_core.specs.Relaying.{Item, first_of, kept_of, too_long, is_carried_item, items_of_bytes, items_of_piece, items_of, items_batch, carried_items}
 use Rattle.lp_relay_core.specs.Relaying.{refused_items, refused_lines, refused_piece, refused_pieces}
 use Rattle.lp_relay_core.specs.Writers.{Known, Writers}
 
 -- the items of what a call gave: those of a piece, or that of one that is too long
-abbrev pub items_given : Lines → Dialect → Result (Bor (List ℕ)) PieceTooLong → List Item
-items_given lines dialect (Ok piece) = items_of_bytes lines dialect piece.now
-items_given lines dialect (Err _) = too_long ∷ []
+abbrev pub items_given : Settings → Result (Bor (List ℕ)) PieceTooLong → List Item
+items_given s (Ok piece) = items_of_bytes s.lines (rules_of s.dialect) piece.now
+items_given s (Err _) = too_long (kept_of s) ∷ []
 
 -- the newlines of what a call gave
 abbrev pub newlines_given : Result (Bor (List ℕ)) PieceTooLong → ℕ
@@ -44,10 +43,14 @@ abbrev pub len_given : Result (Bor (List ℕ)) PieceTooLong → ℕ
 len_given (Ok piece) = length piece.now
 len_given (Err fault) = fault.len
 
+-- the bytes of what a call gave: those of a piece, or the first ones of one that is too long
+abbrev pub bytes_given : Result (Bor (List ℕ)) PieceTooLong → List ℕ
+bytes_given (Ok piece) = piece.now
+bytes_given (Err fault) = fault.front.now
+
 -- what goes out as refused of what a call gave, if refused pieces go out
 abbrev pub refused_given : Settings → Result (Bor (List ℕ)) PieceTooLong → List ℕ
-refused_given s (Ok piece) = refused_lines s.puts_refused piece.now (items_of_bytes s.lines (rules_of s.dialect) piece.now)
-refused_given s (Err _) = []
+refused_given s given = refused_lines s.puts_refused (bytes_given given) (items_given s given)
 
 -- these pieces were taken of a text, one after another, after whatever came before, and the rest is left, whatever comes then
 abbrev pub TakesPieces : Dialect → (text : List ℕ) → List (List ℕ) → (rest : List ℕ) → Type 0
@@ -212,7 +215,7 @@ pub record TakesItems (form : Form) (old : Made) (items : List Item) (new : Made
 -- what a call gave was taken: its items, and as refused what goes out of its piece
 pub record TakesGiven (s : Settings) (old : Unwritten) (result : Result (Bor (List ℕ)) PieceTooLong) (new : Unwritten)
     : Type 0 where
-  pub items : TakesItems (form_given s (start_of old) result) old.made (items_given s.lines (rules_of s.dialect) result) new.made
+  pub items : TakesItems (form_given s (start_of old) result) old.made (items_given s result) new.made
   pub pieces : new.pieces ≡ old.pieces ++ refused_given s result
 
 -- what a call gave was taken, and its fault line, if it has one, comes after these first bytes, as a rebuild writes it
@@ -220,7 +223,7 @@ pub record TakesRaw (s : Settings) (given : Result (Bor (List ℕ)) PieceTooLong
   pub from_is : from ≡ length old.faults
   pub text : IsUtf8 old.faults
   pub line : new.line ≡ old.line
-  pub takes : TakesItems as_raw old (items_given s.lines (rules_of s.dialect) given) new
+  pub takes : TakesItems as_raw old (items_given s given) new
 
 -- if what a call gave was taken so, the piece is taken once it ended so
 abbrev pub EndsPiece : Settings → (from : ℕ) → Result (Bor (List ℕ)) PieceTooLong → (mid new : Pending) → Type 0

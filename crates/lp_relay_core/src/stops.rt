@@ -6,7 +6,7 @@ ghost use Rattle.influxdb_line_protocol.specs.format.{Points.Pair, Readings.Text
 ghost use Rattle.influxdb_line_protocol.specs.code.Rules.{rules_of};
 ghost use Rattle.lp_values.specs.code.Outcomes.{kind_of};
 ghost use Rattle.lp_values.specs.code.SpelledParts.{GivesSpelled};
-ghost use Rattle.lp_relay_core.specs.Stops.{list_stop, pair_stop, stop_text};
+ghost use Rattle.lp_relay_core.specs.ReadingStops.{list_stop, pair_stop, stop_text};
 ghost use Rattle.lp_relay_core.specs.StopSteps.{GivesFields, GivesList, GivesSet, key_of, pair_in, value_in};
 
 use influxdb_line_protocol::Dialect;

@@ -3,10 +3,10 @@ ghost use Rattle.std.specs.Prelude.{◌≡◌, ◌+◌, ◌<◌, ◌≤◌, ◌�
 ghost use Rattle.std.specs.Prelude.{Ok, OnOk};
 ghost use Rattle.influxdb_line_protocol.specs.code.Rules.{rules_of};
 ghost use Rattle.influxdb_line_protocol.specs.format.Bytes.{newline, newlines_in};
-ghost use Rattle.lp_relay_core.specs.Relaying.{as_it_came, items_of_bytes};
-ghost use Rattle.lp_relay_core.specs.RelaySteps.{EndsPiece, HoldsLess, Made, TakesItems, TakesGiven, TakesRaw, as_raw, first_line};
-ghost use Rattle.lp_relay_core.specs.RelaySteps.{form_given, items_before, items_given, len_given, line_after, made, newlines_given};
-ghost use Rattle.lp_relay_core.specs.RelaySteps.{start_after, start_of, unwritten_of, unwritten_of_none};
+ghost use Rattle.lp_relay_core.specs.Relaying.{as_it_came, items_of_bytes, kept_of, too_long};
+ghost use Rattle.lp_relay_core.specs.RelaySteps.{EndsPiece, HoldsLess, Made, TakesItems, TakesGiven, TakesRaw, as_raw, bytes_given};
+ghost use Rattle.lp_relay_core.specs.RelaySteps.{first_line, form_given, items_before, items_given, len_given, line_after, made};
+ghost use Rattle.lp_relay_core.specs.RelaySteps.{newlines_given, start_after, start_of, unwritten_of, unwritten_of_none};
 ghost use Rattle.lp_relay_core.specs.TakenBack.{TakesBack};
 
 use crate::differing::{Part, differing_part, part_text};
@@ -64,7 +64,8 @@ pub struct Settings {
     pub first: usize,
     /// How fault lines are told.
     pub faults: Faults,
-    /// Whether each piece that is refused goes out too, to a writer of its own.
+    /// Whether each piece that is refused goes out too, to a writer of its own: of one that is too long its first bytes, as many as
+    /// the limit.
     pub puts_refused: bool,
 }
 
@@ -105,9 +106,6 @@ pub(crate) struct Pending {
 
 // What is wrong with a piece that is no text.
 const NOT_UTF8: &str = "the line is not UTF-8";
-
-// What is wrong with a piece that is too long.
-const TOO_LONG: &str = "the line is too long";
 
 // How many items are counted before the first item: if fault lines name items, as many as give it its number.
 pub(crate) fn items_before(settings: Settings) -> usize
@@ -300,6 +298,23 @@ fn take_alone(
     taken
 }
 
+// Refuses a piece that is too long. If refused pieces go out, its fault tells how many bytes of it do.
+fn refuse_long(alloc: Global, settings: Settings, so_far: &mut Progress) -> Result<(), AllocError>
+    requires room { so_far.old.carried + so_far.old.refused < usize.MAX }
+    ensures taken { OnOk result
+        (TakesItems as_raw (made so_far.old) (too_long (kept_of settings) ∷ []) (made so_far.new)) }
+    ensures counted { OnOk result
+        (so_far.new.carried + so_far.new.refused ≡ so_far.old.carried + so_far.old.refused + 1) }
+    ensures line { so_far.new.line ≡ so_far.old.line }
+{
+    if settings.puts_refused {
+        let limit = settings.limit;
+        let text = format!(in alloc; "the line is too long: its first {limit} bytes are kept")?;
+        return refuse(so_far, text.as_str());
+    }
+    refuse(so_far, "the line is too long")
+}
+
 // Takes what the stream gave: its text, or a fault if it is not UTF-8 or too long. An empty piece, which has no item, needs no
 // line.
 fn take_given(
@@ -310,13 +325,13 @@ fn take_given(
 ) -> Result<(), AllocError>
     requires room { so_far.old.carried + so_far.old.refused < usize.MAX }
     ensures taken { OnOk result
-        (TakesItems as_raw (made so_far.old) (items_given settings.lines (rules_of settings.dialect) piece.entry) (made so_far.new)) }
+        (TakesItems as_raw (made so_far.old) (items_given settings piece.entry) (made so_far.new)) }
     ensures counted { OnOk result
         (so_far.new.carried + so_far.new.refused ≤ so_far.old.carried + so_far.old.refused + 1) }
     ensures line { so_far.new.line ≡ so_far.old.line }
 {
     let Ok(bytes) = piece else {
-        return refuse(so_far, TOO_LONG);
+        return refuse_long(alloc, settings, so_far);
     };
     if bytes.is_empty() {
         return Ok(());
@@ -378,7 +393,7 @@ fn tell(
     requires fits { so_far.old.carried + so_far.old.refused ≤ usize.MAX }
     ensures told { OnOk result ((before : Made) → TakesRaw settings piece.entry from before (made so_far.old)
         → TakesItems (form_given settings (record { line = before.line; offset = offset }) piece.entry) before
-        (items_given settings.lines (rules_of settings.dialect) piece.entry) (made so_far.new)) }
+        (items_given settings piece.entry) (made so_far.new)) }
     ensures counts { (so_far.new.carried ≡ so_far.old.carried) × (so_far.new.refused ≡ so_far.old.refused) }
 {
     match settings.faults {
@@ -387,6 +402,16 @@ fn tell(
         Faults::Json { .. } => {
             tell_as_object(alloc, settings.dialect, so_far, offset, from, piece)
         },
+    }
+}
+
+// The bytes of what the stream gave: those of a piece, or the first ones of one that is too long.
+fn bytes_given<'a>(piece: Result<&'a [u8], PieceTooLong<'a>>) -> &'a [u8]
+    ensures { result.now ≡ bytes_given piece.entry }
+{
+    match piece {
+        Ok(bytes) => bytes,
+        Err(fault) => fault.front,
     }
 }
 
@@ -402,8 +427,8 @@ fn put_refused(pieces: &mut Vec<u8>, piece: &[u8]) -> Result<(), AllocError>
     Ok(())
 }
 
-// Ends a piece that was taken: if its item was refused, its fault line, which follows these first bytes, is told, and the piece goes
-// out, if refused pieces do.
+// Ends a piece that was taken: if its item was refused, its fault line, which follows these first bytes, is told, and the piece, or
+// its first bytes if it is too long, goes out, if refused pieces do.
 #[inline(always)]
 fn end_piece(
     alloc: Global,
@@ -429,13 +454,10 @@ fn end_piece(
         from,
         piece,
     )?;
-    let Ok(bytes) = piece else {
-        return Ok(());
-    };
     if !settings.puts_refused {
         return Ok(());
     }
-    put_refused(&mut pending.pieces, bytes)
+    put_refused(&mut pending.pieces, bytes_given(piece))
 }
 
 // Takes a piece. It is refused if its number, or the line after it, would not fit.

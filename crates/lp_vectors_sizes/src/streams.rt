@@ -82,7 +82,7 @@ fn are_given(rt: &impl Abort, stream: &mut BoundedLineStream) {
     assert!(rt; stream.next().is_none());
 }
 
-// A long line is given, or if it is longer than lines may be, the fault with the number of its newlines. Then the short ones are.
+// A long line is given, or if it is longer than lines may be, its fault, with its first bytes. Then the short ones are.
 fn are_given_within(rt: &impl Abort, alloc: Global, limit: usize) -> Result<(), Fault> {
     for (len, count) in ROWS {
         let newlines = len.saturating_mul(count);
@@ -90,7 +90,11 @@ fn are_given_within(rt: &impl Abort, alloc: Global, limit: usize) -> Result<(), 
         let wanted = if line.len() <= limit {
             Ok(line.as_bytes())
         } else {
-            Err(PieceTooLong { newlines })
+            Err(PieceTooLong {
+                newlines,
+                len: line.len(),
+                front: &line.as_bytes()[..limit],
+            })
         };
         let mut stream = BoundedLineStream::new_in(alloc, Dialect::Crate, limit);
         push_all(alloc, &mut stream, len, count)?;

@@ -45,14 +45,24 @@ pub fn gives_pieces(
     Ok(takes_last(stream, &mut pieces))
 }
 
+/// The fault of a piece with so many newlines and bytes, which begins with these.
+pub fn too_long(newlines: usize, len: usize, front: &[u8]) -> PieceTooLong<'_> {
+    PieceTooLong {
+        newlines,
+        len,
+        front,
+    }
+}
+
 // How many newlines there are.
 fn newlines_in(bytes: &[u8]) -> usize {
     bytes.iter().filter(|byte| **byte == b'\n').count()
 }
 
-// Whether this is the next piece, or if it has more bytes than the limit a fault with the number of its newlines.
+// Whether this is the next piece, or if it has more bytes than the limit a fault with the number of its newlines, its length and
+// its first bytes.
 fn is_answer(
-    answer: Result<&[u8], PieceTooLong>,
+    answer: Result<&[u8], PieceTooLong<'_>>,
     limit: usize,
     pieces: &mut SplitLines<'_>,
 ) -> bool {
@@ -62,7 +72,12 @@ fn is_answer(
     let wanted = wanted.as_bytes();
     match answer {
         Ok(piece) => piece == wanted && wanted.len() <= limit,
-        Err(fault) => wanted.len() > limit && fault.newlines == newlines_in(wanted),
+        Err(fault) => {
+            fault.newlines == newlines_in(wanted)
+                && fault.len == wanted.len()
+                && wanted.len() > limit
+                && fault.front == &wanted[..limit]
+        }
     }
 }
 
@@ -95,7 +110,7 @@ pub fn takes_last_answer(
 }
 
 /// Whether a stream that holds nothing gives the pieces of at most so many bytes of a text that comes in these [`Parts`], and
-/// in the place of each other one a fault with the number of its newlines.
+/// in the place of each other one its fault.
 pub fn gives_short_pieces(
     stream: &mut BoundedLineStream,
     dialect: Dialect,

@@ -1,7 +1,7 @@
-//! Relays whose refused pieces go out as they came. The answers come from the format's rules.
+//! Relays whose refused pieces go out as they came, or the front of what is too long. The answers come from the format's rules.
 
 use crate::wrote::{assert_same, relayed_so};
-use lp_relay_core::{Lines, Settings};
+use lp_relay_core::{Faults, Lines, Settings};
 use lp_vectors_shared::drops::Trickle;
 use std::alloc::Global;
 use std::process::Abort;
@@ -51,13 +51,53 @@ fn each_refused_piece_goes_out_as_it_came(rt: HostRuntime) {
 }
 
 #[test]
-fn nothing_goes_out_of_a_line_that_is_too_long(rt: HostRuntime) {
+fn of_a_line_that_is_too_long_the_front_goes_out(rt: HostRuntime) {
     let short = Settings {
         puts_refused: true,
         limit: 6,
         ..Settings::default()
     };
-    puts(&rt, rt.alloc(), short, b"  x \nm a=\xff\ny\n");
+    puts(
+        &rt,
+        rt.alloc(),
+        short,
+        b"  x \nw\\\t a=\nm a=1i\nm a=\xff\nm  a=2\nm a=12\ny\n",
+    );
+    let mut reader = TEXT;
+    relayed_so(rt.alloc(), short, &mut reader).assert_is(
+        &rt,
+        b"m a=1i\n",
+        b"item 2: No fields were provided\n\
+          item 3: the line is too long: its first 6 bytes are kept\n\
+          item 4: the line is too long: its first 6 bytes are kept\n\
+          item 5: the line is not UTF-8\n\
+          item 6: the line is too long: its first 6 bytes are kept\n\
+          item 7: the line is too long: its first 6 bytes are kept\n\
+          item 8: A generic parsing error occurred: TakeWhile1\n",
+        2,
+    );
+}
+
+#[test]
+fn an_object_tells_how_much_of_a_line_is_kept(rt: HostRuntime) {
+    let short = Settings {
+        puts_refused: true,
+        limit: 4,
+        faults: Faults::Json { first_line: 3 },
+        ..Settings::default()
+    };
+    let mut reader = b"m s=\"\n\"\nm a=1i".as_slice();
+    let wrote = relayed_so(rt.alloc(), short, &mut reader);
+    wrote.assert_is(
+        &rt,
+        b"",
+        b"{\"item\":1,\"line\":3,\"kind\":\"too_long\",\
+          \"text\":\"the line is too long: its first 4 bytes are kept\"}\n\
+          {\"item\":2,\"line\":5,\"kind\":\"too_long\",\
+          \"text\":\"the line is too long: its first 4 bytes are kept\"}\n",
+        0,
+    );
+    assert_same(&rt, wrote.refused.as_slice(), b"m s=\nm a=\n", 0);
 }
 
 #[test]

@@ -2,7 +2,7 @@ use Rattle.std.proofs.Common.{List, ℕ, ◌-◌, length, ap, ◌∙◌, is_ok}
 use Rattle.influxdb_line_protocol.specs.code.Rules.{rules_of}
 use Rattle.influxdb_line_protocol.specs.format.Lines.{answer}
 use Rattle.influxdb_line_protocol.specs.format.Trimming.{trimmed}
-use Rattle.lp_relay_core.specs.Stops.{stop_text}
+use Rattle.lp_relay_core.specs.ReadingStops.{stop_text}
 use Rattle.lp_relay_core.proofs.ObjectLemmas.{no_stop_of_line, no_stop_of_no_text, stop_of_fault}
 use Rattle.lp_relay_core.proofs.objects.bytes_to_stop.Goals as goal
 

@@ -36,5 +36,5 @@ returns-clause-ends c =
     ends_told c.args.settings c.args.piece c.args.from now
     (record { so_far = c.tell.new.so_far; pieces = c.put_refused.new.pieces; offset = now.offset }) some
     c.in_ok-tell.ensures.told
-    (put ∙ put_asked now.pieces.items c.args.settings.puts_refused c.args.piece c.in-Ok.bytes c.in-Ok.is asked))
+    (put ∙ put_asked now.pieces.items c.bytes_given.result.now c.args.settings.puts_refused c.args.piece c.bytes_given.ensures asked))
     c.put_refused.ensures

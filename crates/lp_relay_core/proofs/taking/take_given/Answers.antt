@@ -9,14 +9,14 @@ use Rattle.lp_relay_core.proofs.taking.take_given.Goals as goal
 
 pub returns-then-is_empty-clause-taken : goal.returns-then-is_empty-clause-taken
 returns-then-is_empty-clause-taken c =
-    subst (λ p. TakesItems as_raw (made c.args.so_far.now) (items_given c.args.settings.lines (rules_of c.args.settings.dialect) p) (made c.args.so_far.now)) (sym c.in-Ok.is)
+    subst (λ p. TakesItems as_raw (made c.args.so_far.now) (items_given c.args.settings p) (made c.args.so_far.now)) (sym c.in-Ok.is)
     (takes_empty c.args.settings.lines (rules_of c.args.settings.dialect) c.in-Ok.bytes.now (made c.args.so_far.now)
     (nil_from_length c.in-Ok.bytes.now (eqb-true (length c.in-Ok.bytes.now) 0 (sym c.is_empty.ensures ∙ c.if-is_empty.true))))
 
 pub returns-in-Err-clause-taken : goal.returns-in-Err-clause-taken
 returns-in-Err-clause-taken c =
-    on_ok_weaker c.refuse-in-Err.result
-    (λ r. subst (λ p. TakesItems as_raw (made c.args.so_far.now) (items_given c.args.settings.lines (rules_of c.args.settings.dialect) p) (made c.refuse-in-Err.new.so_far))
+    on_ok_weaker c.refuse.result
+    (λ r. subst (λ p. TakesItems as_raw (made c.args.so_far.now) (items_given c.args.settings p) (made c.refuse.new.so_far))
     (sym c.in-Ok.is)
-    (takes_bad_bytes c.args.settings.lines (rules_of c.args.settings.dialect) c.in-Ok.bytes.now c.args.so_far.now c.refuse-in-Err.new.so_far c.in-Err.ensures.cases r))
-    c.refuse-in-Err.ensures.refused
+    (takes_bad_bytes c.args.settings.lines (rules_of c.args.settings.dialect) c.in-Ok.bytes.now c.args.so_far.now c.refuse.new.so_far c.in-Err.ensures.cases r))
+    c.refuse.ensures.refused

@@ -1,18 +1,16 @@
 -- What a stream holds, with more after it, and if pieces have a greatest length.
 use Rattle.std.proofs.Common.{◌≡◌, ℕ, Bool, cond, List, ◌++◌, drop, sym, ap, ◌∙◌, subst, arith, length-append, ◌+◌, [], ◌∷◌}
-use Rattle.std.proofs.Common.{take, length, append_assoc, Ok, Err, Some, ◌≤◌, ◌<◌, ◌-◌, ◌^◌}
-use Rattle.std.proofs.lemmas.List.{take-append-le, drop-append-le, drop-take, length-take, length-take-le, take-take}
-use Rattle.std.proofs.Math.Seq.{take-append_seam, drop-append_seam}
-use Rattle.lp_format.specs.format.{Dialect, IsLastPiece, IsCutPiece, IsFirstCut, newline, newlines_in}
+use Rattle.std.proofs.Common.{take, length, append_assoc, Ok, Err, ◌≤◌}
+use Rattle.std.proofs.lemmas.List.{take-append-le, drop-append-le, drop-take, length-take}
+use Rattle.lp_format.specs.format.{Dialect, IsLastPiece, IsCutPiece, newline, newlines_in}
 use Rattle.lp_split.specs.declared.split.resumed.Search.{Search}
 use Rattle.lp_split.specs.declared.split.resumed.Search.TheVariants.{Within}
-use Rattle.lp_split.specs.code.{IsKnown, IsHeldAt, AreSeen, Held, HeldWithin, IsTrackOf, TracksOn, Track, HoldsBy, Holds, IsTooLong, Counts, CutsTo}
-use Rattle.lp_split.specs.code.{IsLongFirst}
+use Rattle.lp_split.specs.code.{IsKnown, IsHeldAt, AreSeen, Held, HeldWithin, IsTrackOf, TracksOn, Track, HoldsBy, Holds, IsTooLong, Counts}
 pub use Rattle.lp_split.proofs.lemmas.split.TrackedPieces.{tracked_is_last}
 use Rattle.lp_split.specs.declared.stream.bounded.Counted.{Counted}
 use Rattle.std.proofs.lemmas.List.Sums.{sum_by-append}
 use Rattle.lp_split.specs.declared.stream.bounded.Skipped.{Skipped}
-use Rattle.lp_split.specs.declared.stream.bounded.Skipped.TheVariants.{Nothing, Within, Ended}
+use Rattle.lp_split.specs.declared.stream.bounded.Skipped.TheVariants.{Within, Ended}
 use Rattle.lp_format.proofs.lemmas.split.SplitPieces.{no_cut_within, split_at}
 
 -- the marks that were seen
@@ -96,42 +94,7 @@ no_end_within dialect bytes track i begins tracks is_last =
 -- no more is kept of a piece that is skipped than a piece may have
 pub few_kept : (stream : HeldWithin) (track : Track) (counted : Counted) (text : List ℕ)
     → stream.skipped ≡ Within track counted → Holds stream text → length stream.held.bytes ≤ stream.limit
-few_kept stream track counted text is h =
-    let k = subst (λ (s : Skipped). HoldsBy stream.limit stream.held s text) is h in
-    omega (arith, ap length k.1, length-take stream.limit text)
+few_kept stream track counted text is h = grind (arith, length-take)
 
--- what is kept of a piece that was skipped, and what came after it
-front_then_rest : (limit : ℕ) (piece rest bytes : List ℕ) → limit < length piece → bytes ≡ take limit piece ++ rest
-    → (take limit bytes ≡ take limit piece) × (drop limit bytes ≡ rest)
-front_then_rest limit piece rest bytes h e =
-    let front = take limit piece in
-    let n : length front ≡ limit = length-take-le limit piece (omega arith) in
-    rw e (
-      subst (λ (m : ℕ). take m (front ++ rest) ≡ front) n (take-append_seam front rest),
-      subst (λ (m : ℕ). drop m (front ++ rest) ≡ rest) n (drop-append_seam front rest),
-    )
-
--- a piece that was skipped to its end is the first one
-pub ended_is_first : (stream : HeldWithin) (counted : Counted) (text : List ℕ) → stream.skipped ≡ Ended counted → Holds stream text
-    → IsLongFirst stream counted stream.limit text
-ended_is_first stream counted text is h =
-    let k = subst (λ (s : Skipped). HoldsBy stream.limit stream.held s text) is h in
-    let kept = front_then_rest stream.limit k.0 k.1 stream.held.bytes k.2.0 k.3 in
-    (k.0, k.2, subst (λ (rest : List ℕ). CutsTo stream.held.dialect text k.0 rest) (sym kept.1) k.4, k.5, kept.0)
-
--- the piece before a cut is the first one
-pub cut_is_first : (stream : HeldWithin) (counted : Counted) (text : List ℕ) (at : ℕ) → stream.skipped ≡ Nothing
-    → IsFirstCut stream.held.dialect stream.held.bytes (Some at) → stream.limit < at → stream.limit < 2 ^ 64 - 1
-    → Counts counted (take at stream.held.bytes) → Holds stream text → IsLongFirst stream counted (at + 1) text
-cut_is_first stream counted text at is cut long limited counts h =
-    let k = subst (λ (s : Skipped). HoldsBy stream.limit stream.held s text) is h in
-    let bytes = stream.held.bytes in (
-      take at bytes,
-      (omega (arith, length-take at bytes, cut.0), limited),
-      (k ∙ split_at bytes at cut.0 cut.1, cut.2),
-      counts,
-      sym (take-take stream.limit at bytes (omega arith)),
-    )
-
--- the first piece, if it is too long or does not end yet
-pub ruleset first_pieces = (tracked_is_last, few_kept, ended_is_first, cut_is_first)
+-- the first piece, if it does not end yet
+pub ruleset first_pieces = (tracked_is_last, few_kept)
