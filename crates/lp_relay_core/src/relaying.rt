@@ -379,8 +379,8 @@ fn finish<W: Sink, E: Sink, P: Sink>(
 /// After each of them, `out` has a beginning of the batch, `err` one of the fault lines, and `refused` one of the refused pieces.
 ///
 /// * `Read` if `reader` failed, and only there.
-/// * `OutOfMemory` if memory was refused, or if no `usize` holds the number of the next item, how many bytes a line has that is
-///   too long, or, if faults name lines, the line on which the next piece would begin.
+/// * `OutOfMemory` if memory was refused, or if no `usize` holds the number of the next item, how many bytes come before the next
+///   piece, or, if faults name lines, the line on which that would begin.
 /// * `Write` if `out`, `err` or `refused` failed, and only there.
 pub fn relay<R: Source, W: Sink, E: Sink, P: Sink>(
     alloc: Global,
