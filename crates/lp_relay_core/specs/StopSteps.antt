@@ -20,14 +20,14 @@ abbrev pub key_of : Pairs → NameKind
 key_of Tags = a_tag_key
 key_of Fields = a_field_key
 
--- its value, or only whether it is there
-abbrev pub value_in : Pairs → List ℕ → Reading (Unit {0})
-value_in Tags line = blank (name a_tag_value line)
-value_in Fields line = blank (value line)
+-- the value of a tag or of a field, or only whether it is there
+abbrev pub pair_value : Pairs → List ℕ → Reading (Unit {0})
+pair_value Tags line = blank (name a_tag_value line)
+pair_value Fields line = blank (value line)
 
 -- a tag or a field, or only whether it is there
 abbrev pub pair_in : Pairs → List ℕ → Reading (Unit {0})
-pair_in pairs line = name (key_of pairs) line >>= λ key. byte equals key.rest >>= λ sign. value_in pairs sign.rest
+pair_in pairs line = name (key_of pairs) line >>= λ key. byte equals key.rest >>= λ sign. pair_value pairs sign.rest
 
 -- it misses or is fatal
 abbrev pub Fails : {A : Type 0} → Reading A → Type 0

@@ -7,7 +7,7 @@ ghost use Rattle.influxdb_line_protocol.specs.code.Rules.{rules_of};
 ghost use Rattle.lp_values.specs.code.Outcomes.{kind_of};
 ghost use Rattle.lp_values.specs.code.SpelledParts.{GivesSpelled};
 ghost use Rattle.lp_relay_core.specs.ReadingStops.{list_stop, pair_stop, stop_text};
-ghost use Rattle.lp_relay_core.specs.StopSteps.{GivesFields, GivesList, GivesSet, key_of, pair_in, value_in};
+ghost use Rattle.lp_relay_core.specs.StopSteps.{GivesFields, GivesList, GivesSet, key_of, pair_in, pair_value};
 
 use influxdb_line_protocol::Dialect;
 use lp_scan::trim::{strip_byte, trim_start_spaces};
@@ -43,7 +43,7 @@ fn pair_stop<'a>(pairs: Pairs, text: &'a str) -> &'a str
 
 // What comes after the value of a tag or of a field.
 fn after_value<'a>(pairs: Pairs, text: &'a str) -> Front<'a, ()>
-    ensures value { GivesSpelled (λ none. none) result (value_in pairs text.now) }
+    ensures value { GivesSpelled (λ none. none) result (pair_value pairs text.now) }
     ensures less { IfOk result (λ o. IfSome o (λ p. length p.1.now ≤ length text.now)) }
 {
     match pairs {
