@@ -137,9 +137,18 @@ want_relayed() {
     fail "part $number: $why"
 }
 
-# Puts out what a part gave, and adds its counts to those of the whole.
+# Prints what a part that starts there told, with the offsets of the whole file in its objects.
+with_offsets() {
+    local start=$1 told object='^(\{"item":[0-9]+,"line":[0-9]+,"offset":)([0-9]+)(,.*)$' LC_ALL=C
+    while IFS= read -r told; do
+        if [[ $told =~ $object ]]; then told=${BASH_REMATCH[1]}$((BASH_REMATCH[2] + start))${BASH_REMATCH[3]}; fi
+        printf '%s\n' "$told" || return
+    done
+}
+
+# Puts out what a part gave, and adds its counts to those of the whole: NUMBER, START and COUNT.
 put_part() {
-    local number=$1 count=$2 told=$1 counts bytes_here lines_here carried_here refused_here
+    local number=$1 start=$2 count=$3 told=$1 counts bytes_here lines_here carried_here refused_here
     want_relayed "$number" "$count"
     counts=$(tail -n 1 "$waiting/$number.err")
     if [ -n "${again[number]-}" ]; then
@@ -148,7 +157,11 @@ put_part() {
         [ "$(tail -n 1 "$waiting/$told.err")" = "$counts" ] || fail "part $number: a second relay counts otherwise"
     fi
     cat "$waiting/$number.out" || fail "the output cannot be written"
-    head -n -1 "$waiting/$told.err" >&2 || fail "the faults cannot be written"
+    if [[ $start != 0 && " ${options[*]} " = *" --faults json "* ]]; then
+        head -n -1 "$waiting/$told.err" | with_offsets "$start" >&2 || fail "the faults cannot be written"
+    else
+        head -n -1 "$waiting/$told.err" >&2 || fail "the faults cannot be written"
+    fi
     read -r bytes_here _ lines_here _ _ _ carried_here _ refused_here _ <<<"$counts"
     bytes=$((bytes + bytes_here))
     lines=$((lines + lines_here))
@@ -158,10 +171,10 @@ put_part() {
 
 # Puts out what all parts gave, with the fault numbers of the whole, and ends with the status of the whole.
 put_parts() {
-    local number count bytes=0 lines=0 carried=0 refused=0 again=()
+    local number start count bytes=0 lines=0 carried=0 refused=0 again=()
     number_faults
-    while read -r number _ count; do
-        put_part "$number" "$count"
+    while read -r number start count; do
+        put_part "$number" "$start" "$count"
     done < <(list_parts)
     [ -z "$counts_asked" ] ||
         echo "$bytes bytes, $lines lines, $((carried + refused)) items: $carried carried, $refused refused" >&2 || true

@@ -16,11 +16,10 @@ use Rattle.influxdb_line_protocol.specs.laws.PointsOfLines.{LinesThatStayAreWrit
 use Rattle.lp_rebuild.specs.declared.batch.Progress.{Progress}
 use Rattle.lp_rebuild.specs.RebuildSteps.{Takes, fault_line_at}
 use Rattle.lp_relay_core.specs.declared.taking.Lines.TheVariants.{Canonical}
-use Rattle.lp_relay_core.specs.declared.telling.Faults.TheVariants.{Raw}
 use Rattle.lp_relay_core.specs.declared.differing.Part.{Part}
 use Rattle.lp_relay_core.specs.Differing.{at_start, differing_part, part_text}
 use Rattle.lp_relay_core.specs.Relaying.{Item, answered, as_it_came, not_as_written, canonical_item, front_of, item_of, items_of_bytes}
-use Rattle.lp_relay_core.specs.RelaySteps.{Made, TakesItems, made}
+use Rattle.lp_relay_core.specs.RelaySteps.{as_raw, Made, TakesItems, made}
 use Rattle.lp_relay_core.specs.TakenBack.{TakesBack}
 use Rattle.lp_relay_core.proofs.RelayLemmas.{not_blank, takes_answer, text_item}
 
@@ -51,13 +50,13 @@ item_is dialect piece text test is u tests fails =
 -- a text that is as written goes out as it came
 pub takes_written : (dialect : Dialect) (piece text : List ℕ) (test : Bool) (old new : Made) → text ≡ trimmed piece → IsUtf8 piece
     → test ≡ (length text == 0) → test ≡ false → WrittenLinesStay → IsAsWritten text
-    → TakesItems Raw old (as_it_came text ∷ []) new → TakesItems Raw old (items_of_bytes Canonical dialect piece) new
+    → TakesItems as_raw old (as_it_came text ∷ []) new → TakesItems as_raw old (items_of_bytes Canonical dialect piece) new
 takes_written dialect piece text test old new is u tests fails stay written takes =
     let stays = stay dialect text written in
     let item : item_of Canonical piece (answer dialect text) ≡ as_it_came text =
     ap (item_of Canonical piece) stays.1 ∙ ap (λ (l : List ℕ). canonical_item (front_of piece) l stays.0) (sym is)
     ∙ as_it_is (front_of piece) text stays.0 stays.2.0 stays.2.1 in
-    subst (λ (l : List Item). TakesItems Raw old l new)
+    subst (λ (l : List Item). TakesItems as_raw old l new)
     (sym (item_is dialect piece text test is u tests fails ∙ ap (λ (i : Item). i ∷ []) item)) takes
 
 -- an answer for which nothing was written
@@ -83,9 +82,9 @@ no_line piece old new (Ok line) takes same =
 -- if nothing was written for a text, it was refused as a rebuild does
 pub takes_refused : (dialect : Dialect) (piece text : List ℕ) (test : Bool) (old new : Progress) → text ≡ trimmed piece → IsUtf8 piece
     → test ≡ (length text == 0) → test ≡ false → Takes old (answer dialect text) new
-    → length new.batch.items ≡ length old.batch.items → TakesItems Raw (made old) (items_of_bytes Canonical dialect piece) (made new)
+    → length new.batch.items ≡ length old.batch.items → TakesItems as_raw (made old) (items_of_bytes Canonical dialect piece) (made new)
 takes_refused dialect piece text test old new is u tests fails takes same =
-    subst (λ (l : List Item). TakesItems Raw (made old) l (made new))
+    subst (λ (l : List Item). TakesItems as_raw (made old) l (made new))
     (sym (item_is dialect piece text test is u tests fails
     ∙ ap (λ (i : Item). i ∷ []) (no_line piece old new (answer dialect text) takes same)))
     (takes_answer (front_of piece) old (answer dialect text) new takes)
@@ -122,13 +121,13 @@ a_line old new (Ok line) takes more =
 -- an item was refused since its line is not as it would be written
 takes_wrong : (old new : Made) (front wrong : List ℕ) → new.batch ≡ old.batch
     → new.faults ≡ old.faults ++ fault_line_at old.line (old.carried + old.refused + 1) wrong
-    → new.carried ≡ old.carried → new.refused ≡ old.refused + 1 → TakesItems Raw old (not_as_written front wrong ∷ []) new
+    → new.carried ≡ old.carried → new.refused ≡ old.refused + 1 → TakesItems as_raw old (not_as_written front wrong ∷ []) new
 takes_wrong old new front wrong batch faults carried refused = grind (arith, append-nil)
 
 -- a line that was written again and taken back is that item
 taken_back : (front : List ℕ) (old mid new : Progress) (answer : Result Line Fault) (start : ℕ) (part : Part) → WritesLine old mid answer
     → start ≡ length old.batch.items → mid.line ≡ old.line → TakesBack mid start part new
-    → TakesItems Raw (made old) (not_as_written front (part_text part) ∷ []) (made new)
+    → TakesItems as_raw (made old) (not_as_written front (part_text part) ∷ []) (made new)
 taken_back front old mid new answer start part w starts lines back =
     let number : mid.carried - 1 + mid.refused + 1 ≡ old.carried + old.refused + 1 = omega (arith, w.carried, w.refused) in
     takes_wrong (made old) (made new) front (part_text part)
@@ -148,7 +147,7 @@ pub takes_differing : (dialect : Dialect) (piece text : List ℕ) (test : Bool) 
     → text ≡ trimmed piece → IsUtf8 piece → test ≡ (length text == 0) → test ≡ false → LinesThatStayAreWritten → (¬ IsAsWritten text)
     → Takes old (answer dialect text) mid → length mid.batch.items ≢ length old.batch.items → start ≡ length old.batch.items
     → mid.line ≡ old.line → part ≡ differing_part at_start text (drop start mid.batch.items) → TakesBack mid start part new
-    → TakesItems Raw (made old) (items_of_bytes Canonical dialect piece) (made new)
+    → TakesItems as_raw (made old) (items_of_bytes Canonical dialect piece) (made new)
 takes_differing dialect piece text test old mid new start part is u tests fails stay not_written takes more starts lines part_is back =
     let w = a_line old mid (answer dialect text) takes more in
     let p = point_of w.line in
@@ -164,6 +163,6 @@ takes_differing dialect piece text test old mid new start part is u tests fails 
     ap (item_of Canonical piece) w.is ∙ ap (λ (l : List ℕ). canonical_item (front_of piece) l w.line) (sym is) ∙ otherwise (front_of piece) text w.line w.admitted other
     ∙ ap (λ (l : List ℕ). not_as_written (front_of piece) (part_text (differing_part at_start text l))) (sym written)
     ∙ ap (λ (q : Part). not_as_written (front_of piece) (part_text q)) (sym part_is) in
-    subst (λ (l : List Item). TakesItems Raw (made old) l (made new))
+    subst (λ (l : List Item). TakesItems as_raw (made old) l (made new))
     (sym (item_is dialect piece text test is u tests fails ∙ ap (λ (i : Item). i ∷ []) item))
     (taken_back (front_of piece) old mid new (answer dialect text) start part w starts lines back)

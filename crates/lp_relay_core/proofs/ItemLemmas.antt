@@ -15,6 +15,7 @@ use Rattle.influxdb_line_protocol.specs.code.Rules.{rules_of}
 use Rattle.lp_relay_core.specs.declared.taking.Lines.{Lines}
 use Rattle.lp_relay_core.specs.declared.telling.Faults.{Faults}
 use Rattle.lp_relay_core.specs.Told.{told}
+use Rattle.lp_relay_core.specs.Objects.{stop_of_bytes, stop_of_piece}
 use Rattle.lp_relay_core.specs.Relaying.{Item, item_of, not_utf8, too_long, limit_of, is_too_long, items_of_bytes, items_of_piece, items_of}
 use Rattle.lp_relay_core.specs.Relaying.{is_carried_item, items_batch, item_fault, item_faults, carried_items, refused_items}
 use Rattle.lp_relay_core.specs.Relaying.{kept_of, refused_lines, refused_piece}
@@ -99,6 +100,17 @@ pub refused_long : (s : Settings) (piece : List ℕ) → IsTooLong s.limit piece
     → refused_piece s piece ≡ refused_lines s.puts_refused (take s.limit piece) (too_long (kept_of s) ∷ [])
 unfolding refused_piece
 refused_long s piece h = grind (arith, nat_lt, item_of_long)
+
+-- where reading stops in a piece that is not too long
+pub stop_short : (s : Settings) (line : ℕ) (piece : List ℕ) → length piece ≤ s.limit
+    → stop_of_piece s line piece ≡ stop_of_bytes (rules_of s.dialect) line piece
+unfolding stop_of_piece
+stop_short s line piece h = grind (arith, cases_Bool, nat_tests)
+
+-- it stops nowhere in one that is too long
+pub stop_long : (s : Settings) (line : ℕ) (piece : List ℕ) → IsTooLong s.limit piece → stop_of_piece s line piece ≡ []
+unfolding stop_of_piece
+stop_long s line piece h = grind (arith, nat_lt)
 
 -- the items of pieces and one more
 pub items_push : (s : Settings) (pieces : List (List ℕ)) (piece : List ℕ)

@@ -17,4 +17,5 @@ pub mod WholeLines
 pub mod RelaysSoFar
 pub mod RelaysOfText
 pub mod RelayEnds
+pub mod StopLemmas
 pub mod VerdictLemmas

@@ -1,6 +1,6 @@
 -- Faults that are told as objects.
 use Rattle.std.proofs.Common.{◌≡◌, ℕ, ◌+◌, ◌-◌, ◌<◌, Bool, false, true, cond, List, [], ◌∷◌, ◌++◌, codes, length, take, drop, Option, None, Some}
-use Rattle.std.proofs.Common.{Result, Ok, Err, refl, sym, ap, subst, ◌∙◌, append-nil, inl, inr}
+use Rattle.std.proofs.Common.{Result, Ok, Err, is_err, is_ok, not, refl, sym, ap, subst, ◌∙◌, append-nil, inl, inr}
 use Rattle.std.specs.Borrow.{Bor}
 use Rattle.std.specs.Str.{IsUtf8, bytes_eq, is_utf8}
 use Rattle.std.proofs.lemmas.Bool.{cases_Bool}
@@ -11,7 +11,7 @@ use Rattle.influxdb_line_protocol.specs.format.Bytes.{newline, newlines_in}
 use Rattle.influxdb_line_protocol.specs.format.Dialects.{Dialect}
 use Rattle.influxdb_line_protocol.specs.format.Readings.{Fault}
 use Rattle.influxdb_line_protocol.specs.format.Points.{built, is_admitted_point}
-use Rattle.influxdb_line_protocol.specs.format.Lines.{Line, answer, point_of}
+use Rattle.influxdb_line_protocol.specs.format.Lines.{Line, answer, front_before, point_of}
 use Rattle.influxdb_line_protocol.specs.format.Trimming.{trimmed}
 use Rattle.influxdb_line_protocol.specs.types.PieceTooLong.{PieceTooLong}
 use Rattle.influxdb_line_protocol.specs.code.Rules.{rules_of}
@@ -24,9 +24,10 @@ use Rattle.lp_relay_core.specs.declared.taking.Lines.TheVariants.{Rebuilt, Verba
 use Rattle.lp_relay_core.specs.declared.taking.Settings.{Settings}
 use Rattle.lp_relay_core.specs.Differing.{at_start, differing_part, part_text}
 use Rattle.lp_relay_core.specs.LineFaults.{item_text}
-use Rattle.lp_relay_core.specs.Objects.{answer_kind, fault_kind, front_given, item_front, item_kind, item_object, kind_given, line_kind, object}
+use Rattle.lp_relay_core.specs.Objects.{answer_kind, fault_kind, front_given, item_front, item_kind, item_object, kind_given, line_kind, object, stop_given, stop_members}
 use Rattle.lp_relay_core.specs.Relaying.{Item, canonical_item, front_of, is_carried_item, item_of, items_of_bytes, kept_of, not_utf8, too_long}
-use Rattle.lp_relay_core.specs.RelaySteps.{Made, TakesItems, TakesRaw, faults_at, items_given, line_or_none, object_given}
+use Rattle.lp_relay_core.specs.RelaySteps.{as_object, form_given, form_of, Made, TakesItems, TakesRaw, faults_at, items_given, line_or_none, object_given}
+use Rattle.lp_relay_core.specs.ReadingStops.{stop_text}
 use Rattle.lp_relay_core.specs.Verdicts.{fault_in}
 use Rattle.lp_values.specs.code.SpelledParts.{spelled_fault}
 use Rattle.lp_values.specs.declared.spelled.SpelledFault.{SpelledFault}
@@ -115,26 +116,34 @@ described s (Ok piece) item is refused = piece_described s.lines (rules_of s.dia
 described s (Err fault) item is refused =
     let one : too_long (kept_of s) ≡ item = cc in subst (IsDescribed [] (λ text. codes "too_long")) one (refl, refl)
 
+-- objects of the same members
+pub object_same : (number : ℕ) {line l offset o : ℕ} {kind k text t stop s : List ℕ} → line ≡ l → offset ≡ o → kind ≡ k → text ≡ t → stop ≡ s
+    → object number line offset kind text stop ≡ object number l o k t s
+object_same number lines offsets kinds texts stops = rw (lines, offsets, kinds, texts, stops) refl
+
 -- its object is that of its item
-object_is : (s : Settings) (line : Option ℕ) (number : ℕ) (given : Result (Bor (List ℕ)) PieceTooLong) (item : Item)
+object_is : (s : Settings) (line : Option ℕ) (offset number : ℕ) (given : Result (Bor (List ℕ)) PieceTooLong) (item : Item)
     → items_given s given ≡ item ∷ [] → is_carried_item item ≡ false
-    → object_given (rules_of s.dialect) line number given (item_text item) ≡ item_object number (line_or_none line) item ++ []
-object_is s line number given item is refused =
+    → object_given (rules_of s.dialect) line offset number given (item_text item)
+    ≡ item_object number (line_or_none line) offset (stop_given (rules_of s.dialect) (line_or_none line) given) item ++ []
+object_is s line offset number given item is refused =
+    let d = rules_of s.dialect in
     let (front, kind) = described s given item is refused in
     let text = item_text item in
-    let told = object number (line_or_none line + newlines_in (item_front item)) (item_kind item) text in
-    ap (λ (f : List ℕ). object number (line_or_none line + newlines_in f) (kind_given (rules_of s.dialect) given text) text) front
-    ∙ ap (λ (k : List ℕ). object number (line_or_none line + newlines_in (item_front item)) k text) kind
+    let stop = stop_given d (line_or_none line) given in
+    let after = λ (f k : List ℕ). object number (line_or_none line + newlines_in f) (offset + length f) k text stop in
+    let told = after (item_front item) (item_kind item) in
+    ap (λ (f : List ℕ). after f (kind_given d given text)) front ∙ ap (after (item_front item)) kind
     ∙ sym (append-nil told) ∙ ap (λ (b : Bool). cond b [] told ++ []) (sym refused)
 
 -- what a call gave was taken, and then its object was told in place of its fault line
-pub takes_object : (first : ℕ) (s : Settings) (given : Result (Bor (List ℕ)) PieceTooLong) (from : ℕ) (old mid new : Made)
+pub takes_object : (first : ℕ) (s : Settings) (given : Result (Bor (List ℕ)) PieceTooLong) (from offset : ℕ) (old mid new : Made)
     → s.faults ≡ Json first → TakesRaw s given from old mid → from < length mid.faults
     → ((text : List ℕ) → drop from mid.faults ≡ fault_line_at mid.line (mid.carried + mid.refused) text
-    → new.faults ≡ take from mid.faults ++ object_given (rules_of s.dialect) mid.line (mid.carried + mid.refused) given text)
+    → new.faults ≡ take from mid.faults ++ object_given (rules_of s.dialect) mid.line offset (mid.carried + mid.refused) given text)
     → new.batch ≡ mid.batch → new.carried ≡ mid.carried → new.refused ≡ mid.refused
-    → TakesItems s.faults old (items_given s given) new
-takes_object first s given from old mid new is t some told batch carried refused =
+    → TakesItems (form_given s (record { line = old.line; offset = offset }) given) old (items_given s given) new
+takes_object first s given from offset old mid new is t some told batch carried refused =
     let d = rules_of s.dialect in
     let items = items_given s given in
     let number = old.carried + old.refused + 1 in
@@ -142,13 +151,15 @@ takes_object first s given from old mid new is t some told batch carried refused
     let text = item_text one.item in
     let front : take from mid.faults ≡ old.faults =
     ap (λ (k : ℕ). take k mid.faults) t.from_is ∙ ap (take (length old.faults)) t.takes.faults ∙ take-append_seam old.faults _ in
-    let object : object_given d mid.line (mid.carried + mid.refused) given text ≡ faults_at (Json first) old.line number items =
-    ap (λ (n : ℕ). object_given d mid.line n given text) one.number ∙ ap (λ (l : Option ℕ). object_given d l number given text) t.line
-    ∙ object_is s old.line number given one.item one.is one.refused
-    ∙ sym (ap (faults_at (Json first) old.line number) one.is) in
-    subst (λ form. TakesItems form old items new) (sym is) (record {
+    let stop = stop_given d (line_or_none old.line) given in
+    let object : object_given d mid.line offset (mid.carried + mid.refused) given text ≡ faults_at (as_object offset stop) old.line number items =
+    ap (λ (n : ℕ). object_given d mid.line offset n given text) one.number
+    ∙ ap (λ (l : Option ℕ). object_given d l offset number given text) t.line
+    ∙ object_is s old.line offset number given one.item one.is one.refused
+    ∙ sym (ap (faults_at (as_object offset stop) old.line number) one.is) in
+    subst (λ f. TakesItems (form_of f offset stop) old items new) (sym is) (record {
       batch = batch ∙ t.takes.batch;
-      faults = told text one.line ∙ ap (λ (l : List ℕ). l ++ object_given d mid.line (mid.carried + mid.refused) given text) front
+      faults = told text one.line ∙ ap (λ (l : List ℕ). l ++ object_given d mid.line offset (mid.carried + mid.refused) given text) front
           ∙ ap (λ (l : List ℕ). old.faults ++ l) object;
       carried = carried ∙ t.takes.carried;
       refused = refused ∙ t.takes.refused;
@@ -169,6 +180,39 @@ pub front_of_no_text : (given : Result (Bor (List ℕ)) PieceTooLong) (bytes : B
 front_of_no_text given bytes is bad =
     let utf8 : is_utf8 bytes.now ≡ false = not_utf8_test bytes.now bad in
     ap front_given is ∙ rw utf8 refl
+
+-- in what is not UTF-8 reading stops nowhere
+pub no_stop_of_no_text : (dialect : Dialect) (line : ℕ) (given : Result (Bor (List ℕ)) PieceTooLong) (bytes : Bor (List ℕ))
+    → given ≡ Ok bytes → (¬ IsUtf8 bytes.now) → [] ≡ stop_given dialect line given
+no_stop_of_no_text dialect line given bytes is bad =
+    let utf8 : is_utf8 bytes.now ≡ false = not_utf8_test bytes.now bad in
+    let none : stop_given dialect line (Ok bytes) ≡ [] = rw utf8 refl in
+    sym (ap (stop_given dialect line) is ∙ none)
+
+-- no line is a fault
+not_both : (a : Result Line Fault) (test : Bool) → test ≡ is_ok a → is_err a ≡ not test
+not_both (Ok line) test is = ap not (sym is)
+not_both (Err fault) test is = ap not (sym is)
+
+-- nor does it in a line
+pub no_stop_of_line : (dialect : Dialect) (line : ℕ) (given : Result (Bor (List ℕ)) PieceTooLong) (bytes : Bor (List ℕ)) (test : Bool)
+    → given ≡ Ok bytes → IsUtf8 bytes.now → test ≡ is_ok (answer dialect (trimmed bytes.now)) → test ≡ true → [] ≡ stop_given dialect line given
+no_stop_of_line dialect line given bytes test is u ok line_is =
+    let utf8 : is_utf8 bytes.now ≡ true = is_utf8-from_IsUtf8 bytes.now u in
+    let err : is_err (answer dialect (trimmed bytes.now)) ≡ false = not_both (answer dialect (trimmed bytes.now)) test ok ∙ ap not line_is in
+    let none : stop_given dialect line (Ok bytes) ≡ [] = rw (utf8, err) refl in
+    sym (ap (stop_given dialect line) is ∙ none)
+
+-- in another text it stops after these bytes
+pub stop_of_fault : (dialect : Dialect) (line : ℕ) (given : Result (Bor (List ℕ)) PieceTooLong) (bytes : Bor (List ℕ)) (test : Bool) (n : ℕ)
+    → given ≡ Ok bytes → IsUtf8 bytes.now → test ≡ is_ok (answer dialect (trimmed bytes.now)) → test ≡ false
+    → n ≡ length bytes.now - length (stop_text dialect (trimmed bytes.now)) → stop_members line (take n bytes.now) ≡ stop_given dialect line given
+stop_of_fault dialect line given bytes test n is u ok fault_is len =
+    let utf8 : is_utf8 bytes.now ≡ true = is_utf8-from_IsUtf8 bytes.now u in
+    let err : is_err (answer dialect (trimmed bytes.now)) ≡ true = not_both (answer dialect (trimmed bytes.now)) test ok ∙ ap not fault_is in
+    let some : stop_given dialect line (Ok bytes) ≡ stop_members line (front_before bytes.now (stop_text dialect (trimmed bytes.now))) =
+    rw (utf8, err) refl in
+    ap (λ (k : ℕ). stop_members line (take k bytes.now)) len ∙ sym some ∙ ap (stop_given dialect line) (sym is)
 
 -- the kind of a text that a call gave
 pub kind_of_text : (dialect : Dialect) (given : Result (Bor (List ℕ)) PieceTooLong) (bytes : Bor (List ℕ)) (piece text : List ℕ)

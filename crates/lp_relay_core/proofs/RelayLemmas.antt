@@ -21,12 +21,10 @@ use Rattle.lp_rebuild.specs.Running.{AppendsFront}
 use Rattle.lp_relay_core.specs.declared.taking.Lines.{Lines}
 use Rattle.lp_relay_core.specs.declared.taking.Lines.TheVariants.{Rebuilt, Verbatim}
 use Rattle.lp_relay_core.specs.Relaying.{Item, answered, as_it_came, front_of, item_of, kept_of, long_text, not_utf8, too_long, items_of_bytes, items_batch}
-use Rattle.lp_relay_core.specs.declared.telling.Faults.{Faults}
-use Rattle.lp_relay_core.specs.declared.telling.Faults.TheVariants.{Raw}
 use Rattle.influxdb_line_protocol.specs.types.PieceTooLong.{PieceTooLong}
 use Rattle.lp_relay_core.specs.declared.taking.Pending.{Pending}
 use Rattle.lp_relay_core.specs.declared.taking.Settings.{Settings}
-use Rattle.lp_relay_core.specs.RelaySteps.{Made, made, Passes, RelaysItems, RelaysPart, TakesItems, TakesGiven, Unwritten, faults_next}
+use Rattle.lp_relay_core.specs.RelaySteps.{Form, as_raw, form_given, start_of, Made, made, Passes, RelaysItems, RelaysPart, TakesItems, TakesGiven, Unwritten, faults_next}
 use Rattle.lp_relay_core.specs.RelaySteps.{items_given, refused_given, unwritten_of}
 use Rattle.lp_relay_core.specs.Writers.{Known, of_writers}
 use Rattle.lp_rebuild.proofs.RebuildLemmas.{add_where, add_elsewhere, blank_answers, piece_answers}
@@ -35,22 +33,22 @@ use Rattle.lp_relay_core.proofs.ItemLemmas.{batch_append, carried_append, refuse
 use Rattle.lp_relay_core.proofs.ItemLemmas.{items_of_text, item_of_no_text}
 
 -- nothing was taken
-takes_nothing : (old : Made) → TakesItems Raw old [] old
+takes_nothing : (old : Made) → TakesItems as_raw old [] old
 takes_nothing old = grind (arith, append-nil)
 
 -- an answer is one item
 pub takes_answer : (front : List ℕ) (old : Progress) (answer : Result Line Fault) (new : Progress) → Takes old answer new
-    → TakesItems Raw (made old) (answered front answer ∷ []) (made new)
+    → TakesItems as_raw (made old) (answered front answer ∷ []) (made new)
 takes_answer front old answer new t = grind (arith, append-nil, string_bytes, add_where, add_elsewhere)
 
 -- a piece that is not UTF-8 is one item
 takes_no_text : (old new : Progress) → Refuses old (codes "the line is not UTF-8") new
-    → TakesItems Raw (made old) (not_utf8 ∷ []) (made new)
+    → TakesItems as_raw (made old) (not_utf8 ∷ []) (made new)
 takes_no_text old new r = grind (arith, append-nil, string_bytes)
 
 -- so is one that is too long
 pub takes_too_long : (s : Settings) (old new : Progress) (text : List ℕ) → text ≡ long_text (kept_of s) → Refuses old text new
-    → TakesItems Raw (made old) (too_long (kept_of s) ∷ []) (made new)
+    → TakesItems as_raw (made old) (too_long (kept_of s) ∷ []) (made new)
 takes_too_long s old new text is r = grind (arith, append-nil, string_bytes)
 
 -- a blank text has no item
@@ -68,27 +66,27 @@ text_item lines dialect piece u some =
 
 -- of a blank text nothing is taken
 pub takes_blank : (lines : Lines) (dialect : Dialect) (piece : List ℕ) (old : Made) → IsUtf8 piece → length (trimmed piece) ≡ 0
-    → TakesItems Raw old (items_of_bytes lines dialect piece) old
+    → TakesItems as_raw old (items_of_bytes lines dialect piece) old
 takes_blank lines dialect piece old u blank =
-    subst (λ (l : List Item). TakesItems Raw old l old) (sym (blank_items lines dialect piece u blank)) (takes_nothing old)
+    subst (λ (l : List Item). TakesItems as_raw old l old) (sym (blank_items lines dialect piece u blank)) (takes_nothing old)
 
 -- the line of a text is its one item, and a blank text has none
 pub takes_text : (dialect : Dialect) (piece : List ℕ) (old new : Progress) → IsUtf8 piece → (length (trimmed piece) ≡ 0 → new ≡ old)
     → (0 < length (trimmed piece) → Takes old (answer dialect (trimmed piece)) new)
-    → TakesItems Raw (made old) (items_of_bytes Rebuilt dialect piece) (made new)
+    → TakesItems as_raw (made old) (items_of_bytes Rebuilt dialect piece) (made new)
 takes_text dialect piece old new u blank some =
     elim (eq-zero-or-pos (length (trimmed piece))) [
       | inl none ↦
-          subst (λ (p : Progress). TakesItems Raw (made old) (items_of_bytes Rebuilt dialect piece) (made p)) (sym (blank none))
+          subst (λ (p : Progress). TakesItems as_raw (made old) (items_of_bytes Rebuilt dialect piece) (made p)) (sym (blank none))
           (takes_blank Rebuilt dialect piece (made old) u none)
       | inr more ↦
-          subst (λ (l : List Item). TakesItems Raw (made old) l (made new)) (sym (text_item Rebuilt dialect piece u more))
+          subst (λ (l : List Item). TakesItems as_raw (made old) l (made new)) (sym (text_item Rebuilt dialect piece u more))
           (takes_answer (front_of piece) old (answer dialect (trimmed piece)) new (some more))
     ]
 
 -- a piece was taken as it came
 pub takes_as_it_came : (old new : Made) (piece : List ℕ) → new.batch ≡ (old.batch ++ piece) ++ newline ∷ [] → new.faults ≡ old.faults
-    → new.carried ≡ old.carried + 1 → new.refused ≡ old.refused → TakesItems Raw old (as_it_came piece ∷ []) new
+    → new.carried ≡ old.carried + 1 → new.refused ≡ old.refused → TakesItems as_raw old (as_it_came piece ∷ []) new
 takes_as_it_came old new piece batch faults carried refused = grind (arith, append-nil, append_assoc)
 
 -- a text is empty if a test of its length says so
@@ -97,7 +95,7 @@ is_blank text piece test is tests holds = ap length (sym is) ∙ eqb-true (lengt
 
 -- of a text that is blank nothing goes out as it came
 pub takes_no_line : (lines : Lines) (dialect : Dialect) (piece text : List ℕ) (test : Bool) (old : Made) → text ≡ trimmed piece
-    → IsUtf8 piece → test ≡ (length text == 0) → test ≡ true → TakesItems Raw old (items_of_bytes lines dialect piece) old
+    → IsUtf8 piece → test ≡ (length text == 0) → test ≡ true → TakesItems as_raw old (items_of_bytes lines dialect piece) old
 takes_no_line lines dialect piece text test old is u tests holds =
     takes_blank lines dialect piece old u (is_blank text piece test is tests holds)
 
@@ -122,11 +120,11 @@ not_blank text piece test is tests fails =
 -- a line goes out as it came
 pub takes_line : (dialect : Dialect) (piece text : List ℕ) (test verdict : Bool) (old new : Made) → text ≡ trimmed piece → IsUtf8 piece
     → test ≡ (length text == 0) → test ≡ false → verdict ≡ is_ok (answer dialect text) → verdict ≡ true
-    → TakesItems Raw old (as_it_came piece ∷ []) new → TakesItems Raw old (items_of_bytes Verbatim dialect piece) new
+    → TakesItems as_raw old (as_it_came piece ∷ []) new → TakesItems as_raw old (items_of_bytes Verbatim dialect piece) new
 takes_line dialect piece text test verdict old new is u tests fails says holds takes =
     let line : is_ok (answer dialect (trimmed piece)) ≡ true =
     ap (λ (l : List ℕ). is_ok (answer dialect l)) (sym is) ∙ sym says ∙ holds in
-    subst (λ (l : List Item). TakesItems Raw old l new)
+    subst (λ (l : List Item). TakesItems as_raw old l new)
     (sym (text_item Verbatim dialect piece u (not_blank text piece test is tests fails)
     ∙ ap (λ (i : Item). i ∷ []) (piece_of_line piece (answer dialect (trimmed piece)) line)))
     takes
@@ -134,11 +132,11 @@ takes_line dialect piece text test verdict old new is u tests fails says holds t
 -- where lines go out as they came, a text at fault is refused
 pub takes_fault : (dialect : Dialect) (piece text : List ℕ) (test verdict : Bool) (old new : Progress) → text ≡ trimmed piece
     → IsUtf8 piece → test ≡ (length text == 0) → test ≡ false → verdict ≡ is_ok (answer dialect text) → verdict ≡ false
-    → Takes old (answer dialect text) new → TakesItems Raw (made old) (items_of_bytes Verbatim dialect piece) (made new)
+    → Takes old (answer dialect text) new → TakesItems as_raw (made old) (items_of_bytes Verbatim dialect piece) (made new)
 takes_fault dialect piece text test verdict old new is u tests fails says wrong takes =
     let fault : is_ok (answer dialect (trimmed piece)) ≡ false =
     ap (λ (l : List ℕ). is_ok (answer dialect l)) (sym is) ∙ sym says ∙ wrong in
-    subst (λ (l : List Item). TakesItems Raw (made old) l (made new))
+    subst (λ (l : List Item). TakesItems as_raw (made old) l (made new))
     (sym (text_item Verbatim dialect piece u (not_blank text piece test is tests fails)
     ∙ ap (λ (i : Item). i ∷ []) (answer_of_fault piece (answer dialect (trimmed piece)) fault)))
     (takes_answer (front_of piece) old (answer dialect (trimmed piece)) new (subst (λ (l : List ℕ). Takes old (answer dialect l) new) is takes))
@@ -150,18 +148,18 @@ no_items lines dialect = items_of_text lines dialect [] IsUtf8-nil
 
 -- of an empty piece nothing is taken
 pub takes_empty : (lines : Lines) (dialect : Dialect) (piece : List ℕ) (old : Made) → piece ≡ []
-    → TakesItems Raw old (items_of_bytes lines dialect piece) old
+    → TakesItems as_raw old (items_of_bytes lines dialect piece) old
 takes_empty lines dialect piece old none =
-    subst (λ l. TakesItems Raw old l old) (sym (ap (items_of_bytes lines dialect) none ∙ no_items lines dialect)) (takes_nothing old)
+    subst (λ l. TakesItems as_raw old l old) (sym (ap (items_of_bytes lines dialect) none ∙ no_items lines dialect)) (takes_nothing old)
 
 -- a piece that is not UTF-8 was refused
 pub takes_bad_bytes : (lines : Lines) (dialect : Dialect) (piece : List ℕ) (old new : Progress) → (¬ IsUtf8 piece)
-    → Refuses old (codes "the line is not UTF-8") new → TakesItems Raw (made old) (items_of_bytes lines dialect piece) (made new)
+    → Refuses old (codes "the line is not UTF-8") new → TakesItems as_raw (made old) (items_of_bytes lines dialect piece) (made new)
 takes_bad_bytes lines dialect piece old new bad r =
-    subst (λ l. TakesItems Raw (made old) l (made new)) (sym (item_of_no_text lines dialect piece bad)) (takes_no_text old new r)
+    subst (λ l. TakesItems as_raw (made old) l (made new)) (sym (item_of_no_text lines dialect piece bad)) (takes_no_text old new r)
 
 -- what was taken is held
-pub relays_taken : (form : Faults) (old new : Unwritten) (a : Known) (xs : List Item) (ps : List ℕ)
+pub relays_taken : (form : Form) (old new : Unwritten) (a : Known) (xs : List Item) (ps : List ℕ)
     → TakesItems form old.made xs new.made → new.pieces ≡ old.pieces ++ ps
     → RelaysItems old new a a xs (faults_next form old.made xs) ps
 relays_taken form old new a xs ps t pieces =
@@ -294,24 +292,24 @@ pub relays_poured : (s : Settings) (old now next poured : Unwritten) (a b c : Kn
     (result : Result (Bor (List ℕ)) PieceTooLong) → RelaysItems old now a b xs fs ps → TakesGiven s now result next
     → RelaysItems next poured b c [] [] []
     → RelaysItems old poured a c (xs ++ items_given s result)
-    (fs ++ faults_next s.faults now.made (items_given s result)) (ps ++ refused_given s result)
+    (fs ++ faults_next (form_given s (start_of now) result) now.made (items_given s result)) (ps ++ refused_given s result)
 relays_poured s old now next poured a b c xs fs ps result p t q =
     relays_then old next poured a b c _ _ _
-    (relays_more old now next a b b xs _ fs _ ps _ p (relays_taken s.faults now next b _ _ t.items t.pieces)) q
+    (relays_more old now next a b b xs _ fs _ ps _ p (relays_taken (form_given s (start_of now) result) now next b _ _ t.items t.pieces)) q
 
 -- the same, if a beginning of it was written
 pub part_poured : (s : Settings) (old now next : Unwritten) (a b c : Known) (xs : List Item) (fs ps : List ℕ)
     (result : Result (Bor (List ℕ)) PieceTooLong) → RelaysItems old now a b xs fs ps → TakesGiven s now result next
     → RelaysPart next b c [] [] []
     → RelaysPart old a c (xs ++ items_given s result)
-    (fs ++ faults_next s.faults now.made (items_given s result)) (ps ++ refused_given s result)
+    (fs ++ faults_next (form_given s (start_of now) result) now.made (items_given s result)) (ps ++ refused_given s result)
 part_poured s old now next a b c xs fs ps result p t q =
     part_then old next a b c _ _ _
-    (relays_more old now next a b b xs _ fs _ ps _ p (relays_taken s.faults now next b _ _ t.items t.pieces)) q
+    (relays_more old now next a b b xs _ fs _ ps _ p (relays_taken (form_given s (start_of now) result) now next b _ _ t.items t.pieces)) q
 
 -- nothing was made so far
 pub relays_none : (old : Unwritten) (a : Known) → RelaysItems old old a a [] [] []
-relays_none old a = relays_taken Raw old old a [] [] (takes_nothing old.made) (sym (append-nil old.pieces))
+relays_none old a = relays_taken as_raw old old a [] [] (takes_nothing old.made) (sym (append-nil old.pieces))
 
 -- a fact at a fault
 pub on_err : {T E P : Type 0} (r : Result T E) → P → OnErr r P

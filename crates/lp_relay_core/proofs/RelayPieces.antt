@@ -1,23 +1,25 @@
 -- The pieces that a relay takes, one after another.
-use Rattle.std.proofs.Common.{◌≡◌, ℕ, ◌≤◌, List, [], ◌∷◌, ◌++◌, length, Option, Some, Result, Ok}
+use Rattle.std.proofs.Common.{◌≡◌, ℕ, ◌≤◌, List, [], ◌∷◌, ◌++◌, length, Some, Result, Ok, Err}
 use Rattle.std.proofs.Common.{refl, sym, ap, subst, ◌∙◌, arith, append_assoc, append-nil}
 use Rattle.std.specs.Borrow.{Bor}
 use Rattle.std.proofs.lemmas.Grind.{flat_map-append}
 use Rattle.influxdb_line_protocol.specs.format.Dialects.{Dialect}
 use Rattle.influxdb_line_protocol.specs.format.Bytes.{newline, newlines_in}
 use Rattle.influxdb_line_protocol.specs.format.Pieces.{IsCutPiece}
-use Rattle.influxdb_line_protocol.specs.code.Bounded.{CutsTo, GivesOf, HeldWithin, Holds, IsLastOf}
+use Rattle.influxdb_line_protocol.specs.code.Bounded.{CutsTo, TellsOf, GivesOf, HeldWithin, Holds, IsLastOf}
 use Rattle.influxdb_line_protocol.specs.types.PieceTooLong.{PieceTooLong}
 use Rattle.influxdb_line_protocol.specs.laws.StreamLaws.{Run, Run.taken}
 use Rattle.lp_relay_core.specs.declared.taking.Settings.{Settings}
 use Rattle.influxdb_line_protocol.specs.code.Rules.{rules_of}
-use Rattle.lp_relay_core.specs.Relaying.{Item, items_of_piece, items_of, refused_piece, refused_pieces}
+use Rattle.lp_relay_core.specs.Relaying.{Item, items_of_piece, items_of, refused_piece, refused_pieces, kept_of, refused_lines, too_long}
 use Rattle.lp_relay_core.specs.RelaySteps.{RelaysAllPieces, RelaysItems, RelaysLast, RelaysLastPart, RelaysPart, RelaysSome, RelaysTo}
-use Rattle.lp_relay_core.specs.RelaySteps.{Unwritten, faults_next, faults_past, items_given, line_after, line_past, newlines_given}
+use Rattle.lp_relay_core.specs.RelaySteps.{Form, Start, Unwritten, faults_next, faults_past, form_at, form_given, form_of, items_given, len_given}
+use Rattle.lp_relay_core.specs.RelaySteps.{line_or_none, newlines_given, start_after, start_of, start_past}
+use Rattle.lp_relay_core.specs.Objects.{stop_given, stop_of_piece}
 use Rattle.lp_relay_core.specs.RelaySteps.{TakesGiven, TakesPieces, refused_given}
 use Rattle.lp_relay_core.specs.Writers.{Known}
-use Rattle.lp_relay_core.proofs.ItemLemmas.{item_of_long, items_add_up, items_of_short, items_push, refused_long, refused_short}
-use Rattle.lp_relay_core.proofs.FaultLines.{faults_from_append, faults_from_push, line_append}
+use Rattle.lp_relay_core.proofs.ItemLemmas.{item_of_long, items_add_up, items_of_short, items_push, refused_long, refused_short, stop_long, stop_short}
+use Rattle.lp_relay_core.proofs.FaultLines.{faults_from_append, faults_from_push, start_append}
 use Rattle.lp_relay_core.proofs.RelayLemmas.{part_of_none, part_poured, part_so_far, part_then, relays_none, relays_poured, relays_same}
 use Rattle.lp_relay_core.proofs.RelayLemmas.{part_more, part_same, relays_more, relays_then}
 
@@ -29,18 +31,35 @@ pub record Given (s : Settings) (text : List ℕ) (result : Result (Bor (List �
   pub is_cut : IsCutPiece (rules_of s.dialect) piece
   pub items : items_given s result ≡ items_of_piece s piece
   pub newlines : newlines_given result ≡ newlines_in piece
+  pub len : len_given result ≡ length piece
+  pub stop : (line : ℕ) → stop_given (rules_of s.dialect) line result ≡ stop_of_piece s line piece
   pub put : refused_given s result ≡ refused_piece s piece
 
 -- a piece that is not too long
 pub given_short : (s : Settings) (text : List ℕ) (piece : Bor (List ℕ)) (rest : List ℕ) → length piece.now ≤ s.limit
     → CutsTo (rules_of s.dialect) text piece.now rest → Given s text (Ok piece) rest
-given_short s text piece rest short cuts = grind (arith, items_of_short, refused_short)
+given_short s text piece rest short cuts = grind (arith, items_of_short, refused_short, stop_short)
+
+-- a piece that is too long
+given_long : (s : Settings) (text : List ℕ) (piece : List ℕ) (fault : PieceTooLong) (rest : List ℕ) → TellsOf s.limit piece fault
+    → CutsTo (rules_of s.dialect) text piece rest → Given s text (Err fault) rest
+given_long s text piece fault rest tells cuts =
+    record {
+      piece = piece;
+      text_is = cuts.0;
+      is_cut = cuts.1;
+      items = sym (item_of_long s piece tells.0);
+      newlines = tells.1;
+      len = tells.2;
+      stop = λ line. sym (stop_long s line piece tells.0);
+      put = ap (λ f. refused_lines s.puts_refused f (too_long (kept_of s) ∷ [])) tells.3 ∙ sym (refused_long s piece tells.0);
+    }
 
 -- the stream gave one, and holds the rest
 pub given_piece : (s : Settings) (before after : HeldWithin) (text : List ℕ)
     (result : Result (Bor (List ℕ)) PieceTooLong) → before.held.dialect ≡ (rules_of s.dialect) → before.limit ≡ s.limit
     → GivesOf before text (Some result) after → (rest : List ℕ) × Holds after rest × Given s text result rest
-given_piece s before after text e same bound h = grind (arith, given_short, item_of_long, refused_long)
+given_piece s before after text e same bound h = grind (arith, given_short, given_long)
 
 -- so it is where more bytes come
 pub given_on : (s : Settings) (text : List ℕ) (result : Result (Bor (List ℕ)) PieceTooLong) (rest t : List ℕ)
@@ -51,6 +70,21 @@ given_on s text result rest t g = grind (arith, append_assoc)
 pub last_items : (s : Settings) (text : List ℕ) (result : Result (Bor (List ℕ)) PieceTooLong)
     → IsLastOf s.limit text result → items_given s result ≡ items_of_piece s text
 last_items s text e h = grind (arith, items_of_short, item_of_long)
+
+-- where reading stops in it
+last_stop : (s : Settings) (line : ℕ) (text : List ℕ) (result : Result (Bor (List ℕ)) PieceTooLong)
+    → IsLastOf s.limit text result → stop_given (rules_of s.dialect) line result ≡ stop_of_piece s line text
+last_stop s line text e h = grind (arith, stop_short, stop_long)
+
+-- its fault lines
+last_faults : (s : Settings) (old : Unwritten) (text : List ℕ) (result : Result (Bor (List ℕ)) PieceTooLong)
+    → IsLastOf s.limit text result
+    → faults_next (form_given s (start_of old) result) old.made (items_given s result)
+    ≡ faults_next (form_at s (start_of old) text) old.made (items_of_piece s text)
+last_faults s old text result last =
+    ap (λ form. faults_next form old.made (items_given s result))
+    (ap (form_of s.faults old.offset) (last_stop s (line_or_none old.made.line) text result last))
+    ∙ ap (faults_next (form_at s (start_of old) text) old.made) (last_items s text result last)
 
 -- what goes out of it as refused
 pub last_put : (s : Settings) (text : List ℕ) (result : Result (Bor (List ℕ)) PieceTooLong)
@@ -88,16 +122,16 @@ next_items s ps p items is = ap (λ l. items_of s ps ++ l) is ∙ sym (items_pus
 
 -- if pieces were taken, the fault lines of one more name what comes then
 pub next_faults : (s : Settings) (old now : Unwritten) (a b : Known) (ps : List (List ℕ)) (p : List ℕ) (items : List Item)
-    (fs put : List ℕ) → RelaysItems old now a b (items_of s ps) fs put → now.made.line ≡ line_past old.made.line ps
-    → items ≡ items_of_piece s p
-    → faults_past s old.made ps ++ faults_next s.faults now.made items ≡ faults_past s old.made (ps ++ p ∷ [])
-next_faults s old now a b ps p items fs put relays line is = grind (arith, items_add_up, faults_from_push)
+    (form : Form) (fs put : List ℕ) → RelaysItems old now a b (items_of s ps) fs put → start_of now ≡ start_past (start_of old) ps
+    → items ≡ items_of_piece s p → form ≡ form_at s (start_of now) p
+    → faults_past s old ps ++ faults_next form now.made items ≡ faults_past s old (ps ++ p ∷ [])
+next_faults s old now a b ps p items form fs put relays start is told = grind (arith, items_add_up, faults_from_push)
 
 -- and so do those of others
 pub faults_then : (s : Settings) (old now : Unwritten) (a b : Known) (ps qs : List (List ℕ)) (fs put : List ℕ)
-    → RelaysItems old now a b (items_of s ps) fs put → now.made.line ≡ line_past old.made.line ps
-    → faults_past s old.made ps ++ faults_past s now.made qs ≡ faults_past s old.made (ps ++ qs)
-faults_then s old now a b ps qs fs put relays line = grind (arith, items_add_up, faults_from_append)
+    → RelaysItems old now a b (items_of s ps) fs put → start_of now ≡ start_past (start_of old) ps
+    → faults_past s old ps ++ faults_past s now qs ≡ faults_past s old (ps ++ qs)
+faults_then s old now a b ps qs fs put relays start = grind (arith, items_add_up, faults_from_append)
 
 -- what goes out as refused of pieces and of one more
 pub next_put : (s : Settings) (ps : List (List ℕ)) (p put : List ℕ) → put ≡ refused_piece s p
@@ -113,8 +147,7 @@ pub last_relayed : (s : Settings) (old next poured : Unwritten) (a b : Known) (t
     (result : Result (Bor (List ℕ)) PieceTooLong) → IsLastOf s.limit text result → TakesGiven s old result next
     → RelaysItems next poured a b [] [] [] → RelaysLast s text old poured a b
 last_relayed s old next poured a b text result last t q =
-    let items = last_items s text result last in
-    relays_same old poured a b _ _ _ _ _ _ items (ap (faults_next s.faults old.made) items) (last_put s text result last)
+    relays_same old poured a b _ _ _ _ _ _ (last_items s text result last) (last_faults s old text result last) (last_put s text result last)
     (relays_poured s old old next poured a a b [] [] [] result (relays_none old a) t q)
 
 -- the same, if a beginning of it was written
@@ -122,19 +155,23 @@ pub last_part : (s : Settings) (old next : Unwritten) (a b : Known) (text : List
     (result : Result (Bor (List ℕ)) PieceTooLong) → IsLastOf s.limit text result → TakesGiven s old result next
     → RelaysPart next a b [] [] [] → RelaysLastPart s text old a b
 last_part s old next a b text result last t q =
-    let items = last_items s text result last in
-    part_same old a b _ _ _ _ _ _ items (ap (faults_next s.faults old.made) items) (last_put s text result last)
+    part_same old a b _ _ _ _ _ _ (last_items s text result last) (last_faults s old text result last) (last_put s text result last)
     (part_poured s old old next a a b [] [] [] result (relays_none old a) t q)
 
--- what is named after one piece more
-next_line : (line now next : Option ℕ) (newlines : ℕ) (ps : List (List ℕ)) (p : List ℕ) → now ≡ line_past line ps
-    → newlines ≡ newlines_in p → next ≡ line_after now newlines → next ≡ line_past line (ps ++ p ∷ [])
-next_line line now next newlines ps p is lines step = grind (arith, line_append)
+-- where the next piece starts after one piece more
+next_start : (start now next : Start) (newlines len : ℕ) (ps : List (List ℕ)) (p : List ℕ) → now ≡ start_past start ps
+    → newlines ≡ newlines_in p → len ≡ length p → next ≡ start_after now newlines len → next ≡ start_past start (ps ++ p ∷ [])
+next_start start now next newlines len ps p is lines bytes step = grind (arith, start_append)
+
+-- how the fault of the piece is told
+form_is : (s : Settings) (text : List ℕ) (result : Result (Bor (List ℕ)) PieceTooLong) (rest : List ℕ) (start : Start)
+    → (one : Given s text result rest) → form_given s start result ≡ form_at s start one.piece
+form_is s text result rest start one = ap (form_of s.faults start.offset) (one.stop (line_or_none start.line))
 
 -- no piece was taken so far
 pub to_none : (s : Settings) (text : List ℕ) (old : Unwritten) (a : Known) → RelaysTo s text text old old a a
 to_none s text old a =
-    record { pieces = []; taken = takes_none (rules_of s.dialect) text; line = refl; relays = relays_none old a }
+    record { pieces = []; taken = takes_none (rules_of s.dialect) text; start = refl; relays = relays_none old a }
 
 -- nor was any line written
 pub some_none : (s : Settings) (text : List ℕ) (old : Unwritten) (a : Known) → RelaysSome s text old a a
@@ -144,16 +181,16 @@ some_none s text old a =
 -- a piece more was taken, and what is held was written
 pub to_more : (s : Settings) (text mid rest : List ℕ) (old now next poured : Unwritten) (a b c : Known)
     (result : Result (Bor (List ℕ)) PieceTooLong) → RelaysTo s text mid old now a b → Given s mid result rest
-    → TakesGiven s now result next → poured.made.line ≡ line_after now.made.line (newlines_given result)
+    → TakesGiven s now result next → start_of poured ≡ start_after (start_of now) (newlines_given result) (len_given result)
     → RelaysItems next poured b c [] [] [] → RelaysTo s text rest old poured a c
-to_more s text mid rest old now next poured a b c result p one takes line q =
+to_more s text mid rest old now next poured a b c result p one takes start q =
     record {
       pieces = p.pieces ++ one.piece ∷ [];
       taken = takes_one (rules_of s.dialect) text mid rest p.pieces one.piece p.taken one.text_is one.is_cut;
-      line = next_line old.made.line now.made.line poured.made.line _ p.pieces one.piece p.line one.newlines line;
+      start = next_start (start_of old) (start_of now) (start_of poured) _ _ p.pieces one.piece p.start one.newlines one.len start;
       relays = relays_same old poured a c _ _ _ _ _ _
           (next_items s p.pieces one.piece (items_given s result) one.items)
-          (next_faults s old now a b p.pieces one.piece _ _ _ p.relays p.line one.items)
+          (next_faults s old now a b p.pieces one.piece _ _ _ _ p.relays p.start one.items (form_is s mid result rest (start_of now) one))
           (next_put s p.pieces one.piece (refused_given s result) one.put)
           (relays_poured s old now next poured a b c _ _ _ result p.relays takes q);
     }
@@ -169,7 +206,7 @@ to_part s text mid rest old now next a b c result p one takes q =
       taken = takes_one (rules_of s.dialect) text mid rest p.pieces one.piece p.taken one.text_is one.is_cut;
       part = part_same old a c _ _ _ _ _ _
           (next_items s p.pieces one.piece (items_given s result) one.items)
-          (next_faults s old now a b p.pieces one.piece _ _ _ p.relays p.line one.items)
+          (next_faults s old now a b p.pieces one.piece _ _ _ _ p.relays p.start one.items (form_is s mid result rest (start_of now) one))
           (next_put s p.pieces one.piece (refused_given s result) one.put)
           (part_poured s old now next a b c _ _ _ result p.relays takes q);
     }
@@ -185,9 +222,9 @@ to_then s text mid rest old now new a b c p q =
     record {
       pieces = p.pieces ++ q.pieces;
       taken = takes_then (rules_of s.dialect) text mid rest p.pieces q.pieces p.taken q.taken;
-      line = q.line ∙ ap (λ (k : Option ℕ). line_past k q.pieces) p.line ∙ sym (line_append old.made.line p.pieces q.pieces);
+      start = q.start ∙ ap (λ (k : Start). start_past k q.pieces) p.start ∙ sym (start_append (start_of old) p.pieces q.pieces);
       relays = relays_same old new a c _ _ _ _ _ _ (items_append s p.pieces q.pieces)
-          (faults_then s old now a b p.pieces q.pieces _ _ p.relays p.line) (put_append s p.pieces q.pieces)
+          (faults_then s old now a b p.pieces q.pieces _ _ p.relays p.start) (put_append s p.pieces q.pieces)
           (relays_more old now new a b c _ _ _ _ _ _ p.relays q.relays);
     }
 
@@ -200,7 +237,7 @@ some_then s text mid old now a b c p q =
       rest = q.rest;
       taken = takes_then (rules_of s.dialect) text mid q.rest p.pieces q.pieces p.taken q.taken;
       part = part_same old a c _ _ _ _ _ _ (items_append s p.pieces q.pieces)
-          (faults_then s old now a b p.pieces q.pieces _ _ p.relays p.line) (put_append s p.pieces q.pieces)
+          (faults_then s old now a b p.pieces q.pieces _ _ p.relays p.start) (put_append s p.pieces q.pieces)
           (part_more old now a b c _ _ _ _ _ _ p.relays q.part);
     }
 
@@ -212,9 +249,9 @@ to_so_far s text rest old now a b p =
 
 -- pieces were taken up to a rest, then all of that, and then what is held was written
 pub to_all : (s : Settings) (text mid : List ℕ) (stream : HeldWithin) (old now new poured : Unwritten) (a b c d : Known)
-    → RelaysTo s text mid old now a b → RelaysAllPieces s mid stream now new b c → poured.made.line ≡ new.made.line
+    → RelaysTo s text mid old now a b → RelaysAllPieces s mid stream now new b c → start_of poured ≡ start_of new
     → RelaysItems new poured c d [] [] [] → RelaysAllPieces s text stream old poured a d
-to_all s text mid stream old now new poured a b c d first rest line q =
+to_all s text mid stream old now new poured a b c d first rest start q =
     let p = to_then s text mid rest.0.rest old now new a b c first rest.0.to in (
       record {
         rest = rest.0.rest;
@@ -222,7 +259,7 @@ to_all s text mid stream old now new poured a b c d first rest line q =
         to = record {
           pieces = p.pieces;
           taken = p.taken;
-          line = line ∙ p.line;
+          start = start ∙ p.start;
           relays = relays_then old new poured a c d _ _ _ p.relays q;
         };
       },

@@ -16,10 +16,10 @@ use Rattle.lp_relay_core.specs.Relays.{RelaysAll, RelaysFronts}
 use Rattle.lp_relay_core.specs.Relaying.{items_of_piece, items_of, items_batch, refused_pieces}
 use Rattle.lp_relay_core.specs.Writers.{Known}
 use Rattle.lp_relay_core.specs.RelaySteps.{RelaysAllPieces, RelaysItems, RelaysLast, RelaysLastPart, RelaysPart, RelaysSome, Unwritten}
-use Rattle.lp_relay_core.specs.RelaySteps.{faults_from, faults_past, first_line, items_before, line_past, made_of_none, unwritten_of_none}
+use Rattle.lp_relay_core.specs.RelaySteps.{faults_from, faults_past, items_before, start_of, start_past, unwritten_of_none}
 use Rattle.lp_relay_core.proofs.PassLemmas.{passes_all, passes_some}
 use Rattle.lp_relay_core.proofs.ItemLemmas.{batch_append, items_push}
-use Rattle.lp_relay_core.proofs.FaultLines.{faults_from_append, faults_named, line_append}
+use Rattle.lp_relay_core.proofs.FaultLines.{faults_from_append, faults_named, start_append}
 use Rattle.lp_relay_core.proofs.RelayLemmas.{relays_more, relays_none, relays_same, part_more, part_same, part_so_far}
 use Rattle.lp_relay_core.proofs.RelayPieces.{faults_then, next_faults, next_put, put_append, run_on}
 use Rattle.influxdb_line_protocol.specs.format.Bytes.{newline}
@@ -35,8 +35,8 @@ pub record RelaysSoFar (s : Settings) (reader reader_after : Option (List ℕ)) 
   pub last : IsLastPiece (rules_of s.dialect) held
   pub consumed : Consumes reader reader_after given
   pub run : Run (rules_of s.dialect) given pieces held
-  pub line_is : now.made.line ≡ line_past (first_line s.faults s.numbering s.first) pieces
-  pub relays : RelaysItems (unwritten_of_none s) now before after (items_of s pieces) (faults_past s (made_of_none s) pieces)
+  pub start_is : start_of now ≡ start_past (start_of (unwritten_of_none s)) pieces
+  pub relays : RelaysItems (unwritten_of_none s) now before after (items_of s pieces) (faults_past s (unwritten_of_none s) pieces)
       (refused_pieces s pieces)
 
 -- no text with a newline is empty
@@ -66,7 +66,7 @@ so_far_none exist s r a stream now none is =
       last = none_is_last exist (rules_of s.dialect);
       consumed = Consumes-nil r;
       run = begun;
-      line_is = refl;
+      start_is = refl;
       relays = relays_none (unwritten_of_none s) a;
     })
 
@@ -91,11 +91,11 @@ so_far_more s r m t part stream after now new a b c h read q =
       consumed = Consumes-trans r m t h.given part h.consumed read;
       run = run_on (rules_of s.dialect) (h.given ++ part) (h.held ++ part) p.0.rest h.pieces more.pieces
           (pushed h.given h.pieces h.held part h.run) more.taken;
-      line_is =
-          more.line ∙ ap (λ q. line_past q more.pieces) h.line_is ∙ sym (line_append (first_line s.faults s.numbering s.first) h.pieces more.pieces);
+      start_is =
+          more.start ∙ ap (λ q. start_past q more.pieces) h.start_is ∙ sym (start_append (start_of (unwritten_of_none s)) h.pieces more.pieces);
       relays = relays_same (unwritten_of_none s) new a c _ _ _ _ _ _
           (sym (items_append s h.pieces more.pieces))
-          (faults_then s (unwritten_of_none s) now a b h.pieces more.pieces _ _ h.relays h.line_is)
+          (faults_then s (unwritten_of_none s) now a b h.pieces more.pieces _ _ h.relays h.start_is)
           (put_append s h.pieces more.pieces)
           (relays_more (unwritten_of_none s) now new a b c _ _ _ _ _ _ h.relays more.relays);
     }
@@ -104,7 +104,7 @@ so_far_more s r m t part stream after now new a b c h read q =
 fronts_of : PiecesExist → RunsGivePieces → (s : Settings) (r m : Option (List ℕ))
     (given : List ℕ) (pieces : List (List ℕ)) (held : List ℕ) (a c : Known) → Consumes r m given
     → Run (rules_of s.dialect) given pieces held
-    → RelaysPart (unwritten_of_none s) a c (items_of s pieces) (faults_past s (made_of_none s) pieces) (refused_pieces s pieces)
+    → RelaysPart (unwritten_of_none s) a c (items_of s pieces) (faults_past s (unwritten_of_none s) pieces) (refused_pieces s pieces)
     → IfSome r (λ bs. RelaysFronts s bs a c)
 fronts_of exist give s None m given pieces held a c read run p = tt
 fronts_of exist give s (Some x) None given pieces held a c read run p = absurd read
@@ -118,11 +118,11 @@ fronts_of exist give s (Some x) (Some y) given pieces held a c read run p =
           (give (rules_of s.dialect) given pieces held y others.0 run others.1);
       batch = passes_some a.out c.out (items_batch xs) p.batch_left (items_batch ys) _ p.batch
           (ap items_batch (items_append s pieces others.0) ∙ batch_append xs ys);
-      faults = passes_some a.err c.err (faults_past s (made_of_none s) pieces) p.faults_left
-          (faults_from s (line_past (first_line s.faults s.numbering s.first) pieces)
+      faults = passes_some a.err c.err (faults_past s (unwritten_of_none s) pieces) p.faults_left
+          (faults_from s (start_past (start_of (unwritten_of_none s)) pieces)
           (items_before s.numbering s.first + 0 + 1 + length xs) others.0) _ p.faults
           (sym (faults_named s (pieces ++ others.0))
-          ∙ faults_from_append s (first_line s.faults s.numbering s.first) (items_before s.numbering s.first + 0 + 1) pieces others.0);
+          ∙ faults_from_append s (start_of (unwritten_of_none s)) (items_before s.numbering s.first + 0 + 1) pieces others.0);
       put = passes_some a.refused c.refused (refused_pieces s pieces) p.pieces_left (refused_pieces s others.0) _ p.pieces
           (sym (put_append s pieces others.0));
     }
@@ -144,7 +144,7 @@ some_fronts exist give s r m t part stream now a b c h read q =
     (run_on (rules_of s.dialect) (h.given ++ part) (h.held ++ part) p.rest h.pieces p.pieces (pushed h.given h.pieces h.held part h.run) p.taken)
     (part_same (unwritten_of_none s) a c _ _ _ _ _ _
     (sym (items_append s h.pieces p.pieces))
-    (faults_then s (unwritten_of_none s) now a b h.pieces p.pieces _ _ h.relays h.line_is)
+    (faults_then s (unwritten_of_none s) now a b h.pieces p.pieces _ _ h.relays h.start_is)
     (put_append s h.pieces p.pieces)
     (part_more (unwritten_of_none s) now a b c _ _ _ _ _ _ h.relays p.part))
 
@@ -172,12 +172,12 @@ so_far_all ends s r m t stream now end counts a b c h read at_end p no_batch no_
     let old = unwritten_of_none s in
     let pieces = h.pieces ++ h.held ∷ [] in
     let items = items_of s pieces in
-    let told = faults_past s (made_of_none s) pieces in
+    let told = faults_past s (unwritten_of_none s) pieces in
     let put = refused_pieces s pieces in
     let last = p h.held h.holds h.last in
     let all : RelaysItems old end a c items told put =
     relays_same old end a c _ items _ told _ put (sym (items_push s h.pieces h.held))
-    (next_faults s old now a b h.pieces h.held (items_of_piece s h.held) _ _ h.relays h.line_is refl)
+    (next_faults s old now a b h.pieces h.held (items_of_piece s h.held) _ _ _ h.relays h.start_is refl refl)
     (next_put s h.pieces h.held _ refl)
     (relays_more old now end a b c _ _ _ _ _ _ h.relays last) in
     all_read r t h.given (λ bs. RelaysAll s bs counts a c) (read_none r m t h.given h.consumed read) at_end
@@ -200,12 +200,12 @@ end_fronts ends s r m t stream now a b c h read at_end p =
     let old = unwritten_of_none s in
     let pieces = h.pieces ++ h.held ∷ [] in
     let items = items_of s pieces in
-    let told = faults_past s (made_of_none s) pieces in
+    let told = faults_past s (unwritten_of_none s) pieces in
     let put = refused_pieces s pieces in
     let last = p h.held h.holds h.last in
     let part : RelaysPart old a c items told put =
     part_same old a c _ items _ told _ put (sym (items_push s h.pieces h.held))
-    (next_faults s old now a b h.pieces h.held (items_of_piece s h.held) _ _ h.relays h.line_is refl)
+    (next_faults s old now a b h.pieces h.held (items_of_piece s h.held) _ _ _ h.relays h.start_is refl refl)
     (next_put s h.pieces h.held _ refl)
     (part_more old now a b c _ _ _ _ _ _ h.relays last) in
     Consumes-whole r t h.given (λ bs. RelaysFronts s bs a c) (read_none r m t h.given h.consumed read) at_end

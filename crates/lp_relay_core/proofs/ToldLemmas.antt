@@ -14,22 +14,22 @@ use Rattle.influxdb_line_protocol.specs.format.Dialects.{Dialect}
 use Rattle.influxdb_line_protocol.specs.format.Trimming.{trimmed}
 use Rattle.influxdb_line_protocol.specs.types.PieceTooLong.{PieceTooLong}
 use Rattle.lp_rebuild.specs.RebuildSteps.{fault_line_at}
-use Rattle.lp_relay_core.specs.declared.telling.Faults.{Faults}
-use Rattle.lp_relay_core.specs.declared.telling.Faults.TheVariants.{Raw, OneLine, Json}
+use Rattle.lp_relay_core.specs.declared.telling.Faults.TheVariants.{OneLine}
 use Rattle.lp_relay_core.specs.declared.taking.Lines.{Lines}
 use Rattle.lp_relay_core.specs.declared.taking.Pending.{Pending}
 use Rattle.lp_relay_core.specs.declared.taking.Settings.{Settings}
 use Rattle.lp_relay_core.specs.LineFaults.{item_text}
+use Rattle.lp_relay_core.specs.Objects.{stop_of_bytes}
 use Rattle.lp_relay_core.specs.Relaying.{Item, is_carried_item, items_of_bytes, refused_lines}
 use Rattle.lp_relay_core.specs.RelaySteps.{EndsPiece, Made, TakesItems, TakesGiven, TakesRaw, Unwritten, faults_at, faults_next}
-use Rattle.lp_relay_core.specs.RelaySteps.{bytes_given, items_given, made, raw_fault, refused_given, told_item, unwritten_of}
+use Rattle.lp_relay_core.specs.RelaySteps.{Form, bytes_given, as_raw, as_object, as_one_line, form_given, form_of, items_given, line_or_none, made, raw_fault, refused_given, told_item, unwritten_of}
 use Rattle.lp_relay_core.specs.Told.{told}
 use Rattle.lp_relay_core.proofs.RelayLemmas.{blank_items, text_item}
 use Rattle.lp_relay_core.proofs.ItemLemmas.{item_of_no_text, items_add_up}
 
 -- the fault line of one item at most is told as that of the item is
 one_told : (line : Option ℕ) (number : ℕ) (items : List Item) → length items ≤ 1
-    → told OneLine (faults_at Raw line number items) ≡ faults_at OneLine line number items
+    → told OneLine (faults_at as_raw line number items) ≡ faults_at as_one_line line number items
 one_told line number [] few = refl
 one_told line number (item ∷ []) few =
     let raw = raw_fault line number item in
@@ -42,15 +42,15 @@ fault_line_some None number text = omega arith
 fault_line_some (Some line) number text = omega arith
 
 -- of an item that is carried nothing is told
-carried_told : (form : Faults) (line : Option ℕ) (number : ℕ) (item : Item) → is_carried_item item ≡ true
+carried_told : (form : Form) (line : Option ℕ) (number : ℕ) (item : Item) → is_carried_item item ≡ true
     → told_item form line number item ++ [] ≡ []
-carried_told Raw line number item carried = rw carried refl
-carried_told OneLine line number item carried = rw carried refl
-carried_told (Json first) line number item carried = rw carried refl
+carried_told as_raw line number item carried = rw carried refl
+carried_told as_one_line line number item carried = rw carried refl
+carried_told (as_object offset stop) line number item carried = rw carried refl
 
 -- if one item at most has no fault line, nothing is told of it
-none_told : (form : Faults) (line : Option ℕ) (number : ℕ) (items : List Item) → length items ≤ 1
-    → length (faults_at Raw line number items) ≡ 0 → faults_at form line number items ≡ []
+none_told : (form : Form) (line : Option ℕ) (number : ℕ) (items : List Item) → length items ≤ 1
+    → length (faults_at as_raw line number items) ≡ 0 → faults_at form line number items ≡ []
 none_told form line number [] few none = refl
 none_told form line number (item ∷ []) few none =
     elim (cases_Bool (is_carried_item item)) [
@@ -82,9 +82,9 @@ few_given s (Err fault) = omega arith
 
 -- what was added since comes after what was there
 grown : (s : Settings) (given : Result (Bor (List ℕ)) PieceTooLong) (from : ℕ) (old mid : Made) → TakesRaw s given from old mid
-    → length mid.faults ≡ from + length (faults_next Raw old (items_given s given))
+    → length mid.faults ≡ from + length (faults_next as_raw old (items_given s given))
 grown s given from old mid t =
-    let raw = faults_next Raw old (items_given s given) in
+    let raw = faults_next as_raw old (items_given s given) in
     omega (arith, t.from_is, ap length t.takes.faults, length-append old.faults raw)
 
 -- the fault lines are no fewer bytes than before
@@ -93,30 +93,30 @@ pub within : (s : Settings) (given : Result (Bor (List ℕ)) PieceTooLong) (from
 within s given from old mid t = omega (arith, grown s given from old mid t)
 
 -- if they are as many, nothing is told
-pub takes_same : (s : Settings) (given : Result (Bor (List ℕ)) PieceTooLong) (from : ℕ) (old new : Made) → TakesRaw s given from old new
-    → from ≡ length new.faults → TakesItems s.faults old (items_given s given) new
-takes_same s given from old new t same =
+pub takes_same : (form : Form) (s : Settings) (given : Result (Bor (List ℕ)) PieceTooLong) (from : ℕ) (old new : Made)
+    → TakesRaw s given from old new → from ≡ length new.faults → TakesItems form old (items_given s given) new
+takes_same form s given from old new t same =
     let items = items_given s given in
     let number = old.carried + old.refused + 1 in
     let few = few_given s given in
-    let none : length (faults_at Raw old.line number items) ≡ 0 = omega (arith, same, grown s given from old new t) in
+    let none : length (faults_at as_raw old.line number items) ≡ 0 = omega (arith, same, grown s given from old new t) in
     record {
       batch = t.takes.batch;
       faults = t.takes.faults
-          ∙ ap (λ (l : List ℕ). old.faults ++ l) (none_told Raw old.line number items few none ∙ sym (none_told s.faults old.line number items few none));
+          ∙ ap (λ (l : List ℕ). old.faults ++ l) (none_told as_raw old.line number items few none ∙ sym (none_told form old.line number items few none));
       carried = t.takes.carried;
       refused = t.takes.refused;
     }
 
 -- the fault line that was added was told on one line
-pub takes_one_line : (s : Settings) (given : Result (Bor (List ℕ)) PieceTooLong) (from : ℕ) (old mid new : Made) → s.faults ≡ OneLine
-    → TakesRaw s given from old mid → new.faults ≡ take from mid.faults ++ told OneLine (drop from mid.faults)
+pub takes_one_line : (s : Settings) (given : Result (Bor (List ℕ)) PieceTooLong) (from offset : ℕ) (stop : List ℕ) (old mid new : Made)
+    → s.faults ≡ OneLine → TakesRaw s given from old mid → new.faults ≡ take from mid.faults ++ told OneLine (drop from mid.faults)
     → new.batch ≡ mid.batch → new.carried ≡ mid.carried → new.refused ≡ mid.refused
-    → TakesItems s.faults old (items_given s given) new
-takes_one_line s given from old mid new is t faults batch carried refused =
+    → TakesItems (form_of s.faults offset stop) old (items_given s given) new
+takes_one_line s given from offset stop old mid new is t faults batch carried refused =
     let items = items_given s given in
-    let raw = faults_next Raw old items in
-    subst (λ form. TakesItems form old items new) (sym is) (record {
+    let raw = faults_next as_raw old items in
+    subst (λ f. TakesItems (form_of f offset stop) old items new) (sym is) (record {
       batch = batch ∙ t.takes.batch;
       faults = faults ∙ ap (λ (k : ℕ). take k mid.faults ++ told OneLine (drop k mid.faults)) t.from_is
           ∙ ap (λ (l : List ℕ). take (length old.faults) l ++ told OneLine (drop (length old.faults) l)) t.takes.faults
@@ -141,10 +141,10 @@ record OneFault (line : Option ℕ) (number : ℕ) (items : List Item) : Type 0 
   pub item : Item
   pub is : items ≡ item ∷ []
   pub refused : is_carried_item item ≡ false
-  pub raw : faults_at Raw line number items ≡ fault_line_at line number (item_text item)
+  pub raw : faults_at as_raw line number items ≡ fault_line_at line number (item_text item)
 
 -- if a fault line was added, one item has it
-one_fault : (line : Option ℕ) (number : ℕ) (items : List Item) → length items ≤ 1 → 0 < length (faults_at Raw line number items)
+one_fault : (line : Option ℕ) (number : ℕ) (items : List Item) → length items ≤ 1 → 0 < length (faults_at as_raw line number items)
     → OneFault line number items
 one_fault line number [] few some = absurd (omega (arith, some))
 one_fault line number (item ∷ []) few some =
@@ -161,7 +161,7 @@ pub refused_one : (s : Settings) (given : Result (Bor (List ℕ)) PieceTooLong) 
 refused_one s given from old mid t some =
     let items = items_given s given in
     let number = old.carried + old.refused + 1 in
-    let raw = faults_at Raw old.line number items in
+    let raw = faults_at as_raw old.line number items in
     let more : 0 < length raw = omega (arith, some, grown s given from old mid t) in
     let one = one_fault old.line number items (few_given s given) more in
     let text = item_text one.item in
@@ -194,7 +194,7 @@ put_asked pieces put goes_out result is asked = rw (is, asked) refl
 
 -- nothing goes out as refused of one item at most that has no fault line
 put_none : (goes_out : Bool) (piece : List ℕ) (line : Option ℕ) (number : ℕ) (items : List Item) → length items ≤ 1
-    → length (faults_at Raw line number items) ≡ 0 → refused_lines goes_out piece items ≡ []
+    → length (faults_at as_raw line number items) ≡ 0 → refused_lines goes_out piece items ≡ []
 put_none false piece line number items few none = refl
 put_none true piece line number [] few none = refl
 put_none true piece line number (item ∷ []) few none =
@@ -209,7 +209,7 @@ put_none true piece line number (item ∷ other ∷ items) few none = absurd (om
 
 -- so it is of what a call gave
 given_none : (s : Settings) (given : Result (Bor (List ℕ)) PieceTooLong) (line : Option ℕ) (number : ℕ)
-    → length (faults_at Raw line number (items_given s given)) ≡ 0 → refused_given s given ≡ []
+    → length (faults_at as_raw line number (items_given s given)) ≡ 0 → refused_given s given ≡ []
 given_none s given line number none =
     put_none s.puts_refused (bytes_given given) line number (items_given s given) (few_given s given) none
 
@@ -232,10 +232,10 @@ pub ends_same : (s : Settings) (given : Result (Bor (List ℕ)) PieceTooLong) (f
 ends_same s given from mid same old t =
     let now = made mid.so_far in
     let number = old.carried + old.refused + 1 in
-    let none : length (faults_at Raw old.line number (items_given s given)) ≡ 0 =
+    let none : length (faults_at as_raw old.line number (items_given s given)) ≡ 0 =
     omega (arith, same, grown s given from old now t) in
     record {
-      items = takes_same s given from old now t same;
+      items = takes_same (form_given s (record { line = old.line; offset = mid.offset }) given) s given from old now t same;
       pieces = sym (ap (λ (l : List ℕ). mid.pieces.items ++ l) (given_none s given old.line number none) ∙ append-nil mid.pieces.items);
     }
 
@@ -243,7 +243,8 @@ ends_same s given from mid same old t =
 pub ends_told : (s : Settings) (given : Result (Bor (List ℕ)) PieceTooLong) (from : ℕ) (mid new : Pending)
     → from < length (string_bytes mid.so_far.faults)
     → ((old : Made) → TakesRaw s given from old (made mid.so_far)
-    → TakesItems s.faults old (items_given s given) (made new.so_far))
+    → TakesItems (form_given s (record { line = old.line; offset = mid.offset }) given) old
+    (items_given s given) (made new.so_far))
     → new.pieces.items ≡ mid.pieces.items ++ put_of s.puts_refused given → EndsPiece s from given mid new
 ends_told s given from mid new some told put old t =
     let one = refused_one s given from old (made mid.so_far) t some in
@@ -252,11 +253,11 @@ ends_told s given from mid new some told put old t =
       pieces = put ∙ ap (λ (l : List ℕ). mid.pieces.items ++ l) (sym (given_one s given one.item one.is one.refused));
     }
 
--- what was taken is taken, whatever the next fault lines name
+-- what was taken is taken, wherever the next piece starts
 pub takes_on : (s : Settings) (old : Unwritten) (result : Result (Bor (List ℕ)) PieceTooLong) (new : Pending)
-    (line : Option ℕ) → TakesGiven s old result (unwritten_of new)
-    → TakesGiven s old result (record { made = record (made new.so_far) { line = line }; pieces = new.pieces.items })
-takes_on s old result new line t =
+    (line : Option ℕ) (offset : ℕ) → TakesGiven s old result (unwritten_of new)
+    → TakesGiven s old result (record { made = record (made new.so_far) { line = line }; pieces = new.pieces.items; offset = offset })
+takes_on s old result new line offset t =
     record {
       items = record { batch = t.items.batch; faults = t.items.faults; carried = t.items.carried; refused = t.items.refused };
       pieces = t.pieces;
@@ -268,6 +269,7 @@ pub given_same : (s : Settings) (old new : Unwritten) (piece other : Bor (List �
 given_same s old new piece other same t =
     let items = items_of_bytes s.lines (rules_of s.dialect) in
     record {
-      items = subst (λ (l : List ℕ). TakesItems s.faults old.made (items l) new.made) same t.items;
+      items = subst (λ (l : List ℕ). TakesItems
+          (form_of s.faults old.offset (stop_of_bytes (rules_of s.dialect) (line_or_none old.made.line) l)) old.made (items l) new.made) same t.items;
       pieces = t.pieces ∙ ap (λ (l : List ℕ). old.pieces ++ refused_lines s.puts_refused l (items l)) same;
     }

@@ -1,18 +1,21 @@
 -- The faults of a relay as objects of JSON.
-use Rattle.std.specs.Prelude.{ℕ, ◌+◌, ◌/◌, ◌%◌, ◌==◌, ◌||◌, nat_eq, nat_lt, Bool, List, [], ◌∷◌, ◌++◌, codes, decimal, length, if◌then◌else◌}
-use Rattle.std.specs.Prelude.{Option, Some, None, Result, Ok, Err}
+use Rattle.std.specs.Prelude.{ℕ, ◌+◌, ◌/◌, ◌%◌, ◌==◌, ◌||◌, ◌&&◌, nat_eq, nat_lt, Bool, List, [], ◌∷◌, ◌++◌, codes, decimal, length, if◌then◌else◌}
+use Rattle.std.specs.Prelude.{Option, Some, None, Result, Ok, Err, is_err}
 use Rattle.std.specs.Borrow.{Bor}
 use Rattle.std.specs.List.{flat_map, starts_with}
 use Rattle.std.specs.Str.{is_utf8}
 use Rattle.influxdb_line_protocol.specs.format.Bytes.{newline, newlines_in, backslash}
 use Rattle.influxdb_line_protocol.specs.format.Dialects.{Dialect}
-use Rattle.influxdb_line_protocol.specs.format.Lines.{Line, answer}
+use Rattle.influxdb_line_protocol.specs.format.Lines.{Line, answer, front_before}
 use Rattle.influxdb_line_protocol.specs.format.Readings as fault
 use Rattle.influxdb_line_protocol.specs.format.Trimming.{trimmed}
 use Rattle.influxdb_line_protocol.specs.types.PieceTooLong.{PieceTooLong}
 use Rattle.lp_relay_core.specs.declared.taking.Settings.{Settings}
 use Rattle.lp_relay_core.specs.LineFaults.{item_text}
+use Rattle.influxdb_line_protocol.specs.code.Rules.{rules_of}
 use Rattle.lp_relay_core.specs.Relaying.{Item, answered, as_it_came, not_as_written, not_utf8, too_long, front_of, is_carried_item, items_of_piece}
+use Rattle.lp_relay_core.specs.Relaying.{is_too_long, limit_of}
+use Rattle.lp_relay_core.specs.ReadingStops.{stop_text}
 use Rattle.lp_relay_core.specs.Told.{hex_digit}
 
 -- whether a byte has an escape in a string of JSON: a quote, a backslash, and what ASCII does not print
@@ -62,29 +65,67 @@ item_front (not_as_written front wrong) = front
 item_front not_utf8 = []
 item_front (too_long kept) = []
 
--- the object of a fault, which names this item and this line, and a newline
-abbrev pub object : (number line : ℕ) → (kind text : List ℕ) → List ℕ
-object number line kind text =
-    codes "{\"item\":" ++ decimal number ++ codes ",\"line\":" ++ decimal line ++ codes ",\"kind\":\"" ++ kind ++ codes "\",\"text\":\""
-    ++ json_text text ++ codes "\"}" ++ newline ∷ []
+-- the column after these bytes, from this one on: each newline begins a line
+abbrev pub column_after : ℕ → List ℕ → ℕ
+column_after column [] = column
+column_after column (b ∷ bytes) = column_after (if b == newline then 1 else column + 1) bytes
 
--- the object of an item that is not carried, which has this number, and whose piece begins on this line: it names the line on which
--- the text of the item begins
-abbrev pub item_object : (number line : ℕ) → Item → List ℕ
-item_object number line item =
-    if is_carried_item item then [] else object number (line + newlines_in (item_front item)) (item_kind item) (item_text item)
+-- a member of this name that tells a number
+abbrev pub member : (name : List ℕ) → ℕ → List ℕ
+member name value = codes ",\"" ++ name ++ codes "\":" ++ decimal value
 
--- the objects of the items of one piece, where the first item has this number, and the piece begins on this line
-abbrev pub item_objects : (number line : ℕ) → List Item → List ℕ
-item_objects number line [] = []
-item_objects number line (item ∷ items) = item_object number line item ++ item_objects (number + 1) line items
+-- the members that tell this line and this column
+abbrev pub place_members : (line column : ℕ) → List ℕ
+place_members line column = member (codes "stop_line") line ++ member (codes "stop_column") column
 
--- the objects of the items of pieces, where the first item has this number, and the first piece begins on this line
-abbrev pub fault_objects : Settings → (number line : ℕ) → List (List ℕ) → List ℕ
-fault_objects s number line [] = []
-fault_objects s number line (piece ∷ pieces) =
-    item_objects number line (items_of_piece s piece)
-    ++ fault_objects s (number + length (items_of_piece s piece)) (line + newlines_in piece + 1) pieces
+-- the members that tell where reading stops that took these bytes of a piece, which begins on this line
+abbrev pub stop_members : (line : ℕ) → List ℕ → List ℕ
+stop_members line bytes = place_members (line + newlines_in bytes) (column_after 1 bytes)
+
+-- the same of a piece, if its text is no line; else there are none
+abbrev pub stop_of_bytes : Dialect → (line : ℕ) → List ℕ → List ℕ
+stop_of_bytes dialect line piece =
+    let text = trimmed piece in
+    if is_utf8 piece && is_err (answer dialect text) then stop_members line (front_before piece (stop_text dialect text)) else []
+
+-- the same of a piece that may be too long
+unfoldable pub stop_of_piece : Settings → (line : ℕ) → List ℕ → List ℕ
+stop_of_piece s line piece = if is_too_long (limit_of s.limit) piece then [] else stop_of_bytes (rules_of s.dialect) line piece
+
+-- the start of an object, which names this item, this line and this offset
+abbrev pub object_start : (number line offset : ℕ) → List ℕ
+object_start number line offset =
+    codes "{\"item\":" ++ decimal number ++ codes ",\"line\":" ++ decimal line ++ codes ",\"offset\":" ++ decimal offset
+
+-- the object of a fault that has these members on where reading stops, and a newline
+abbrev pub object : (number line offset : ℕ) → (kind text stop : List ℕ) → List ℕ
+object number line offset kind text stop =
+    object_start number line offset ++ codes ",\"kind\":\"" ++ kind ++ codes "\",\"text\":\"" ++ json_text text ++ codes "\"" ++ stop
+    ++ codes "}" ++ newline ∷ []
+
+-- the object of an item that is not carried, which has this number, and whose piece begins on this line and after so many bytes: it
+-- names the line on which the text of the item begins, and how many bytes come before that text
+abbrev pub item_object : (number line offset : ℕ) → (stop : List ℕ) → Item → List ℕ
+item_object number line offset stop item =
+    let front = item_front item in
+    if is_carried_item item then []
+    else object number (line + newlines_in front) (offset + length front) (item_kind item) (item_text item) stop
+
+-- the objects of the items of one piece, where the first item has this number, and the piece begins on this line and after so many
+-- bytes
+abbrev pub item_objects : (number line offset : ℕ) → (stop : List ℕ) → List Item → List ℕ
+item_objects number line offset stop [] = []
+item_objects number line offset stop (item ∷ items) =
+    item_object number line offset stop item ++ item_objects (number + 1) line offset stop items
+
+-- the objects of the items of pieces, where the first item has this number, and the first piece begins on this line and after so many
+-- bytes
+abbrev pub fault_objects : Settings → (number line offset : ℕ) → List (List ℕ) → List ℕ
+fault_objects s number line offset [] = []
+fault_objects s number line offset (piece ∷ pieces) =
+    let items = items_of_piece s piece in
+    item_objects number line offset (stop_of_piece s line piece) items
+    ++ fault_objects s (number + length items) (line + newlines_in piece + 1) (offset + length piece + 1) pieces
 
 -- what a fault line has before its text
 abbrev pub line_mark : Option ℕ → ℕ → List ℕ
@@ -110,3 +151,13 @@ abbrev pub kind_given : Dialect → Result (Bor (List ℕ)) PieceTooLong → Lis
 kind_given dialect (Ok piece) text =
     if is_utf8 piece.now then answer_kind (answer dialect (trimmed piece.now)) text else codes "not_utf8"
 kind_given dialect (Err _) text = codes "too_long"
+
+-- the members that tell where reading stops in what a call gave, which begins on this line
+abbrev pub stop_given : Dialect → (line : ℕ) → Result (Bor (List ℕ)) PieceTooLong → List ℕ
+stop_given dialect line (Ok piece) = stop_of_bytes dialect line piece.now
+stop_given dialect line (Err _) = []
+
+-- the members that tell where reading stops that took these bytes, if it stopped
+abbrev pub stop_members_of : (line : ℕ) → Option (Bor (List ℕ)) → List ℕ
+stop_members_of line (Some bytes) = stop_members line bytes.now
+stop_members_of line None = []

@@ -23,7 +23,7 @@ use Rattle.lp_rebuild.specs.declared.program.RunFault.{RunFault}
 use Rattle.lp_rebuild.specs.declared.program.RunFault.TheVariants.{Read, NotUtf8, OutOfMemory, Write}
 use Rattle.lp_rebuild.specs.RebuildSteps.{fault_line_at}
 use Rattle.lp_relay_core.specs.LineFaults.{item_text}
-use Rattle.lp_relay_core.specs.Objects.{front_given, item_object, kind_given, object}
+use Rattle.lp_relay_core.specs.Objects.{front_given, item_object, kind_given, object, stop_given, stop_of_piece}
 use Rattle.lp_relay_core.specs.Relaying.{Item, first_of, kept_of, too_long, is_carried_item, items_of_bytes, items_of_piece, items_of, items_batch, carried_items}
 use Rattle.lp_relay_core.specs.Relaying.{refused_items, refused_lines, refused_piece, refused_pieces}
 use Rattle.lp_relay_core.specs.Writers.{Known, Writers}
@@ -37,6 +37,11 @@ items_given s (Err _) = too_long (kept_of s) ∷ []
 abbrev pub newlines_given : Result (Bor (List ℕ)) PieceTooLong → ℕ
 newlines_given (Ok piece) = newlines_in piece.now
 newlines_given (Err fault) = fault.newlines
+
+-- the length of what a call gave
+abbrev pub len_given : Result (Bor (List ℕ)) PieceTooLong → ℕ
+len_given (Ok piece) = length piece.now
+len_given (Err fault) = fault.len
 
 -- the bytes of what a call gave: those of a piece, or the first ones of one that is too long
 abbrev pub bytes_given : Result (Bor (List ℕ)) PieceTooLong → List ℕ
@@ -97,18 +102,28 @@ made so_far = record {
   line = so_far.line;
 }
 
--- what was made so far, and the refused pieces that go out and are not written yet
+-- what was made so far, the refused pieces that go out and are not written yet, and how many bytes come before the next piece
 pub record Unwritten : Type 0 where
   pub made : Made
   pub pieces : List ℕ
+  pub offset : ℕ
 
 -- before the first item
 abbrev pub unwritten_of_none : Settings → Unwritten
-unwritten_of_none s = record { made = made_of_none s; pieces = [] }
+unwritten_of_none s = record { made = made_of_none s; pieces = []; offset = 0 }
 
 -- what a relay has not written yet
 abbrev pub unwritten_of : Pending → Unwritten
-unwritten_of pending = record { made = made pending.so_far; pieces = pending.pieces.items }
+unwritten_of pending = record { made = made pending.so_far; pieces = pending.pieces.items; offset = pending.offset }
+
+-- where a piece starts: on which line, if fault lines name lines, and after how many bytes
+pub record Start : Type 0 where
+  pub line : Option ℕ
+  pub offset : ℕ
+
+-- where the next piece starts
+abbrev pub start_of : Unwritten → Start
+start_of u = record { line = u.made.line; offset = u.offset }
 
 -- nothing that was made is held: all of it was written
 abbrev pub HoldsNone : Pending → Type 0
@@ -126,10 +141,14 @@ abbrev pub line_after : Option ℕ → ℕ → Option ℕ
 line_after None newlines = None
 line_after (Some line) newlines = Some (line + newlines + 1)
 
--- what they name after these pieces
-abbrev pub line_past : Option ℕ → List (List ℕ) → Option ℕ
-line_past line [] = line
-line_past line (piece ∷ pieces) = line_past (line_after line (newlines_in piece)) pieces
+-- where the next piece starts after one with so many newlines and bytes
+abbrev pub start_after : Start → (newlines len : ℕ) → Start
+start_after start newlines len = record { line = line_after start.line newlines; offset = start.offset + len + 1 }
+
+-- where it starts after these pieces
+abbrev pub start_past : Start → List (List ℕ) → Start
+start_past start [] = start
+start_past start (piece ∷ pieces) = start_past (start_after start (newlines_in piece) (length piece)) pieces
 
 -- the fault line of an item at a place, which has this number, as a rebuild writes it: none if it is carried
 abbrev pub raw_fault : Option ℕ → ℕ → Item → List ℕ
@@ -139,36 +158,55 @@ raw_fault line number item = if is_carried_item item then [] else fault_line_at 
 abbrev pub line_or_none : Option ℕ → ℕ
 line_or_none line = unwrap_or line 0
 
+-- how the fault of a piece is told: by a fault line as it is, or on one line; or by an object that has these members on where reading
+-- stops, of a piece that starts after so many bytes
+pub data Form : Type 0 where
+  as_raw as_one_line : Form
+  as_object : (offset : ℕ) → (stop : List ℕ) → Form
+
+-- how it is told by the settings
+abbrev pub form_of : Faults → (offset : ℕ) → (stop : List ℕ) → Form
+form_of Raw offset stop = as_raw
+form_of OneLine offset stop = as_one_line
+form_of (Json first_line) offset stop = as_object offset stop
+
+-- how the fault of a piece is told that starts there
+abbrev pub form_at : Settings → Start → List ℕ → Form
+form_at s start piece = form_of s.faults start.offset (stop_of_piece s (line_or_none start.line) piece)
+
+-- how the fault of what a call gave is told, if that starts there
+abbrev pub form_given : Settings → Start → Result (Bor (List ℕ)) PieceTooLong → Form
+form_given s start given = form_of s.faults start.offset (stop_given (rules_of s.dialect) (line_or_none start.line) given)
+
 -- what is told of an item at a place, which has this number
-abbrev pub told_item : Faults → Option ℕ → ℕ → Item → List ℕ
-told_item Raw line number item = raw_fault line number item
-told_item OneLine line number item = told OneLine (raw_fault line number item)
-told_item (Json first_line) line number item = item_object number (line_or_none line) item
+abbrev pub told_item : Form → Option ℕ → ℕ → Item → List ℕ
+told_item as_raw line number item = raw_fault line number item
+told_item as_one_line line number item = told OneLine (raw_fault line number item)
+told_item (as_object offset stop) line number item = item_object number (line_or_none line) offset stop item
 
 -- the fault lines of items of one piece that are not carried, at this line, where the first item has this number
-abbrev pub faults_at : Faults → Option ℕ → ℕ → List Item → List ℕ
+abbrev pub faults_at : Form → Option ℕ → ℕ → List Item → List ℕ
 faults_at form line number [] = []
 faults_at form line number (item ∷ items) =
     told_item form line number item ++ faults_at form line (number + 1) items
 
--- the fault lines of the items of pieces that are not carried, where the first piece is at this line, and the first item has
--- this number
-abbrev pub faults_from : Settings → Option ℕ → ℕ → List (List ℕ) → List ℕ
-faults_from s line number [] = []
-faults_from s line number (piece ∷ pieces) =
-    faults_at s.faults line number (items_of_piece s piece)
-    ++ faults_from s (line_after line (newlines_in piece)) (number + length (items_of_piece s piece)) pieces
+-- the fault lines of the items of pieces that are not carried, where the first piece starts there, and the first item has this number
+abbrev pub faults_from : Settings → Start → ℕ → List (List ℕ) → List ℕ
+faults_from s start number [] = []
+faults_from s start number (piece ∷ pieces) =
+    faults_at (form_at s start piece) start.line number (items_of_piece s piece)
+    ++ faults_from s (start_after start (newlines_in piece) (length piece)) (number + length (items_of_piece s piece)) pieces
 
 -- the fault lines of the items of the next piece, after what was made
-abbrev pub faults_next : Faults → Made → List Item → List ℕ
+abbrev pub faults_next : Form → Made → List Item → List ℕ
 faults_next form old items = faults_at form old.line (old.carried + old.refused + 1) items
 
 -- the fault lines of the next pieces
-abbrev pub faults_past : Settings → Made → List (List ℕ) → List ℕ
-faults_past s old pieces = faults_from s old.line (old.carried + old.refused + 1) pieces
+abbrev pub faults_past : Settings → Unwritten → List (List ℕ) → List ℕ
+faults_past s old pieces = faults_from s (start_of old) (old.made.carried + old.made.refused + 1) pieces
 
 -- these items of one piece were taken, and their fault lines are told so
-pub record TakesItems (form : Faults) (old : Made) (items : List Item) (new : Made) : Type 0 where
+pub record TakesItems (form : Form) (old : Made) (items : List Item) (new : Made) : Type 0 where
   pub batch : new.batch ≡ old.batch ++ items_batch items
   pub faults : new.faults ≡ old.faults ++ faults_next form old items
   pub carried : new.carried ≡ old.carried + carried_items items
@@ -177,7 +215,7 @@ pub record TakesItems (form : Faults) (old : Made) (items : List Item) (new : Ma
 -- what a call gave was taken: its items, and as refused what goes out of its piece
 pub record TakesGiven (s : Settings) (old : Unwritten) (result : Result (Bor (List ℕ)) PieceTooLong) (new : Unwritten)
     : Type 0 where
-  pub items : TakesItems s.faults old.made (items_given s result) new.made
+  pub items : TakesItems (form_given s (start_of old) result) old.made (items_given s result) new.made
   pub pieces : new.pieces ≡ old.pieces ++ refused_given s result
 
 -- what a call gave was taken, and its fault line, if it has one, comes after these first bytes, as a rebuild writes it
@@ -185,18 +223,20 @@ pub record TakesRaw (s : Settings) (given : Result (Bor (List ℕ)) PieceTooLong
   pub from_is : from ≡ length old.faults
   pub text : IsUtf8 old.faults
   pub line : new.line ≡ old.line
-  pub takes : TakesItems Raw old (items_given s given) new
+  pub takes : TakesItems as_raw old (items_given s given) new
 
 -- if what a call gave was taken so, the piece is taken once it ended so
 abbrev pub EndsPiece : Settings → (from : ℕ) → Result (Bor (List ℕ)) PieceTooLong → (mid new : Pending) → Type 0
 EndsPiece s from given mid new =
     (old : Made) → TakesRaw s given from old (made mid.so_far)
-    → TakesGiven s (record { made = old; pieces = mid.pieces.items }) given (unwritten_of new)
+    → TakesGiven s (record { made = old; pieces = mid.pieces.items; offset = mid.offset }) given (unwritten_of new)
 
 -- the object of what a call gave, which is refused for this text
-abbrev pub object_given : Dialect → Option ℕ → ℕ → Result (Bor (List ℕ)) PieceTooLong → List ℕ → List ℕ
-object_given dialect line number given text =
-    object number (line_or_none line + newlines_in (front_given given)) (kind_given dialect given text) text
+abbrev pub object_given : Dialect → Option ℕ → (offset number : ℕ) → Result (Bor (List ℕ)) PieceTooLong → List ℕ → List ℕ
+object_given dialect line offset number given text =
+    let front = front_given given in
+    object number (line_or_none line + newlines_in front) (offset + length front) (kind_given dialect given text) text
+    (stop_given dialect (line_or_none line) given)
 
 -- a writer gained all that was held and that was made, but for what is left
 abbrev pub Passes : Option (List ℕ) → Option (List ℕ) → (held added left : List ℕ) → Type 0
@@ -223,8 +263,8 @@ pub record RelaysPart (old : Unwritten) (before after : Known) (items : List Ite
 pub record RelaysTo (s : Settings) (text rest : List ℕ) (old new : Unwritten) (before after : Known) : Type 0 where
   pub pieces : List (List ℕ)
   pub taken : TakesPieces (rules_of s.dialect) text pieces rest
-  pub line : new.made.line ≡ line_past old.made.line pieces
-  pub relays : RelaysItems old new before after (items_of s pieces) (faults_past s old.made pieces) (refused_pieces s pieces)
+  pub start : start_of new ≡ start_past (start_of old) pieces
+  pub relays : RelaysItems old new before after (items_of s pieces) (faults_past s old pieces) (refused_pieces s pieces)
 
 -- so they were up to a rest that the stream holds
 pub record RelaysPieces (s : Settings) (text : List ℕ) (stream : HeldWithin) (old new : Unwritten) (before after : Known)
@@ -252,17 +292,17 @@ pub record RelaysSome (s : Settings) (text : List ℕ) (old : Unwritten) (before
   pub pieces : List (List ℕ)
   pub rest : List ℕ
   pub taken : TakesPieces (rules_of s.dialect) text pieces rest
-  pub part : RelaysPart old before after (items_of s pieces) (faults_past s old.made pieces) (refused_pieces s pieces)
+  pub part : RelaysPart old before after (items_of s pieces) (faults_past s old pieces) (refused_pieces s pieces)
 
 -- the last piece was taken, which is all of this text, and its line was written, or is held
 abbrev pub RelaysLast : Settings → (text : List ℕ) → (old new : Unwritten) → (before after : Known) → Type 0
 RelaysLast s text old new before after = RelaysItems old new before after (items_of_piece s text)
-    (faults_next s.faults old.made (items_of_piece s text)) (refused_piece s text)
+    (faults_next (form_at s (start_of old) text) old.made (items_of_piece s text)) (refused_piece s text)
 
 -- the same, if a beginning of it was written
 abbrev pub RelaysLastPart : Settings → (text : List ℕ) → (old : Unwritten) → (before after : Known) → Type 0
 RelaysLastPart s text old before after = RelaysPart old before after (items_of_piece s text)
-    (faults_next s.faults old.made (items_of_piece s text)) (refused_piece s text)
+    (faults_next (form_at s (start_of old) text) old.made (items_of_piece s text)) (refused_piece s text)
 
 -- no count of failures has changed
 pub record CountsNone (old new : Writers ℕ) : Type 0 where

@@ -39,7 +39,7 @@ first_item named.Lines first = 1
 abbrev pub told_faults : Faults → Settings → List (List ℕ) → List ℕ
 told_faults Raw s pieces = named_faults s.numbering s pieces
 told_faults OneLine s pieces = named_faults s.numbering s pieces
-told_faults (Json first_line) s pieces = fault_objects s (first_item s.numbering s.first) (first_of first_line) pieces
+told_faults (Json first_line) s pieces = fault_objects s (first_item s.numbering s.first) (first_of first_line) 0 pieces
 
 -- the first writer gained the batch of the items of these bytes, the second one their faults, and the third one the refused
 -- pieces, if these go out, and these are their counts

@@ -13,6 +13,7 @@ mod differing;
 mod nowhere;
 mod objects;
 mod relaying;
+mod stops;
 mod taking;
 mod telling;
 mod texts;

@@ -3,13 +3,15 @@ ghost use Rattle.std.specs.Prelude.{◌≡◌, ◌+◌, ◌<◌, ◌≤◌, ◌+
 ghost use Rattle.influxdb_line_protocol.specs.code.Rules.{rules_of};
 ghost use Rattle.influxdb_line_protocol.specs.format.Bytes.{newline, newlines_in};
 ghost use Rattle.lp_rebuild.specs.RebuildSteps.{fault_line_at};
-ghost use Rattle.lp_relay_core.specs.Objects.{escape_of, fault_kind, front_given, is_escaped, json_text, kind_given, line_kind, line_mark, object};
+ghost use Rattle.lp_relay_core.specs.Objects.{column_after, escape_of, fault_kind, front_given, is_escaped, json_text, kind_given, line_kind};
+ghost use Rattle.lp_relay_core.specs.Objects.{line_mark, member, object, object_start, place_members, stop_given, stop_members_of};
 ghost use Rattle.lp_relay_core.specs.RelaySteps.{line_or_none, object_given};
 ghost use Rattle.lp_values.specs.code.SpelledParts.{spelled_fault};
 
+use crate::stops::stop_text;
 use crate::telling::hex_digit;
 use crate::texts::{newlines_in, text_of};
-use crate::verdict::fault_of;
+use crate::verdict::{fault_of, is_line};
 use influxdb_line_protocol::{Dialect, PieceTooLong, SpelledFault};
 use lp_rebuild::batch::Progress;
 use lp_scan::trim::trimmed;
@@ -59,22 +61,44 @@ pub fn put_json_text(json: &mut String, text: &str) -> Result<(), AllocError>
     json.push_str(&text[start..])
 }
 
+// Adds the start of an object.
+fn put_start(
+    faults: &mut String,
+    number: usize,
+    line: usize,
+    offset: usize,
+) -> Result<(), AllocError>
+    ensures { OnOk result (string_bytes faults.new ≡ string_bytes faults.old ++ object_start number line offset) }
+{
+    write!(
+        faults,
+        "{{\"item\":{number},\"line\":{line},\"offset\":{offset}"
+    )
+}
+
 // Adds the object of a fault, and a newline.
 fn put_object(
     faults: &mut String,
     number: usize,
     line: usize,
+    offset: usize,
     kind: &str,
     text: &str,
+    stop: &str,
 ) -> Result<(), AllocError>
-    ensures { OnOk result (string_bytes faults.new ≡ string_bytes faults.old ++ object number line kind.now text.now) }
+    ensures { OnOk result (string_bytes faults.new ≡ string_bytes faults.old ++ object number line offset kind.now text.now stop.now) }
 {
-    write!(
-        faults,
-        "{{\"item\":{number},\"line\":{line},\"kind\":\"{kind}\",\"text\":\""
-    )?;
+    put_start(faults, number, line, offset)?;
+    write!(faults, ",\"kind\":\"{kind}\",\"text\":\"")?;
     put_json_text(faults, text)?;
-    faults.push_str("\"}\n")
+    write!(faults, "\"{stop}}}\n")
+}
+
+// Adds a member that tells a number.
+fn put_member(members: &mut String, name: &str, value: usize) -> Result<(), AllocError>
+    ensures { OnOk result (string_bytes members.new ≡ string_bytes members.old ++ member name.now value) }
+{
+    write!(members, ",\"{name}\":{value}")
 }
 
 // The kind of the fault of a text.
@@ -121,18 +145,80 @@ fn kind_given(dialect: Dialect, piece: Result<&[u8], PieceTooLong<'_>>, text: &s
     }
 }
 
-// How many newlines come before the text of a piece.
-fn newlines_before(piece: Result<&[u8], PieceTooLong<'_>>) -> usize
-    ensures { result ≡ newlines_in (front_given piece.entry) }
+// What comes before the text of a piece.
+fn front_given<'a>(piece: Result<&'a [u8], PieceTooLong<'_>>) -> &'a [u8]
+    ensures { result.now ≡ front_given piece.entry }
 {
     let Ok(bytes) = piece else {
-        return 0;
+        return b"";
     };
     let Ok(text) = text_of(bytes) else {
-        return 0;
+        return b"";
     };
     let front = bytes.len().saturating_sub(trimmed(text).len());
-    newlines_in(&bytes[..front])
+    &bytes[..front]
+}
+
+// What comes before the byte at which reading stops, of a piece whose text is no line.
+fn bytes_to_stop<'a>(
+    dialect: Dialect,
+    piece: Result<&'a [u8], PieceTooLong<'_>>,
+) -> Option<&'a [u8]>
+    ensures { (line : ℕ) → stop_members_of line result ≡ stop_given (rules_of dialect) line piece.entry }
+{
+    let Ok(bytes) = piece else {
+        return None;
+    };
+    let Ok(piece) = text_of(bytes) else {
+        return None;
+    };
+    let text = trimmed(piece);
+    if is_line(dialect, text) {
+        return None;
+    }
+    let end = bytes.len().saturating_sub(stop_text(dialect, text).len());
+    Some(&bytes[..end])
+}
+
+// The column after these bytes, from the first one on.
+fn column_after(bytes: &[u8]) -> usize
+    ensures { result ≡ column_after 1 bytes.now }
+{
+    let mut column = 1;
+    for at in 0..bytes.len() {
+        if bytes[at] == b'\n' {
+            column = 1;
+        } else {
+            column += 1;
+        }
+    }
+    column
+}
+
+// The members that tell this line and this column.
+fn place_members(alloc: Global, line: usize, column: usize) -> Result<String, AllocError>
+    ensures { IfOk result (λ members. string_bytes members ≡ place_members line column) }
+{
+    let mut members = String::new(alloc);
+    put_member(&mut members, "stop_line", line)?;
+    put_member(&mut members, "stop_column", column)?;
+    Ok(members)
+}
+
+// The members that tell where reading stops in a piece that begins on this line.
+fn stop_given(
+    alloc: Global,
+    dialect: Dialect,
+    line: usize,
+    piece: Result<&[u8], PieceTooLong<'_>>,
+) -> Result<String, AllocError>
+    ensures { IfOk result (λ stop. string_bytes stop ≡ stop_given (rules_of dialect) line piece.entry) }
+{
+    let Some(bytes) = bytes_to_stop(dialect, piece) else {
+        return Ok(String::new(alloc));
+    };
+    let stop_line = line.checked_add(newlines_in(bytes)).ok_or(AllocError)?;
+    place_members(alloc, stop_line, column_after(bytes))
 }
 
 // What a fault line has before its text.
@@ -153,13 +239,15 @@ fn text_in<'a>(mark: &str, line: &'a str) -> &'a str
     &line[mark.len()..line.len() - 1]
 }
 
-// Tells as an object the fault line that follows these first bytes, which is that of a piece.
+// Tells as an object the fault line that follows these first bytes, which is that of a piece that comes after so many bytes of the
+// input.
 #[cold]
 #[inline(never)]
 pub(crate) fn tell_as_object(
     alloc: Global,
     dialect: Dialect,
     so_far: &mut Progress,
+    offset: usize,
     from: usize,
     piece: Result<&[u8], PieceTooLong<'_>>,
 ) -> Result<(), AllocError>
@@ -171,7 +259,7 @@ pub(crate) fn tell_as_object(
     ensures told { OnOk result ((text : List ℕ) → drop from (string_bytes so_far.old.faults)
         ≡ fault_line_at so_far.old.line (so_far.old.carried + so_far.old.refused) text
         → string_bytes so_far.new.faults ≡ take from (string_bytes so_far.old.faults)
-        ++ object_given (rules_of dialect) so_far.old.line (so_far.old.carried + so_far.old.refused) piece.entry text) }
+        ++ object_given (rules_of dialect) so_far.old.line offset (so_far.old.carried + so_far.old.refused) piece.entry text) }
     ensures others { (so_far.new.batch ≡ so_far.old.batch) × (so_far.new.line ≡ so_far.old.line)
         × (so_far.new.carried ≡ so_far.old.carried) × (so_far.new.refused ≡ so_far.old.refused) }
 {
@@ -180,10 +268,18 @@ pub(crate) fn tell_as_object(
     let fault_line = so_far.faults.split_off(from)?;
     let text = text_in(mark.as_str(), fault_line.as_str());
     let kind = kind_given(dialect, piece, text);
-    let line = so_far
-        .line
-        .unwrap_or(0)
-        .checked_add(newlines_before(piece))
-        .ok_or(AllocError)?;
-    put_object(&mut so_far.faults, number, line, kind, text)
+    let line = so_far.line.unwrap_or(0);
+    let front = front_given(piece);
+    let text_line = line.checked_add(newlines_in(front)).ok_or(AllocError)?;
+    let text_offset = offset.checked_add(front.len()).ok_or(AllocError)?;
+    let stop = stop_given(alloc, dialect, line, piece)?;
+    put_object(
+        &mut so_far.faults,
+        number,
+        text_line,
+        text_offset,
+        kind,
+        text,
+        stop.as_str(),
+    )
 }

@@ -6,7 +6,7 @@ ghost use Rattle.influxdb_line_protocol.specs.code.Bounded.{Holds, KeepsRules};
 ghost use Rattle.influxdb_line_protocol.specs.code.Rules.{rules_of};
 ghost use Rattle.influxdb_line_protocol.specs.format.Pieces.{IsLastPiece};
 ghost use Rattle.lp_relay_core.specs.RelaySteps.{CountsWriteFault, HoldsLess, HoldsNone, RelaysAllPieces, RelaysBegun, RelaysItems};
-ghost use Rattle.lp_relay_core.specs.RelaySteps.{RelaysLast, RelaysLastPart, RelaysPart, RelaysSome, RelaysTo, unwritten_of};
+ghost use Rattle.lp_relay_core.specs.RelaySteps.{RelaysLast, RelaysLastPart, RelaysPart, RelaysSome, RelaysTo, start_of, unwritten_of};
 ghost use Rattle.lp_relay_core.specs.Relays.{Relays};
 ghost use Rattle.lp_relay_core.specs.Writers.{of_writers};
 ghost use Rattle.lp_rebuild.specs.Running.{reader_told, writer_told};
@@ -35,7 +35,7 @@ fn pour<W: Sink, E: Sink, P: Sink>(
     err: &mut E,
     refused: &mut P,
 ) -> Result<(), RunFault>
-    ensures line { pending.new.so_far.line ≡ pending.old.so_far.line }
+    ensures start { start_of (unwritten_of pending.new) ≡ start_of (unwritten_of pending.old) }
     ensures ok { OnOk result (RelaysItems (unwritten_of pending.old) (unwritten_of pending.new)
         (of_writers (W.bytes out.old) (E.bytes err.old) (P.bytes refused.old))
         (of_writers (W.bytes out.new) (E.bytes err.new) (P.bytes refused.new)) [] [] []) }
@@ -69,7 +69,7 @@ fn pour_full<W: Sink, E: Sink, P: Sink>(
     err: &mut E,
     refused: &mut P,
 ) -> Result<(), RunFault>
-    ensures line { pending.new.so_far.line ≡ pending.old.so_far.line }
+    ensures start { start_of (unwritten_of pending.new) ≡ start_of (unwritten_of pending.old) }
     ensures ok { OnOk result (RelaysItems (unwritten_of pending.old) (unwritten_of pending.new)
         (of_writers (W.bytes out.old) (E.bytes err.old) (P.bytes refused.old))
         (of_writers (W.bytes out.new) (E.bytes err.new) (P.bytes refused.new)) [] [] []) }
@@ -97,7 +97,7 @@ fn pour_and_flush<W: Sink, E: Sink, P: Sink>(
     err: &mut E,
     refused: &mut P,
 ) -> Result<(), RunFault>
-    ensures line { pending.new.so_far.line ≡ pending.old.so_far.line }
+    ensures start { start_of (unwritten_of pending.new) ≡ start_of (unwritten_of pending.old) }
     ensures ok { OnOk result (RelaysItems (unwritten_of pending.old) (unwritten_of pending.new)
         (of_writers (W.bytes out.old) (E.bytes err.old) (P.bytes refused.old))
         (of_writers (W.bytes out.new) (E.bytes err.new) (P.bytes refused.new)) [] [] []) }
@@ -380,8 +380,8 @@ fn finish<W: Sink, E: Sink, P: Sink>(
 /// After each of them, `out` has a beginning of the batch, `err` one of the fault lines, and `refused` one of the refused pieces.
 ///
 /// * `Read` if `reader` failed, and only there.
-/// * `OutOfMemory` if memory was refused, or if no `usize` holds the number of the next item, how many bytes a line has that is
-///   too long, or, if faults name lines, the line on which the next piece would begin.
+/// * `OutOfMemory` if memory was refused, or if no `usize` holds the number of the next item, how many bytes come before the next
+///   piece, or, if faults name lines, the line on which that would begin.
 /// * `Write` if `out`, `err` or `refused` failed, and only there.
 pub fn relay<R: Source, W: Sink, E: Sink, P: Sink>(
     alloc: Global,

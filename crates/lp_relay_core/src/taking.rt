@@ -4,8 +4,9 @@ ghost use Rattle.std.specs.Prelude.{Ok, OnOk};
 ghost use Rattle.influxdb_line_protocol.specs.code.Rules.{rules_of};
 ghost use Rattle.influxdb_line_protocol.specs.format.Bytes.{newline, newlines_in};
 ghost use Rattle.lp_relay_core.specs.Relaying.{as_it_came, items_of_bytes, kept_of, too_long};
-ghost use Rattle.lp_relay_core.specs.RelaySteps.{EndsPiece, HoldsLess, Made, TakesItems, TakesGiven, TakesRaw, first_line, items_before};
-ghost use Rattle.lp_relay_core.specs.RelaySteps.{bytes_given, items_given, line_after, made, newlines_given, unwritten_of, unwritten_of_none};
+ghost use Rattle.lp_relay_core.specs.RelaySteps.{EndsPiece, HoldsLess, Made, TakesItems, TakesGiven, TakesRaw, as_raw, bytes_given};
+ghost use Rattle.lp_relay_core.specs.RelaySteps.{first_line, form_given, items_before, items_given, len_given, line_after, made};
+ghost use Rattle.lp_relay_core.specs.RelaySteps.{newlines_given, start_after, start_of, unwritten_of, unwritten_of_none};
 ghost use Rattle.lp_relay_core.specs.TakenBack.{TakesBack};
 
 use crate::differing::{Part, differing_part, part_text};
@@ -99,6 +100,8 @@ pub(crate) struct Pending {
     pub(crate) so_far: Progress,
     /// The refused pieces that go out, each with a newline.
     pub(crate) pieces: Vec<u8>,
+    /// How many bytes come before the next piece.
+    pub(crate) offset: usize,
 }
 
 // What is wrong with a piece that is no text.
@@ -138,13 +141,17 @@ pub(crate) fn nothing_made(alloc: Global, settings: Settings) -> Pending
         line: first_line(settings),
     };
     let pieces = Vec::new(alloc);
-    Pending { so_far, pieces }
+    Pending {
+        so_far,
+        pieces,
+        offset: 0,
+    }
 }
 
 // Takes a text that holds a line as it came.
 fn take_as_it_came(so_far: &mut Progress, piece: &str) -> Result<(), AllocError>
     requires { so_far.old.carried + so_far.old.refused < usize.MAX }
-    ensures taken { OnOk result (TakesItems Faults.Raw (made so_far.old) (as_it_came piece.now ∷ []) (made so_far.new)) }
+    ensures taken { OnOk result (TakesItems as_raw (made so_far.old) (as_it_came piece.now ∷ []) (made so_far.new)) }
     ensures counted { OnOk result
         (so_far.new.carried + so_far.new.refused ≡ so_far.old.carried + so_far.old.refused + 1) }
     ensures line { so_far.new.line ≡ so_far.old.line }
@@ -168,7 +175,7 @@ fn take_verbatim<'a>(
 ) -> Result<(), AllocError>
     requires { so_far.old.carried + so_far.old.refused < usize.MAX }
     ensures taken { OnOk result
-        (TakesItems Faults.Raw (made so_far.old) (items_of_bytes Lines.Verbatim (rules_of dialect) piece.now) (made so_far.new)) }
+        (TakesItems as_raw (made so_far.old) (items_of_bytes Lines.Verbatim (rules_of dialect) piece.now) (made so_far.new)) }
     ensures counted { OnOk result
         (so_far.new.carried + so_far.new.refused ≤ so_far.old.carried + so_far.old.refused + 1) }
     ensures line { so_far.new.line ≡ so_far.old.line }
@@ -214,7 +221,7 @@ fn take_canonical<'a>(
 ) -> Result<(), AllocError>
     requires { so_far.old.carried + so_far.old.refused < usize.MAX }
     ensures taken { OnOk result
-        (TakesItems Faults.Raw (made so_far.old) (items_of_bytes Lines.Canonical (rules_of dialect) piece.now) (made so_far.new)) }
+        (TakesItems as_raw (made so_far.old) (items_of_bytes Lines.Canonical (rules_of dialect) piece.now) (made so_far.new)) }
     ensures counted { OnOk result
         (so_far.new.carried + so_far.new.refused ≤ so_far.old.carried + so_far.old.refused + 1) }
     ensures line { so_far.new.line ≡ so_far.old.line }
@@ -249,7 +256,7 @@ fn take_text<'a>(
 ) -> Result<(), AllocError>
     requires { so_far.old.carried + so_far.old.refused < usize.MAX }
     ensures taken { OnOk result
-        (TakesItems Faults.Raw (made so_far.old) (items_of_bytes settings.lines (rules_of settings.dialect) piece.now) (made so_far.new)) }
+        (TakesItems as_raw (made so_far.old) (items_of_bytes settings.lines (rules_of settings.dialect) piece.now) (made so_far.new)) }
     ensures counted { OnOk result
         (so_far.new.carried + so_far.new.refused ≤ so_far.old.carried + so_far.old.refused + 1) }
     ensures line { so_far.new.line ≡ so_far.old.line }
@@ -271,7 +278,7 @@ fn take_alone(
 ) -> Result<(), AllocError>
     requires { so_far.old.carried + so_far.old.refused < usize.MAX }
     ensures taken { OnOk result
-        (TakesItems Faults.Raw (made so_far.old) (items_of_bytes settings.lines (rules_of settings.dialect) piece.now) (made so_far.new)) }
+        (TakesItems as_raw (made so_far.old) (items_of_bytes settings.lines (rules_of settings.dialect) piece.now) (made so_far.new)) }
     ensures counted { OnOk result
         (so_far.new.carried + so_far.new.refused ≤ so_far.old.carried + so_far.old.refused + 1) }
     ensures line { so_far.new.line ≡ so_far.old.line }
@@ -295,7 +302,7 @@ fn take_alone(
 fn refuse_long(alloc: Global, settings: Settings, so_far: &mut Progress) -> Result<(), AllocError>
     requires room { so_far.old.carried + so_far.old.refused < usize.MAX }
     ensures taken { OnOk result
-        (TakesItems Faults.Raw (made so_far.old) (too_long (kept_of settings) ∷ []) (made so_far.new)) }
+        (TakesItems as_raw (made so_far.old) (too_long (kept_of settings) ∷ []) (made so_far.new)) }
     ensures counted { OnOk result
         (so_far.new.carried + so_far.new.refused ≡ so_far.old.carried + so_far.old.refused + 1) }
     ensures line { so_far.new.line ≡ so_far.old.line }
@@ -318,7 +325,7 @@ fn take_given(
 ) -> Result<(), AllocError>
     requires room { so_far.old.carried + so_far.old.refused < usize.MAX }
     ensures taken { OnOk result
-        (TakesItems Faults.Raw (made so_far.old) (items_given settings piece.entry) (made so_far.new)) }
+        (TakesItems as_raw (made so_far.old) (items_given settings piece.entry) (made so_far.new)) }
     ensures counted { OnOk result
         (so_far.new.carried + so_far.new.refused ≤ so_far.old.carried + so_far.old.refused + 1) }
     ensures line { so_far.new.line ≡ so_far.old.line }
@@ -358,12 +365,26 @@ fn line_after(
     Ok(Some(end.checked_add(1).ok_or(AllocError)?))
 }
 
-// Tells as the settings say the fault line of a piece, which follows these first bytes.
+// How many bytes come before the piece after this one, which comes after so many. They are refused if that would not fit.
+fn offset_after(offset: usize, piece: Result<&[u8], PieceTooLong<'_>>) -> Result<usize, AllocError>
+    ensures { IfOk result (λ next. next ≡ offset + len_given piece.entry + 1) }
+{
+    let len = match piece {
+        Ok(bytes) => bytes.len(),
+        Err(fault) => fault.len,
+    };
+    let newline_at = offset.checked_add(len).ok_or(AllocError)?;
+    newline_at.checked_add(1).ok_or(AllocError)
+}
+
+// Tells as the settings say the fault line of a piece, which comes after so many bytes of the input; the line follows these first
+// bytes.
 #[inline(always)]
 fn tell(
     alloc: Global,
     settings: Settings,
     so_far: &mut Progress,
+    offset: usize,
     from: usize,
     piece: Result<&[u8], PieceTooLong<'_>>,
 ) -> Result<(), AllocError>
@@ -371,13 +392,16 @@ fn tell(
     requires some { from < length (string_bytes so_far.old.faults) }
     requires fits { so_far.old.carried + so_far.old.refused ≤ usize.MAX }
     ensures told { OnOk result ((before : Made) → TakesRaw settings piece.entry from before (made so_far.old)
-        → TakesItems settings.faults before (items_given settings piece.entry) (made so_far.new)) }
+        → TakesItems (form_given settings (record { line = before.line; offset = offset }) piece.entry) before
+        (items_given settings piece.entry) (made so_far.new)) }
     ensures counts { (so_far.new.carried ≡ so_far.old.carried) × (so_far.new.refused ≡ so_far.old.refused) }
 {
     match settings.faults {
         Faults::Raw => Ok(()),
         Faults::OneLine => tell_on_one_line(&mut so_far.faults, from),
-        Faults::Json { .. } => tell_as_object(alloc, settings.dialect, so_far, from, piece),
+        Faults::Json { .. } => {
+            tell_as_object(alloc, settings.dialect, so_far, offset, from, piece)
+        },
     }
 }
 
@@ -416,13 +440,20 @@ fn end_piece(
     requires taken { (before : Made) × TakesRaw settings piece from before (made pending.old.so_far) }
     requires fits { pending.old.so_far.carried + pending.old.so_far.refused ≤ usize.MAX }
     ensures ends { OnOk result (EndsPiece settings from piece.entry pending.old pending.new) }
-    ensures counted { OnOk result ((pending.new.so_far.carried ≡ pending.old.so_far.carried)
-        × (pending.new.so_far.refused ≡ pending.old.so_far.refused)) }
+    ensures others { OnOk result ((pending.new.so_far.carried ≡ pending.old.so_far.carried)
+        × (pending.new.so_far.refused ≡ pending.old.so_far.refused) × (pending.new.offset ≡ pending.old.offset)) }
 {
     if from == pending.so_far.faults.len() {
         return Ok(());
     }
-    tell(alloc, settings, &mut pending.so_far, from, piece)?;
+    tell(
+        alloc,
+        settings,
+        &mut pending.so_far,
+        pending.offset,
+        from,
+        piece,
+    )?;
     if !settings.puts_refused {
         return Ok(());
     }
@@ -439,14 +470,17 @@ pub(crate) fn take_piece(
     requires fits { pending.old.so_far.carried + pending.old.so_far.refused ≤ usize.MAX }
     requires few { HoldsLess BLOCK pending.old }
     ensures taken { OnOk result (TakesGiven settings (unwritten_of pending.old) piece.entry (unwritten_of pending.new)) }
-    ensures line { OnOk result (pending.new.so_far.line ≡ line_after pending.old.so_far.line (newlines_given piece.entry)) }
+    ensures start { OnOk result (start_of (unwritten_of pending.new)
+        ≡ start_after (start_of (unwritten_of pending.old)) (newlines_given piece.entry) (len_given piece.entry)) }
     ensures fits { OnOk result (pending.new.so_far.carried + pending.new.so_far.refused ≤ usize.MAX) }
 {
     let next = line_after(&pending.so_far, piece)?;
+    let end = offset_after(pending.offset, piece)?;
     let from = pending.so_far.faults.len();
     take_given(alloc, settings, &mut pending.so_far, piece)?;
     end_piece(alloc, settings, pending, from, piece)?;
     pending.so_far.line = next;
+    pending.offset = end;
     Ok(())
 }
 
@@ -463,14 +497,17 @@ pub(crate) fn take_text_piece<'a>(
     requires fits { pending.old.so_far.carried + pending.old.so_far.refused ≤ usize.MAX }
     requires few { HoldsLess BLOCK pending.old }
     ensures taken { OnOk result (TakesGiven settings (unwritten_of pending.old) (Ok piece.entry) (unwritten_of pending.new)) }
-    ensures line { OnOk result (pending.new.so_far.line ≡ line_after pending.old.so_far.line (newlines_in piece.now)) }
+    ensures start { OnOk result (start_of (unwritten_of pending.new)
+        ≡ start_after (start_of (unwritten_of pending.old)) (newlines_in piece.now) (length piece.now)) }
     ensures fits { OnOk result (pending.new.so_far.carried + pending.new.so_far.refused ≤ usize.MAX) }
 {
     let given = Ok(piece.as_bytes());
     let next = line_after(&pending.so_far, given)?;
+    let end = offset_after(pending.offset, given)?;
     let from = pending.so_far.faults.len();
     take_text(alloc, settings, &mut pending.so_far, piece, line, spare)?;
     end_piece(alloc, settings, pending, from, given)?;
     pending.so_far.line = next;
+    pending.offset = end;
     Ok(())
 }

@@ -32,6 +32,8 @@ mod series;
 #[cfg(test)]
 mod small_buffers;
 #[cfg(test)]
+mod told_objects;
+#[cfg(test)]
 mod verbatim_relays;
 #[cfg(test)]
 mod wrote;

@@ -49,7 +49,7 @@ loop-piece-preserved g c =
                 (unwritten_of c.args.pending.now) (unwritten_of c.loop-piece.pending) (unwritten_of c.take_piece.new.pending) (unwritten_of c.pour_full.new.pending)
                 _ _ _ c.in-Some.piece p.to one.2
                 (at_no_fault c.take_piece.result c.if-is_err.ensures.value c.take_piece.ensures.taken)
-                (poured.line ∙ at_no_fault c.take_piece.result c.if-is_err.ensures.value c.take_piece.ensures.line) poured.ok;
+                (poured.start ∙ at_no_fault c.take_piece.result c.if-is_err.ensures.value c.take_piece.ensures.start) poured.ok;
           };
       unfailed = none_twice _ _ _ h.unfailed poured.counts;
     }

@@ -21,7 +21,7 @@ returns-then-not-settings-clause-ends c =
     omega (arith, within c.args.settings c.args.piece c.args.from before (made now.so_far) t) in
     let unasked : c.args.settings.puts_refused ≡ false = grind (arith, nat_tests) in
     ends_told c.args.settings c.args.piece c.args.from now
-    (record { so_far = c.tell.new.so_far; pieces = now.pieces }) some
+    (record { so_far = c.tell.new.so_far; pieces = now.pieces; offset = now.offset }) some
     c.in_ok-tell.ensures.told (put_unasked now.pieces.items c.args.settings.puts_refused c.args.piece unasked)
 
 pub returns-clause-ends : goal.returns-clause-ends
@@ -34,7 +34,7 @@ returns-clause-ends c =
     on_ok_weaker c.put_refused.result
     (λ put.
     ends_told c.args.settings c.args.piece c.args.from now
-    (record { so_far = c.tell.new.so_far; pieces = c.put_refused.new.pieces }) some
+    (record { so_far = c.tell.new.so_far; pieces = c.put_refused.new.pieces; offset = now.offset }) some
     c.in_ok-tell.ensures.told
     (put ∙ put_asked now.pieces.items c.bytes_given.result.now c.args.settings.puts_refused c.args.piece c.bytes_given.ensures asked))
     c.put_refused.ensures

@@ -17,7 +17,7 @@ end_piece-requires-clause-taken c = (
 
 pub returns-clause-taken : goal.returns-clause-taken
 returns-clause-taken c =
-    takes_on c.args.settings _ _ c.end_piece.new.pending c.in_ok-next.next
+    takes_on c.args.settings _ _ c.end_piece.new.pending c.in_ok-next.next c.in_ok-end.end
     (c.in_ok-end_piece.ensures.ends (made c.args.pending.now.so_far) (record {
       from_is = omega (arith, c.len-from.ensures);
       text = IsUtf8-string_bytes c.args.pending.now.so_far.faults;

@@ -2,8 +2,7 @@ use Rattle.std.proofs.Common.{subst, sym}
 use Rattle.std.proofs.lemmas.Result.{on_ok_weaker}
 use Rattle.influxdb_line_protocol.specs.code.Rules.{rules_of}
 use Rattle.lp_relay_core.specs.Relaying.{items_of_bytes}
-use Rattle.lp_relay_core.specs.declared.telling.Faults.TheVariants.{Raw}
-use Rattle.lp_relay_core.specs.RelaySteps.{TakesItems, made}
+use Rattle.lp_relay_core.specs.RelaySteps.{as_raw, TakesItems, made}
 use Rattle.lp_relay_core.proofs.RelayLemmas.{takes_text}
 use Rattle.lp_relay_core.proofs.taking.take_text.Goals as goal
 
@@ -14,7 +13,7 @@ returns-in-Rebuilt-clause-taken c =
     let old = c.args.so_far.now in
     let new = c.take_piece.new.so_far in
     on_ok_weaker c.take_piece.result
-    (λ takes. subst (λ l. TakesItems Raw (made old) (items_of_bytes l d piece) (made new)) (sym c.in-Rebuilt.is)
+    (λ takes. subst (λ l. TakesItems as_raw (made old) (items_of_bytes l d piece) (made new)) (sym c.in-Rebuilt.is)
     (takes_text d piece old new c.utf8.piece c.take_piece.ensures.blank takes))
     c.take_piece.ensures.taken
 
@@ -25,7 +24,7 @@ returns-in-Verbatim-clause-taken c =
     let old = c.args.so_far.now in
     let new = c.take_verbatim.new.so_far in
     on_ok_weaker c.take_verbatim.result
-    (λ takes. subst (λ l. TakesItems Raw (made old) (items_of_bytes l d piece) (made new)) (sym c.in-Verbatim.is) takes)
+    (λ takes. subst (λ l. TakesItems as_raw (made old) (items_of_bytes l d piece) (made new)) (sym c.in-Verbatim.is) takes)
     c.take_verbatim.ensures.taken
 
 pub returns-in-Canonical-clause-taken : goal.returns-in-Canonical-clause-taken
@@ -35,5 +34,5 @@ returns-in-Canonical-clause-taken c =
     let old = c.args.so_far.now in
     let new = c.take_canonical.new.so_far in
     on_ok_weaker c.take_canonical.result
-    (λ takes. subst (λ l. TakesItems Raw (made old) (items_of_bytes l d piece) (made new)) (sym c.in-Canonical.is) takes)
+    (λ takes. subst (λ l. TakesItems as_raw (made old) (items_of_bytes l d piece) (made new)) (sym c.in-Canonical.is) takes)
     c.take_canonical.ensures.taken

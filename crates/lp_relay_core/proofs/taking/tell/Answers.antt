@@ -16,7 +16,7 @@ tell_as_object-requires-clause-line c =
 pub returns-in-OneLine-clause-told : goal.returns-in-OneLine-clause-told
 returns-in-OneLine-clause-told c =
     on_ok_weaker c.tell_on_one_line.result
-    (λ told before t. takes_one_line c.args.settings c.args.piece c.args.from before (made c.args.so_far.now) _ c.in-OneLine.is t told refl refl refl)
+    (λ told before t. takes_one_line c.args.settings c.args.piece c.args.from c.args.offset _ before (made c.args.so_far.now) _ c.in-OneLine.is t told refl refl refl)
     c.tell_on_one_line.ensures
 
 pub returns-in-Json-clause-told : goal.returns-in-Json-clause-told
@@ -24,6 +24,6 @@ returns-in-Json-clause-told c =
     let now = made c.args.so_far.now in
     let others = c.tell_as_object.ensures.others in
     on_ok_weaker c.tell_as_object.result
-    (λ told before t. takes_object _ c.args.settings c.args.piece c.args.from before now (made c.tell_as_object.new.so_far) c.in-Json.is t
+    (λ told before t. takes_object _ c.args.settings c.args.piece c.args.from c.args.offset before now (made c.tell_as_object.new.so_far) c.in-Json.is t
     c.requires.some told (ap (λ v. v.items) others.0) others.2 others.3)
     c.tell_as_object.ensures.told
