@@ -360,19 +360,20 @@ fn finish<W: Sink, E: Sink, P: Sink>(
 /// can be read goes to `out` as it came, also one that a rebuild would refuse for a name.
 ///
 /// If `settings.puts_refused` says so, `refused` gains the piece of each item that has a fault line, byte for byte as it came,
-/// and a newline, but nothing of a piece that is too long. Else it gains nothing.
+/// and a newline; of a piece that is too long its first bytes, as many as the limit. Else it gains nothing.
 ///
 /// What each read completes is written and flushed before the next read is asked for, and the rest at the end. What is held of
 /// the input is the line that has not ended yet and one block, and of the output less than a block and what one line makes,
 /// since it is written too if it fills a block. So by `Lines::Rebuilt` `out` gains what [`run`](lp_rebuild::run) writes, and by
 /// `Faults::Raw`, if items are named from 1 on, `err` does too, but not in its order.
 ///
-/// Input that is not UTF-8 does not end it: each piece that is not is one item, whose fault line is `item N: the line is
-/// not UTF-8`, and the pieces before and after it are read as ever. So is a piece that is longer than `settings.limit`, whose
-/// fault is `the line is too long`, also if it is a comment, blank or not UTF-8; its bytes are passed over up to its end. With
-/// a limit, that many bytes and two blocks of the input are held at most: of the line that has not ended yet no more than the
-/// limit, the block that comes after them, and that block as it was read. The buffer of the first two grows by doubling, and
-/// has lines too that were taken already, so it may have room for four times as many.
+/// Input that is not UTF-8 does not end it: each piece that is not is one item, whose fault line is `item N: the line is not
+/// UTF-8`, and the pieces before and after it are read as ever. So is a piece that is longer than `settings.limit`, whose
+/// fault is `the line is too long`, also if it is a comment, blank or not UTF-8; if refused pieces go out, `: its first N
+/// bytes are kept` comes then, with the limit. Its other bytes are passed over up to its end. With a limit, that many bytes
+/// and two blocks of the input are held at most: of the line that has not ended yet no more than the limit, the block that
+/// comes after them, and that block as it was read. The buffer of the first two grows by doubling, and has lines too that
+/// were taken already, so it may have room for four times as many.
 ///
 /// # Errors
 ///

@@ -1,7 +1,7 @@
 //! Streams whose pieces have a greatest length: a longer one is one fault, which tells its newlines, its length and
 //! its first bytes, and the others are given.
 
-use crate::taken::{gives_short_pieces, too_long};
+use crate::taken::{ends_too_long, gives_short_pieces, gives_too_long};
 use influxdb_line_protocol::{BoundedLineStream, Dialect};
 use lp_vectors_shared::fault::Fault;
 use lp_vectors_shared::short_texts::{COUNTS, short_text};
@@ -17,9 +17,9 @@ fn a_long_piece_is_one_fault(rt: HostRuntime) -> Result<(), Fault> {
     stream.push(b"\n\"\\")?;
     assert!(rt; stream.next().is_none());
     stream.push(b"\n\nn b=2i\nlonger c=3i\nd")?;
-    assert!(rt; stream.next() == Some(Err(too_long(5, 12, b"m s=\"\n"))));
+    assert!(rt; gives_too_long(&mut stream, 5, 12, b"m s=\"\n"));
     assert!(rt; stream.next() == Some(Ok(b"n b=2i".as_slice())));
-    assert!(rt; stream.next() == Some(Err(too_long(0, 11, b"longer"))));
+    assert!(rt; gives_too_long(&mut stream, 0, 11, b"longer"));
     assert!(rt; stream.next().is_none());
     assert!(rt; stream.finish() == Ok(b"d".as_slice()));
     Ok(())
@@ -29,10 +29,10 @@ fn a_long_piece_is_one_fault(rt: HostRuntime) -> Result<(), Fault> {
 fn a_long_piece_that_comes_as_one_part_says_its_newlines(rt: HostRuntime) -> Result<(), Fault> {
     let mut stream = BoundedLineStream::new_in(rt.alloc(), Dialect::Crate, 3);
     stream.push(b"m s=\"a\n\nb\"\nn t=\"\n\"\no\nlast\\\nlast\\\n\\\n")?;
-    assert!(rt; stream.next() == Some(Err(too_long(2, 10, b"m s"))));
-    assert!(rt; stream.next() == Some(Err(too_long(1, 7, b"n t"))));
+    assert!(rt; gives_too_long(&mut stream, 2, 10, b"m s"));
+    assert!(rt; gives_too_long(&mut stream, 1, 7, b"n t"));
     assert!(rt; stream.next() == Some(Ok(b"o".as_slice())));
-    assert!(rt; stream.finish() == Err(too_long(3, 14, b"las")));
+    assert!(rt; ends_too_long(&mut stream, 3, 14, b"las"));
     assert!(rt; stream.next().is_none());
     assert!(rt; stream.finish() == Ok(b"".as_slice()));
     Ok(())
@@ -47,9 +47,9 @@ fn a_long_last_piece_that_was_let_go_says_its_newlines(rt: HostRuntime) -> Resul
     stream.push(b"\n\nc")?;
     assert!(rt; stream.next().is_none());
     stream.push(b"d\n")?;
-    assert!(rt; stream.finish() == Err(too_long(4, 12, b"m s")));
+    assert!(rt; ends_too_long(&mut stream, 4, 12, b"m s"));
     stream.push(b"longer\n")?;
-    assert!(rt; stream.next() == Some(Err(too_long(0, 6, b"lon"))));
+    assert!(rt; gives_too_long(&mut stream, 0, 6, b"lon"));
     Ok(())
 }
 
@@ -61,10 +61,10 @@ fn a_long_comment_is_skipped_where_the_dialect_is_strict(rt: HostRuntime) -> Res
     stream.push(b"  #\"\\")?;
     assert!(rt; stream.next().is_none());
     stream.push(b"\nm\nlast")?;
-    assert!(rt; stream.next() == Some(Err(too_long(0, 10, b"   "))));
+    assert!(rt; gives_too_long(&mut stream, 0, 10, b"   "));
     assert!(rt; stream.next() == Some(Ok(b"m".as_slice())));
     assert!(rt; stream.next().is_none());
-    assert!(rt; stream.finish() == Err(too_long(0, 4, b"las")));
+    assert!(rt; ends_too_long(&mut stream, 0, 4, b"las"));
     assert!(rt; stream.next().is_none());
     assert!(rt; stream.finish() == Ok(b"".as_slice()));
     Ok(())

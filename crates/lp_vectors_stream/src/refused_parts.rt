@@ -1,6 +1,6 @@
 //! Parts for which memory is refused: nothing is lost, and the same part can be given again.
 
-use crate::taken::{takes_answers, takes_last, takes_last_answer, takes_pieces, too_long};
+use crate::taken::{gives_too_long, takes_answers, takes_last, takes_last_answer, takes_pieces};
 use influxdb_line_protocol::{BoundedLineStream, Dialect, LineStream, split_lines, split_lines_in};
 use lp_vectors_shared::exhausted_memory::ExhaustedMemory;
 use lp_vectors_shared::fault::Fault;
@@ -120,11 +120,11 @@ fn bytes_that_are_let_go_take_no_memory(rt: HostRuntime) -> Result<(), Fault> {
     assert!(rt; is_short_refused(rt.alloc(), &mut stream, end)?);
     assert!(rt; stream.next().is_none());
     stream.push(end)?;
-    assert!(rt; stream.next() == Some(Err(too_long(1, 60, b"m s=\"123"))));
+    assert!(rt; gives_too_long(&mut stream, 1, 60, b"m s=\"123"));
     assert!(rt; stream.next() == Some(Ok(b"m a=1i".as_slice())));
     assert!(rt; stream.next() == Some(Ok(b"n b=2i".as_slice())));
-    assert!(rt; stream.next() == Some(Err(too_long(0, 13, b"a longer"))));
-    assert!(rt; stream.next() == Some(Err(too_long(0, 12, b"none of "))));
+    assert!(rt; gives_too_long(&mut stream, 0, 13, b"a longer"));
+    assert!(rt; gives_too_long(&mut stream, 0, 12, b"none of "));
     assert!(rt; stream.next().is_none());
     assert!(rt; stream.finish() == Ok(b"o c=3i".as_slice()));
     Ok(())
@@ -140,7 +140,7 @@ fn the_first_part_is_refused_where_pieces_have_a_greatest_length(
     assert!(rt; stream.finish() == Ok(b"".as_slice()));
     assert!(rt; is_short_refused(rt.alloc(), &mut stream, b"m a=1i\n")?);
     stream.push(b"m a=1i\n")?;
-    assert!(rt; stream.next() == Some(Err(too_long(0, 6, b"m a"))));
+    assert!(rt; gives_too_long(&mut stream, 0, 6, b"m a"));
     assert!(rt; stream.next().is_none());
     Ok(())
 }

@@ -45,13 +45,40 @@ pub fn gives_pieces(
     Ok(takes_last(stream, &mut pieces))
 }
 
-/// The fault of a piece with so many newlines and bytes, which begins with these.
-pub fn too_long(newlines: usize, len: usize, front: &[u8]) -> PieceTooLong<'_> {
-    PieceTooLong {
-        newlines,
-        len,
-        front,
+// Whether this is the fault of a piece with so many newlines and bytes, which begins with these.
+fn is_too_long(
+    answer: Result<&[u8], PieceTooLong<'_>>,
+    newlines: usize,
+    len: usize,
+    front: &[u8],
+) -> bool {
+    match answer {
+        Ok(_) => false,
+        Err(fault) => fault.newlines == newlines && fault.len == len && fault.front == front,
     }
+}
+
+/// Whether the next answer is the fault of a piece with so many newlines and bytes, which begins with these.
+pub fn gives_too_long(
+    stream: &mut BoundedLineStream,
+    newlines: usize,
+    len: usize,
+    front: &[u8],
+) -> bool {
+    match stream.next() {
+        Some(answer) => is_too_long(answer, newlines, len, front),
+        None => false,
+    }
+}
+
+/// Whether the answer for the last piece is that fault.
+pub fn ends_too_long(
+    stream: &mut BoundedLineStream,
+    newlines: usize,
+    len: usize,
+    front: &[u8],
+) -> bool {
+    is_too_long(stream.finish(), newlines, len, front)
 }
 
 // How many newlines there are.
@@ -72,11 +99,9 @@ fn is_answer(
     let wanted = wanted.as_bytes();
     match answer {
         Ok(piece) => piece == wanted && wanted.len() <= limit,
-        Err(fault) => {
-            fault.newlines == newlines_in(wanted)
-                && fault.len == wanted.len()
-                && wanted.len() > limit
-                && fault.front == &wanted[..limit]
+        Err(_) => {
+            wanted.len() > limit
+                && is_too_long(answer, newlines_in(wanted), wanted.len(), &wanted[..limit])
         }
     }
 }
