@@ -83,7 +83,7 @@ wanted 0 "" "" --check
 wanted 1 "" "$strict_fault" --check --strict
 wanted 2 "" "$usage" --check --output x
 wanted 0 "$loose" "8 bytes, 1 lines, 1 items: 1 carried, 0 refused$newline" --summary
-wanted 1 "" "${strict_fault}8 bytes, 1 lines, 1 items: 0 carried, 1 refused$newline" --summary --strict
+wanted 1 "" "${strict_fault}8 bytes, 1 lines, 1 items: 0 carried, 1 refused: 1 cannot_parse_entire_line$newline" --summary --strict
 # Where standard error is no terminal, no progress is shown.
 wanted 0 "$loose" "" --progress
 wanted 1 "" "$strict_fault" --strict --progress
@@ -184,7 +184,7 @@ if [ -n "$program" ]; then
     wanted 2 "" "$usage" --summary --cut 2
     wanted 2 "" "$usage" --cut 2 --summary
     wanted 2 "" "${unread}summary: $none$newline" --summary summary
-    wanted 1 "" "${strict_fault}8 bytes, 1 lines, 1 items: 0 carried, 1 refused$newline" --check --progress --summary --strict
+    wanted 1 "" "${strict_fault}8 bytes, 1 lines, 1 items: 0 carried, 1 refused: 1 cannot_parse_entire_line$newline" --check --progress --summary --strict
     wanted 2 "" "$usage" --check=1
     wanted 2 "" "$usage" --Check
     wanted 2 "" "$usage" --check --help
@@ -487,8 +487,10 @@ given 0 '' '' --check a - c
 given 1 '' "b: item 3: $x\n" --check a b
 given 2 '' "b: item 2: $x\n${unread}none: $none\n" --check b none
 given 0 '' '0 bytes, 0 lines, 0 items: 0 carried, 0 refused\n' --summary e
-given 1 'm a=1i\nm b=2i\n' "b: line 2: $x\n15 bytes, 3 lines, 3 items: 2 carried, 1 refused\n" --summary --lines a b
-given 1 '' "b: line 2: $x\n15 bytes, 3 lines, 3 items: 2 carried, 1 refused\n" --check --summary --lines a b
+given 1 'm a=1i\nm b=2i\n' "b: line 2: $x\n15 bytes, 3 lines, 3 items: 2 carried, 1 refused: 1 generic_parsing_error\n" --summary --lines a b
+given 1 '' "b: line 2: $x\n15 bytes, 3 lines, 3 items: 2 carried, 1 refused: 1 generic_parsing_error\n" --check --summary --lines a b
+given 1 'm b=2i\nm b=2i\n' "b: item 2: $x\nq: item 3: No fields were provided\nb: item 5: $x
+24 bytes, 5 lines, 5 items: 2 carried, 3 refused: 1 field_set_missing, 2 generic_parsing_error\n" --summary b q b
 given 0 'm a=1i\nm a=1i\n' '12 bytes, 2 lines, 2 items: 2 carried, 0 refused\n' --summary a a
 given 2 'm b=2i\n' "b: item 2: $x\n${unread}none: $none\n" --summary b none
 given 0 '14\n16\n' '' --cut 2 a b

@@ -80,6 +80,9 @@ relay_part() {
 }
 export -f relay_part
 
+# The line of the counts of a relay.
+counts_line='^[0-9]+ bytes, [0-9]+ lines, [0-9]+ items: [0-9]+ carried, [0-9]+ refused(: [0-9]+ [a-z0-9_]+(, [0-9]+ [a-z0-9_]+)*)?$'
+
 # Prints why a part was not relayed, after what shows more of it, dd or err; and nothing if it was. Its status, its counts, or what
 # dd says, are missing if TMPDIR is full.
 why_not() {
@@ -90,7 +93,7 @@ why_not() {
         echo "err the status of the relay is $of_relay"
     elif [ "$of_dd" != 0 ]; then
         echo "dd the status of dd is $of_dd"
-    elif ! [[ $(tail -n 1 "$waiting/$number.err") =~ ^[0-9]+\ bytes,\ [0-9]+\ lines,\ [0-9]+\ items:\ [0-9]+\ carried,\ [0-9]+\ refused$ ]]; then
+    elif ! [[ $(tail -n 1 "$waiting/$number.err") =~ $counts_line ]]; then
         echo "err its counts are not known"
     else
         said=$(tail -n 1 "$waiting/$number.dd") || said=""
@@ -148,7 +151,7 @@ with_offsets() {
 
 # Puts out what a part gave, and adds its counts to those of the whole: NUMBER, START and COUNT.
 put_part() {
-    local number=$1 start=$2 count=$3 told=$1 counts bytes_here lines_here carried_here refused_here
+    local number=$1 start=$2 count=$3 told=$1 counts word bytes_here lines_here carried_here refused_here
     want_relayed "$number" "$count"
     counts=$(tail -n 1 "$waiting/$number.err")
     if [ -n "${again[number]-}" ]; then
@@ -167,16 +170,31 @@ put_part() {
     lines=$((lines + lines_here))
     carried=$((carried + carried_here))
     refused=$((refused + refused_here))
+    counts=${counts#*refused}
+    for word in ${counts//[:,]/}; do
+        if [[ $word =~ ^[0-9]+$ ]]; then count=$word; else kinds[$word]=$((${kinds[$word]-0} + count)); fi
+    done
+}
+
+# Prints how many items all parts refused for each kind of fault, as one relay tells it.
+list_kinds() {
+    local mark=': ' kind
+    [ ${#kinds[@]} != 0 ] || return 0
+    while IFS= read -r kind; do
+        printf '%s%s %s' "$mark" "${kinds[$kind]}" "$kind"
+        mark=', '
+    done < <(printf '%s\n' "${!kinds[@]}" | LC_ALL=C sort)
 }
 
 # Puts out what all parts gave, with the fault numbers of the whole, and ends with the status of the whole.
 put_parts() {
     local number start count bytes=0 lines=0 carried=0 refused=0 again=()
+    local -A kinds=()
     number_faults
     while read -r number start count; do
         put_part "$number" "$start" "$count"
     done < <(list_parts)
     [ -z "$counts_asked" ] ||
-        echo "$bytes bytes, $lines lines, $((carried + refused)) items: $carried carried, $refused refused" >&2 || true
+        echo "$bytes bytes, $lines lines, $((carried + refused)) items: $carried carried, $refused refused$(list_kinds)" >&2 || true
     exit "$((refused > 0))"
 }

@@ -1,18 +1,34 @@
 -- What a relay tells at its end, if its words ask for that.
-use Rattle.std.specs.Prelude.{ℕ, ◌+◌, List, ◌++◌, codes, decimal, Option, Some, None, Result, Ok, Err, if◌then◌else◌}
+use Rattle.std.specs.Prelude.{ℕ, ◌+◌, ◌==◌, List, [], ◌∷◌, ◌++◌, codes, decimal, Option, Some, None, Result, Ok, Err, if◌then◌else◌}
 use Rattle.lp_rebuild.specs.declared.program.RunFault.{RunFault}
+use Rattle.lp_relay_core.specs.declared.relaying.Relayed.{Relayed}
+use Rattle.lp_relay_core.specs.Kinds.{kind_names}
 use Rattle.lp_relay.specs.declared.summary.{Summary.Summary, Totals.Totals}
 use Rattle.lp_relay.specs.declared.words.Settings.{Settings}
 
+-- the kinds of these of which some are counted, each with its count, and before the first of them a mark
+abbrev pub kinds_from : (mark : List ℕ) → (kinds : List (List ℕ)) → List ℕ → List ℕ
+kinds_from mark [] counts = []
+kinds_from mark (kind ∷ kinds) [] = []
+kinds_from mark (kind ∷ kinds) (n ∷ counts) =
+    if n == 0 then kinds_from mark kinds counts
+    else mark ++ decimal n ++ codes " " ++ kind ++ kinds_from (codes ", ") kinds counts
+
+-- how many items were refused for each kind of fault, if that was counted
+abbrev pub kinds_text : Option (List ℕ) → List ℕ
+kinds_text None = []
+kinds_text (Some counts) = kinds_from (codes ": ") kind_names counts
+
 -- how many items there were, of which so many were carried and so many refused
-abbrev pub items_text : (carried refused : ℕ) → List ℕ
-items_text carried refused =
-    decimal (carried + refused) ++ codes " items: " ++ decimal carried ++ codes " carried, " ++ decimal refused ++ codes " refused"
+abbrev pub items_text : Relayed → List ℕ
+items_text counts =
+    decimal (counts.carried + counts.refused) ++ codes " items: " ++ decimal counts.carried ++ codes " carried, "
+    ++ decimal counts.refused ++ codes " refused" ++ kinds_text counts.kinds
 
 -- how many bytes and lines were read, and how many items there were
 abbrev pub summary_text : Totals → List ℕ
 summary_text totals =
-    decimal totals.bytes ++ codes " bytes, " ++ decimal totals.lines ++ codes " lines, " ++ items_text totals.carried totals.refused
+    decimal totals.bytes ++ codes " bytes, " ++ decimal totals.lines ++ codes " lines, " ++ items_text totals.counts
 
 -- the summary of a relay: none if its settings ask for none, and none after a fault
 abbrev pub asked_summary : Settings → Result Totals RunFault → Option Summary

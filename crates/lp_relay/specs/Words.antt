@@ -79,6 +79,7 @@ given_settings given = record {
     first = first_named given;
     faults = told_form given;
     puts_refused = is_some given.refused;
+    counts_kinds = given.summary;
   };
   progress = given.progress;
   summary = given.summary;

@@ -23,9 +23,9 @@ use meter::{Counted, Meter, MeteredSink, MeteredSource};
 use named::Named;
 use noted::{Noted, Notes};
 use std::alloc::Global;
-use std::env;
 use std::io::{self, ErrorKind, IsTerminal};
 use std::process::ExitCode;
+use std::{array, env};
 use summary::{Totals, summary_of};
 use tally::Tally;
 use words::{
@@ -48,6 +48,19 @@ fn settings_after(settings: Settings, so_far: Relayed) -> Settings {
     next
 }
 
+// The counts of what came before, and after it of an input.
+fn sum_of(so_far: Relayed, counts: Relayed) -> Relayed {
+    let kinds = match (so_far.kinds, counts.kinds) {
+        (Some(kinds), Some(more)) => Some(array::from_fn(|at| kinds[at].saturating_add(more[at]))),
+        (_, more) => more,
+    };
+    Relayed {
+        carried: so_far.carried.saturating_add(counts.carried),
+        refused: so_far.refused.saturating_add(counts.refused),
+        kinds,
+    }
+}
+
 // Relays each input by itself, and adds up the counts.
 fn relay_each<R: Source + Drop, W: Sink, E: Sink, P: Sink>(
     alloc: Global,
@@ -62,6 +75,7 @@ fn relay_each<R: Source + Drop, W: Sink, E: Sink, P: Sink>(
     let mut total = Relayed {
         carried: 0,
         refused: 0,
+        kinds: None,
     };
     let mut asked = settings;
     for name in names {
@@ -69,16 +83,14 @@ fn relay_each<R: Source + Drop, W: Sink, E: Sink, P: Sink>(
             return Err(RunFault::OutOfMemory);
         }
         let counts = relay_as_asked(alloc, asked, &mut reader, out, err, refused)?;
-        total.carried = total.carried.saturating_add(counts.carried);
-        total.refused = total.refused.saturating_add(counts.refused);
+        total = sum_of(total, counts);
         asked = settings_after(settings, total);
     }
     let (bytes, lines) = reader.counts();
     Ok(Totals {
         bytes,
         lines,
-        carried: total.carried,
-        refused: total.refused,
+        counts: total,
     })
 }
 
@@ -194,10 +206,7 @@ fn relay<'n>(rt: &HostRuntime, request: Request<'n>, names: &'n [&'n str]) -> u8
     if let Some(summary) = summary_of(request.settings, &answer) {
         let _ = eprintln!(rt; "{summary}");
     }
-    status_of_relay(
-        &answer.map(|totals| totals.counts()),
-        notes.is_pipe_closed(),
-    )
+    status_of_relay(&answer.map(|totals| totals.counts), notes.is_pipe_closed())
 }
 
 // Prints where the inputs of these names can be cut into parts, a line for each end.

@@ -1,10 +1,11 @@
 //! What a relay tells at its end.
-ghost use Rattle.std.specs.Prelude.{◌≡◌};
-ghost use Rattle.lp_relay.specs.Summaries.{asked_summary};
+ghost use Rattle.std.specs.Prelude.{◌≡◌, Some, map};
+ghost use Rattle.std.specs.Fmt.{DisplaysOnOk};
+ghost use Rattle.lp_relay.specs.Summaries.{asked_summary, kinds_from};
 
 use crate::words::Settings;
 use lp_rebuild::RunFault;
-use lp_relay_core::Relayed;
+use lp_relay_core::{KINDS, Relayed};
 use std::fmt;
 
 /// What a relay read, and what came of it.
@@ -14,46 +15,78 @@ pub struct Totals {
     pub bytes: u64,
     /// How many lines were read.
     pub lines: u64,
-    /// How many items were carried.
-    pub carried: usize,
-    /// How many items were refused.
-    pub refused: usize,
+    /// How many items were carried and refused.
+    pub counts: Relayed,
 }
 
-impl Totals {
-    /// How many items were carried and refused.
-    pub fn counts(self) -> Relayed
-        ensures { result ≡ record { carried = self.carried; refused = self.refused } }
-    {
-        Relayed {
-            carried: self.carried,
-            refused: self.refused,
+// Writes these kinds, of which some are counted, each with its count, and before the first of them a mark.
+fn show_kinds<W: fmt::Write>(
+    mark: &str,
+    kinds: &[&str],
+    counts: &[usize],
+    f: &mut fmt::Formatter<W>,
+) -> fmt::Result
+    ensures { DisplaysOnOk W.write_str_gives f.old result (Some (kinds_from mark.now (map (λ kind. kind.now) kinds.now) counts.now)) f.new }
+{
+    let (Some((kind, kinds)), Some((count, counts))) = (kinds.split_first(), counts.split_first())
+    else {
+        return Ok(());
+    };
+    if *count == 0 {
+        return show_kinds(mark, kinds, counts, f);
+    }
+    write!(f, "{mark}{count} {kind}")?;
+    show_kinds(", ", kinds, counts, f)
+}
+
+// How many items were refused for each kind of fault, if that was counted, shown as `: 1 not_utf8, 2 too_long`.
+#[derive(Clone, Copy)]
+struct Kinds {
+    counts: Option<[usize; 13]>,
+}
+
+impl fmt::Display for Kinds {
+    ghost use Rattle.std.specs.Prelude.{Some};
+    ghost use Rattle.lp_relay.specs.Summaries.{kinds_text};
+
+    ghost output = { λ kinds. Some (kinds_text kinds.counts) };
+
+    #[tactic(auto, unfolding(lp_relay_core::specs::Kinds::kind_names))]
+    fn fmt<W: fmt::Write>(&self, f: &mut fmt::Formatter<W>) -> fmt::Result {
+        match &self.counts {
+            Some(counts) => show_kinds(": ", &KINDS, counts, f),
+            None => Ok(()),
         }
     }
 }
 
-// How many items there were, shown as `3 items: 2 carried, 1 refused`.
+// How many items there were, shown as `3 items: 1 carried, 2 refused: 1 not_utf8, 1 too_long`.
 #[derive(Clone, Copy)]
 struct Items {
-    carried: usize,
-    refused: usize,
+    counts: Relayed,
 }
 
 impl fmt::Display for Items {
     ghost use Rattle.std.specs.Prelude.{Some};
     ghost use Rattle.lp_relay.specs.Summaries.{items_text};
 
-    ghost output = { λ items. Some (items_text items.carried items.refused) };
+    ghost output = { λ items. Some (items_text items.counts) };
 
     fn fmt<W: fmt::Write>(&self, f: &mut fmt::Formatter<W>) -> fmt::Result {
-        let carried = self.carried;
-        let refused = self.refused;
+        let carried = self.counts.carried;
+        let refused = self.counts.refused;
         let items = carried as u128 + refused as u128;
-        write!(f, "{items} items: {carried} carried, {refused} refused")
+        let kinds = Kinds {
+            counts: self.counts.kinds,
+        };
+        write!(
+            f,
+            "{items} items: {carried} carried, {refused} refused{kinds}"
+        )
     }
 }
 
-/// The totals of a relay, shown as `34 bytes, 4 lines, 3 items: 2 carried, 1 refused`.
+/// The totals of a relay, shown as `34 bytes, 4 lines, 3 items: 2 carried, 1 refused: 1 not_utf8`.
 #[derive(Clone, Copy)]
 pub struct Summary {
     totals: Totals,
@@ -69,8 +102,7 @@ impl fmt::Display for Summary {
         let bytes = self.totals.bytes;
         let lines = self.totals.lines;
         let items = Items {
-            carried: self.totals.carried,
-            refused: self.totals.refused,
+            counts: self.totals.counts,
         };
         write!(f, "{bytes} bytes, {lines} lines, {items}")
     }

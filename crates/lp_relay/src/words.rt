@@ -46,8 +46,9 @@ input; ./-x names a file -x.
                      read, percent if all inputs are files, lines written, faults, and MB/s,
                      each second while input comes, and once more at the end
   --summary          says at the end on standard error, if the status is 0 or 1, how many bytes,
-                     lines and items there were:
-                     `B bytes, L lines, N items: C carried, R refused`
+                     lines and items there were, and how many were refused for each kind of
+                     fault, as objects name it:
+                     `B bytes, L lines, N items: C carried, R refused: K KIND, ..`
   --check            writes no line, but the faults and the status are as ever
   --output FILE, -o  writes the lines to FILE, which is there, and whole, once the status is 0 or 1
   --refused FILE     writes each piece that is refused to FILE as it came, with its newline, and of a
@@ -215,6 +216,7 @@ impl<'a> Given<'a> {
             first: self.first_named(),
             faults: self.told_form(),
             puts_refused: self.refused.is_some(),
+            counts_kinds: self.summary,
         };
         Settings {
             relay,

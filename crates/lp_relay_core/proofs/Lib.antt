@@ -5,6 +5,7 @@ pub mod WalkLemmas
 pub mod PassLemmas
 pub mod ItemLemmas
 pub mod FaultLines
+pub mod KindLemmas
 pub mod RelayLemmas
 pub mod DifferingLemmas
 pub mod CanonicalLemmas

@@ -1,6 +1,6 @@
 -- Faults that are told as objects.
 use Rattle.std.proofs.Common.{◌≡◌, ℕ, ◌+◌, ◌-◌, ◌<◌, Bool, false, true, cond, List, [], ◌∷◌, ◌++◌, codes, length, take, drop, Option, None, Some}
-use Rattle.std.proofs.Common.{Result, Ok, Err, is_err, is_ok, not, refl, sym, ap, subst, ◌∙◌, append-nil, inl, inr}
+use Rattle.std.proofs.Common.{option_map, Result, Ok, Err, is_err, is_ok, not, refl, sym, ap, subst, ◌∙◌, append-nil, inl, inr}
 use Rattle.std.specs.Borrow.{Bor}
 use Rattle.std.specs.Str.{IsUtf8, bytes_eq, is_utf8}
 use Rattle.std.proofs.lemmas.Bool.{cases_Bool}
@@ -23,6 +23,7 @@ use Rattle.lp_relay_core.specs.declared.taking.Lines.{Lines}
 use Rattle.lp_relay_core.specs.declared.taking.Lines.TheVariants.{Rebuilt, Verbatim, Canonical}
 use Rattle.lp_relay_core.specs.declared.taking.Settings.{Settings}
 use Rattle.lp_relay_core.specs.Differing.{at_start, differing_part, part_text}
+use Rattle.lp_relay_core.specs.Kinds.{counts_with, kind_names, kinds_after}
 use Rattle.lp_relay_core.specs.LineFaults.{item_text}
 use Rattle.lp_relay_core.specs.Objects.{answer_kind, fault_kind, front_given, item_front, item_kind, item_object, kind_given, line_kind, object, stop_given, stop_members}
 use Rattle.lp_relay_core.specs.Relaying.{Item, canonical_item, front_of, is_carried_item, item_of, items_of_bytes, kept_of, not_utf8, too_long}
@@ -33,6 +34,7 @@ use Rattle.lp_values.specs.code.SpelledParts.{spelled_fault}
 use Rattle.lp_values.specs.declared.spelled.SpelledFault.{SpelledFault}
 use Rattle.lp_relay_core.proofs.CanonicalLemmas.{not_admitted, otherwise}
 use Rattle.lp_relay_core.proofs.ItemLemmas.{item_of_no_text}
+use Rattle.lp_relay_core.proofs.KindLemmas.{kinds_of_refused}
 use Rattle.lp_relay_core.proofs.RelayLemmas.{blank_items, text_item}
 use Rattle.lp_relay_core.proofs.ToldLemmas.{refused_one}
 
@@ -242,3 +244,15 @@ kind_if_fault found (Err fault) text is = let same : spelled_fault found ≡ fau
 pub kind_if_line : (a : Result Line Fault) (text : List ℕ) → None ≡ fault_in a → line_kind text ≡ answer_kind a text
 kind_if_line (Ok line) text is = refl
 kind_if_line (Err fault) text is = absurd (cc)
+
+-- what a call gave was refused, and the kind of its fault was counted
+pub kind_counted : (s : Settings) (given : Result (Bor (List ℕ)) PieceTooLong) (from : ℕ) (old mid : Made)
+    (before after : Option (List ℕ)) → TakesRaw s given from old mid → from < length mid.faults
+    → ((text : List ℕ) → drop from mid.faults ≡ fault_line_at mid.line (mid.carried + mid.refused) text
+    → after ≡ option_map (counts_with kind_names (kind_given (rules_of s.dialect) given text)) before)
+    → after ≡ kinds_after (items_given s given) before
+kind_counted s given from old mid before after t some counts =
+    let one = refused_one s given from old mid t some in
+    let kind = (described s given one.item one.is one.refused).1 in
+    counts (item_text one.item) one.line ∙ kinds_of_refused one.item _ before one.refused kind
+    ∙ sym (ap (λ (l : List Item). kinds_after l before) one.is)

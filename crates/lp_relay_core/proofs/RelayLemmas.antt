@@ -20,6 +20,7 @@ use Rattle.lp_rebuild.specs.RebuildSteps.{Refuses, Takes}
 use Rattle.lp_rebuild.specs.Running.{AppendsFront}
 use Rattle.lp_relay_core.specs.declared.taking.Lines.{Lines}
 use Rattle.lp_relay_core.specs.declared.taking.Lines.TheVariants.{Rebuilt, Verbatim}
+use Rattle.lp_relay_core.specs.Kinds.{kinds_after}
 use Rattle.lp_relay_core.specs.Relaying.{Item, answered, as_it_came, front_of, item_of, kept_of, long_text, not_utf8, too_long, items_of_bytes, items_batch}
 use Rattle.influxdb_line_protocol.specs.types.PieceTooLong.{PieceTooLong}
 use Rattle.lp_relay_core.specs.declared.taking.Pending.{Pending}
@@ -30,6 +31,7 @@ use Rattle.lp_relay_core.specs.Writers.{Known, of_writers}
 use Rattle.lp_rebuild.proofs.RebuildLemmas.{add_where, add_elsewhere, blank_answers, piece_answers}
 use Rattle.lp_relay_core.proofs.PassLemmas.{passes_none, passes_more, passes_front}
 use Rattle.lp_relay_core.proofs.ItemLemmas.{batch_append, carried_append, refused_append}
+use Rattle.lp_relay_core.proofs.KindLemmas.{kinds_of_more, kinds_of_nothing}
 use Rattle.lp_relay_core.proofs.ItemLemmas.{items_of_text, item_of_no_text}
 
 -- nothing was taken
@@ -160,15 +162,16 @@ takes_bad_bytes lines dialect piece old new bad r =
 
 -- what was taken is held
 pub relays_taken : (form : Form) (old new : Unwritten) (a : Known) (xs : List Item) (ps : List ℕ)
-    → TakesItems form old.made xs new.made → new.pieces ≡ old.pieces ++ ps
+    → TakesItems form old.made xs new.made → new.pieces ≡ old.pieces ++ ps → new.kinds ≡ kinds_after xs old.kinds
     → RelaysItems old new a a xs (faults_next form old.made xs) ps
-relays_taken form old new a xs ps t pieces =
+relays_taken form old new a xs ps t pieces kinds =
     record {
       batch = ([], Appends-nil a.out, t.batch);
       faults = ([], Appends-nil a.err, t.faults);
       pieces = ([], Appends-nil a.refused, pieces);
       carried = t.carried;
       refused = t.refused;
+      kinds = kinds;
     }
 
 -- one step, and then another
@@ -182,6 +185,7 @@ relays_more old mid new a b c xs ys fs gs ps qs p q =
       pieces = passes_more a.refused b.refused c.refused old.pieces ps mid.pieces qs new.pieces p.pieces q.pieces;
       carried = omega (arith, p.carried, q.carried, carried_append xs ys);
       refused = omega (arith, p.refused, q.refused, refused_append xs ys);
+      kinds = q.kinds ∙ ap (kinds_after ys) p.kinds ∙ kinds_of_more xs ys old.kinds;
     }
 
 -- the same, if the other wrote a beginning
@@ -295,7 +299,7 @@ pub relays_poured : (s : Settings) (old now next poured : Unwritten) (a b c : Kn
     (fs ++ faults_next (form_given s (start_of now) result) now.made (items_given s result)) (ps ++ refused_given s result)
 relays_poured s old now next poured a b c xs fs ps result p t q =
     relays_then old next poured a b c _ _ _
-    (relays_more old now next a b b xs _ fs _ ps _ p (relays_taken (form_given s (start_of now) result) now next b _ _ t.items t.pieces)) q
+    (relays_more old now next a b b xs _ fs _ ps _ p (relays_taken (form_given s (start_of now) result) now next b _ _ t.items t.pieces t.kinds)) q
 
 -- the same, if a beginning of it was written
 pub part_poured : (s : Settings) (old now next : Unwritten) (a b c : Known) (xs : List Item) (fs ps : List ℕ)
@@ -305,11 +309,12 @@ pub part_poured : (s : Settings) (old now next : Unwritten) (a b c : Known) (xs 
     (fs ++ faults_next (form_given s (start_of now) result) now.made (items_given s result)) (ps ++ refused_given s result)
 part_poured s old now next a b c xs fs ps result p t q =
     part_then old next a b c _ _ _
-    (relays_more old now next a b b xs _ fs _ ps _ p (relays_taken (form_given s (start_of now) result) now next b _ _ t.items t.pieces)) q
+    (relays_more old now next a b b xs _ fs _ ps _ p (relays_taken (form_given s (start_of now) result) now next b _ _ t.items t.pieces t.kinds)) q
 
 -- nothing was made so far
 pub relays_none : (old : Unwritten) (a : Known) → RelaysItems old old a a [] [] []
-relays_none old a = relays_taken as_raw old old a [] [] (takes_nothing old.made) (sym (append-nil old.pieces))
+relays_none old a =
+    relays_taken as_raw old old a [] [] (takes_nothing old.made) (sym (append-nil old.pieces)) (sym (kinds_of_nothing old.kinds))
 
 -- a fact at a fault
 pub on_err : {T E P : Type 0} (r : Result T E) → P → OnErr r P

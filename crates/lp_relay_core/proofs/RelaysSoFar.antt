@@ -17,6 +17,7 @@ use Rattle.lp_relay_core.specs.Relaying.{items_of_piece, items_of, items_batch, 
 use Rattle.lp_relay_core.specs.Writers.{Known}
 use Rattle.lp_relay_core.specs.RelaySteps.{RelaysAllPieces, RelaysItems, RelaysLast, RelaysLastPart, RelaysPart, RelaysSome, Unwritten}
 use Rattle.lp_relay_core.specs.RelaySteps.{faults_from, faults_past, items_before, start_of, start_past, unwritten_of_none}
+use Rattle.lp_relay_core.proofs.KindLemmas.{counts_add_up, kinds_of_all}
 use Rattle.lp_relay_core.proofs.PassLemmas.{passes_all, passes_some}
 use Rattle.lp_relay_core.proofs.ItemLemmas.{batch_append, items_push}
 use Rattle.lp_relay_core.proofs.FaultLines.{faults_from_append, faults_named, start_append}
@@ -167,8 +168,8 @@ pub so_far_all : RunsEnd → (s : Settings) (r m t : Option (List ℕ)) (stream 
     → ((text : List ℕ) → Holds stream text → IsLastPiece (rules_of s.dialect) text → RelaysLast s text now end b c)
     → end.made.batch ≡ [] → end.made.faults ≡ [] → end.pieces ≡ []
     → counts.carried + items_before s.numbering s.first ≡ end.made.carried → counts.refused ≡ end.made.refused
-    → IfSome r (λ bs. (t ≡ Some []) × RelaysAll s bs counts a c)
-so_far_all ends s r m t stream now end counts a b c h read at_end p no_batch no_faults no_pieces carried refused =
+    → counts.kinds ≡ end.kinds → IfSome r (λ bs. (t ≡ Some []) × RelaysAll s bs counts a c)
+so_far_all ends s r m t stream now end counts a b c h read at_end p no_batch no_faults no_pieces carried refused kinds =
     let old = unwritten_of_none s in
     let pieces = h.pieces ++ h.held ∷ [] in
     let items = items_of s pieces in
@@ -189,6 +190,9 @@ so_far_all ends s r m t stream now end counts a b c h read at_end p no_batch no_
       put = passes_all a.refused c.refused put end.pieces all.pieces no_pieces;
       carried = omega (arith, carried, all.carried);
       refused = omega (arith, refused, all.refused);
+      kinds = kinds ∙ all.kinds ∙ kinds_of_all s items;
+      kinds_add_up = counts_add_up s items counts.kinds counts.refused (kinds ∙ all.kinds ∙ kinds_of_all s items)
+          (omega (arith, refused, all.refused));
     })
 
 -- there, if a writer had a fault

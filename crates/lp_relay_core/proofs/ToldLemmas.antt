@@ -18,12 +18,14 @@ use Rattle.lp_relay_core.specs.declared.telling.Faults.TheVariants.{OneLine}
 use Rattle.lp_relay_core.specs.declared.taking.Lines.{Lines}
 use Rattle.lp_relay_core.specs.declared.taking.Pending.{Pending}
 use Rattle.lp_relay_core.specs.declared.taking.Settings.{Settings}
+use Rattle.lp_relay_core.specs.Kinds.{kinds_after}
 use Rattle.lp_relay_core.specs.LineFaults.{item_text}
 use Rattle.lp_relay_core.specs.Objects.{stop_of_bytes}
 use Rattle.lp_relay_core.specs.Relaying.{Item, is_carried_item, items_of_bytes, refused_lines}
 use Rattle.lp_relay_core.specs.RelaySteps.{EndsPiece, Made, TakesItems, TakesGiven, TakesRaw, Unwritten, faults_at, faults_next}
 use Rattle.lp_relay_core.specs.RelaySteps.{Form, bytes_given, as_raw, as_object, as_one_line, form_given, form_of, items_given, line_or_none, made, raw_fault, refused_given, told_item, unwritten_of}
 use Rattle.lp_relay_core.specs.Told.{told}
+use Rattle.lp_relay_core.proofs.KindLemmas.{kinds_of_carried, kinds_of_nothing}
 use Rattle.lp_relay_core.proofs.RelayLemmas.{blank_items, text_item}
 use Rattle.lp_relay_core.proofs.ItemLemmas.{item_of_no_text, items_add_up}
 
@@ -192,26 +194,34 @@ pub put_asked : (pieces put : List ℕ) (goes_out : Bool) (result : Result (Bor 
     → put ≡ bytes_given result → goes_out ≡ true → pieces ++ (put ++ newline ∷ []) ≡ pieces ++ put_of goes_out result
 put_asked pieces put goes_out result is asked = rw (is, asked) refl
 
--- nothing goes out as refused of one item at most that has no fault line
-put_none : (goes_out : Bool) (piece : List ℕ) (line : Option ℕ) (number : ℕ) (items : List Item) → length items ≤ 1
-    → length (faults_at as_raw line number items) ≡ 0 → refused_lines goes_out piece items ≡ []
-put_none false piece line number items few none = refl
-put_none true piece line number [] few none = refl
-put_none true piece line number (item ∷ []) few none =
+-- one item at most that has no fault line is carried
+data Carried (items : List Item) : Type 0 where
+  no_item : items ≡ [] → Carried items
+  one_item : (item : Item) → items ≡ item ∷ [] → is_carried_item item ≡ true → Carried items
+
+carried_if_none : (line : Option ℕ) (number : ℕ) (items : List Item) → length items ≤ 1
+    → length (faults_at as_raw line number items) ≡ 0 → Carried items
+carried_if_none line number [] few none = no_item refl
+carried_if_none line number (item ∷ []) few none =
     elim (cases_Bool (is_carried_item item)) [
-      | inl carried ↦ rw carried refl
+      | inl carried ↦ one_item item refl carried
       | inr refused ↦
           let its = rw refused at none in
           let raw = fault_line_at line number (item_text item) in
           absurd (omega (arith, its, length-append raw [], fault_line_some line number (item_text item)))
     ]
-put_none true piece line number (item ∷ other ∷ items) few none = absurd (omega (arith, few))
+carried_if_none line number (item ∷ other ∷ items) few none = absurd (omega (arith, few))
 
--- so it is of what a call gave
-given_none : (s : Settings) (given : Result (Bor (List ℕ)) PieceTooLong) (line : Option ℕ) (number : ℕ)
-    → length (faults_at as_raw line number (items_given s given)) ≡ 0 → refused_given s given ≡ []
-given_none s given line number none =
-    put_none s.puts_refused (bytes_given given) line number (items_given s given) (few_given s given) none
+-- of it nothing goes out as refused
+put_none : (goes_out : Bool) (piece : List ℕ) (items : List Item) → Carried items → refused_lines goes_out piece items ≡ []
+put_none false piece items c = refl
+put_none true piece items (no_item none) = rw none refl
+put_none true piece items (one_item item one carried) = rw (one, carried) refl
+
+-- and nothing is counted
+count_none : (items : List Item) (counts : Option (List ℕ)) → Carried items → kinds_after items counts ≡ counts
+count_none items counts (no_item none) = ap (λ (l : List Item). kinds_after l counts) none ∙ kinds_of_nothing counts
+count_none items counts (one_item item one carried) = ap (λ (l : List Item). kinds_after l counts) one ∙ kinds_of_carried item counts carried
 
 -- of an item that is refused, its piece goes out
 put_one : (goes_out : Bool) (piece : List ℕ) (item : Item) → is_carried_item item ≡ false
@@ -232,35 +242,42 @@ pub ends_same : (s : Settings) (given : Result (Bor (List ℕ)) PieceTooLong) (f
 ends_same s given from mid same old t =
     let now = made mid.so_far in
     let number = old.carried + old.refused + 1 in
-    let none : length (faults_at as_raw old.line number (items_given s given)) ≡ 0 =
-    omega (arith, same, grown s given from old now t) in
+    let items = items_given s given in
+    let none : length (faults_at as_raw old.line number items) ≡ 0 = omega (arith, same, grown s given from old now t) in
+    let carried = carried_if_none old.line number items (few_given s given) none in
     record {
       items = takes_same (form_given s (record { line = old.line; offset = mid.offset }) given) s given from old now t same;
-      pieces = sym (ap (λ (l : List ℕ). mid.pieces.items ++ l) (given_none s given old.line number none) ∙ append-nil mid.pieces.items);
+      pieces = sym (ap (λ (l : List ℕ). mid.pieces.items ++ l) (put_none s.puts_refused (bytes_given given) items carried)
+          ∙ append-nil mid.pieces.items);
+      kinds = sym (count_none items mid.kinds carried);
     }
 
--- a piece that has a fault line ends once that is told, and the piece is put out
+-- a piece that has a fault line ends once that is told, its kind is counted, and the piece is put out
 pub ends_told : (s : Settings) (given : Result (Bor (List ℕ)) PieceTooLong) (from : ℕ) (mid new : Pending)
     → from < length (string_bytes mid.so_far.faults)
     → ((old : Made) → TakesRaw s given from old (made mid.so_far)
     → TakesItems (form_given s (record { line = old.line; offset = mid.offset }) given) old
     (items_given s given) (made new.so_far))
+    → ((old : Made) → TakesRaw s given from old (made mid.so_far) → new.kinds ≡ kinds_after (items_given s given) mid.kinds)
     → new.pieces.items ≡ mid.pieces.items ++ put_of s.puts_refused given → EndsPiece s from given mid new
-ends_told s given from mid new some told put old t =
+ends_told s given from mid new some told counted put old t =
     let one = refused_one s given from old (made mid.so_far) t some in
     record {
       items = told old t;
       pieces = put ∙ ap (λ (l : List ℕ). mid.pieces.items ++ l) (sym (given_one s given one.item one.is one.refused));
+      kinds = counted old t;
     }
 
 -- what was taken is taken, wherever the next piece starts
 pub takes_on : (s : Settings) (old : Unwritten) (result : Result (Bor (List ℕ)) PieceTooLong) (new : Pending)
     (line : Option ℕ) (offset : ℕ) → TakesGiven s old result (unwritten_of new)
-    → TakesGiven s old result (record { made = record (made new.so_far) { line = line }; pieces = new.pieces.items; offset = offset })
+    → TakesGiven s old result
+    (record { made = record (made new.so_far) { line = line }; pieces = new.pieces.items; offset = offset; kinds = new.kinds })
 takes_on s old result new line offset t =
     record {
       items = record { batch = t.items.batch; faults = t.items.faults; carried = t.items.carried; refused = t.items.refused };
       pieces = t.pieces;
+      kinds = t.kinds;
     }
 
 -- so is it with another reference to the same bytes
@@ -272,4 +289,5 @@ given_same s old new piece other same t =
       items = subst (λ (l : List ℕ). TakesItems
           (form_of s.faults old.offset (stop_of_bytes (rules_of s.dialect) (line_or_none old.made.line) l)) old.made (items l) new.made) same t.items;
       pieces = t.pieces ∙ ap (λ (l : List ℕ). old.pieces ++ refused_lines s.puts_refused l (items l)) same;
+      kinds = t.kinds ∙ ap (λ (l : List ℕ). kinds_after (items l) old.kinds) same;
     }

@@ -22,6 +22,7 @@ use Rattle.lp_relay_core.specs.Told.{told}
 use Rattle.lp_rebuild.specs.declared.program.RunFault.{RunFault}
 use Rattle.lp_rebuild.specs.declared.program.RunFault.TheVariants.{Read, NotUtf8, OutOfMemory, Write}
 use Rattle.lp_rebuild.specs.RebuildSteps.{fault_line_at}
+use Rattle.lp_relay_core.specs.Kinds.{kinds_after, kinds_of_none}
 use Rattle.lp_relay_core.specs.LineFaults.{item_text}
 use Rattle.lp_relay_core.specs.Objects.{front_given, item_object, kind_given, object, stop_given, stop_of_piece}
 use Rattle.lp_relay_core.specs.Relaying.{Item, first_of, kept_of, too_long, is_carried_item, items_of_bytes, items_of_piece, items_of, items_batch, carried_items}
@@ -102,19 +103,22 @@ made so_far = record {
   line = so_far.line;
 }
 
--- what was made so far, the refused pieces that go out and are not written yet, and how many bytes come before the next piece
+-- what was made so far, the refused pieces that go out and are not written yet, how many bytes come before the next piece, and how
+-- many items were refused for each kind of fault, if that is counted
 pub record Unwritten : Type 0 where
   pub made : Made
   pub pieces : List ℕ
   pub offset : ℕ
+  pub kinds : Option (List ℕ)
 
 -- before the first item
 abbrev pub unwritten_of_none : Settings → Unwritten
-unwritten_of_none s = record { made = made_of_none s; pieces = []; offset = 0 }
+unwritten_of_none s = record { made = made_of_none s; pieces = []; offset = 0; kinds = kinds_of_none s }
 
 -- what a relay has not written yet
 abbrev pub unwritten_of : Pending → Unwritten
-unwritten_of pending = record { made = made pending.so_far; pieces = pending.pieces.items; offset = pending.offset }
+unwritten_of pending =
+    record { made = made pending.so_far; pieces = pending.pieces.items; offset = pending.offset; kinds = pending.kinds }
 
 -- where a piece starts: on which line, if fault lines name lines, and after how many bytes
 pub record Start : Type 0 where
@@ -212,11 +216,12 @@ pub record TakesItems (form : Form) (old : Made) (items : List Item) (new : Made
   pub carried : new.carried ≡ old.carried + carried_items items
   pub refused : new.refused ≡ old.refused + refused_items items
 
--- what a call gave was taken: its items, and as refused what goes out of its piece
+-- what a call gave was taken: its items, as refused what goes out of its piece, and the kind of its fault, if kinds are counted
 pub record TakesGiven (s : Settings) (old : Unwritten) (result : Result (Bor (List ℕ)) PieceTooLong) (new : Unwritten)
     : Type 0 where
   pub items : TakesItems (form_given s (start_of old) result) old.made (items_given s result) new.made
   pub pieces : new.pieces ≡ old.pieces ++ refused_given s result
+  pub kinds : new.kinds ≡ kinds_after (items_given s result) old.kinds
 
 -- what a call gave was taken, and its fault line, if it has one, comes after these first bytes, as a rebuild writes it
 pub record TakesRaw (s : Settings) (given : Result (Bor (List ℕ)) PieceTooLong) (from : ℕ) (old new : Made) : Type 0 where
@@ -229,7 +234,7 @@ pub record TakesRaw (s : Settings) (given : Result (Bor (List ℕ)) PieceTooLong
 abbrev pub EndsPiece : Settings → (from : ℕ) → Result (Bor (List ℕ)) PieceTooLong → (mid new : Pending) → Type 0
 EndsPiece s from given mid new =
     (old : Made) → TakesRaw s given from old (made mid.so_far)
-    → TakesGiven s (record { made = old; pieces = mid.pieces.items; offset = mid.offset }) given (unwritten_of new)
+    → TakesGiven s (record { made = old; pieces = mid.pieces.items; offset = mid.offset; kinds = mid.kinds }) given (unwritten_of new)
 
 -- the object of what a call gave, which is refused for this text
 abbrev pub object_given : Dialect → Option ℕ → (offset number : ℕ) → Result (Bor (List ℕ)) PieceTooLong → List ℕ → List ℕ
@@ -242,13 +247,15 @@ object_given dialect line offset number given text =
 abbrev pub Passes : Option (List ℕ) → Option (List ℕ) → (held added left : List ℕ) → Type 0
 Passes old new held added left = (written : List ℕ) × Appends old new written × (written ++ left ≡ held ++ added)
 
--- the lines of these items were written, or are held, and so were these fault lines of theirs and these refused pieces
+-- the lines of these items were written, or are held, and so were these fault lines of theirs and these refused pieces; and the items
+-- were counted
 pub record RelaysItems (old new : Unwritten) (before after : Known) (items : List Item) (fault_lines put : List ℕ) : Type 0 where
   pub batch : Passes before.out after.out old.made.batch (items_batch items) new.made.batch
   pub faults : Passes before.err after.err old.made.faults fault_lines new.made.faults
   pub pieces : Passes before.refused after.refused old.pieces put new.pieces
   pub carried : new.made.carried ≡ old.made.carried + carried_items items
   pub refused : new.made.refused ≡ old.made.refused + refused_items items
+  pub kinds : new.kinds ≡ kinds_after items old.kinds
 
 -- a beginning of the lines of these items was written, one of these fault lines, and one of these refused pieces
 pub record RelaysPart (old : Unwritten) (before after : Known) (items : List Item) (fault_lines put : List ℕ) : Type 0 where

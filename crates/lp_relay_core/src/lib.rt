@@ -10,6 +10,7 @@
 
 mod cuts;
 mod differing;
+mod kinds;
 mod nowhere;
 mod objects;
 mod relaying;
@@ -20,6 +21,7 @@ mod texts;
 mod verdict;
 
 pub use cuts::part_ends;
+pub use kinds::KINDS;
 pub use nowhere::Nowhere;
 pub use objects::put_json_text;
 pub use relaying::{Relayed, relay};

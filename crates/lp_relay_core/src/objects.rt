@@ -239,6 +239,28 @@ fn text_in<'a>(mark: &str, line: &'a str) -> &'a str
     &line[mark.len()..line.len() - 1]
 }
 
+// The kind of the fault of a piece whose fault line follows these first bytes.
+pub(crate) fn kind_told(
+    alloc: Global,
+    dialect: Dialect,
+    so_far: &Progress,
+    from: usize,
+    piece: Result<&[u8], PieceTooLong<'_>>,
+) -> Result<&'static str, AllocError>
+    requires front { IsUtf8 (take from (string_bytes so_far.now.faults)) }
+    requires within { from ≤ length (string_bytes so_far.now.faults) }
+    requires fits { so_far.now.carried + so_far.now.refused ≤ usize.MAX }
+    requires line { (text : List ℕ) × (drop from (string_bytes so_far.now.faults)
+        ≡ fault_line_at so_far.now.line (so_far.now.carried + so_far.now.refused) text) }
+    ensures { IfOk result (λ kind. (text : List ℕ) → drop from (string_bytes so_far.now.faults)
+        ≡ fault_line_at so_far.now.line (so_far.now.carried + so_far.now.refused) text
+        → kind.now ≡ kind_given (rules_of dialect) piece.entry text) }
+{
+    let mark = line_mark(alloc, so_far.line, so_far.carried + so_far.refused)?;
+    let text = text_in(mark.as_str(), &so_far.faults.as_str()[from..]);
+    Ok(kind_given(dialect, piece, text))
+}
+
 // Tells as an object the fault line that follows these first bytes, which is that of a piece that comes after so many bytes of the
 // input.
 #[cold]

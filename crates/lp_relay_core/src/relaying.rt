@@ -26,9 +26,12 @@ pub struct Relayed {
     pub carried: usize,
     /// How many items have a fault line.
     pub refused: usize,
+    /// How many items were refused for each kind of fault of [`KINDS`](crate::KINDS), if the settings ask for that.
+    pub kinds: Option<[usize; 13]>,
 }
 
 // Writes all that is held.
+#[tactic(auto, using(crate::proofs::KindLemmas::kinds_of_nothing))]
 fn pour<W: Sink, E: Sink, P: Sink>(
     pending: &mut Pending,
     out: &mut W,
@@ -422,6 +425,7 @@ pub fn relay<R: Source, W: Sink, E: Sink, P: Sink>(
                     .carried
                     .saturating_sub(items_before(settings)),
                 refused: pending.so_far.refused,
+                kinds: pending.kinds,
             });
         }
         relay_part(

@@ -10,6 +10,7 @@ ghost use Rattle.lp_relay_core.specs.RelaySteps.{newlines_given, start_after, st
 ghost use Rattle.lp_relay_core.specs.TakenBack.{TakesBack};
 
 use crate::differing::{Part, differing_part, part_text};
+use crate::kinds::count_refused;
 use crate::objects::tell_as_object;
 use crate::telling::{Faults, tell_on_one_line};
 use crate::texts::{newlines_in, text_of};
@@ -67,6 +68,8 @@ pub struct Settings {
     /// Whether each piece that is refused goes out too, to a writer of its own: of one that is too long its first bytes, as many as
     /// the limit.
     pub puts_refused: bool,
+    /// Whether it is counted for which kind of fault each item is refused.
+    pub counts_kinds: bool,
 }
 
 impl Default for Settings {
@@ -79,6 +82,7 @@ impl Default for Settings {
           first = 1;
           faults = Faults.Raw;
           puts_refused = false;
+          counts_kinds = false;
         } }
     {
         Settings {
@@ -89,6 +93,7 @@ impl Default for Settings {
             first: 1,
             faults: Faults::Raw,
             puts_refused: false,
+            counts_kinds: false,
         }
     }
 }
@@ -102,6 +107,8 @@ pub(crate) struct Pending {
     pub(crate) pieces: Vec<u8>,
     /// How many bytes come before the next piece.
     pub(crate) offset: usize,
+    /// How many items were refused for each kind of fault, if that is counted.
+    pub(crate) kinds: Option<[usize; 13]>,
 }
 
 // What is wrong with a piece that is no text.
@@ -129,6 +136,7 @@ fn first_line(settings: Settings) -> Option<usize>
 }
 
 // Before the first item. It takes no memory.
+#[tactic(auto, unfolding(crate::specs::Kinds::kind_names))]
 pub(crate) fn nothing_made(alloc: Global, settings: Settings) -> Pending
     ensures made { unwritten_of result ≡ unwritten_of_none settings }
     ensures fits { result.so_far.carried + result.so_far.refused ≤ usize.MAX }
@@ -145,6 +153,11 @@ pub(crate) fn nothing_made(alloc: Global, settings: Settings) -> Pending
         so_far,
         pieces,
         offset: 0,
+        kinds: if settings.counts_kinds {
+            Some([0; 13])
+        } else {
+            None
+        },
     }
 }
 
@@ -427,8 +440,8 @@ fn put_refused(pieces: &mut Vec<u8>, piece: &[u8]) -> Result<(), AllocError>
     Ok(())
 }
 
-// Ends a piece that was taken: if its item was refused, its fault line, which follows these first bytes, is told, and the piece, or
-// its first bytes if it is too long, goes out, if refused pieces do.
+// Ends a piece that was taken: if its item was refused, its fault line, which follows these first bytes, is told, its kind is counted, if
+// kinds are, and the piece, or its first bytes if it is too long, goes out, if refused pieces do.
 #[inline(always)]
 fn end_piece(
     alloc: Global,
@@ -446,6 +459,14 @@ fn end_piece(
     if from == pending.so_far.faults.len() {
         return Ok(());
     }
+    count_refused(
+        alloc,
+        settings.dialect,
+        &mut pending.kinds,
+        &pending.so_far,
+        from,
+        piece,
+    )?;
     tell(
         alloc,
         settings,

@@ -10,6 +10,8 @@ mod canonical_relays;
 #[cfg(test)]
 mod changed;
 #[cfg(test)]
+mod counted_kinds;
+#[cfg(test)]
 mod failed_relays;
 #[cfg(test)]
 mod failures;

@@ -71,6 +71,7 @@ fn a_long_line_without_an_end_is_the_last_item(rt: HostRuntime) -> Result<(), Al
     let counts = Relayed {
         carried: 1,
         refused: 2,
+        kinds: None,
     };
     assert_eq!(rt; wrote.answer, Ok(counts));
     Ok(())

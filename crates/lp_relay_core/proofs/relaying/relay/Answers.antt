@@ -49,7 +49,7 @@ returns-then-n-eq0 g c =
     omega (arith, c.saturating_sub.ensures, c.items_before.ensures, h.so_far.relays.carried, last.carried) in
     (ended c.utf8_by_pieces.ensures c.pieces_join.ensures.one _ _ _ _ _ _
     (so_far_all c.runs_give_pieces.ensures.end _ _ _ _ _ _ _ _ _ _ _ h.so_far
-    (reads_none _ _ _ c.in_ok-n.n c.if-n-eq0.true read.ok) (read.end c.if-n-eq0.true) done.ok done.none.0 done.none.1 done.none.2 carried refl)
+    (reads_none _ _ _ c.in_ok-n.n c.if-n-eq0.true read.ok) (read.end c.if-n-eq0.true) done.ok done.none.0 done.none.1 done.none.2 carried refl refl)
     done.flushed (read.counts ∙ h.reader_unfailed) (none_twice _ _ _ h.unfailed done.counts))
 
 pub returns-in_err-relay_part : goal.returns-in_err-relay_part

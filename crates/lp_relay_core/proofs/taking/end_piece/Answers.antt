@@ -1,12 +1,27 @@
 use Rattle.std.proofs.Common.{◌≡◌, ◌<◌, ◌∙◌, length, string_bytes, arith, false, true}
 use Rattle.std.proofs.lemmas.Bool.Decides.{nat_tests}
 use Rattle.std.proofs.lemmas.Result.{on_ok_weaker}
+use Rattle.lp_relay_core.specs.LineFaults.{item_text}
 use Rattle.lp_relay_core.specs.RelaySteps.{made}
-use Rattle.lp_relay_core.proofs.ToldLemmas.{ends_same, ends_told, put_asked, put_unasked, within}
+use Rattle.lp_relay_core.proofs.ObjectLemmas.{kind_counted}
+use Rattle.lp_relay_core.proofs.ToldLemmas.{ends_same, ends_told, put_asked, put_unasked, refused_one, within}
 use Rattle.lp_relay_core.proofs.taking.end_piece.Goals as goal
 
 pub returns-then-from-len-clause-ends : goal.returns-then-from-len-clause-ends
 returns-then-from-len-clause-ends c = ends_same c.args.settings c.args.piece c.args.from c.args.pending.now (omega arith)
+
+pub count_refused-requires-clause-within : goal.count_refused-requires-clause-within
+count_refused-requires-clause-within c =
+    let (before, t) = c.requires.taken in
+    omega (arith, within c.args.settings c.args.piece c.args.from before (made c.args.pending.now.so_far) t)
+
+pub count_refused-requires-clause-line : goal.count_refused-requires-clause-line
+count_refused-requires-clause-line c =
+    let now = made c.args.pending.now.so_far in
+    let (before, t) = c.requires.taken in
+    let some : c.args.from < length now.faults = omega (arith, within c.args.settings c.args.piece c.args.from before now t) in
+    let one = refused_one c.args.settings c.args.piece c.args.from before now t some in
+    (item_text one.item, one.line)
 
 pub tell-requires-clause-some : goal.tell-requires-clause-some
 tell-requires-clause-some c =
@@ -21,8 +36,11 @@ returns-then-not-settings-clause-ends c =
     omega (arith, within c.args.settings c.args.piece c.args.from before (made now.so_far) t) in
     let unasked : c.args.settings.puts_refused ≡ false = grind (arith, nat_tests) in
     ends_told c.args.settings c.args.piece c.args.from now
-    (record { so_far = c.tell.new.so_far; pieces = now.pieces; offset = now.offset }) some
-    c.in_ok-tell.ensures.told (put_unasked now.pieces.items c.args.settings.puts_refused c.args.piece unasked)
+    (record { so_far = c.tell.new.so_far; pieces = now.pieces; offset = now.offset; kinds = c.count_refused.new.kinds }) some
+    c.in_ok-tell.ensures.told
+    (λ old taken. kind_counted c.args.settings c.args.piece c.args.from old (made now.so_far) now.kinds c.count_refused.new.kinds taken some
+    c.in_ok-count_refused.ensures)
+    (put_unasked now.pieces.items c.args.settings.puts_refused c.args.piece unasked)
 
 pub returns-clause-ends : goal.returns-clause-ends
 returns-clause-ends c =
@@ -34,7 +52,9 @@ returns-clause-ends c =
     on_ok_weaker c.put_refused.result
     (λ put.
     ends_told c.args.settings c.args.piece c.args.from now
-    (record { so_far = c.tell.new.so_far; pieces = c.put_refused.new.pieces; offset = now.offset }) some
+    (record { so_far = c.tell.new.so_far; pieces = c.put_refused.new.pieces; offset = now.offset; kinds = c.count_refused.new.kinds }) some
     c.in_ok-tell.ensures.told
+    (λ old taken. kind_counted c.args.settings c.args.piece c.args.from old (made now.so_far) now.kinds c.count_refused.new.kinds taken some
+    c.in_ok-count_refused.ensures)
     (put ∙ put_asked now.pieces.items c.bytes_given.result.now c.args.settings.puts_refused c.args.piece c.bytes_given.ensures asked))
     c.put_refused.ensures
