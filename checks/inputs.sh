@@ -9,6 +9,8 @@
 # is wanted of the whole is made from the table alone. The block has an odd number of bytes, so a read ends anywhere in it.
 set -eu
 export LC_ALL=C
+top=$(cd "$(dirname "$0")/.." && pwd)
+. "$top/checks/left_out.sh"
 rebuild=$(readlink -f "$1")
 relay=$(readlink -f "$2")
 work=$(mktemp -d)
@@ -185,6 +187,20 @@ told="item 1: Could not parse entire line. Found trailing content: ' "
 { printf %s "$told"; head -c "$((200 - ${#told}))" /dev/zero | tr '\0' x; echo ".. [$((${#told} + 10000001)) bytes]"; } >lines_wanted
 "$relay" <large >out 2>err && status=0 || status=$?
 wanted 1 lines lines_wanted "$relay, of a long fault line,"
+
+# Of each corpus of the bench both programs write the same.
+if command -v python3 >/dev/null; then
+    python3 -B "$top/bench/corpora.py" --seed inputs --size 1000000 --out corpora >/dev/null
+    for corpus in corpora/*.lp; do
+        for strict in "" --strict; do
+            "$rebuild" ${strict:+"$strict"} <"$corpus" >out_wanted 2>items_wanted && status_wanted=0 || status_wanted=$?
+            "$relay" ${strict:+"$strict"} --faults raw <"$corpus" >out 2>err && status=0 || status=$?
+            wanted "$status_wanted" out_wanted items_wanted "$relay $strict --faults raw, of $corpus,"
+        done
+    done
+else
+    left_out "both programs over the corpora of the bench" "there is no python3, for checks/inputs.sh"
+fi
 echo "inputs: $runs runs over $((${#block} * blocks)) bytes and more gave what the table says"
 
 # at_once INPUT OUTPUT PLACE: what is put into a pipe in one write, and no more, gives all of an output before the pipe is closed.

@@ -27,7 +27,7 @@ fn fault(note: &Cell<Option<io::Error>>, error: io::Error) -> RunFault {
 }
 
 // A file for the place of this name, if there is one.
-fn open<'a>(
+fn open_file<'a>(
     rt: &'a HostRuntime,
     name: Option<&str>,
     note: &Cell<Option<io::Error>>,
@@ -42,14 +42,14 @@ fn open<'a>(
 }
 
 // Removes a file, if there is one.
-fn remove(file: Option<Output<'_>>) {
+fn remove_file(file: Option<Output<'_>>) {
     if let Some(file) = file {
         file.remove();
     }
 }
 
 // Waits until all of a file is on the device, if there is one.
-fn sync(file: &Option<Output<'_>>, note: &Cell<Option<io::Error>>) -> Result<(), RunFault> {
+fn sync_file(file: &Option<Output<'_>>, note: &Cell<Option<io::Error>>) -> Result<(), RunFault> {
     match file {
         Some(file) => file.sync().map_err(|error| fault(note, error)),
         None => Ok(()),
@@ -57,7 +57,7 @@ fn sync(file: &Option<Output<'_>>, note: &Cell<Option<io::Error>>) -> Result<(),
 }
 
 // Puts a file in its place, if there is one.
-fn put(file: &Option<Output<'_>>, note: &Cell<Option<io::Error>>) -> Result<(), RunFault> {
+fn place_file(file: &Option<Output<'_>>, note: &Cell<Option<io::Error>>) -> Result<(), RunFault> {
     match file {
         Some(file) => file.put().map_err(|error| fault(note, error)),
         None => Ok(()),
@@ -75,8 +75,8 @@ impl<'a> Files<'a> {
         request: Request<'_>,
         notes: &Notes<'_>,
     ) -> Result<Self, RunFault> {
-        let lines = open(rt, request.output, &notes.output)?;
-        match open(rt, request.refused, &notes.refused) {
+        let lines = open_file(rt, request.output, &notes.output)?;
+        match open_file(rt, request.refused, &notes.refused) {
             Ok(refused) => {
                 let files = Files { lines, refused };
                 match files.are_apart() {
@@ -88,7 +88,7 @@ impl<'a> Files<'a> {
                 }
             }
             Err(fault) => {
-                remove(lines);
+                remove_file(lines);
                 Err(fault)
             }
         }
@@ -134,15 +134,15 @@ impl<'a> Files<'a> {
 
     // Puts each file in its place. After an error the first may be there already.
     fn put_each(&self, notes: &Notes<'_>) -> Result<(), RunFault> {
-        sync(&self.lines, &notes.output)?;
-        sync(&self.refused, &notes.refused)?;
-        put(&self.lines, &notes.output)?;
-        put(&self.refused, &notes.refused)
+        sync_file(&self.lines, &notes.output)?;
+        sync_file(&self.refused, &notes.refused)?;
+        place_file(&self.lines, &notes.output)?;
+        place_file(&self.refused, &notes.refused)
     }
 
     /// Removes each file.
     pub(crate) fn remove(self) {
-        remove(self.lines);
-        remove(self.refused);
+        remove_file(self.lines);
+        remove_file(self.refused);
     }
 }

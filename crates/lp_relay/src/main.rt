@@ -94,48 +94,28 @@ fn relay_each<R: Source + Drop, W: Sink, E: Sink, P: Sink>(
     })
 }
 
-// Relays inputs, and shows nothing.
-fn relay_quietly(
+// Relays the inputs of these names, one after another, and shows on the terminal how far it is, if that is asked for.
+fn relay_inputs<'n>(
     rt: &HostRuntime,
     settings: Settings,
-    names: &[&str],
-    inputs: Inputs<'_, '_>,
+    names: &'n [&'n str],
     outputs: Outputs<'_>,
-    notes: &Notes<'_>,
+    notes: &Notes<'n>,
 ) -> Result<Totals, RunFault> {
-    let reader = Reading::new(Noted::new(&notes.input, inputs));
-    let mut out = Writing::new(Noted::new(&notes.output, outputs.lines));
-    let err = Writing::new(Noted::new(&notes.faults, rt.stderr()));
-    let mut err = Named::new(rt.alloc(), err);
-    let mut refused = Writing::new(Noted::new(&notes.refused, outputs.refused));
-    relay_each(
-        rt.alloc(),
-        settings,
-        names,
-        reader,
-        &mut out,
-        &mut err,
-        &mut refused,
-    )
-}
-
-// Relays inputs, and shows on the terminal how far it is.
-fn relay_with_progress(
-    rt: &HostRuntime,
-    settings: Settings,
-    names: &[&str],
-    inputs: Inputs<'_, '_>,
-    outputs: Outputs<'_>,
-    notes: &Notes<'_>,
-) -> Result<Totals, RunFault> {
-    let meter = Meter::new(rt, total_len(rt, names));
+    let meter = if settings.progress && rt.stderr().is_terminal() {
+        Some(Meter::new(rt, total_len(rt, names)))
+    } else {
+        None
+    };
+    let shown = meter.as_ref();
     let is_out_shown = notes.output_name.is_none() && rt.stdout().is_terminal();
+    let inputs = Inputs::new(rt, names, &notes.input_name, true);
     let reader = Reading::new(Noted::new(&notes.input, inputs));
     let out = Writing::new(Noted::new(&notes.output, outputs.lines));
     let err = Writing::new(Noted::new(&notes.faults, rt.stderr()));
-    let reader = MeteredSource::new(&meter, reader);
-    let mut out = MeteredSink::new(&meter, Counted::Lines, is_out_shown, out);
-    let err = MeteredSink::new(&meter, Counted::Faults, true, err);
+    let reader = MeteredSource::new(shown, reader);
+    let mut out = MeteredSink::new(shown, Counted::Lines, is_out_shown, out);
+    let err = MeteredSink::new(shown, Counted::Faults, true, err);
     let mut err = Named::new(rt.alloc(), err);
     let mut refused = Writing::new(Noted::new(&notes.refused, outputs.refused));
     let answer = relay_each(
@@ -147,24 +127,10 @@ fn relay_with_progress(
         &mut err,
         &mut refused,
     );
-    meter.finish();
-    answer
-}
-
-// Relays the inputs of these names, one after another.
-fn relay_inputs<'n>(
-    rt: &HostRuntime,
-    settings: Settings,
-    names: &'n [&'n str],
-    outputs: Outputs<'_>,
-    notes: &Notes<'n>,
-) -> Result<Totals, RunFault> {
-    let inputs = Inputs::new(rt, names, &notes.input_name, true);
-    if settings.progress && rt.stderr().is_terminal() {
-        relay_with_progress(rt, settings, names, inputs, outputs, notes)
-    } else {
-        relay_quietly(rt, settings, names, inputs, outputs, notes)
+    if let Some(meter) = shown {
+        meter.finish();
     }
+    answer
 }
 
 // Relays the inputs of these names to the files that a request names, and puts these in their places.

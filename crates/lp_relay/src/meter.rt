@@ -129,15 +129,15 @@ fn add(count: &Cell<u64>, more: usize) {
     count.set(total(count.get(), more));
 }
 
-/// A source that shows on a meter what is read of another.
+/// A source that shows on a meter, if there is one, what is read of another.
 #[derive(Drop)]
 pub(crate) struct MeteredSource<'a, R, S> {
-    meter: &'a Meter<'a, R>,
+    meter: Option<&'a Meter<'a, R>>,
     inner: S,
 }
 
 impl<'a, R: Clock + Eprint, S: Source> MeteredSource<'a, R, S> {
-    pub(crate) fn new(meter: &'a Meter<'a, R>, inner: S) -> Self {
+    pub(crate) fn new(meter: Option<&'a Meter<'a, R>>, inner: S) -> Self {
         MeteredSource { meter, inner }
     }
 }
@@ -149,8 +149,8 @@ impl<'a, R: Clock + Eprint, S: Source> Source for MeteredSource<'a, R, S> {
 
     fn read(&mut self, buf: &mut [u8]) -> Result<usize, DeviceFault> {
         let answer = self.inner.read(buf);
-        if let Ok(n) = answer {
-            self.meter.on_read(n);
+        if let (Some(meter), Ok(n)) = (self.meter, answer) {
+            meter.on_read(n);
         }
         answer
     }
@@ -165,10 +165,10 @@ pub(crate) enum Counted {
     Faults,
 }
 
-/// A sink that shows on a meter how many lines are written to another.
+/// A sink that shows on a meter, if there is one, how many lines are written to another.
 #[derive(Drop)]
 pub(crate) struct MeteredSink<'a, R, S> {
-    meter: &'a Meter<'a, R>,
+    meter: Option<&'a Meter<'a, R>>,
     counted: Counted,
     /// Whether it writes to the terminal that shows the line, which is then cleared before each write.
     is_on_terminal: bool,
@@ -177,7 +177,7 @@ pub(crate) struct MeteredSink<'a, R, S> {
 
 impl<'a, R: Clock + Eprint, S: Sink> MeteredSink<'a, R, S> {
     pub(crate) fn new(
-        meter: &'a Meter<'a, R>,
+        meter: Option<&'a Meter<'a, R>>,
         counted: Counted,
         is_on_terminal: bool,
         inner: S,
@@ -199,14 +199,17 @@ impl<'a, R: Clock + Eprint, S: Sink> Sink for MeteredSink<'a, R, S> {
     ghost is_flushed = { λ s. S.is_flushed s.inner };
 
     fn write(&mut self, buf: &[u8]) -> Result<usize, DeviceFault> {
+        let Some(meter) = self.meter else {
+            return self.inner.write(buf);
+        };
         if self.is_on_terminal {
-            self.meter.clear();
+            meter.clear();
         }
         let answer = self.inner.write(buf);
         if let Ok(n) = answer {
             let count = match self.counted {
-                Counted::Lines => &self.meter.lines,
-                Counted::Faults => &self.meter.faults,
+                Counted::Lines => &meter.lines,
+                Counted::Faults => &meter.faults,
             };
             add(count, newlines_in(&buf[..n]));
         }

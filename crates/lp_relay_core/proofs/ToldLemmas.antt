@@ -194,11 +194,12 @@ pub put_asked : (pieces put : List ℕ) (goes_out : Bool) (result : Result (Bor 
     → put ≡ bytes_given result → goes_out ≡ true → pieces ++ (put ++ newline ∷ []) ≡ pieces ++ put_of goes_out result
 put_asked pieces put goes_out result is asked = rw (is, asked) refl
 
--- one item at most that has no fault line is carried
+-- there is no item, or one that is carried
 data Carried (items : List Item) : Type 0 where
   no_item : items ≡ [] → Carried items
   one_item : (item : Item) → items ≡ item ∷ [] → is_carried_item item ≡ true → Carried items
 
+-- so it is if one item at most has no fault line
 carried_if_none : (line : Option ℕ) (number : ℕ) (items : List Item) → length items ≤ 1
     → length (faults_at as_raw line number items) ≡ 0 → Carried items
 carried_if_none line number [] few none = no_item refl
@@ -212,7 +213,7 @@ carried_if_none line number (item ∷ []) few none =
     ]
 carried_if_none line number (item ∷ other ∷ items) few none = absurd (omega (arith, few))
 
--- of it nothing goes out as refused
+-- then nothing goes out as refused
 put_none : (goes_out : Bool) (piece : List ℕ) (items : List Item) → Carried items → refused_lines goes_out piece items ≡ []
 put_none false piece items c = refl
 put_none true piece items (no_item none) = rw none refl
