@@ -19,6 +19,7 @@ timed() {
     { time "$@" 2>&3; } 3>&2 2>>"$TIMES"
 }
 timed checks/documents.sh checks/documents.sh
+timed checks/lint.sh checks/lint.sh
 timed checks/take.sh checks/take.sh
 timed checks/launch.sh checks/launch.sh
 

@@ -1,6 +1,6 @@
 #!/usr/bin/env bash
 # Makes what bin/dist makes, twice, and installs by bin/install; looks at each file, builds programs over the installed library, runs
-# the installed programs, reads their pages, completes their words, and sees what is said if something is missing. Then it
+# the installed programs, looks for each option in its page, completes their words, and sees what is said if something is missing. Then it
 # installs the package in a bare Debian 12, which debootstrap makes and which goes at the end. What is missing here is left out.
 #
 #     checks/dist.sh             proves and builds first what was not built from these sources
@@ -274,33 +274,13 @@ run_programs() {
     done
 }
 
-# The pages: no warning, and each option of the usage is told, and completed.
-read_pages() {
-    local page option said readers=()
-    if command -v man >/dev/null && command -v groff >/dev/null; then
-        for page in "$prefix"/share/man/man*/*; do
-            said=$(LC_ALL=C.UTF-8 MANROFFSEQ='' man --warnings -E UTF-8 -l -Tutf8 -Z "$page" 2>&1 >/dev/null)
-            equal "what man says of $page" "" "$said"
-        done
-        readers+=(man)
-    else
-        left_out "pages by man" "there is no man or no groff"
-    fi
-    if command -v mandoc >/dev/null; then
-        # It knows the pages of this machine alone.
-        for page in "$prefix"/share/man/man*/*; do
-            said=$(mandoc -Tlint -Wstyle "$page" 2>/dev/null | grep -v 'referenced manual not found') || true
-            equal "what mandoc says of $page" "" "$said"
-        done
-        readers+=(mandoc)
-    else
-        left_out "pages by mandoc" "there is no mandoc"
-    fi
+# Each option of the usage is told by the page, and completed.
+read_page() {
+    local option
     for option in $("$prefix/bin/lp_relay" --help | sed -n '1,5p' | grep -o -e '--[a-z-]*'); do
         grep -qF -e ".It Fl -${option#--}" "$prefix/share/man/man1/lp_relay.1" || fail "the page of lp_relay does not tell of $option"
         complete_words lp_relay "${option%?}" | grep -qxF -e "$option" || fail "lp_relay's completion does not know $option"
     done
-    told+=("3 pages by ${readers[*]:-no reader}")
 }
 
 # Prints how bash completes the last of these words, the first of which is the program.
@@ -416,7 +396,7 @@ told+=("$refusals refusals")
 build_over
 build_by_cmake
 run_programs "$prefix/bin"
-read_pages
+read_page
 complete_all
 try_bare_debian
 echo "dist: $(printf '%s; ' "${told[@]}" | sed 's/; $//')"

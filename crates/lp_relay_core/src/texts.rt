@@ -19,8 +19,12 @@ pub(crate) fn text_of(bytes: &[u8]) -> Result<&str, Utf8Error>
     basic::from_utf8(bytes)
 }
 
-/// How many newlines there are. It goes over the bytes once, and takes no memory.
-pub fn newlines_in(bytes: &[u8]) -> usize
+// Of so many bytes the newlines are counted in a byte, by which the compiler counts 16 at a time.
+const FEW: usize = 240;
+
+// How many newlines a few bytes have.
+fn few_newlines(bytes: &[u8]) -> u8
+    requires { length bytes.now ≤ FEW }
     ensures few { result ≤ length bytes.now }
     ensures value { result ≡ newlines_in bytes.now }
 {
@@ -31,4 +35,19 @@ pub fn newlines_in(bytes: &[u8]) -> usize
         }
     }
     count
+}
+
+/// How many newlines there are. It goes over the bytes once, and takes no memory.
+pub fn newlines_in(bytes: &[u8]) -> usize
+    ensures few { result ≤ length bytes.now }
+    ensures value { result ≡ newlines_in bytes.now }
+{
+    let mut count = 0;
+    let mut rest = bytes;
+    while FEW < rest.len() {
+        let (few, others) = rest.split_at(FEW);
+        count += few_newlines(few) as usize;
+        rest = others;
+    }
+    count + few_newlines(rest) as usize
 }

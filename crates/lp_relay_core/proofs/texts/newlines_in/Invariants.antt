@@ -1,7 +1,11 @@
-use Rattle.std.proofs.Common.{◌≡◌, ◌≤◌, take}
+use Rattle.std.proofs.Common.{◌≡◌, ◌+◌, ◌≤◌, length}
 use Rattle.influxdb_line_protocol.specs.format.Bytes.{newlines_in}
 use Rattle.lp_relay_core.proofs.texts.newlines_in.Given as goal
 
--- the newlines of the bytes so far are counted
-abbrev pub invariant-loop-at : goal.invariant-loop-at
-invariant-loop-at l = (l.count ≤ l.at) × (l.count ≡ newlines_in (take l.at l.bytes))
+-- the newlines of the bytes before the rest are counted
+abbrev pub invariant-loop-rest : goal.invariant-loop-rest
+invariant-loop-rest l =
+    (l.count + length l.rest ≤ length l.bytes) × (l.count + newlines_in l.rest ≡ newlines_in l.bytes)
+
+abbrev pub decreases-loop-rest : goal.decreases-loop-rest
+decreases-loop-rest l = length l.rest

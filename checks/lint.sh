@@ -1,0 +1,39 @@
+#!/usr/bin/env bash
+# Asks shellcheck of each script of the repository, and man and mandoc of each man page, and passes if these have nothing to say.
+set -eu
+cd "$(dirname "$0")/.."
+. checks/left_out.sh
+
+# Ends with what a reader said of a file, if it said anything.
+want_nothing() {
+    [ -z "$3" ] || { printf 'lint: %s says of %s:\n%s\n' "$1" "$2" "$3" && exit 1; }
+}
+
+if command -v shellcheck >/dev/null; then
+    mapfile -t scripts < <(git ls-files -co --exclude-standard -z |
+        xargs -0 awk 'FNR == 1 && (/^#!.*sh$/ || /^# shellcheck shell=/) { print FILENAME } { nextfile }')
+    said=$(shellcheck "${scripts[@]}") || true
+    want_nothing shellcheck "the scripts" "$said"
+    echo "lint: shellcheck has nothing to say of ${#scripts[@]} scripts"
+else
+    left_out "scripts by shellcheck" "there is no shellcheck"
+fi
+if command -v man >/dev/null && command -v groff >/dev/null; then
+    for page in man/*; do
+        said=$(LC_ALL=C.UTF-8 MANROFFSEQ='' man --warnings -E UTF-8 -l -Tutf8 -Z "$page" 2>&1 >/dev/null)
+        want_nothing man "$page" "$said"
+    done
+    echo "lint: man has nothing to say of the pages"
+else
+    left_out "pages by man" "there is no man or no groff"
+fi
+if command -v mandoc >/dev/null; then
+    # It knows the pages of this machine alone.
+    for page in man/*; do
+        said=$(mandoc -Tlint -Wstyle "$page" 2>/dev/null | grep -v 'referenced manual not found') || true
+        want_nothing mandoc "$page" "$said"
+    done
+    echo "lint: mandoc has nothing to say of the pages"
+else
+    left_out "pages by mandoc" "there is no mandoc"
+fi
