@@ -365,6 +365,9 @@ fn finish<W: Sink, E: Sink, P: Sink>(
 /// If `settings.puts_refused` says so, `refused` gains the piece of each item that has a fault line, byte for byte as it came,
 /// and a newline; of a piece that is too long its first bytes, as many as the limit. Else it gains nothing.
 ///
+/// If `settings.counts_kinds` says so, the answer tells how many items were refused for each kind of fault; they add up to all that
+/// were. The text of a refused piece is read once more for that.
+///
 /// What each read completes is written and flushed before the next read is asked for, and the rest at the end. What is held of
 /// the input is the line that has not ended yet and one block, and of the output less than a block and what one line makes,
 /// since it is written too if it fills a block. So by `Lines::Rebuilt` `out` gains what [`run`](lp_rebuild::run) writes, and by

@@ -3,7 +3,7 @@
 use crate::rows::{self, Row, assert_same, repeated};
 use influxdb_line_protocol::Dialect;
 use lp_rebuild::{DeviceFault, Kept, Source, read_all, rebuild_in, run_in};
-use lp_relay_core::{Nowhere, Numbering, Settings, part_ends, relay};
+use lp_relay_core::{Nowhere, Numbering, Relayed, Settings, part_ends, relay};
 use lp_vectors_shared::fault::Fault;
 use std::alloc::{AllocError, Global};
 use std::process::Abort;
@@ -75,6 +75,7 @@ fn is_relayed_so(rt: &impl Abort, alloc: Global, text: &str, len: usize, wanted:
             dialect,
             limit: 20_000_000,
             numbering,
+            counts_kinds: true,
             ..Settings::default()
         };
         let answer = relay(
@@ -180,6 +181,7 @@ fn many_pieces_that_are_no_text_or_too_long_are_faults(rt: HostRuntime) -> Resul
     let mut err = Kept::new(alloc);
     let settings = Settings {
         limit: 6,
+        counts_kinds: true,
         ..Settings::default()
     };
     let answer = relay(
@@ -190,7 +192,12 @@ fn many_pieces_that_are_no_text_or_too_long_are_faults(rt: HostRuntime) -> Resul
         &mut err,
         &mut Nowhere::new(),
     );
-    assert!(rt; answer.is_ok());
+    let counts = Relayed {
+        carried: count,
+        refused: 2 * count,
+        kinds: Some([0, 0, 0, 0, 0, 0, 0, 0, count, 0, 0, count, 0]),
+    };
+    assert_eq!(rt; answer, Ok(counts));
     assert_same(&rt, out.as_slice(), lines.as_bytes());
     assert_same(&rt, err.as_slice(), faults.as_bytes());
     Ok(())
