@@ -5,7 +5,7 @@ ghost use Rattle.lp_relay.specs.Summaries.{asked_summary, kinds_from};
 
 use crate::words::Settings;
 use lp_rebuild::RunFault;
-use lp_relay_core::{KINDS, Relayed};
+use lp_relay_core::{KINDS, KindCounts, Relayed};
 use std::fmt;
 
 /// What a relay read, and what came of it.
@@ -42,7 +42,7 @@ fn show_kinds<W: fmt::Write>(
 // How many items were refused for each kind of fault, if that was counted, shown as `: 1 not_utf8, 2 too_long`.
 #[derive(Clone, Copy)]
 struct Kinds {
-    counts: Option<[usize; 13]>,
+    counts: Option<KindCounts>,
 }
 
 impl fmt::Display for Kinds {

@@ -27,6 +27,9 @@ pub const KINDS: [&str; 13] = [
     "uinteger_value_invalid",
 ];
 
+/// How many items were refused for each kind of [`KINDS`], in that order.
+pub type KindCounts = [usize; KINDS.len()];
+
 // Counts a fault of this kind, if it is among these kinds. It is refused if its count would not fit.
 fn count_among(kinds: &[&str], counts: &mut [usize], kind: &str) -> Result<(), AllocError>
     ensures { OnOk result (counts.new ≡ counts_with (map (λ name. name.now) kinds.now) kind.now counts.old) }
@@ -45,7 +48,7 @@ fn count_among(kinds: &[&str], counts: &mut [usize], kind: &str) -> Result<(), A
 
 // Counts a fault of this kind.
 #[tactic(auto, unfolding(crate::specs::Kinds::kind_names))]
-fn count_kind(counts: &mut [usize; 13], kind: &str) -> Result<(), AllocError>
+fn count_kind(counts: &mut KindCounts, kind: &str) -> Result<(), AllocError>
     ensures { OnOk result (counts.new ≡ counts_with kind_names kind.now counts.old) }
 {
     count_among(&KINDS, counts, kind)
@@ -57,7 +60,7 @@ fn count_kind(counts: &mut [usize; 13], kind: &str) -> Result<(), AllocError>
 pub(crate) fn count_refused(
     alloc: Global,
     dialect: Dialect,
-    kinds: &mut Option<[usize; 13]>,
+    kinds: &mut Option<KindCounts>,
     so_far: &Progress,
     from: usize,
     piece: Result<&[u8], PieceTooLong<'_>>,

@@ -11,6 +11,7 @@ ghost use Rattle.lp_relay_core.specs.Relays.{Relays};
 ghost use Rattle.lp_relay_core.specs.Writers.{of_writers};
 ghost use Rattle.lp_rebuild.specs.Running.{reader_told, writer_told};
 
+use crate::kinds::KindCounts;
 use crate::taking::{Pending, Settings, items_before, nothing_made, take_piece, take_text_piece};
 use crate::texts::text_of;
 use influxdb_line_protocol::{BoundedLineStream, ParsedLine, laws, split_lines_in};
@@ -26,8 +27,8 @@ pub struct Relayed {
     pub carried: usize,
     /// How many items have a fault line.
     pub refused: usize,
-    /// How many items were refused for each kind of fault of [`KINDS`](crate::KINDS), if the settings ask for that.
-    pub kinds: Option<[usize; 13]>,
+    /// How many items were refused for each kind of fault, if the settings ask for that.
+    pub kinds: Option<KindCounts>,
 }
 
 // Writes all that is held.

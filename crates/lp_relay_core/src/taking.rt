@@ -10,7 +10,7 @@ ghost use Rattle.lp_relay_core.specs.RelaySteps.{newlines_given, start_after, st
 ghost use Rattle.lp_relay_core.specs.TakenBack.{TakesBack};
 
 use crate::differing::{Part, differing_part, part_text};
-use crate::kinds::count_refused;
+use crate::kinds::{KINDS, KindCounts, count_refused};
 use crate::objects::tell_as_object;
 use crate::telling::{Faults, tell_on_one_line};
 use crate::texts::{newlines_in, text_of};
@@ -108,7 +108,7 @@ pub(crate) struct Pending {
     /// How many bytes come before the next piece.
     pub(crate) offset: usize,
     /// How many items were refused for each kind of fault, if that is counted.
-    pub(crate) kinds: Option<[usize; 13]>,
+    pub(crate) kinds: Option<KindCounts>,
 }
 
 // What is wrong with a piece that is no text.
@@ -154,7 +154,7 @@ pub(crate) fn nothing_made(alloc: Global, settings: Settings) -> Pending
         pieces,
         offset: 0,
         kinds: if settings.counts_kinds {
-            Some([0; 13])
+            Some([0; KINDS.len()])
         } else {
             None
         },
