@@ -10,7 +10,7 @@ want_nothing() {
 }
 
 if command -v shellcheck >/dev/null; then
-    mapfile -t scripts < <(git ls-files -co --exclude-standard -z |
+    mapfile -t scripts < <(find . \( -name .git -o -name out -o -path ./dist \) -prune -o -type f -print0 |
         xargs -0 awk 'FNR == 1 && (/^#!.*sh$/ || /^# shellcheck shell=/) { print FILENAME } { nextfile }')
     said=$(shellcheck "${scripts[@]}") || true
     want_nothing shellcheck "the scripts" "$said"
