@@ -2,15 +2,15 @@
 use Rattle.std.proofs.Common.{◌≡◌, ℕ, ◌+◌, true, false, cond, List, [], ◌∷◌, ◌++◌, map, sum, Option, None, Some, option_map, Ok, Err}
 use Rattle.std.proofs.Common.{refl, sym, ap, subst, ◌∙◌, arith, inl, inr, IfSome}
 use Rattle.std.specs.List.{count_by, sum_by}
-use Rattle.std.specs.Str.{bytes_eq}
 use Rattle.std.proofs.lemmas.Bool.{cases_Bool}
 use Rattle.std.proofs.lemmas.List.Sums.{sum-map, sum_by-append, sum_by-cons}
-use Rattle.influxdb_line_protocol.specs.format.Readings.{Fault, measurement_value_invalid, field_set_missing, integer_value_invalid}
+use Rattle.influxdb_line_protocol.specs.format.Readings.{measurement_value_invalid, field_set_missing, integer_value_invalid}
 use Rattle.influxdb_line_protocol.specs.format.Readings.{uinteger_value_invalid, timestamp_value_invalid, ends_with_backslash}
 use Rattle.influxdb_line_protocol.specs.format.Readings.{cannot_parse_entire_line, tag_set_malformed, take_while1}
+use Rattle.lp_rebuild.specs.Rebuilding.{is_carried_answer}
 use Rattle.lp_relay_core.specs.declared.taking.Settings.{Settings}
 use Rattle.lp_relay_core.specs.Kinds.{counts_after, counts_with, is_refused_for, kind_names, kinds_after, kinds_of_none, refused_kinds}
-use Rattle.lp_relay_core.specs.Objects.{fault_kind, item_kind}
+use Rattle.lp_relay_core.specs.Objects.{item_kind}
 use Rattle.lp_relay_core.specs.Relaying.{Item, answered, as_it_came, not_as_written, not_utf8, too_long, is_carried_item, refused_items}
 use Rattle.lp_relay_core.proofs.ItemLemmas.{refused_append}
 
@@ -108,63 +108,24 @@ total_first (kind ∷ kinds) x xs =
       total_first kinds x xs,
     )
 
--- of an item that is carried
-total_of_carried : (kinds : List (List ℕ)) (item : Item) → is_carried_item item ≡ true → total kinds (item ∷ []) ≡ 0
-total_of_carried [] item carried = refl
-total_of_carried (kind ∷ kinds) item carried =
-    let none : count_of (item ∷ []) kind ≡ 0 = rw carried refl in
-    omega (arith, none, sum_by-cons (count_of (item ∷ [])) kind kinds, total_of_carried kinds item carried)
-
--- how often a kind is among these kinds
-abbrev places : (kinds : List (List ℕ)) → List ℕ → ℕ
-places kinds kind = sum_by (λ name. cond (bytes_eq kind name) 1 0) kinds
-
--- of an item that is refused
-total_of_refused : (kinds : List (List ℕ)) (item : Item) → is_carried_item item ≡ false
-    → total kinds (item ∷ []) ≡ places kinds (item_kind item)
-total_of_refused [] item refused = refl
-total_of_refused (name ∷ kinds) item refused =
-    let one : count_of (item ∷ []) name ≡ cond (bytes_eq (item_kind item) name) 1 0 = rw refused (omega arith) in
-    omega (
-      arith,
-      one,
-      sum_by-cons (count_of (item ∷ [])) name kinds,
-      sum_by-cons (λ name. cond (bytes_eq (item_kind item) name) 1 0) name kinds,
-      total_of_refused kinds item refused,
-    )
-
--- the fault of a text has one kind
-fault_place : (f : Fault) → places kind_names (fault_kind f) ≡ 1
-unfolding kind_names
-fault_place measurement_value_invalid = refl
-fault_place field_set_missing = refl
-fault_place (integer_value_invalid side value) = refl
-fault_place (uinteger_value_invalid side value) = refl
-fault_place (timestamp_value_invalid side value) = refl
-fault_place ends_with_backslash = refl
-fault_place (cannot_parse_entire_line rest) = refl
-fault_place tag_set_malformed = refl
-fault_place take_while1 = refl
-
--- so has each item that is refused
-item_place : (item : Item) → is_carried_item item ≡ false → places kind_names (item_kind item) ≡ 1
-unfolding kind_names
-item_place (answered front (Ok line)) refused = refl
-item_place (answered front (Err fault)) refused = fault_place fault
-item_place (as_it_came piece) refused = absurd (cc)
-item_place (not_as_written front wrong) refused = refl
-item_place not_utf8 refused = refl
-item_place (too_long kept) refused = refl
-
--- of any item
+-- of one item: the fault of a text has one kind, and so has each other item that is refused
 total_of_one : (item : Item) → total kind_names (item ∷ []) ≡ refused_items (item ∷ [])
-total_of_one item =
-    elim (cases_Bool (is_carried_item item)) [
-      | inl carried ↦ let none : refused_items (item ∷ []) ≡ 0 = rw carried refl in total_of_carried kind_names item carried ∙ sym none
-      | inr refused ↦
-          let one : refused_items (item ∷ []) ≡ 1 = rw refused refl in
-          total_of_refused kind_names item refused ∙ item_place item refused ∙ sym one
-    ]
+unfolding kind_names
+total_of_one (answered front (Ok line)) =
+    elim (cases_Bool (is_carried_answer (Ok line))) [ inl carried ↦ rw carried refl | inr refused ↦ rw refused refl ]
+total_of_one (answered front (Err measurement_value_invalid)) = refl
+total_of_one (answered front (Err field_set_missing)) = refl
+total_of_one (answered front (Err (integer_value_invalid side value))) = refl
+total_of_one (answered front (Err (uinteger_value_invalid side value))) = refl
+total_of_one (answered front (Err (timestamp_value_invalid side value))) = refl
+total_of_one (answered front (Err ends_with_backslash)) = refl
+total_of_one (answered front (Err (cannot_parse_entire_line rest))) = refl
+total_of_one (answered front (Err tag_set_malformed)) = refl
+total_of_one (answered front (Err take_while1)) = refl
+total_of_one (as_it_came piece) = refl
+total_of_one (not_as_written front wrong) = refl
+total_of_one not_utf8 = refl
+total_of_one (too_long kept) = refl
 
 -- the items that are refused for each kind are all that are refused
 kinds_add_up : (items : List Item) → total kind_names items ≡ refused_items items
