@@ -1,13 +1,14 @@
 #!/usr/bin/env python3
 """Whether `lp_relay --faults json` writes JSON, as Python reads it, and says in it what fault lines say: over hostile texts, the
 items and texts of the objects are, byte for byte, the fault lines of `--faults raw`; their lines and offsets are those of the texts; the
-kind of each fits its text; and where reading stopped there is what the text says of it.
+kind of each fits its text; where reading stopped there is what the text says of it; and `--summary` counts them by their kinds.
 
     checks/objects.py RELAY..
 
 RELAY: a built lp_relay, or a command that runs it, as `rt try --` in the folder of its crate.
 """
 
+import collections
 import json
 import random
 import subprocess
@@ -115,6 +116,11 @@ def compare(command, text, words):
     raw = "".join(f"item {told['item']}: {told['text']}\n" for told in objects).encode()
     if raw != faults_of(command, text, "--faults", "raw", *words):
         sys.exit(f"objects: the texts are not those of the fault lines, over {text!r}")
+    kinds = collections.Counter(told["kind"] for told in objects)
+    counted = ", ".join(f"{kinds[kind]} {kind}" for kind in sorted(kinds))
+    summary = faults_of(command, text, "--summary", "--check", *words).splitlines()[-1].decode()
+    if not summary.endswith(f" carried, {len(objects)} refused" + (f": {counted}" if counted else "")):
+        sys.exit(f"objects: the summary {summary!r} does not count {counted}")
     # The line of a piece is that of its object, but for comments at the start of the piece whose newlines are no cuts.
     at = 0
     lines = faults_of(command, text, "--faults", "raw", "--lines", *words)
