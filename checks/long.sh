@@ -3,7 +3,8 @@
 #
 #   checks/long.sh [SECONDS]    what is installed; the tables of docs/INTEROP.md; relays by Slurm and by ssh; columns by Dask; the
 #                               tests of the Python package under the address sanitizer; the fuzzer for so many seconds, 600 if
-#                               none are given; and a million generated texts, compared with the Rust crate
+#                               none are given; a million generated texts, compared with the Rust crate; and the wrong bodies of
+#                               checks/bodies/
 set -eu
 here=$(cd "$(dirname "$0")" && pwd)
 "$here/dist.sh"
@@ -14,3 +15,4 @@ here=$(cd "$(dirname "$0")" && pwd)
 WATCHED=1 "$here/../bindings/python/test.sh"
 "$here/fuzz.sh" "${1:-600}"
 "$here/differential.sh" 1000000
+"$here/bodies.sh"
