@@ -105,8 +105,8 @@ impl LineStream {
 
     /// Takes the next part of the text.
     ///
-    /// If memory was refused, nothing is lost, and the same part can be given again. Before it, the buffer then has no more bytes
-    /// that were given than bytes that are held.
+    /// If memory was refused, nothing is lost, and the same part can be given again. Either way, the buffer has no more bytes
+    /// that were taken than bytes that are held.
     #[tactic(auto, using(crate::proofs::lemmas::stream::HeldTexts::held_longer))]
     pub fn push(&mut self, part: &[u8]) -> Result<(), AllocError>
         ensures dialect { self.new.dialect ≡ self.old.dialect }

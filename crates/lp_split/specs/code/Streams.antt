@@ -3,8 +3,8 @@ use Rattle.std.specs.Prelude.{◌≡◌, ℕ, List, [], ◌∷◌, ◌++◌, tak
 use Rattle.std.specs.Borrow.{Bor}
 use Rattle.lp_format.specs.format.{Dialect, newline, IsCutPiece, IsLastPiece}
 
--- what a stream holds: the bytes that came after the newline of the last cut. Its buffer has room for so many bytes, and
--- before those that are held it still has so many that were given
+-- what a stream holds: the bytes that came after the newline of the last cut. Its buffer has room for `capacity` bytes, and
+-- still has, before the bytes that are held, so many that were given
 pub record Held : Type 0 where
   pub dialect : Dialect
   pub bytes : List ℕ
