@@ -1,8 +1,10 @@
-//! Lines whose names were changed, and whether they are admitted.
+//! Lines whose names were changed, whether they are admitted, and what is written of them.
 
+use arrayvec::ArrayVec;
+use influxdb_line_protocol::builder::{NoRoom, Unwritten};
 use influxdb_line_protocol::{
-    EscapedStr, FieldSet, FieldValue, LineProtocolBuilder, ParsedLine, Series, TagSet, is_admitted,
-    write_line,
+    Dialect, EscapedStr, FieldSet, FieldValue, LineProtocolBuilder, ParsedLine, Series, TagSet,
+    is_admitted, parse_lines, write_admitted_line, write_admitted_line_in, write_line,
 };
 use lp_vectors_shared::fault::Fault;
 use std::alloc::{AllocError, Global};
@@ -98,5 +100,49 @@ fn a_line_is_written_again_so(rt: HostRuntime) -> Result<(), Fault> {
     let line = line_of(rt.alloc(), ["w\\\t", "k", "v", "f"])?;
     let bytes = written(&rt, rt.alloc(), &line)?;
     assert_eq!(rt; bytes.as_slice(), b"w\\\\\t,k=v f=true\n".as_slice());
+    Ok(())
+}
+
+#[test]
+fn the_builder_goes_on_after_a_line_that_is_not_admitted(rt: HostRuntime) -> Result<(), Fault> {
+    let alloc = rt.alloc();
+    let line = line_of(alloc, ["login", "user", "guest\npayments", "ok"])?;
+    let Err(Unwritten::NotAdmitted(lines)) = write_admitted_line(
+        LineProtocolBuilder::new(alloc),
+        &line,
+    ) else {
+        return Err(Fault::Unexpected);
+    };
+    let mut line = line_of(alloc, ["login", "user", "guest", "ok"])?;
+    line.field_set = FieldSet::new(alloc);
+    let Err(Unwritten::NotAdmitted(lines)) = write_admitted_line(lines, &line) else {
+        return Err(Fault::Unexpected);
+    };
+    let Some(Ok(line)) = parse_lines(alloc, "login,user=guest\\ 2 ok=T 5").next() else {
+        return Err(Fault::Unexpected);
+    };
+    let Ok(lines) = write_admitted_line_in(lines, Dialect::Strict, &line) else {
+        return Err(Fault::Unexpected);
+    };
+    let written = b"login,user=guest\\ 2 ok=true 5\n";
+    assert_eq!(rt; lines.build().as_slice(), written.as_slice());
+    Ok(())
+}
+
+#[test]
+fn a_full_buffer_is_handed_back(rt: HostRuntime) -> Result<(), Fault> {
+    let line = line_of(rt.alloc(), ["m", "k", "v", "f"])?;
+    let lines = LineProtocolBuilder::new_with(ArrayVec::<u8, 20>::new());
+    let Ok(lines) = write_admitted_line(lines, &line) else {
+        return Err(Fault::Unexpected);
+    };
+    let Err(Unwritten::Refused(refused)) = write_admitted_line(lines, &line) else {
+        return Err(Fault::Unexpected);
+    };
+    assert_eq!(rt; refused.cause, NoRoom::Full);
+    assert_eq!(rt;
+        refused.builder.build().as_slice(),
+        b"m,k=v f=true\n".as_slice()
+    );
     Ok(())
 }
