@@ -150,7 +150,7 @@ if [ -n "$program" ]; then
     wanted 1 "" "line 7: ${told#item 1: }$newline" --first-line 7
     wanted 1 "" "$raw$newline" --faults raw
     wanted 1 "" "line 7: ${raw#item 1: }$newline" --faults raw --first-line 7
-    object='{"item":1,"line":1,"offset":0,"kind":"cannot_parse_entire_line","text":"'"$found"' \"x\u000a\u0009item 9: \\ ü\"'"'"'"'
+    object='{"item":1,"line":1,"offset":0,"piece_line":1,"piece_offset":0,"kind":"cannot_parse_entire_line","text":"'"$found"' \"x\u000a\u0009item 9: \\ ü\"'"'"'"'
     object+=',"stop_line":1,"stop_column":6}'
     wanted 1 "" "$object$newline" --faults json
     wanted 1 "" "${object//line\":1/line\":7}$newline" --faults json --first-line 7 --strict
@@ -459,10 +459,10 @@ given 1 'm a=1i\nm b=2i\n' "b: line 2: $x\n" --lines e a e e b e
 given 1 'm b=2i\nm b=2i\n' "b: item 11: $x\nb: item 13: $x\n" --first-item 10 b b
 given 1 'm b=2i\nm b=2i\n' "b: line 11: $x\nb: line 2: $x\n" --first-line 10 b b
 given 1 'm a=1i\nm b=2i\n' "item 3: $x\n" --faults raw a b
-kind='"offset":7,"kind":"generic_parsing_error","text":"'"$x"'","stop_line":2,"stop_column":2}\n'
+kind='"offset":7,"piece_line":2,"piece_offset":7,"kind":"generic_parsing_error","text":"'"$x"'","stop_line":2,"stop_column":2}\n'
 given 1 'm b=2i\n' '{"item":2,"line":2,'"$kind" --faults json b
 given 1 'm a=1i\nm b=2i\n' '{"file":"b","item":3,"line":2,'"$kind" --faults json a b
-given 1 'm b=2i\nm b=2i\n' '{"file":"b","item":2,"line":11,'"${kind/stop_line\":2/stop_line\":11}"'{"file":"b","item":4,"line":2,'"$kind" --faults json --first-line 10 b b
+given 1 'm b=2i\nm b=2i\n' '{"file":"b","item":2,"line":11,'"${kind//_line\":2/_line\":11}"'{"file":"b","item":4,"line":2,'"$kind" --faults json --first-line 10 b b
 given 1 '' '{"file":"b","item":8,"line":2,'"$kind"'{"file":"b","item":10,"line":2,'"$kind" --check --first-item 7 --faults json b b
 # A name that would break a line, and a string of JSON.
 odd=$work/$'o"\n\\\x01'

@@ -1,7 +1,7 @@
 #!/usr/bin/env python3
 """Whether `lp_relay --faults json` writes JSON, as Python reads it, and says in it what fault lines say: over hostile texts, the
-items and texts of the objects are, byte for byte, the fault lines of `--faults raw`; their lines and offsets are those of the texts; the
-kind of each fits its text; where reading stopped there is what the text says of it; and `--summary` counts them by their kinds.
+items and texts of the objects are, byte for byte, the fault lines of `--faults raw`; their lines and offsets, of text and piece, are
+those that section 3 of docs/FORMAT.md gives, by which the text is split here too; the kind of each fits its text; where reading stopped there is what the text says of it; and `--summary` counts them by their kinds.
 
     checks/objects.py RELAY..
 
@@ -11,6 +11,7 @@ RELAY: a built lp_relay, or a command that runs it, as `rt try --` in the folder
 import collections
 import json
 import random
+import re
 import subprocess
 import sys
 
@@ -63,6 +64,53 @@ def text_of(rng):
     return b"\n".join(lines) + rng.choice([b"", b"\n", b"\\"])
 
 
+def tail_end(text, at):
+    """Where a piece ends whose tail begins there."""
+    balance, is_quoted, is_escaped = 0, False, False
+    for place in range(at, len(text)):
+        byte = text[place:place + 1]
+        if not is_escaped and byte == b"\"" and (is_quoted or balance > 0):
+            is_quoted = not is_quoted
+        elif not is_escaped and not is_quoted:
+            if byte == b"\n":
+                return place
+            balance += (byte == b"=") - (byte == b",")
+        is_escaped = byte == b"\\" and not is_escaped
+    return len(text)
+
+
+def piece_end(text, start, is_strict):
+    """Where the piece ends that begins there."""
+    if is_strict and text[start:].lstrip(b" \t").startswith(b"#"):
+        return text.find(b"\n", start) if b"\n" in text[start:] else len(text)
+    head = re.compile(rb"(?:[^ \n\\]|\\.|\\\Z)*", re.DOTALL).match(text, start).end()
+    return tail_end(text, head) if text[head:head + 1] == b" " else head
+
+
+def items_of(text, words):
+    """Where each item begins: its piece, and its text after blanks and comments, if the piece is UTF-8 and not too long."""
+    limit = int(words[words.index("--max-line") + 1]) if "--max-line" in words else 1 << 24
+    items, start = [], 0
+    while start <= len(text):
+        end = piece_end(text, start, "--strict" in words)
+        piece = text[start:end]
+        front = re.match(rb"(?:[ \t\n]|#[^\n]*)*", piece).end()
+        if len(piece) > limit or not is_utf8(piece):
+            items.append((start, start))
+        elif front < len(piece):
+            items.append((start, start + front))
+        start = end + 1
+    return items
+
+
+def is_utf8(piece):
+    try:
+        piece.decode()
+    except UnicodeDecodeError:
+        return False
+    return True
+
+
 def faults_of(command, text, *words):
     done = subprocess.run([*command, *words], input=text, capture_output=True, check=False)
     if done.returncode not in (0, 1):
@@ -98,20 +146,21 @@ def stops_rightly(told, text):
 
 def compare(command, text, words):
     """How many objects there are, if they say what the fault lines say."""
-    objects = []
+    objects, items = [], items_of(text, words)
     for line in faults_of(command, text, "--faults", "json", *words).split(b"\n")[:-1]:
         told = json.loads(line.decode())
         stop = [] if told["kind"] in NO_STOPS else ["stop_line", "stop_column"]
-        if list(told) != ["item", "line", "offset", "kind", "text"] + stop or json.dumps(told["text"], ensure_ascii=False).encode() not in line.replace(
+        if list(told) != ["item", "line", "offset", "piece_line", "piece_offset", "kind", "text"] + stop or json.dumps(told["text"], ensure_ascii=False).encode() not in line.replace(
                 b"\\u000a", b"\\n").replace(b"\\u000d", b"\\r").replace(b"\\u0009", b"\\t").replace(b"\\u0008", b"\\b").replace(
                 b"\\u000c", b"\\f").replace(b"\\u007f", b"\x7f"):
             sys.exit(f"objects: {line!r} is no object of a fault as it is to be spelled")
         if not told["text"].startswith(KINDS[told["kind"]]):
             sys.exit(f"objects: {line!r} has a kind that is not its own")
-        if text[:told["offset"]].count(b"\n") + 1 != told["line"]:
-            sys.exit(f"objects: {line!r} has an offset that is not on its line, over {text!r}")
-        if stop and (text[told["offset"]:told["offset"] + 1] in (b"", b" ", b"\t", b"\n", b"#") or not stops_rightly(told, text)):
-            sys.exit(f"objects: {line!r} does not begin there, or reading does not stop there, over {text!r}")
+        places = [text[:at].count(b"\n") + 1 for at in items[told["item"] - 1]]
+        if (told["piece_offset"], told["offset"]) != items[told["item"] - 1] or [told["piece_line"], told["line"]] != places:
+            sys.exit(f"objects: {line!r} has a piece or a text that does not begin there, over {text!r}")
+        if stop and not stops_rightly(told, text):
+            sys.exit(f"objects: {line!r} tells a stop that is none, over {text!r}")
         objects.append(told)
     raw = "".join(f"item {told['item']}: {told['text']}\n" for told in objects).encode()
     if raw != faults_of(command, text, "--faults", "raw", *words):
@@ -121,20 +170,9 @@ def compare(command, text, words):
     summary = faults_of(command, text, "--summary", "--check", *words).splitlines()[-1].decode()
     if not summary.endswith(f" carried, {len(objects)} refused" + (f": {counted}" if counted else "")):
         sys.exit(f"objects: the summary {summary!r} does not count {counted}")
-    # The line of a piece is that of its object, but for comments at the start of the piece whose newlines are no cuts.
-    at = 0
-    lines = faults_of(command, text, "--faults", "raw", "--lines", *words)
-    for told in objects:
-        mark, rest = lines[at:].split(b": ", 1)
-        said = told["text"].encode() + b"\n"
-        if not rest.startswith(said) or int(mark[5:]) > told["line"]:
-            sys.exit(f"objects: the object {told} is not of the line {mark!r}")
-        skipped = text.split(b"\n")[int(mark[5:]) - 1:told["line"] - 1]
-        if told["kind"] in ("not_utf8", "too_long") and skipped:
-            sys.exit(f"objects: the object {told} is not of the first line of its piece")
-        if any(line.strip(b" \t")[:1] not in (b"", b"#") for line in skipped):
-            sys.exit(f"objects: the object {told} is of a line after its text")
-        at += len(mark) + 2 + len(said)
+    lines = "".join(f"line {told['piece_line']}: {told['text']}\n" for told in objects).encode()
+    if lines != faults_of(command, text, "--faults", "raw", "--lines", *words):
+        sys.exit(f"objects: the pieces are not on the lines that the fault lines name, over {text!r}")
     return len(objects)
 
 

@@ -39,8 +39,8 @@ input; ./-x names a file -x.
   --faults FORM      line, as if it is not given: each fault on one line, with \\n, \\t, \\r, \\\\ and
                      \\x.. for what ASCII does not print, cut after 200 bytes; raw: as lp_rebuild
                      writes it, with newlines within; json: each as an object on one line, which
-                     names its FILE if there are several, the item, the line, the kind of the fault
-                     and what is wrong
+                     names its FILE if there are several, the item, where its text and its piece
+                     begin, the kind of the fault, what is wrong, and where reading stopped
   --max-line BYTES   a longer line is passed over, and is a fault: 16777216 if it is not given
   --progress         shows on standard error, if that is a terminal, how far the relay is: bytes
                      read, percent if all inputs are files, lines written, faults, and MB/s,

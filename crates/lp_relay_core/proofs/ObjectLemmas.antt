@@ -7,7 +7,7 @@ use Rattle.std.proofs.lemmas.Bool.{cases_Bool}
 use Rattle.std.proofs.lemmas.Str.{IsUtf8-from_is_utf8, is_utf8-from_IsUtf8}
 use Rattle.std.proofs.Math.Nat.{eq-zero-or-pos}
 use Rattle.std.proofs.Math.Seq.{take-append_seam}
-use Rattle.influxdb_line_protocol.specs.format.Bytes.{newline, newlines_in}
+use Rattle.influxdb_line_protocol.specs.format.Bytes.{newline}
 use Rattle.influxdb_line_protocol.specs.format.Dialects.{Dialect}
 use Rattle.influxdb_line_protocol.specs.format.Readings.{Fault}
 use Rattle.influxdb_line_protocol.specs.format.Points.{built, is_admitted_point}
@@ -119,9 +119,9 @@ described s (Err fault) item is refused =
     let one : too_long (kept_of s) ≡ item = cc in subst (IsDescribed [] (λ text. codes "too_long")) one (refl, refl)
 
 -- objects of the same members
-pub object_same : (number : ℕ) {line l offset o : ℕ} {kind k text t stop s : List ℕ} → line ≡ l → offset ≡ o → kind ≡ k → text ≡ t → stop ≡ s
-    → object number line offset kind text stop ≡ object number l o k t s
-object_same number lines offsets kinds texts stops = rw (lines, offsets, kinds, texts, stops) refl
+pub object_same : (number offset : ℕ) {line l : ℕ} {front f kind k text t stop s : List ℕ} → line ≡ l → front ≡ f → kind ≡ k → text ≡ t
+    → stop ≡ s → object number line offset front kind text stop ≡ object number l offset f k t s
+object_same number offset lines fronts kinds texts stops = rw (lines, fronts, kinds, texts, stops) refl
 
 -- its object is that of its item
 object_is : (s : Settings) (line : Option ℕ) (offset number : ℕ) (given : Result (Bor (List ℕ)) PieceTooLong) (item : Item)
@@ -133,9 +133,8 @@ object_is s line offset number given item is refused =
     let (front, kind) = described s given item is refused in
     let text = item_text item in
     let stop = stop_given d (line_or_none line) given in
-    let after = λ (f k : List ℕ). object number (line_or_none line + newlines_in f) (offset + length f) k text stop in
-    let told = after (item_front item) (item_kind item) in
-    ap (λ (f : List ℕ). after f (kind_given d given text)) front ∙ ap (after (item_front item)) kind
+    let told = object number (line_or_none line) offset (item_front item) (item_kind item) text stop in
+    object_same number offset {text = text} {stop = stop} refl front kind refl refl
     ∙ sym (append-nil told) ∙ ap (λ (b : Bool). cond b [] told ++ []) (sym refused)
 
 -- what a call gave was taken, and then its object was told in place of its fault line

@@ -92,24 +92,24 @@ stop_of_bytes dialect line piece =
 unfoldable pub stop_of_piece : Settings → (line : ℕ) → List ℕ → List ℕ
 stop_of_piece s line piece = if is_too_long (limit_of s.limit) piece then [] else stop_of_bytes (rules_of s.dialect) line piece
 
--- the start of an object, which names this item, this line and this offset
-abbrev pub object_start : (number line offset : ℕ) → List ℕ
-object_start number line offset =
-    codes "{\"item\":" ++ decimal number ++ codes ",\"line\":" ++ decimal line ++ codes ",\"offset\":" ++ decimal offset
+-- the start of an object, which names this item, where its text begins, and where its piece begins: on this line and after so many
+-- bytes. These bytes of the piece come before the text
+abbrev pub object_start : (number line offset : ℕ) → (front : List ℕ) → List ℕ
+object_start number line offset front =
+    codes "{\"item\":" ++ decimal number
+    ++ member (codes "line") (line + newlines_in front) ++ member (codes "offset") (offset + length front)
+    ++ member (codes "piece_line") line ++ member (codes "piece_offset") offset
 
 -- the object of a fault that has these members on where reading stops, and a newline
-abbrev pub object : (number line offset : ℕ) → (kind text stop : List ℕ) → List ℕ
-object number line offset kind text stop =
-    object_start number line offset ++ codes ",\"kind\":\"" ++ kind ++ codes "\",\"text\":\"" ++ json_text text ++ codes "\"" ++ stop
-    ++ codes "}" ++ newline ∷ []
+abbrev pub object : (number line offset : ℕ) → (front kind text stop : List ℕ) → List ℕ
+object number line offset front kind text stop =
+    object_start number line offset front ++ codes ",\"kind\":\"" ++ kind ++ codes "\",\"text\":\"" ++ json_text text ++ codes "\""
+    ++ stop ++ codes "}" ++ newline ∷ []
 
--- the object of an item that is not carried, which has this number, and whose piece begins on this line and after so many bytes: it
--- names the line on which the text of the item begins, and how many bytes come before that text
+-- the object of an item that is not carried, which has this number, and whose piece begins on this line and after so many bytes
 abbrev pub item_object : (number line offset : ℕ) → (stop : List ℕ) → Item → List ℕ
 item_object number line offset stop item =
-    let front = item_front item in
-    if is_carried_item item then []
-    else object number (line + newlines_in front) (offset + length front) (item_kind item) (item_text item) stop
+    if is_carried_item item then [] else object number line offset (item_front item) (item_kind item) (item_text item) stop
 
 -- the objects of the items of one piece, where the first item has this number, and the piece begins on this line and after so many
 -- bytes

@@ -239,8 +239,7 @@ EndsPiece s from given mid new =
 -- the object of what a call gave, which is refused for this text
 abbrev pub object_given : Dialect → Option ℕ → (offset number : ℕ) → Result (Bor (List ℕ)) PieceTooLong → List ℕ → List ℕ
 object_given dialect line offset number given text =
-    let front = front_given given in
-    object number (line_or_none line + newlines_in front) (offset + length front) (kind_given dialect given text) text
+    object number (line_or_none line) offset (front_given given) (kind_given dialect given text) text
     (stop_given dialect (line_or_none line) given)
 
 -- a writer gained all that was held and that was made, but for what is left

@@ -61,19 +61,23 @@ pub fn put_json_text(json: &mut String, text: &str) -> Result<(), AllocError>
     json.push_str(&text[start..])
 }
 
-// Adds the start of an object.
+// Adds the start of an object, whose piece begins on this line and after so many bytes; these bytes come before its text.
 fn put_start(
     faults: &mut String,
     number: usize,
     line: usize,
     offset: usize,
+    front: &[u8],
 ) -> Result<(), AllocError>
-    ensures { OnOk result (string_bytes faults.new ≡ string_bytes faults.old ++ object_start number line offset) }
+    ensures { OnOk result (string_bytes faults.new ≡ string_bytes faults.old ++ object_start number line offset front.now) }
 {
-    write!(
-        faults,
-        "{{\"item\":{number},\"line\":{line},\"offset\":{offset}"
-    )
+    let text_line = line.checked_add(newlines_in(front)).ok_or(AllocError)?;
+    let text_offset = offset.checked_add(front.len()).ok_or(AllocError)?;
+    write!(faults, "{{\"item\":{number}")?;
+    put_member(faults, "line", text_line)?;
+    put_member(faults, "offset", text_offset)?;
+    put_member(faults, "piece_line", line)?;
+    put_member(faults, "piece_offset", offset)
 }
 
 // Adds the object of a fault, and a newline.
@@ -82,13 +86,15 @@ fn put_object(
     number: usize,
     line: usize,
     offset: usize,
+    front: &[u8],
     kind: &str,
     text: &str,
     stop: &str,
 ) -> Result<(), AllocError>
-    ensures { OnOk result (string_bytes faults.new ≡ string_bytes faults.old ++ object number line offset kind.now text.now stop.now) }
+    ensures { OnOk result (string_bytes faults.new
+        ≡ string_bytes faults.old ++ object number line offset front.now kind.now text.now stop.now) }
 {
-    put_start(faults, number, line, offset)?;
+    put_start(faults, number, line, offset, front)?;
     write!(faults, ",\"kind\":\"{kind}\",\"text\":\"")?;
     put_json_text(faults, text)?;
     write!(faults, "\"{stop}}}\n")
@@ -291,15 +297,13 @@ pub(crate) fn tell_as_object(
     let text = text_in(mark.as_str(), fault_line.as_str());
     let kind = kind_given(dialect, piece, text);
     let line = so_far.line.unwrap_or(0);
-    let front = front_given(piece);
-    let text_line = line.checked_add(newlines_in(front)).ok_or(AllocError)?;
-    let text_offset = offset.checked_add(front.len()).ok_or(AllocError)?;
     let stop = stop_given(alloc, dialect, line, piece)?;
     put_object(
         &mut so_far.faults,
         number,
-        text_line,
-        text_offset,
+        line,
+        offset,
+        front_given(piece),
         kind,
         text,
         stop.as_str(),

@@ -16,10 +16,11 @@ pub enum Faults {
     /// Each on one line, with Rust's escapes for what ASCII does not print: `\n`, `\t`, `\r`, `\\`, and `\x..` for each other byte. Of
     /// a fault line of more than 200 bytes the first 200, and how many it has, as in `.. [1234 bytes]`.
     OneLine,
-    /// Each as an object of JSON on one line, as `{"item":2,"line":7,"offset":31,"kind":"field_set_missing","text":"No fields were
-    /// provided","stop_line":7,"stop_column":3}`: the number of the item, the line of the input on which its text begins, how many
-    /// bytes come before that, the kind of its fault, what is wrong with it, and, if it is no line, at which byte reading stopped: its
-    /// line and its column. Lines are counted from `first_line`, whatever `numbering` of the settings says, where 0 is taken as 1, and
+    /// Each as an object of JSON on one line, as `{"item":2,"line":7,"offset":31,"piece_line":7,"piece_offset":29,
+    /// "kind":"field_set_missing","text":"No fields were provided","stop_line":7,"stop_column":5}`: the number of the item, the line
+    /// of the input on which its text begins, how many bytes come before that, the same two of its piece, which begins with the blanks
+    /// and comments before the text, the kind of its fault, what is wrong with it, and, if it is no line, at which byte reading stopped:
+    /// its line and its column. Lines are counted from `first_line`, whatever `numbering` of the settings says, where 0 is taken as 1, and
     /// columns from 1.
     Json { first_line: usize },
 }

@@ -91,9 +91,9 @@ fn an_object_tells_how_much_of_a_line_is_kept(rt: HostRuntime) {
     wrote.assert_is(
         &rt,
         b"",
-        b"{\"item\":1,\"line\":3,\"offset\":0,\"kind\":\"too_long\",\
+        b"{\"item\":1,\"line\":3,\"offset\":0,\"piece_line\":3,\"piece_offset\":0,\"kind\":\"too_long\",\
           \"text\":\"the line is too long: its first 4 bytes are kept\"}\n\
-          {\"item\":2,\"line\":5,\"offset\":8,\"kind\":\"too_long\",\
+          {\"item\":2,\"line\":5,\"offset\":8,\"piece_line\":5,\"piece_offset\":8,\"kind\":\"too_long\",\
           \"text\":\"the line is too long: its first 4 bytes are kept\"}\n",
         0,
     );

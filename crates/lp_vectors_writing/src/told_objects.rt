@@ -1,5 +1,5 @@
-//! Relays whose faults are told as objects: where a text begins, and where reading of it stops, for each row of the table of answers.
-//! The answers come from that table.
+//! Relays whose faults are told as objects: where a text and its piece begin, and where reading stops, for each row of the table of
+//! answers. The answers come from that table.
 
 use crate::wrote::{assert_same, relayed_so};
 use influxdb_line_protocol::Dialect;
@@ -122,7 +122,7 @@ fn tells_row(
 ) -> Result<(), AllocError> {
     let (text, kind, told, column) = *row;
     let object = format!(in alloc;
-        "{{\"item\":1,\"line\":1,\"offset\":0,\"kind\":\"{kind}\",\"text\":\"{told}\",\"stop_line\":1,\"stop_column\":{column}}}\n"
+        "{{\"item\":1,\"line\":1,\"offset\":0,\"piece_line\":1,\"piece_offset\":0,\"kind\":\"{kind}\",\"text\":\"{told}\",\"stop_line\":1,\"stop_column\":{column}}}\n"
     )?;
     tells(rt, alloc, dialect, as_objects(1), text, object.as_bytes());
     Ok(())
@@ -161,27 +161,21 @@ const PLACES: &[(&[u8], &[u8])] = &[
     // A blank line, a comment and blanks come before the text.
     (
         b"\n\t #c\n m",
-        b"{\"item\":1,\"line\":12,\"offset\":7,\"kind\":\"generic_parsing_error\",\
+        b"{\"item\":1,\"line\":12,\"offset\":7,\"piece_line\":12,\"piece_offset\":6,\"kind\":\"generic_parsing_error\",\
           \"text\":\"A generic parsing error occurred: TakeWhile1\",\"stop_line\":12,\"stop_column\":3}\n",
-    ),
-    // In the crate's dialect the comment and the text are one piece.
-    (
-        b"#\\\n\tx",
-        b"{\"item\":1,\"line\":11,\"offset\":4,\"kind\":\"generic_parsing_error\",\
-          \"text\":\"A generic parsing error occurred: TakeWhile1\",\"stop_line\":11,\"stop_column\":3}\n",
     ),
     // A string has a newline, and reading stops after it.
     (
         b"m s=\"a\nb\",v=9i9",
-        b"{\"item\":1,\"line\":10,\"offset\":0,\"kind\":\"cannot_parse_entire_line\",\
+        b"{\"item\":1,\"line\":10,\"offset\":0,\"piece_line\":10,\"piece_offset\":0,\"kind\":\"cannot_parse_entire_line\",\
           \"text\":\"Could not parse entire line. Found trailing content: '9'\",\"stop_line\":11,\"stop_column\":8}\n",
     ),
     // A character of two bytes counts as two.
     (
         b"\xc3\xa9 a=1i\r\nx",
-        b"{\"item\":1,\"line\":10,\"offset\":0,\"kind\":\"cannot_parse_entire_line\",\
+        b"{\"item\":1,\"line\":10,\"offset\":0,\"piece_line\":10,\"piece_offset\":0,\"kind\":\"cannot_parse_entire_line\",\
           \"text\":\"Could not parse entire line. Found trailing content: '\\u000d'\",\"stop_line\":10,\"stop_column\":8}\n\
-          {\"item\":2,\"line\":11,\"offset\":9,\"kind\":\"generic_parsing_error\",\
+          {\"item\":2,\"line\":11,\"offset\":9,\"piece_line\":11,\"piece_offset\":9,\"kind\":\"generic_parsing_error\",\
           \"text\":\"A generic parsing error occurred: TakeWhile1\",\"stop_line\":11,\"stop_column\":2}\n",
     ),
 ];
@@ -196,9 +190,35 @@ fn what_is_before_a_text_counts(rt: HostRuntime) {
     }
 }
 
-// A name that is not admitted, a line that is not UTF-8, one that is not as it would be written, after a space, and one that is too
-// long have no stop, and a fault after them has one.
-const NO_STOPS: &[u8] = b"w\\\t a=1i\nm a=\xff\n m  a=1i\nm a=1234567i\nx";
+// A comment whose newline is escaped, and a text at fault.
+const ESCAPED_COMMENT: &[u8] = b"#\\\n\tx";
+
+// In the crate's dialect the comment and the text are one piece, and in the strict one they are two.
+#[test]
+fn a_piece_begins_with_its_comments(rt: HostRuntime) {
+    tells(
+        &rt,
+        rt.alloc(),
+        Dialect::Crate,
+        as_objects(10),
+        ESCAPED_COMMENT,
+        b"{\"item\":1,\"line\":11,\"offset\":4,\"piece_line\":10,\"piece_offset\":0,\"kind\":\"generic_parsing_error\",\
+          \"text\":\"A generic parsing error occurred: TakeWhile1\",\"stop_line\":11,\"stop_column\":3}\n",
+    );
+    tells(
+        &rt,
+        rt.alloc(),
+        Dialect::Strict,
+        as_objects(10),
+        ESCAPED_COMMENT,
+        b"{\"item\":1,\"line\":11,\"offset\":4,\"piece_line\":11,\"piece_offset\":3,\"kind\":\"generic_parsing_error\",\
+          \"text\":\"A generic parsing error occurred: TakeWhile1\",\"stop_line\":11,\"stop_column\":3}\n",
+    );
+}
+
+// A name that is not admitted, and, after a space, a line that is not UTF-8, one that is not as it would be written, and one that is
+// too long have no stop, and a fault after them has one. Of what is not UTF-8 or too long the text begins with the space.
+const NO_STOPS: &[u8] = b"w\\\t a=1i\n m a=\xff\n m  a=1i\n m a=1234567i\nx";
 
 #[test]
 fn where_a_line_reads_nothing_stops(rt: HostRuntime) {
@@ -214,11 +234,11 @@ fn where_a_line_reads_nothing_stops(rt: HostRuntime) {
             *dialect,
             settings,
             NO_STOPS,
-            b"{\"item\":1,\"line\":1,\"offset\":0,\"kind\":\"name_not_admitted\",\"text\":\"a name cannot be written again\"}\n\
-              {\"item\":2,\"line\":2,\"offset\":9,\"kind\":\"not_utf8\",\"text\":\"the line is not UTF-8\"}\n\
-              {\"item\":3,\"line\":3,\"offset\":16,\"kind\":\"not_as_written\",\"text\":\"not as written: the spaces\"}\n\
-              {\"item\":4,\"line\":4,\"offset\":24,\"kind\":\"too_long\",\"text\":\"the line is too long\"}\n\
-              {\"item\":5,\"line\":5,\"offset\":37,\"kind\":\"generic_parsing_error\",\
+            b"{\"item\":1,\"line\":1,\"offset\":0,\"piece_line\":1,\"piece_offset\":0,\"kind\":\"name_not_admitted\",\"text\":\"a name cannot be written again\"}\n\
+              {\"item\":2,\"line\":2,\"offset\":9,\"piece_line\":2,\"piece_offset\":9,\"kind\":\"not_utf8\",\"text\":\"the line is not UTF-8\"}\n\
+              {\"item\":3,\"line\":3,\"offset\":17,\"piece_line\":3,\"piece_offset\":16,\"kind\":\"not_as_written\",\"text\":\"not as written: the spaces\"}\n\
+              {\"item\":4,\"line\":4,\"offset\":25,\"piece_line\":4,\"piece_offset\":25,\"kind\":\"too_long\",\"text\":\"the line is too long\"}\n\
+              {\"item\":5,\"line\":5,\"offset\":39,\"piece_line\":5,\"piece_offset\":39,\"kind\":\"generic_parsing_error\",\
               \"text\":\"A generic parsing error occurred: TakeWhile1\",\"stop_line\":5,\"stop_column\":2}\n",
         );
     }
