@@ -190,7 +190,7 @@ void lp_cuts_begin(bool strict, size_t limit, lp_cuts *cuts);
  * what you keep is the last piece.
  * LP_TOO_LONG: the piece has more than `limit` bytes. If `cut` is less than `len`, the byte there is the newline that ends it, and
  * you go on with the byte after it; else it goes on, and you need not keep its bytes.
- * LP_OUT_OF_MEMORY: no size_t may hold how many bytes the piece has; nothing is changed.
+ * LP_OUT_OF_MEMORY: no size_t holds how many bytes came since the last cut, with all of `text`; nothing is changed.
  * A search that lp_cuts_begin did not fill is safe, but finds cuts where there are none. */
 uint32_t lp_cuts_next(lp_cuts *cuts, const uint8_t *text, size_t len, size_t *cut);
 

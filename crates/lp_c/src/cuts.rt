@@ -155,7 +155,8 @@ pub extern "C" fn lp_cuts_begin(strict: bool, limit: usize, cuts: &mut Cuts)
 /// `Piece`: the byte at `cut` is the newline that ends the piece; search the bytes after it next. `MoreText`: none of the bytes
 /// ends the piece, and `cut` is how many they are; search those that come next. `TooLong`: the piece has more bytes than it may
 /// have; if `cut` is less than how many bytes there are, a newline ends it there, and else it goes on. What was found is the
-/// first cut, whatever comes after it. `OutOfMemory`: no `usize` may hold how many bytes the piece has; nothing is changed.
+/// first cut, whatever comes after it. `OutOfMemory`: no `usize` holds how many bytes came since the last cut, with all of `text`;
+/// nothing is changed.
 ///
 /// Each byte is passed a few times at most. A search that was not begun finds some place of the bytes, or none, and no more.
 #[unsafe(no_mangle)]
