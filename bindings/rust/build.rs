@@ -1,6 +1,6 @@
 //! Links `liblp_c.a`, of the folder that `LP_LIB_DIR` names, or else of `crates/lp_c/out`.
 //!
-//! Where `liblp_heap.a` lies beside it, its three heap functions are linked, and those of `src/heap.rs` are left out. Where there is
+//! Where `liblp_heap.a` lies beside it, its three heap functions are linked, and those of `src/heap.rs` are left out. If there is
 //! no `liblp_c.a`, a warning says how to make it: documentation and checks need none, and the compiler refuses to link without it.
 use std::{env, path::PathBuf};
 
