@@ -32,8 +32,13 @@ enum lp_answer {
     LP_NOT_UTF8 = 8,      /* the text is no UTF-8 */
     LP_PIECE = 9,         /* a newline of the text ends the piece */
     LP_MORE_TEXT = 10,    /* no newline of the text ends the piece: it goes on in the text that comes */
-    LP_TOO_LONG = 11      /* the piece has more bytes than it may have */
+    LP_TOO_LONG = 11,     /* the piece has more bytes than it may have */
+    LP_NOT_ADMITTED = 12, /* the line would not read back: one of its names is not admitted */
+    LP_NOT_A_DIALECT = 13 /* no dialect has the number */
 };
+
+/* Whose rules a line must read back by. */
+enum lp_dialect { LP_CRATE = 0, LP_STRICT = 1 };
 
 /* What a part is. */
 enum lp_kind {
@@ -149,7 +154,7 @@ static inline void lp_empty_parts(lp_part *parts, size_t len) {
     for (size_t i = 0; i < len; i++) parts[i] = empty;
 }
 
-/* The version of the library: 20000 is 2.0.0. */
+/* The version of the library: 30000 is 3.0.0. */
 uint32_t lp_version(void);
 
 /* Begins to read a text of `len` bytes, by the rules of the strict dialect or else of the Rust crate.
@@ -201,11 +206,14 @@ uint32_t lp_cuts_next(lp_cuts *cuts, const uint8_t *text, size_t len, size_t *cu
  * test it. LP_NOT_A_LINE: a text, a kind or a count is not as it must be, or there is no field.
  *
  * Each call puts its text at the start of `out`, and `len` is how long it is: LP_WRITTEN. LP_MORE_ROOM: `out` is too short,
- * and `len` is how much is needed. LP_NOT_A_LINE and LP_OUT_OF_MEMORY leave `len` as it was. Where nothing is put out, `out`
- * is as it was. */
+ * and `len` is how much is needed. Every other answer leaves `len` as it was. Where nothing is put out, `out` is as it was. */
 
-/* The line as the builder writes it, with its newline. */
-uint32_t lp_line_write(const lp_line *line, const lp_part *parts, size_t parts_len, uint8_t *out, size_t room, size_t *len);
+/* The line as the builder writes it, with its newline. In the dialect of enum lp_dialect, what is put out reads back as that line
+ * alone, whatever text comes after it. LP_NOT_ADMITTED: it would not, since a name of it is not admitted. A name is not admitted if it
+ * is empty, holds a tab or a newline or ends in a backslash; a measurement also if it holds a NUL or begins with `#`. The value of a
+ * string may be any text. LP_NOT_A_DIALECT: the dialect is no other number. */
+uint32_t lp_line_write(uint32_t dialect, const lp_line *line, const lp_part *parts, size_t parts_len, uint8_t *out, size_t room,
+                       size_t *len);
 
 /* The line as it is shown: strings have no quotes, and there is no newline. */
 uint32_t lp_line_show(const lp_line *line, const lp_part *parts, size_t parts_len, uint8_t *out, size_t room, size_t *len);

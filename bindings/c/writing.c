@@ -25,6 +25,11 @@ static const lp_line LINE = { LP_NO_TEXT, { TEXT("a b,c"), true }, LP_NO_TEXT, 2
 
 typedef uint32_t writer(const lp_line *, const lp_part *, size_t, uint8_t *, size_t, size_t *);
 
+/* lp_line_write in the dialect of the Rust crate. */
+static uint32_t write_line(const lp_line *line, const lp_part *parts, size_t parts_len, uint8_t *out, size_t room, size_t *len) {
+    return lp_line_write(LP_CRATE, line, parts, parts_len, out, room, len);
+}
+
 /* Each buffer is of just its length, so that the address sanitizer sees what is touched past it. */
 static bool writes(writer *write, const lp_line *line, const lp_part *parts, uint32_t wanted, const char *text, size_t len) {
     bool good = true;
@@ -65,7 +70,7 @@ static bool is_tested(void) {
     bool admitted = false, good = lp_line_is_admitted(&LINE, PARTS, 7, &admitted) == LP_WRITTEN && admitted;
     lp_line line = LINE;
     line.fields = 0;
-    good &= lp_line_write(&line, PARTS, 7, out, sizeof out, &told) == LP_NOT_A_LINE && told == 5;
+    good &= lp_line_write(LP_CRATE, &line, PARTS, 7, out, sizeof out, &told) == LP_NOT_A_LINE && told == 5;
     line = LINE;
     line.fields = 6;
     good &= lp_line_show(&line, PARTS, 7, out, sizeof out, &told) == LP_NOT_A_LINE;
@@ -74,7 +79,7 @@ static bool is_tested(void) {
     good &= lp_line_base(&line, PARTS, 7, out, sizeof out, &told) == LP_NOT_A_LINE;
     line = LINE;
     line.measurement.text = (lp_text){ (const uint8_t *)"\xff", 1 };
-    good &= lp_line_write(&line, PARTS, 7, out, sizeof out, &told) == LP_NOT_A_LINE;
+    good &= lp_line_write(LP_CRATE, &line, PARTS, 7, out, sizeof out, &told) == LP_NOT_A_LINE;
     line.measurement.text = (lp_text){ (const uint8_t *)"a\\", 2 };
     return good && lp_line_is_admitted(&line, PARTS, 7, &admitted) == LP_WRITTEN && !admitted;
 }
@@ -201,13 +206,13 @@ int main(void) {
     lp_part repeated[7];
     memcpy(repeated, PARTS, sizeof PARTS);
     repeated[0].key = repeated[1].key;
-    bool good = writes(lp_line_write, &LINE, PARTS, LP_WRITTEN, WRITTEN, sizeof WRITTEN - 1);
+    bool good = writes(write_line, &LINE, PARTS, LP_WRITTEN, WRITTEN, sizeof WRITTEN - 1);
     good &= writes(lp_line_show, &LINE, PARTS, LP_WRITTEN, SHOWN, sizeof SHOWN - 1);
     good &= writes(lp_line_base, &LINE, PARTS, LP_WRITTEN, BASE, sizeof BASE - 1);
     good &= writes(lp_line_base, &LINE, repeated, LP_FAULT, "k", 1);
     good &= is_tested() && are_bases_safe() && is_nothing_told() && is_rebuilt();
     good &= are_messages() && are_no_messages() && are_empty();
-    long requests = refused(lp_line_write, sizeof WRITTEN - 1, &good) + refused(lp_line_show, sizeof SHOWN - 1, &good);
+    long requests = refused(write_line, sizeof WRITTEN - 1, &good) + refused(lp_line_show, sizeof SHOWN - 1, &good);
     requests += refused(lp_line_base, sizeof BASE - 1, &good);
     printf("lines, bases, messages and rebuilt texts written, each of %ld requests refused in turn\n", requests);
     return !good;

@@ -69,11 +69,21 @@ take_examples() {
         inside { print }'
 }
 
+# Each `unsafe` has a reason beside it.
+# shellcheck disable=SC2086
+if ! cargo clippy --version >/dev/null 2>&1; then
+    left_out "reasons beside unsafe" "there is no cargo clippy"
+elif ! (cd "$built/crate" && cargo clippy -q --all-targets $flags -- -A clippy::all -D clippy::undocumented_unsafe_blocks) >"$built/log" 2>&1; then
+    cat "$built/log" >&2
+    echo "rust: clippy refuses the crate" >&2
+    exit 1
+fi
 own=$(LP_ANSWERS=$here/../../crates/lp_answers/data/answers.tsv try -- --show-output)
 answers=$(grep '^answers.tsv: ' "$built/log")
+refused='the value "b\nforged" of the tag "host" is not admitted: it may not be empty, hold a tab or a newline, or end in a backslash'
 # shellcheck disable=SC2086
 if ! (cd "$built/crate" && cargo run -q --example lines $flags) >"$built/printed" 2>"$built/log" ||
-    ! printf '%s\n' 'disk usage at None' 'a fault: No fields were provided' '"cpu note=\"a\nb\" 1"' '"cpu usage=64i 2"' |
+    ! printf '%s\n' "$refused" 'disk usage at None' 'a fault: No fields were provided' '"cpu note=\"a\nb\" 1"' '"cpu usage=64i 2"' |
         diff - "$built/printed"; then
     cat "$built/log" >&2
     echo "rust: the example does not print its items" >&2

@@ -1,6 +1,23 @@
-//! Writes a line, and prints each line of a text, and each fault.
+//! Writes lines, and prints each line of a text, and each fault.
 
 fn main() {
+    // [writer_in_rust]
+    use influxdb_line_protocol::{Dialect, FieldValue, LineWriter};
+
+    let mut lines = LineWriter::new(Dialect::Crate);
+    for host in ["a", "b\nforged"] {
+        let point = lines.write_point("disk usage", &[("host", host)], &[("free", FieldValue::F64(42.5))], Some(7));
+        if let Err(refused) = point {
+            println!("{refused}");
+        }
+    }
+    assert_eq!(lines.into_bytes(), b"disk\\ usage,host=a free=42.5 7\n");
+    // [end]
+    print_lines();
+    print_pieces().expect("a slice can be read");
+}
+
+fn print_lines() {
     // [lines_in_rust]
     use influxdb_line_protocol::{parse_lines, LineProtocolBuilder};
 
@@ -13,7 +30,6 @@ fn main() {
         }
     }
     // [end]
-    print_pieces().expect("a slice can be read");
 }
 
 fn print_pieces() -> Result<(), influxdb_line_protocol::LineError> {

@@ -11,6 +11,13 @@ pub(crate) mod answer {
     pub(crate) const OUT_OF_MEMORY: u32 = 5;
     pub(crate) const WRITTEN: u32 = 7;
     pub(crate) const TOO_LONG: u32 = 11;
+    pub(crate) const NOT_ADMITTED: u32 = 12;
+}
+
+/// Whose rules a line must read back by.
+pub(crate) mod dialect {
+    pub(crate) const CRATE: u32 = 0;
+    pub(crate) const STRICT: u32 = 1;
 }
 
 /// What a part is.
@@ -45,9 +52,10 @@ pub(crate) struct Text<'a> {
     of: PhantomData<&'a str>,
 }
 
-// SAFETY: a text is a shared borrow of a `str`.
+// SAFETY: a text lies in a `str` that it borrows, or in a room of the `ParseLines` that holds it, which moves with it. `get` alone
+// looks at its bytes, and only reads them.
 unsafe impl Send for Text<'_> {}
-// SAFETY: a text is a shared borrow of a `str`.
+// SAFETY: two threads that share a text only read its bytes, and nothing writes a room while its `ParseLines` is shared.
 unsafe impl Sync for Text<'_> {}
 
 impl<'a> Text<'a> {
@@ -61,10 +69,12 @@ impl<'a> Text<'a> {
     ///
     /// # Safety
     ///
-    /// It was made by `new` or by the library, and what it lies in was not written or freed since.
+    /// It was made by `new` or by the library, and what it lies in is not written or freed between then and the last use of what
+    /// is answered.
     #[inline]
     pub(crate) unsafe fn get(self) -> &'a str {
-        // SAFETY: the library's texts are UTF-8, as those of `new` are.
+        // SAFETY: by the caller `at` and `len` are of a `str`, or of a text of the library. It gives a part of a `str` that it was
+        // lent, or a copy that it made in a room; either has `len` bytes, which are UTF-8, and a pointer that is not null.
         unsafe { std::str::from_utf8_unchecked(std::slice::from_raw_parts(self.at, self.len)) }
     }
 }
@@ -191,7 +201,7 @@ impl Cuts {
     pub(crate) fn begin(strict: bool, limit: usize) -> Self {
         let mut cuts =
             Cuts { limit: 0, len: 0, equals: 0, commas: 0, begins: 0, part: 0, escaped: false, strict: false };
-        // SAFETY: the pointer is that of a borrow.
+        // SAFETY: the one pointer is that of a local, which has the layout of `lp_cuts` and is filled.
         unsafe { lp_cuts_begin(strict, limit, &mut cuts) };
         cuts
     }
@@ -200,7 +210,8 @@ impl Cuts {
     /// is the newline that ends it.
     pub(crate) fn next(&mut self, text: &[u8]) -> (u32, usize) {
         let mut cut = 0;
-        // SAFETY: each pointer is that of a borrow, and `cut` is apart from the others.
+        // SAFETY: `text` has `len` bytes, and its pointer is not null, also if it is empty. What is written is `self`, which is
+        // borrowed alone, and a local, so they are apart from `text` and from each other.
         let answer = unsafe { lp_cuts_next(self, text.as_ptr(), text.len(), &mut cut) };
         assert_ne!(answer, answer::OUT_OF_MEMORY, "a piece has more bytes than a usize may hold");
         (answer, cut)
@@ -211,6 +222,9 @@ impl Cuts {
 pub(crate) type PutOut =
     unsafe extern "C" fn(*const Line<'_>, *const Part<'_>, usize, *mut u8, usize, *mut usize) -> u32;
 
+// A call is safe if no pointer is null, also at length 0; if each is of memory that holds what its type says; if what it writes
+// is apart from all else that it is passed; and if a cursor is one of `Lines::of`, or one that a call has moved since. It keeps
+// no pointer once it has answered.
 extern "C" {
     pub(crate) fn lp_lines_block<'a>(
         lines: *mut Lines<'a>,
@@ -240,38 +254,44 @@ extern "C" {
         room: usize,
         len: *mut usize,
     ) -> u32;
-    pub(crate) fn lp_line_is_base_safe(line: *const Line<'_>, parts: *const Part<'_>, parts_len: usize, safe: *mut bool) -> u32;
+    fn lp_line_write(
+        dialect: u32,
+        line: *const Line<'_>,
+        parts: *const Part<'_>,
+        parts_len: usize,
+        out: *mut u8,
+        room: usize,
+        len: *mut usize,
+    ) -> u32;
+    fn lp_line_is_base_safe(line: *const Line<'_>, parts: *const Part<'_>, parts_len: usize, safe: *mut bool) -> u32;
 }
 
-/// Ends as a refused request of the standard library does.
-#[cold]
-pub(crate) fn refuse_memory() -> ! {
-    alloc::handle_alloc_error(alloc::Layout::new::<Line<'_>>())
+// Hands on an answer, but ends as a refused request of the standard library does if a request for memory was refused.
+fn granted(answer: u32) -> u32 {
+    if answer == answer::OUT_OF_MEMORY {
+        alloc::handle_alloc_error(alloc::Layout::new::<Line<'_>>())
+    }
+    answer
 }
 
-/// Whether the base of this line is safe to group by.
+/// Whether the base of this line, whose texts are those of `Text::new`, is safe to group by.
 pub(crate) fn is_base_safe(line: &Line<'_>, parts: &[Part<'_>]) -> bool {
     let mut safe = false;
-    // SAFETY: each pointer is that of a borrow, and `safe` is apart from what is read.
-    let answer = unsafe { lp_line_is_base_safe(line, parts.as_ptr(), parts.len(), &mut safe) };
-    if answer == answer::OUT_OF_MEMORY {
-        refuse_memory()
-    }
+    // SAFETY: `line` and `parts` are borrows, of texts that are borrows too. What is written is a local, apart from these.
+    granted(unsafe { lp_line_is_base_safe(line, parts.as_ptr(), parts.len(), &mut safe) });
     safe
 }
 
 // What a call answers over this buffer, and the length that it tells.
 fn put_into(call: PutOut, line: &Line<'_>, parts: &[Part<'_>], out: &mut [u8]) -> (u32, usize) {
     let mut len = 0;
-    // SAFETY: each pointer is that of a borrow, and `out` is apart from what is read.
+    // SAFETY: `call` is one that puts a text out. `line` and `parts` are borrows, of texts that are borrows too. What is written is
+    // `out`, which is borrowed alone, and a local, so they are apart from these and from each other.
     let answer = unsafe { call(line, parts.as_ptr(), parts.len(), out.as_mut_ptr(), out.len(), &mut len) };
-    if answer == answer::OUT_OF_MEMORY {
-        refuse_memory()
-    }
-    (answer, len)
+    (granted(answer), len)
 }
 
-/// Hands on what `call` puts out, and its answer.
+/// Hands on what `call` puts out of a line whose texts are those of `Text::new`, and its answer.
 pub(crate) fn put_out<T>(call: PutOut, line: &Line<'_>, parts: &[Part<'_>], take: impl FnOnce(u32, &[u8]) -> T) -> T {
     let mut small = [0; 256];
     let (answer, len) = put_into(call, line, parts, &mut small);
@@ -281,6 +301,15 @@ pub(crate) fn put_out<T>(call: PutOut, line: &Line<'_>, parts: &[Part<'_>], take
     let mut large = vec![0; len];
     let (answer, len) = put_into(call, line, parts, &mut large);
     take(answer, &large[..len])
+}
+
+/// What `lp_line_write` answers over this buffer for a line whose texts are those of `Text::new`, and the length that it tells.
+pub(crate) fn write_line(dialect: u32, line: &Line<'_>, parts: &[Part<'_>], out: &mut [u8]) -> (u32, usize) {
+    let mut len = 0;
+    // SAFETY: `line` and `parts` are borrows, of texts that are borrows too. What is written is `out`, which is borrowed alone, and
+    // a local, so they are apart from these and from each other.
+    let answer = unsafe { lp_line_write(dialect, line, parts.as_ptr(), parts.len(), out.as_mut_ptr(), out.len(), &mut len) };
+    (granted(answer), len)
 }
 
 /// The text of what was put out.

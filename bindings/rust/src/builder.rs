@@ -1,4 +1,4 @@
-//! The builder of lines, whose types let no line be half built.
+//! The builder of lines, as the original crate has it: its types let no line be half built, and it writes any name.
 use bytes::BufMut;
 use std::{
     fmt::{self, Write},
@@ -21,7 +21,10 @@ pub struct AfterField;
 #[derive(Clone, Copy, Debug)]
 pub struct AfterTimestamp;
 
-/// Writes lines into a [`BufMut`]. Each call writes its part at once, with the escapes that it needs.
+/// Writes lines into a [`BufMut`] as the original crate does: any name, also one that is read as two lines. So for texts of others
+/// use a [`LineWriter`](crate::LineWriter), which refuses these.
+///
+/// Each call writes its part at once, with the escapes that it needs.
 ///
 /// ```
 /// use influxdb_line_protocol::LineProtocolBuilder;

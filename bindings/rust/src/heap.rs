@@ -32,7 +32,7 @@ fn asked(size: usize, least: usize) -> usize {
 
 #[no_mangle]
 extern "C" fn rattle_alloc(size: usize, least: usize) -> Given {
-    // SAFETY: any size may be asked for.
+    // SAFETY: `malloc` takes any size, and what it gives is no memory that is in use.
     given(unsafe { malloc(asked(size, least)) })
 }
 
@@ -41,7 +41,8 @@ extern "C" fn rattle_alloc(size: usize, least: usize) -> Given {
 /// `at` was given by one of these functions and not given back.
 #[no_mangle]
 unsafe extern "C" fn rattle_realloc(at: *mut c_void, _old_size: usize, size: usize, least: usize) -> Given {
-    // SAFETY: by the caller.
+    // SAFETY: by the caller, `at` is of `malloc` or `realloc`, and is not given back yet. The size is not 0, which might give it
+    // back: `least` is an alignment, so at least 1.
     given(unsafe { realloc(at, asked(size, least)) })
 }
 
@@ -50,6 +51,6 @@ unsafe extern "C" fn rattle_realloc(at: *mut c_void, _old_size: usize, size: usi
 /// `at` was given by one of these functions and not given back.
 #[no_mangle]
 unsafe extern "C" fn rattle_dealloc(at: *mut c_void) {
-    // SAFETY: by the caller.
+    // SAFETY: by the caller, `at` is of `malloc` or `realloc`, and is given back once.
     unsafe { free(at) }
 }

@@ -3,10 +3,12 @@
 //!
 //! - [`parse_lines`] reads a text line by line, [`split_lines`] cuts it.
 //! - [`LineReader`] cuts what a reader gives, as it comes.
-//! - [`LineProtocolBuilder`] writes lines.
+//! - [`LineWriter`] writes lines that are read back as what was handed in, and refuses any other.
+//! - [`LineProtocolBuilder`] writes whatever it is given, as that of the original crate does.
 //!
 //! [InfluxDB line protocol]: https://docs.influxdata.com/influxdb/v2.0/reference/syntax/line-protocol
 #![warn(missing_docs, missing_debug_implementations, rust_2018_idioms)]
+#![deny(unsafe_op_in_unsafe_fn, clippy::undocumented_unsafe_blocks)]
 
 mod border;
 pub mod builder;
@@ -17,6 +19,7 @@ mod heap;
 mod line;
 mod reader;
 mod reading;
+mod writer;
 
 pub use builder::LineProtocolBuilder;
 pub use error::{Error, Result};
@@ -24,3 +27,4 @@ pub use escaped::EscapedStr;
 pub use line::{FieldSet, FieldValue, Measurement, ParsedLine, Series, TagSet};
 pub use reader::{Dialect, LineError, LineReader};
 pub use reading::{parse_lines, split_lines};
+pub use writer::{LineWriter, NotAdmitted};

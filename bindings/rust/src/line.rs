@@ -83,24 +83,27 @@ fn view<'a>(text: &'a EscapedStr<'_>) -> View<'a> {
     View { text: Text::new(text), copied: text.is_escaped() }
 }
 
-fn tag_part<'a>((key, value): &'a (EscapedStr<'_>, EscapedStr<'_>)) -> Part<'a> {
-    Part { key: view(key), text: view(value), ..Part::EMPTY }
+/// The part of a tag.
+pub(crate) fn tag_part<'a>(key: View<'a>, value: View<'a>) -> Part<'a> {
+    Part { key, text: value, ..Part::EMPTY }
 }
 
-// The text of a float, and none of any other value.
-fn float_text(value: &FieldValue<'_>) -> String {
+/// The text of a float, and none of any other value.
+pub(crate) fn float_text(value: &FieldValue<'_>) -> String {
     match value {
         FieldValue::F64(value) => value.to_string(),
         _ => String::new(),
     }
 }
 
-// A field that is to be shown. Strings are shown without quotes, so a float, which may be no literal, goes in as one.
-fn field_part<'a>(key: View<'a>, value: &'a FieldValue<'_>, float: &'a str) -> Part<'a> {
+/// The part of a field, of which `float` is the text if it is a float. An infinite one and NaN have no literal, and go in as
+/// strings, which are shown without quotes.
+pub(crate) fn field_part<'a>(key: View<'a>, value: &'a FieldValue<'_>, float: &'a str) -> Part<'a> {
     let part = Part { key, ..Part::EMPTY };
     match value {
         FieldValue::I64(value) => Part { kind: kind::INTEGER, integer: *value, ..part },
         FieldValue::U64(value) => Part { kind: kind::UNSIGNED, unsigned: *value, ..part },
+        FieldValue::F64(value) if value.is_finite() => Part { kind: kind::FLOAT, text: View::new(float), ..part },
         FieldValue::F64(_) => Part { kind: kind::STRING, text: View::new(float), ..part },
         FieldValue::String(value) => Part { kind: kind::STRING, text: view(value), ..part },
         FieldValue::Boolean(value) => Part { kind: kind::BOOLEAN, boolean: *value, ..part },
@@ -118,7 +121,7 @@ fn show(f: &mut fmt::Formatter<'_>, line: &Line<'_>, parts: &[Part<'_>], front: 
 impl<'a> Series<'a> {
     // The line without fields, and its tags.
     fn handed(&self) -> (Line<'_>, Vec<Part<'_>>) {
-        let tags: Vec<_> = self.tag_set.iter().flatten().map(tag_part).collect();
+        let tags: Vec<_> = self.tag_set.iter().flatten().map(|(key, value)| tag_part(view(key), view(value))).collect();
         let line = Line {
             series: Text::new(self.raw_input),
             measurement: view(&self.measurement),

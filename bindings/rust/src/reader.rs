@@ -1,5 +1,5 @@
 //! The pieces of what a reader gives, as it comes.
-use crate::border::{answer, Cuts};
+use crate::border::{answer, dialect, Cuts};
 use std::io::{self, BufRead, ErrorKind};
 use std::{error, fmt, mem, str};
 
@@ -8,8 +8,19 @@ use std::{error, fmt, mem, str};
 pub enum Dialect {
     /// The rules of the original crate.
     Crate,
-    /// The same, but a comment ends at its own newline, whatever it holds.
+    /// The same, but a comment ends at its own newline, whatever it holds; and a comma after the first field must have a second
+    /// field after it: `m a=1i, 5` is no line.
     Strict,
+}
+
+impl Dialect {
+    /// Its number in C.
+    pub(crate) fn number(self) -> u32 {
+        match self {
+            Self::Crate => dialect::CRATE,
+            Self::Strict => dialect::STRICT,
+        }
+    }
 }
 
 /// Why a [`LineReader`] gives no piece.

@@ -40,7 +40,8 @@ pub fn split_lines(input: &str) -> impl Iterator<Item = &str> {
     let mut lines = Lines::of(input);
     std::iter::from_fn(move || {
         let mut piece = View::EMPTY;
-        // SAFETY: each pointer is that of a borrow; the pieces are parts of `input`.
+        // SAFETY: the cursor is that of `Lines::of`; it and `piece` are locals, apart from each other and from `input`. A piece is a
+        // part of `input`, which is borrowed for as long as the piece is.
         unsafe { border::lp_lines_piece(&mut lines, &mut piece).then(|| piece.text.get()) }
     })
 }
@@ -67,7 +68,9 @@ impl<'a> ParseLines<'a> {
             let mut room = Room { at: self.room.as_mut_ptr(), len: self.room.len() };
             let (rows, parts) = (self.rows.as_mut_ptr(), self.parts.as_mut_ptr());
             let (rows_len, parts_len) = (self.rows.len(), self.parts.len());
-            // SAFETY: each pointer is that of memory of this iterator, and these are apart; the text is UTF-8.
+            // SAFETY: the cursor is that of `Lines::of`, or as a call has left it. Rows, parts and room are vectors, so no pointer is
+            // null, all of their items are filled, and each is memory of its own, apart from the text. A text that a row or a part
+            // still has of the last block has its bytes, in the input or in the room.
             self.answer = unsafe {
                 border::lp_lines_block(&mut self.lines, &mut room, rows, rows_len, parts, parts_len, &mut self.filled)
             };
@@ -101,11 +104,12 @@ impl<'a> ParseLines<'a> {
     // The line of a row, made where it is answered: so it is not inlined.
     #[inline(never)]
     fn item(&self, row: &Row<'a>) -> Option<Result<ParsedLine<'a>>> {
-        // SAFETY: the texts are parts of the input, or lie in the room, which was not written since.
+        // SAFETY: `next` hands in a row of the last block, in which the library showed a line. The texts of that line and its parts
+        // are parts of the input, or lie in the room, which only the next block writes.
         let mut item = Some(Ok(unsafe { bare_line(&row.line) }));
         if let Some(Ok(line)) = &mut item {
             let parts = &self.parts[row.parts_at..][..row.line.tags + row.line.fields];
-            // SAFETY: as above.
+            // SAFETY: the same, of the parts of the row.
             unsafe { put_parts(line, &row.line, parts) }
         }
         item
@@ -132,22 +136,25 @@ impl<'a> Iterator for ParseLines<'a> {
         if row.answer == answer::LINE {
             self.item(row)
         } else {
-            // SAFETY: the text lies in the room, which was not written since.
+            // SAFETY: the row is one of the last block, in which the library showed a fault. Its text lies in the room, which only the
+            // next block writes.
             Some(Err(unsafe { fault(&row.line) }))
         }
     }
 }
 
-// A line without its tags and fields.
-//
-// SAFETY: what the texts lie in was not written since.
+/// A line without its tags and fields.
+///
+/// # Safety
+///
+/// The library showed a line in this one, in whose texts nothing was written since. A text that is no copy lives for `'a`.
 #[inline(always)]
 unsafe fn bare_line<'a>(line: &Line<'a>) -> ParsedLine<'a> {
     ParsedLine {
         series: Series {
-            // SAFETY: by the caller.
+            // SAFETY: the library shows the series of a line as a part of the input, so by the caller it lives for `'a`.
             raw_input: unsafe { line.series.get() },
-            // SAFETY: by the caller.
+            // SAFETY: the library shows a measurement in each line, and by the caller it is as it was then.
             measurement: unsafe { escaped(&line.measurement) },
             tag_set: None,
         },
@@ -156,31 +163,35 @@ unsafe fn bare_line<'a>(line: &Line<'a>) -> ParsedLine<'a> {
     }
 }
 
-// Puts the tags and fields into a line.
-//
-// SAFETY: as of `bare_line`.
+/// Puts the tags and fields into a line.
+///
+/// # Safety
+///
+/// As of [`bare_line`], and `parts` are those of that line.
 #[inline(always)]
 unsafe fn put_parts<'a>(parsed: &mut ParsedLine<'a>, line: &Line<'a>, parts: &[Part<'a>]) {
     let (tags, fields) = parts.split_at(line.tags);
     if line.has_tag_set {
         let tag_set = parsed.series.tag_set.insert(TagSet::new());
         for tag in tags {
-            // SAFETY: by the caller.
+            // SAFETY: the library shows a key and a text in each tag, and by the caller they are as they were then.
             tag_set.push(unsafe { (escaped(&tag.key), escaped(&tag.text)) });
         }
     }
     for field in fields {
-        // SAFETY: by the caller.
+        // SAFETY: the library shows a key and a value in each field, and by the caller they are as they were then.
         parsed.field_set.push(unsafe { (escaped(&field.key), value(field)) });
     }
 }
 
-// A fault.
-//
-// SAFETY: as of `bare_line`.
+/// A fault.
+///
+/// # Safety
+///
+/// The library showed a fault in this line, in whose text nothing was written since.
 #[cold]
 unsafe fn fault(line: &Line<'_>) -> Error {
-    // SAFETY: by the caller.
+    // SAFETY: the library shows a text in each fault, and by the caller it is as it was then. It is copied before anything else.
     let value = unsafe { line.fault_text.get() }.to_owned();
     match line.fault {
         fault_kind::DUPLICATE_TAG => Error::DuplicateTag { tag_key: value },
@@ -211,10 +222,11 @@ fn out_of_range<T, E>(read: std::result::Result<T, E>) -> E {
 
 /// # Safety
 ///
-/// As of [`Text::get`](border::Text::get); a text that is no copy lives for `'a`.
+/// The library showed a text in this view, in which nothing was written since. If the text is no copy, it lives for `'a`.
 #[inline(always)]
 unsafe fn escaped<'a>(view: &View<'a>) -> EscapedStr<'a> {
-    // SAFETY: by the caller.
+    // SAFETY: by the caller the text is as the library showed it. A text that does not live for `'a` is a copy, of which only
+    // another copy is answered.
     let text = unsafe { view.text.get() };
     if view.copied {
         EscapedStr::CopiedValue(text.to_owned())
@@ -225,15 +237,15 @@ unsafe fn escaped<'a>(view: &View<'a>) -> EscapedStr<'a> {
 
 /// # Safety
 ///
-/// As of [`escaped`].
+/// The library showed a field in this part, in whose text nothing was written since. If the text is no copy, it lives for `'a`.
 #[inline(always)]
 unsafe fn value<'a>(field: &Part<'a>) -> FieldValue<'a> {
     match field.kind {
         kind::INTEGER => FieldValue::I64(field.integer),
         kind::UNSIGNED => FieldValue::U64(field.unsigned),
-        // SAFETY: by the caller.
+        // SAFETY: the library shows a literal in a float, and by the caller it is as it was then. Its number keeps no text.
         kind::FLOAT => FieldValue::F64(float(unsafe { field.text.text.get() })),
-        // SAFETY: by the caller.
+        // SAFETY: the library shows a text in a string, and by the caller it is as it was then, and lives for `'a` if it is no copy.
         kind::STRING => FieldValue::String(unsafe { escaped(&field.text) }),
         _ => FieldValue::Boolean(field.boolean),
     }

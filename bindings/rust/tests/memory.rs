@@ -9,15 +9,18 @@ static MOST: AtomicUsize = AtomicUsize::new(0);
 
 struct Counted;
 
+// SAFETY: each call hands its arguments to the same call of `System`, and answers what that does; counting asks for no memory.
 unsafe impl GlobalAlloc for Counted {
     unsafe fn alloc(&self, layout: Layout) -> *mut u8 {
         MOST.fetch_max(HELD.fetch_add(layout.size(), SeqCst) + layout.size(), SeqCst);
-        System.alloc(layout)
+        // SAFETY: by the caller, the layout has a size that is not 0.
+        unsafe { System.alloc(layout) }
     }
 
     unsafe fn dealloc(&self, at: *mut u8, layout: Layout) {
         HELD.fetch_sub(layout.size(), SeqCst);
-        System.dealloc(at, layout);
+        // SAFETY: by the caller, `at` is of `alloc` with this layout, so of `System`, and is given back once.
+        unsafe { System.dealloc(at, layout) }
     }
 }
 
