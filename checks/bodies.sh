@@ -4,7 +4,7 @@
 #   checks/bodies.sh [CRATE..]    those of these crates, or of all
 #
 # They show what no edit of must-fail/ shows, but the gate has no time for them: each takes 10 to 40 seconds. They are tried on a
-# copy, over what `rt check` proves there first. A file has the bodies of a crate, each after a line `== NAME` in the form of an edit.
+# copy, over what `rt check` proves there first.
 set -eu
 here=$(cd "$(dirname "$0")" && pwd)
 top=$(cd "$here/.." && pwd)
@@ -16,18 +16,13 @@ mkdir "$work/crates"
 (cd "$top/crates" && tar c --exclude=./*/out .) | tar x -C "$work/crates"
 rm -rf "$work"/crates/*/must-fail
 
+"$here/bodies.py" --write "$work/crates"
 if [ $# = 0 ]; then
     for file in "$here"/bodies/*.edits; do
         set -- "$@" "$(basename "$file" .edits)"
     done
 fi
-wanted=0
 for crate in "$@"; do
-    folder=$work/crates/$crate/must-fail
-    mkdir "$folder"
-    awk -v folder="$folder" '/^== / { file = folder "/" $2 ".edit"; next } { print > file }' "$here/bodies/$crate.edits"
-    count=$(find "$folder" -name '*.edit' | wc -l)
-    wanted=$((wanted + count))
     (cd "$work/crates/$crate" && rt check) >"$work/told" 2>&1 || {
         cat "$work/told"
         exit 1
@@ -35,4 +30,3 @@ for crate in "$@"; do
 done
 cd "$work"
 rt must-fail "$@"
-echo "bodies: $wanted refused"

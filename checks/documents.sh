@@ -1,9 +1,9 @@
 #!/usr/bin/env bash
-# Compares the documents with what they copy: the two lists of definitions in docs/ with specs/, and the blocks of code in README.md, docs/RATTLE.md
-# and docs/BINDINGS.md with the examples; each link with what it leads to; imports, and files of definitions and lemmas, with the
-# map in docs/ARCHITECTURE.md and the pages of the crates; the licences of the crates with those at the top; the header for C with
-# crates/lp_c; the packages of bindings/ with the header; and the version that lp_relay tells with CHANGELOG.md. And sees that each lemma has a line on what it means. Needs Python 3.10,
-# and no package.
+# Compares the documents with what they copy: the two lists of definitions in docs/ with specs/, and the blocks of code in README.md,
+# docs/RATTLE.md and docs/BINDINGS.md with the examples; each link with what it leads to; imports, and files of definitions and lemmas,
+# with the map in docs/ARCHITECTURE.md and the pages of the crates; the licences of the crates with those at the top; the header for C
+# with crates/lp_c; the packages of bindings/ with the header; and the version that lp_relay tells with CHANGELOG.md. And sees that each
+# lemma has a line on what it means, and that each wrong body of checks/bodies/ can be planted. Needs Python 3.10, and no package.
 set -eu
 here=$(cd "$(dirname "$0")" && pwd)
 if ! python3 -c 'import sys; sys.exit(sys.version_info < (3, 10))' 2>/dev/null; then
@@ -27,3 +27,4 @@ python3 -B "$here/layers.py"
 python3 -B "$here/lemmas.py"
 python3 -B "$here/header.py"
 python3 -B "$here/bindings.py"
+python3 -B "$here/bodies.py"

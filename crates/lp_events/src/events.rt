@@ -18,7 +18,7 @@ use lp_values::{ErrorKind, Spelled, SpelledFault, SpelledValue};
 /// What takes the parts of lines, as a reader tells them.
 ///
 /// Of a line that is read it is told the measurement, each tag, each field and the end, in order. Of a line at fault it is
-/// told the parts that were read before the fault, none of them, some or all, and then the fault.
+/// told parts, of which no clause says more than that a line may have them, and then the fault.
 ///
 /// For contracts it has the member `takes`: what the sink is after it was told of an event.
 ///
@@ -214,8 +214,8 @@ fn parts<'a, S: EventSink<'a>>(
     Ok(())
 }
 
-/// Tells what the trimmed text `line` says: its measurement, tags, fields and end; or, if it is at fault, the parts that
-/// were read before the fault, and then the fault. It takes no memory.
+/// Tells what the trimmed text `line` says: its measurement, tags, fields and end; or, if it is at fault, parts, as
+/// [`EventSink`] says of such a line, and then the fault. It takes no memory.
 ///
 /// ```text
 /// m,t=x a=1i 7   tells  measurement m, tag t x, field a 1i, end m,t=x 7

@@ -21,8 +21,8 @@ use lp_values::{ErrorKind, Spelled, SpelledFault, SpelledValue};
 
 /// A part of a line, as a reader comes to it; where the line ends; or its fault.
 ///
-/// Of a line that is read come the measurement, each tag, each field and the end, in order. Of a line at fault come the
-/// parts that were read before the fault, none of them, some or all, and then the fault.
+/// Of a line that is read come the measurement, each tag, each field and the end, in order. Of a line at fault come
+/// parts, of which no clause says more than that a line may have them, and then the fault.
 ///
 /// ```text
 /// m,t=x a=1i  gives  Measurement(m), Tag(t, x), Field(a, I64(1)), End { series: "m,t=x", timestamp: None }

@@ -12,6 +12,6 @@ pub use Ahead.{IsAhead, AreSeen}
 pub use Tracks.{IsCountOf, EndsIn, IsPlace, Steps, NeverComment, IsTrackOf, Leads, LeadsTo, most_counted, TracksOn, Part, Head, Plain}
 pub use Tracks.{Quoted, Place, Track, Comment, Blanks, Line}
 pub use Searches.{IsKnown, IsHeldAt, FindsCut, SearchesOn, CutsOrTracks}
-pub use Streams.{Held, TakesPiece, GivesCut, GivesCutText, GivesFront, GivesLast, GivesLastText}
+pub use Streams.{Held, HoldsThen, TakesPiece, GivesCut, GivesCutText, GivesFront, GivesLast, GivesLastText}
 pub use Bounded.{HeldWithin, IsTooLong, CutsTo, Counts, HoldsBy, IsKept, Holds, kept, most_given, KeepsRules, TellsOf, GivesWithin}
 pub use Bounded.{IsLongFirst, FindsWithin, TakesLong, IsLongLast, FindsLast, GivesLastWithin}

@@ -3,7 +3,7 @@
 ghost use Rattle.std.specs.Prelude.{◌≡◌, ◌++◌, ◌-◌, ◌≤◌, [], drop, length, take, vec_len, IsUtf8, MatchResult, OnOk, OnErr, Some};
 ghost use Rattle.std.specs.Borrow.{sem};
 ghost use Rattle.lp_format.specs.format.{Crate, IsLastPiece};
-ghost use Rattle.lp_split.specs.code.{rules_of, FindsCut, GivesCut, GivesCutText, GivesFront, GivesLast, GivesLastText};
+ghost use Rattle.lp_split.specs.code.{rules_of, FindsCut, GivesCut, GivesCutText, GivesFront, GivesLast, GivesLastText, HoldsThen};
 
 use crate::split::{Dialect, Mark, Search, first_cut, search_on};
 use simdutf8::basic;
@@ -66,11 +66,17 @@ pub struct LineStream {
 
 impl Model for LineStream {
     ghost use Rattle.std.specs.Prelude.{drop};
+    ghost use Rattle.std.specs.Vec.{vec_capacity};
     ghost use Rattle.lp_split.specs.code.{rules_of, Held, IsHeldAt};
 
     ghost Value = { Held };
 
-    ghost view = { λ s. record { dialect = rules_of s.dialect; bytes = drop s.start s.buffer.items } };
+    ghost view = { λ s. record {
+      dialect = rules_of s.dialect;
+      bytes = drop s.start s.buffer.items;
+      capacity = vec_capacity s.buffer;
+      given = s.start;
+    } };
 
     ghost invariant = { λ s. IsHeldAt (rules_of s.dialect) s.buffer.items s.start s.known };
 }
@@ -80,20 +86,18 @@ impl LineStream {
 
     /// A stream that holds nothing, by the rules of the crate. No memory is taken.
     pub fn new(alloc: Global) -> LineStream
-        ensures { result ≡ record { dialect = Crate; bytes = [] } }
+        ensures { result ≡ record { dialect = Crate; bytes = []; capacity = 0; given = 0 } }
     {
         LineStream::new_in(alloc, Dialect::Crate)
     }
 
     /// A stream that holds nothing, by the rules of a dialect. No memory is taken.
     pub fn new_in(alloc: Global, dialect: Dialect) -> LineStream
-        ensures { result ≡ record { dialect = rules_of dialect; bytes = [] } }
+        ensures { result ≡ record { dialect = rules_of dialect; bytes = []; capacity = 0; given = 0 } }
     {
-        let buffer = Vec::new(alloc);
-        prove!(buffer.capacity() == 0);
         LineStream {
             dialect,
-            buffer,
+            buffer: Vec::new(alloc),
             start: 0,
             known: Search::Begins(0),
         }
@@ -101,15 +105,16 @@ impl LineStream {
 
     /// Takes the next part of the text.
     ///
-    /// If memory was refused, nothing is lost, and the same part can be given again.
+    /// If memory was refused, nothing is lost, and the same part can be given again. Either way, the buffer has no more bytes
+    /// that were taken than bytes that are held.
     #[tactic(auto, using(crate::proofs::lemmas::stream::HeldTexts::held_longer))]
     pub fn push(&mut self, part: &[u8]) -> Result<(), AllocError>
         ensures dialect { self.new.dialect ≡ self.old.dialect }
         ensures ok { OnOk result (self.new.bytes ≡ self.old.bytes ++ part.now) }
         ensures err { OnErr result (self.new.bytes ≡ self.old.bytes) }
+        ensures few { self.new.given ≤ length self.new.bytes }
     {
         self.start = compact(&mut self.buffer, self.start);
-        prove!(self.start <= self.buffer.len() - self.start);
         self.buffer.extend_from_slice(part)
     }
 
@@ -207,7 +212,7 @@ impl LineStream {
     #[tactic(auto, using(crate::proofs::lemmas::stream::HeldTexts::front_of_rest))]
     fn keep_front(&mut self, len: usize)
         requires within { len ≤ length self.old.bytes }
-        ensures { self.new ≡ record { dialect = self.old.dialect; bytes = take len self.old.bytes } }
+        ensures { HoldsThen self.old (take len self.old.bytes) self.new }
     {
         self.buffer.truncate(self.start + len);
         self.known = Search::Begins(0);

@@ -3,10 +3,17 @@ use Rattle.std.specs.Prelude.{◌≡◌, ℕ, List, [], ◌∷◌, ◌++◌, tak
 use Rattle.std.specs.Borrow.{Bor}
 use Rattle.lp_format.specs.format.{Dialect, newline, IsCutPiece, IsLastPiece}
 
--- what a stream holds: the bytes that came after the newline of the last cut
+-- what a stream holds: the bytes that came after the newline of the last cut. Its buffer has room for `capacity` bytes, and
+-- still has, before the bytes that are held, so many that were given
 pub record Held : Type 0 where
   pub dialect : Dialect
   pub bytes : List ℕ
+  pub capacity : ℕ
+  pub given : ℕ
+
+-- it holds these bytes, and its dialect stays
+abbrev pub HoldsThen : Held → List ℕ → Held → Type 0
+HoldsThen before bytes after = (after.dialect ≡ before.dialect) × (after.bytes ≡ bytes)
 
 -- the first piece and the newline that ends it were taken
 pub record TakesPiece (before : Held) (piece : List ℕ) (after : Held) : Type 0 where
@@ -31,7 +38,7 @@ GivesCutText before (Some (Err _)) after = (piece : List ℕ) × TakesPiece befo
 
 -- a call gives all that was held, and takes it
 abbrev pub GivesLast : Held → List ℕ → Held → Type 0
-GivesLast before piece after = (piece ≡ before.bytes) × (after ≡ record { dialect = before.dialect; bytes = [] })
+GivesLast before piece after = (piece ≡ before.bytes) × HoldsThen before [] after
 
 -- the same as text; what is not UTF-8 is taken too
 abbrev pub GivesLastText : {E : Type 0} → Held → Result (Bor (List ℕ)) E → Held → Type 0
@@ -41,4 +48,4 @@ GivesLastText before (Err _) after = GivesLast before before.bytes after × (¬ 
 -- a call gives the first bytes that were held, and takes so many of them
 abbrev pub GivesFront : Held → (len taken : ℕ) → List ℕ → Held → Type 0
 GivesFront before len taken front after =
-    (front ≡ take len before.bytes) × (after ≡ record { dialect = before.dialect; bytes = drop taken before.bytes })
+    (front ≡ take len before.bytes) × HoldsThen before (drop taken before.bytes) after

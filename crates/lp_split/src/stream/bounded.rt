@@ -99,6 +99,7 @@ impl BoundedLineStream {
         ensures dialect { result.held.dialect ≡ rules_of dialect }
         ensures limit { result.limit ≡ limit }
         ensures holds { Holds result [] }
+        ensures memory { result.held.capacity ≡ 0 }
     {
         BoundedLineStream {
             stream: LineStream::new_in(alloc, dialect),

@@ -5,7 +5,7 @@ use Rattle.std.proofs.lemmas.List.{take-append-le, drop-append-le, drop-take, le
 use Rattle.lp_format.specs.format.{Dialect, IsLastPiece, IsCutPiece, newline, newlines_in}
 use Rattle.lp_split.specs.declared.split.resumed.Search.{Search}
 use Rattle.lp_split.specs.declared.split.resumed.Search.TheVariants.{Within}
-use Rattle.lp_split.specs.code.{IsKnown, IsHeldAt, AreSeen, Held, HeldWithin, IsTrackOf, TracksOn, Track, HoldsBy, Holds, IsTooLong, Counts}
+use Rattle.lp_split.specs.code.{IsKnown, IsHeldAt, AreSeen, Held, HeldWithin, HoldsThen, IsTrackOf, TracksOn, Track, HoldsBy, Holds, IsTooLong, Counts}
 pub use Rattle.lp_split.proofs.lemmas.split.TrackedPieces.{tracked_is_last}
 use Rattle.lp_split.specs.declared.stream.bounded.Counted.{Counted}
 use Rattle.lp_split.specs.declared.stream.bounded.Skipped.{Skipped, TheVariants.Within, TheVariants.Ended}
@@ -80,7 +80,7 @@ skips_to_end limit old new skipped from counted more part i is tracks dialect by
 -- of what is held, which is too long, the front is kept
 pub goes_within : (limit : ℕ) (held after : Held) (d : Dialect) (track : Track) (counted : Counted)
     → d ≡ held.dialect → IsTooLong limit held.bytes → IsTrackOf d held.bytes track → Counts counted held.bytes
-    → after ≡ record { dialect = held.dialect; bytes = take limit held.bytes } → HoldsBy limit after (Within track counted) held.bytes
+    → HoldsThen held (take limit held.bytes) after → HoldsBy limit after (Within track counted) held.bytes
 goes_within limit held after d track counted dialect long tracked counts front = grind arith
 
 -- what is one piece has no newline that ends it
