@@ -13,6 +13,7 @@ import os
 import pathlib
 import pickle
 import random
+import re
 import sys
 import tempfile
 import threading
@@ -22,7 +23,7 @@ import warnings
 import weakref
 
 import line_protocol
-from line_protocol import Fault, FaultKind, Line, parse, rebuild, split
+from line_protocol import Fault, FaultKind, Line, columns, parse, rebuild, split
 
 from typed import typed
 
@@ -32,8 +33,8 @@ TEXT = 'cpu,host=a\\ b usage=64i,load=1.50 5\n# a comment\n\nm s="a\nb",u=7u\nm 
 def located(items):
     """Items with all that a fault says."""
     return [
-        (item.kind, item.text, item.side, item.item, item.line, item.offset, item.refused) if isinstance(item, Fault) else typed(item)
-        for item in items]
+        (item.kind, item.text, item.side, item.item, item.line, item.offset, item.piece_line, item.piece_offset, item.refused)
+        if isinstance(item, Fault) else typed(item) for item in items]
 
 
 def in_parts(data, size):
@@ -194,6 +195,10 @@ def pieces_of(data, strict):
         at += len(piece) + 1
 
 
+DROPPED = re.compile(rb"(?:[ \t\n]|#[^\n]*)*")
+"""What is dropped at the start of a piece: docs/FORMAT.md, section 4."""
+
+
 def is_utf8(data):
     try:
         data.decode()
@@ -206,7 +211,8 @@ def wanted_of(data, strict, limit):
     """The items of bytes as docs/FORMAT.md has it for a relay: each piece alone."""
     items, number = [], 0
     for start, end in pieces_of(data, strict):
-        piece, line = data[start:end], 1 + data.count(b"\n", 0, start)
+        piece = data[start:end]
+        text = start + DROPPED.match(piece).end()
         if limit is not None and len(piece) > limit:
             found = [Fault(FaultKind.TOO_LONG, refused=piece[:limit])]
         elif not is_utf8(piece):
@@ -217,13 +223,45 @@ def wanted_of(data, strict, limit):
         for item in found:
             number += 1
             if isinstance(item, Fault):
-                item.item, item.line, item.offset = number, line, start
+                item.item, item.piece_offset, item.offset = number, start, start if item.kind > 100 else text
+                item.piece_line, item.line = (1 + data.count(b"\n", 0, at) for at in (item.piece_offset, item.offset))
                 item.refused = item.refused if item.kind > 100 else piece
             items.append(item)
     return located(items)
 
 
+PLACES = [
+    (b"x", None, [(1, 0, 1, 0)], None),
+    (b"  x", None, [(1, 2, 1, 0)], None),
+    (b"\n\n  \tx", None, [(3, 5, 3, 2)], None),
+    (b"\\\nx", None, [(1, 0, 1, 0)], None),
+    (b"#\\\n x", None, [(2, 4, 1, 0)], [(2, 4, 2, 3)]),
+    (b"#\\\n#\\\n\t x\nm", None, [(3, 8, 1, 0), (4, 10, 4, 10)], [(3, 8, 3, 6), (4, 10, 4, 10)]),
+    (b'# c\n\nm s="a\nb"\nx\n', None, [(5, 15, 5, 15)], None),
+    (b'\tm s="a\nb",v=9i9', None, [(1, 1, 1, 0)], None),
+    (b'# a="\nx" b\n y', None, [(2, 6, 1, 0), (3, 12, 3, 11)], [(2, 6, 2, 6), (3, 12, 3, 11)]),
+    ("# é\n é".encode(), None, [(2, 6, 2, 5)], None),
+    (b"\n\n\t\xff", None, [(3, 2, 3, 2)], None),
+    (b"#\\\n \xff", None, [(1, 0, 1, 0)], [(2, 3, 2, 3)]),
+    (b"\n   xxxx\n x", 5, [(2, 1, 2, 1), (3, 10, 3, 9)], None),
+    (b"\n#\\\n xxxx\n x", 5, [(2, 1, 2, 1), (4, 11, 4, 10)], [(3, 5, 3, 4), (4, 11, 4, 10)]),
+]
+"""Bytes, `max_line`, and line, offset, piece_line and piece_offset of each fault; also in the strict dialect, if they differ there."""
+
+
 class Places(unittest.TestCase):
+    def test_the_place_of_the_text_and_that_of_its_piece(self):
+        for data, limit, wanted, in_strict in PLACES:
+            for strict in (False, True):
+                for size in (1, 2, 3, len(data)):
+                    with self.subTest(data=data, strict=strict, size=size):
+                        items = list(parse(in_parts(data, size), strict=strict, max_line=limit))
+                        faults = [item for item in items if isinstance(item, Fault)]
+                        found = [(fault.line, fault.offset, fault.piece_line, fault.piece_offset) for fault in faults]
+                        self.assertEqual(found, in_strict if strict and in_strict else wanted)
+                        told = columns(in_parts(data, size), strict=strict, max_line=limit, use_numpy=False)
+                        self.assertEqual(located(told.faults), located(faults))
+
     def test_where_each_fault_is(self):
         items = list(parse(TEXT + "\nm f=99999999999999999999i\n\n\nx\n"))
         faults = [item for item in items if isinstance(item, Fault)]
