@@ -195,14 +195,20 @@ static void leave_table(Rows *rows) {
     rows->columns_len = 0;
 }
 
-/* Appends the measurement and the number of the row that is refused to a list. */
+/* Appends the measurement and the number of the row that is refused to a list. The error stays, unless memory for that is refused. */
 static void tell_row(const Rows *rows, PyObject *refused) {
     PyObject *type, *value, *trace;
     PyErr_Fetch(&type, &value, &trace);
     PyObject *told = Py_BuildValue("(On)", rows->measurement, (Py_ssize_t)rows->row);
-    if (told) PyList_Append(refused, told);
+    const bool is_told = told && PyList_Append(refused, told) == 0;
     Py_XDECREF(told);
-    PyErr_Restore(type, value, trace);
+    if (is_told) {
+        PyErr_Restore(type, value, trace);
+        return;
+    }
+    Py_XDECREF(type);
+    Py_XDECREF(value);
+    Py_XDECREF(trace);
 }
 
 /* Writes the rows of a table. */

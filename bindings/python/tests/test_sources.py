@@ -8,12 +8,14 @@ import gc
 import gzip
 import io
 import itertools
+import json
 import mmap
 import os
 import pathlib
 import pickle
 import random
 import re
+import subprocess
 import sys
 import tempfile
 import threading
@@ -27,6 +29,7 @@ from line_protocol import Fault, FaultKind, Line, columns, parse, rebuild, split
 
 from typed import typed
 
+RELAY = os.environ.get("LP_RELAY", "")
 TEXT = 'cpu,host=a\\ b usage=64i,load=1.50 5\n# a comment\n\nm s="a\nb",u=7u\nm f\nümlaut,t=ö s="\\"" -3\nlast f=t'
 
 
@@ -195,6 +198,9 @@ def pieces_of(data, strict):
         at += len(piece) + 1
 
 
+ALPHABET = [b"\n", b"\n", b" ", b" ", b"\\", b'"', b"=", b"=", b",", b"#", b"m", b"1i", b"f=1i", b"\xff", b"\xc3", b"\t", "é".encode()]
+"""Bytes that mean something, and some that are no UTF-8."""
+
 DROPPED = re.compile(rb"(?:[ \t\n]|#[^\n]*)*")
 """What is dropped at the start of a piece: docs/FORMAT.md, section 4."""
 
@@ -294,6 +300,31 @@ class Places(unittest.TestCase):
         self.assertEqual(located(parse(text)), wanted_of(text.encode(), False, None))
 
 
+@unittest.skipUnless(os.access(RELAY, os.X_OK), "LP_RELAY names no program")
+class BesideTheProgram(Folder):
+    def objects(self, path, strict, limit):
+        """What `lp_relay` says of the faults of a file."""
+        options = ["--strict"] * strict + ["--verbatim", "--check", "--faults", "json"]
+        options += [] if limit is None else ["--max-line", str(limit)]
+        said = subprocess.run([RELAY, *options, path], stdout=subprocess.DEVNULL, stderr=subprocess.PIPE, check=False)
+        self.assertIn(said.returncode, (0, 1), said.stderr[-500:])
+        return [json.loads(line) for line in said.stderr.splitlines()]
+
+    def test_each_fault_is_where_the_program_says(self):
+        chosen = random.Random(23)
+        for _ in range(60):
+            data = b"".join(chosen.choice(ALPHABET) for _ in range(chosen.randrange(400)))
+            path, strict, limit = self.file(data), chosen.random() < 0.5, chosen.choice([None, None, 1, 3, 8])
+            objects = self.objects(path, strict, limit)
+            keys = ["item", "line", "offset", "piece_line", "piece_offset"]
+            with self.subTest(data=data, strict=strict, limit=limit):
+                for source in (path, in_parts(data, 7)):
+                    faults = [item for item in parse(source, strict=strict, max_line=limit) if isinstance(item, Fault)]
+                    self.assertEqual(
+                        [[*(getattr(fault, key) for key in keys), fault.kind.name.lower(), fault.message] for fault in faults],
+                        [[*(one[key] for key in keys), one["kind"], one["text"]] for one in objects])
+
+
 class Bytes(unittest.TestCase):
     """Lines that are no UTF-8, or too long."""
 
@@ -340,10 +371,8 @@ class Bytes(unittest.TestCase):
     def test_each_text_cut_anywhere(self):
         """Texts over bytes that mean something, in parts of any sizes, with each limit."""
         chosen = random.Random(7)
-        alphabet = [b"\n", b"\n", b" ", b" ", b"\\", b'"', b"=", b"=", b",", b"#", b"m", b"1i", b"f=1i", b"\xff", b"\xc3"]
-        alphabet += [b"\t", "é".encode()]
         for _ in range(20_000):
-            data = b"".join(chosen.choice(alphabet) for _ in range(chosen.randrange(24)))
+            data = b"".join(chosen.choice(ALPHABET) for _ in range(chosen.randrange(24)))
             strict, limit = chosen.random() < 0.5, chosen.choice([None, None, 0, 1, 2, 3, 5, 8])
             cuts = sorted(chosen.randrange(len(data) + 1) for _ in range(chosen.randrange(6)))
             parts = [data[start:end] for start, end in zip([0, *cuts], [*cuts, len(data)])]

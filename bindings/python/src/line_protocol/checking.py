@@ -137,13 +137,19 @@ def _flaw(part: str, name: str) -> Optional[str]:
 
 def as_name(part: str, name: Any, key: Optional[str] = None) -> str:
     """A name that is admitted; `key` is that of the tag, of a value."""
-    what = _PARTS[part]
-    flaw = _flaw(part, as_text(what, name, key))
-    if flaw is None:
-        return name
-    refused = NotAdmitted(f"{what if key is None else f'{what} {short(key)}'} is not admitted: {short(name)} {flaw}")
+    text = as_text(_PARTS[part], name, key)
+    flaw = _flaw(part, text)
+    if flaw is not None:
+        raise _not_admitted(part, key, text, flaw)
+    return text
+
+
+def _not_admitted(part: str, key: Optional[str], name: str, flaw: str) -> NotAdmitted:
+    """What is raised for a name. No frame of its traceback holds it, so that it is let go at once."""
+    what = _PARTS[part] if key is None else f"{_PARTS[part]} {short(key)}"
+    refused = NotAdmitted(f"{what} is not admitted: {short(name)} {flaw}")
     refused.part, refused.key, refused.value = part, key, name
-    raise refused
+    return refused
 
 
 def refuse_names(names: List[str], tags: int) -> NoReturn:

@@ -19,10 +19,10 @@ class DuplicateTag(ValueError):
 
 
 def write(line: Line, *, strict: bool = False) -> str:
-    """A line as the builder writes it, with its newline. It reads back as this line and as nothing else, by the rules of the Rust crate or
-    of the strict dialect, whatever is written before and after it.
+    """A line as the builder writes it, with its newline. By the rules of the Rust crate, or of the strict dialect, it reads back as this
+    line alone, whatever text comes after it.
 
-    What cannot be written raises: NotAdmitted if a name would not read back. And here and in the other calls that take a line: ValueError
+    NotAdmitted if a name would not read back. What else cannot be written raises here as in the other calls that take a line: ValueError
     if there is no field, or if a float is not finite and no FloatText; OverflowError if a number is out of its range; TypeError if the
     type is wrong.
 
@@ -78,7 +78,7 @@ class _Counted:
 
 
 def show(line: Line) -> str:
-    """A line as it is shown: strings have no quotes, and there is no newline.
+    """A line as it is shown: strings have no quotes, and there is no newline at its end. It need not read back.
 
     >>> show(Line("m", [("a", "b")], [("s", "x y")], 5))
     'm,a=b s=x y 5'
@@ -112,7 +112,7 @@ def is_base_safe(line: Line) -> bool:
 
 
 def is_admitted(line: Line) -> bool:
-    """Whether a line reads back where it is written: whether each of its names is admitted.
+    """Whether a line reads back once it is written: whether each of its names is admitted. `write` raises NotAdmitted if one is not.
 
     >>> is_admitted(Line("", [], [("f", 1)]))
     False
