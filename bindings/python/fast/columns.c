@@ -1,4 +1,8 @@
-/* Lines become columns: for each measurement its times, its tags and its fields. */
+/* Lines become columns: for each measurement its times, its tags and its fields.
+ *
+ * Pointers: a row, its texts and its parts are those of the reader, and are there until the next row is asked for (reading.c). Tables and
+ * columns own all that they point to. A pointer to a table is good until `table_of` is called again, and one to a column until `column_of`
+ * is called again for its table, since these may move them. */
 #include "fast.h"
 
 /* A column: numbers, or objects in a list. A cell is missing where its line has no such part. */

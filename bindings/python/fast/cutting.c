@@ -1,4 +1,7 @@
-/* What sources.py and parts.py ask of bytes. */
+/* What sources.py and parts.py ask of bytes.
+ *
+ * Pointers: each text is that of a `bytes` object which the caller holds during the call, or which the call holds itself until the text is
+ * no longer needed. The pieces of a text are parts of it. */
 #include "fast.h"
 
 /* whole(text, strict): how many bytes the pieces take that a newline ends, or None if the text is no UTF-8. */

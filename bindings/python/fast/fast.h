@@ -1,8 +1,13 @@
-/* What the package line_protocol calls: the library of include/influxdb_line_protocol.h as Python sees it, on CPython's stable ABI, so
- * that one file serves Python 3.8 and all later ones.
+/* What the package line_protocol calls: the library of include/influxdb_line_protocol.h as Python sees it, on CPython's stable ABI, so that
+ * one file serves Python 3.8 and all later ones.
  *
- * Here is nothing that can as well be said in Python: sources are cut into segments by sources.py, and what is no plain value is tested,
- * or refused, by the functions of checking.py, which `setup` hands in. The module keeps what it was handed: an interpreter has one. */
+ * Here is nothing that can as well be said in Python: sources are cut into segments by sources.py, and what is no plain value is tested, or
+ * refused, by the functions of checking.py, which `setup` hands in. The module keeps what it was handed: an interpreter has one.
+ *
+ * Pointers: an object that is handed in is borrowed from the caller, who holds it during the call. An object that is given back is a new
+ * reference, or NULL with an error. A function says so if it takes a reference, or gives NULL without an error. The bytes of an lp_text
+ * belong to something else: the head of each file says to what, and how long they are there. Python's lock is held, but between `let_go`
+ * and `take_back`, where no object is looked at: the bytes of a `bytes` object stay as they are as long as someone holds it. */
 #ifndef FAST_H
 #define FAST_H
 #define Py_LIMITED_API 0x03080000
@@ -17,13 +22,13 @@
 /* What `setup` hands in. */
 struct given {
     PyObject *line, *fault, *unsigned_type, *float_text, *new_int, *kinds, *sides, *duplicate_tag;
-    PyObject *plain_value, *plain_timestamp, *refuse;
+    PyObject *plain_value, *plain_timestamp, *refuse, *refuse_names;
 };
 extern struct given given;
 
 /* A line. `spelled` is NULL, or the literals of its floats as they were read, each before a newline. */
 typedef struct { PyObject_HEAD PyObject *measurement, *tags, *fields, *timestamp, *spelled; } Line;
-typedef struct { PyObject_HEAD PyObject *kind, *text, *side, *item, *line, *offset, *refused; } Fault;
+typedef struct { PyObject_HEAD PyObject *kind, *text, *side, *item, *line, *offset, *refused, *piece_line, *piece_offset; } Fault;
 extern PyTypeObject *line_base, *reader_type;
 extern PyObject *no_bytes; /* b"" */
 
@@ -146,10 +151,11 @@ bool put_timestamp(Handed *handed, PyObject *timestamp);
 typedef struct { uint8_t *at; size_t len, room; } Out;
 typedef uint32_t PutsOut(const lp_line *, const lp_part *, size_t, uint8_t *, size_t, size_t *);
 
-/* lp_line_write in the dialect of the Rust crate. */
-PutsOut write_line;
+/* lp_line_write in a dialect. */
+PutsOut *writer_of(bool strict);
 
-/* Appends what a call puts out for the line that was handed in, and gives its answer; 0 after an error. */
+/* Appends what a call puts out for the line that was handed in, and gives its answer; 0 after an error, which is NotAdmitted if a name
+ * of the line is not admitted. */
 uint32_t put_out(PutsOut *call, const Handed *handed, Out *out);
 
 /* Makes a str of all that was put out, where there was no error, and frees it. */
@@ -167,8 +173,8 @@ PyObject *fast_skip(PyObject *module, PyObject *args);
 PyObject *fast_part_ends(PyObject *module, PyObject *args);
 PyObject *fast_columns(PyObject *module, PyObject *args);
 PyObject *fast_write_columns(PyObject *module, PyObject *args);
-PyObject *fast_write(PyObject *module, PyObject *line);
-PyObject *fast_write_many(PyObject *module, PyObject *lines);
+PyObject *fast_write(PyObject *module, PyObject *args);
+PyObject *fast_write_many(PyObject *module, PyObject *args);
 PyObject *fast_show(PyObject *module, PyObject *line);
 PyObject *fast_base(PyObject *module, PyObject *line);
 PyObject *fast_is_base_safe(PyObject *module, PyObject *line);

@@ -1,4 +1,7 @@
-/* The module, and the members of lines and faults. */
+/* The module, and the members of lines and faults.
+ *
+ * Pointers: what `given`, the types and `no_bytes` point to is held by the module as long as the process lives. A text of `text_of` is
+ * there as long as its `bytes` object. The members of a line or a fault are its own references; a member is NULL if it was deleted. */
 #include "fast.h"
 
 struct given given;
@@ -47,7 +50,7 @@ PyObject *encoded(PyObject *text) {
     return bytes;
 }
 
-enum { LINE_MEMBERS = 5, FAULT_MEMBERS = 7 };
+enum { LINE_MEMBERS = 5, FAULT_MEMBERS = 9 };
 
 static int members_visit(PyObject *self, size_t count, visitproc visit, void *arg) {
     PyObject **members = &((Line *)self)->measurement;
@@ -80,7 +83,7 @@ static PyMemberDef line_members[] = {
     { "_spelled", T_OBJECT, offsetof(Line, spelled), 0, NULL }, { NULL, 0, 0, 0, NULL } };
 static PyMemberDef fault_members[] = {
     MEMBER(Fault, kind), MEMBER(Fault, text), MEMBER(Fault, side), MEMBER(Fault, item), MEMBER(Fault, line), MEMBER(Fault, offset),
-    MEMBER(Fault, refused), { NULL, 0, 0, 0, NULL } };
+    MEMBER(Fault, refused), MEMBER(Fault, piece_line), MEMBER(Fault, piece_offset), { NULL, 0, 0, 0, NULL } };
 
 static PyType_Slot line_slots[] = {
     { Py_tp_doc, "The members of a Line." }, { Py_tp_members, line_members }, { Py_tp_traverse, line_traverse },
@@ -105,7 +108,7 @@ static PyObject *fast_version(PyObject *module, PyObject *nothing) {
 static PyObject *fast_setup(PyObject *module, PyObject *args) {
     (void)module;
     PyObject **all[] = { &given.line, &given.fault, &given.unsigned_type, &given.float_text, &given.new_int, &given.kinds, &given.sides,
-                         &given.duplicate_tag, &given.plain_value, &given.plain_timestamp, &given.refuse };
+                         &given.duplicate_tag, &given.plain_value, &given.plain_timestamp, &given.refuse, &given.refuse_names };
     const Py_ssize_t count = (Py_ssize_t)(sizeof all / sizeof *all);
     PyObject *line = PyTuple_Size(args) == count ? PyTuple_GetItem(args, 0) : Py_None;
     if (!PyType_Check(line) || !PyType_IsSubtype((PyTypeObject *)line, line_base)) {
@@ -126,7 +129,7 @@ static PyMethodDef functions[] = {
     { "outliers", fast_outliers, METH_VARARGS, NULL }, { "skip", fast_skip, METH_VARARGS, NULL },
     { "columns", fast_columns, METH_VARARGS, NULL }, { "write_columns", fast_write_columns, METH_VARARGS, NULL },
     { "part_ends", fast_part_ends, METH_VARARGS, NULL },
-    { "write", fast_write, METH_O, NULL }, { "write_many", fast_write_many, METH_O, NULL }, { "show", fast_show, METH_O, NULL },
+    { "write", fast_write, METH_VARARGS, NULL }, { "write_many", fast_write_many, METH_VARARGS, NULL }, { "show", fast_show, METH_O, NULL },
     { "base", fast_base, METH_O, NULL }, { "is_base_safe", fast_is_base_safe, METH_O, NULL },
     { "is_admitted", fast_is_admitted, METH_O, NULL }, { "rebuild", fast_rebuild, METH_VARARGS, NULL },
     { "version", fast_version, METH_NOARGS, NULL }, { "setup", fast_setup, METH_VARARGS, NULL }, { NULL, NULL, 0, NULL } };

@@ -1,4 +1,7 @@
-/* Literals of floats are read and spelled. */
+/* Literals of floats are read and spelled.
+ *
+ * Pointers: a literal is part of a `bytes` object that the caller holds, so a byte comes after it that may be looked at: in a line what
+ * ends the literal, or the NUL at the end of the object. Where text is put, there is room for SPELLED bytes. */
 #include "fast.h"
 #include <float.h>
 

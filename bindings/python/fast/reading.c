@@ -1,4 +1,10 @@
-/* Items are read, block by block. */
+/* Items are read, block by block.
+ *
+ * Pointers: a reader owns its rows, parts, room and names, which are there until it is freed; `lend_for` and `lend` alone move them, before
+ * a block is read, when no row of the block before is needed. What a row shows is in the segment, a `bytes` object that the reader holds in
+ * `text`, or in the room: it is there until the next block or segment is read, that is, until `next_row` is called again. `piece`,
+ * `counted`, `lines` and `walk` point into the segment alone. What Python runs in between cannot change this, since one call at a time
+ * reads: `begin_call`. */
 #include "fast.h"
 
 /* At most so many rows are read at once; so many parts and bytes of room are lent for them. */
@@ -156,32 +162,33 @@ static size_t newlines_in(const uint8_t *at, const uint8_t *end) {
     return count;
 }
 
-/* Whether a piece gives no item: whether nothing is left where blanks and comments are dropped at its start. */
-static bool is_blank(lp_text piece) {
+/* What is left of a piece, of either dialect, if blanks and comments are dropped at its start: docs/FORMAT.md, section 4. */
+static lp_text trimmed(lp_text piece) {
     const uint8_t *at = piece.at, *end = at + piece.len;
-    for (; at < end; at++) {
-        if (*at == '#') {
-            at = memchr(at, '\n', (size_t)(end - at));
-            if (!at) return true;
-        } else if (*at != ' ' && *at != '\t' && *at != '\n') {
-            return false;
-        }
+    while (at < end && (*at == '#' || *at == ' ' || *at == '\t' || *at == '\n')) {
+        const uint8_t *last = *at == '#' ? memchr(at, '\n', (size_t)(end - at)) : at;
+        at = last ? last + 1 : end;
     }
-    return true;
+    const lp_text left = { at, (size_t)(end - at) };
+    return left;
 }
 
-/* The piece of the item of a row, which is that of the row before or comes after it. */
+/* The piece of the item of a row, which is that of the row before or comes after it. A piece of which nothing is left gives no item. */
 static lp_text piece_of(Reader *reader, size_t row) {
     lp_view piece = LP_NO_VIEW;
     while (reader->walked <= row && lp_lines_piece(&reader->walk, &piece)) {
-        reader->walked += !is_blank(piece.text);
+        reader->walked += trimmed(piece.text).len > 0;
         reader->piece = piece.text;
     }
     return reader->piece;
 }
 
-/* A fault, of texts that it takes, also where it fails. */
-static PyObject *new_fault(Reader *reader, PyObject *kind, PyObject *side, PyObject *text, PyObject *refused, unsigned long long offset) {
+/* A place in the source: the number of its line, and how many bytes come before it. */
+typedef struct { unsigned long long line, offset; } Place;
+
+/* A fault at a place, in the piece at another. The texts are taken, also if it fails. */
+static PyObject *new_fault(
+    Reader *reader, PyObject *kind, PyObject *side, PyObject *text, PyObject *refused, Place place, Place of_piece) {
     Fault *fault = kind && side && text && refused ? (Fault *)new_object(given.fault) : NULL;
     if (!fault) {
         Py_XDECREF(text);
@@ -195,9 +202,11 @@ static PyObject *new_fault(Reader *reader, PyObject *kind, PyObject *side, PyObj
     fault->text = text;
     fault->refused = refused;
     fault->item = PyLong_FromUnsignedLongLong(reader->items);
-    fault->line = PyLong_FromUnsignedLongLong(reader->line);
-    fault->offset = PyLong_FromUnsignedLongLong(offset);
-    if (fault->item && fault->line && fault->offset) return (PyObject *)fault;
+    fault->line = PyLong_FromUnsignedLongLong(place.line);
+    fault->offset = PyLong_FromUnsignedLongLong(place.offset);
+    fault->piece_line = PyLong_FromUnsignedLongLong(of_piece.line);
+    fault->piece_offset = PyLong_FromUnsignedLongLong(of_piece.offset);
+    if (fault->item && fault->line && fault->offset && fault->piece_line && fault->piece_offset) return (PyObject *)fault;
     Py_DECREF(fault);
     return NULL;
 }
@@ -205,12 +214,13 @@ static PyObject *new_fault(Reader *reader, PyObject *kind, PyObject *side, PyObj
 PyObject *fault_of(Reader *reader) {
     const size_t row = reader->at - 1;
     const lp_line *read = &reader->rows[row].line;
-    const lp_text piece = piece_of(reader, row);
+    const lp_text piece = piece_of(reader, row), text = trimmed(piece);
     reader->line += newlines_in(reader->counted, piece.at);
     reader->counted = piece.at;
+    const Place of_piece = { reader->line, reader->offset + (unsigned long long)(piece.at - text_of(reader->text).at) };
+    const Place place = { of_piece.line + newlines_in(piece.at, text.at), of_piece.offset + (unsigned long long)(text.at - piece.at) };
     PyObject *kind = PyTuple_GetItem(given.kinds, (Py_ssize_t)read->fault), *side = PyTuple_GetItem(given.sides, (Py_ssize_t)read->side);
-    const unsigned long long offset = reader->offset + (unsigned long long)(piece.at - text_of(reader->text).at);
-    return new_fault(reader, kind, side, str_of(read->fault_text), bytes_of(piece), offset);
+    return new_fault(reader, kind, side, str_of(read->fault_text), bytes_of(piece), place, of_piece);
 }
 
 /* Empties the rows, which show texts of what was read before. */
@@ -304,7 +314,8 @@ static PyObject *refused_of(Reader *reader, PyObject *told) {
     if (!PyArg_ParseTuple(told, "OSKK", &kind, &refused, &newlines, &len)) return NULL;
     reader->items++;
     Py_INCREF(refused);
-    PyObject *fault = new_fault(reader, kind, PyTuple_GetItem(given.sides, 0), PyUnicode_FromStringAndSize("", 0), refused, reader->offset);
+    const Place place = { reader->line, reader->offset };
+    PyObject *fault = new_fault(reader, kind, PyTuple_GetItem(given.sides, 0), PyUnicode_FromStringAndSize("", 0), refused, place, place);
     reader->line += newlines;
     reader->offset += len;
     return fault;

@@ -1,4 +1,8 @@
-/* Columns become lines: one for each row that has a field. */
+/* Columns become lines: one for each row that has a field.
+ *
+ * Pointers: keys, cells, numbers and `missing` of a column belong to the tuple of its table, which is held until the table is left. The
+ * names are of `bytes` objects that a column and the table hold themselves. The text of a tag is of a `bytes` object that is kept, or held
+ * as long as the row; that of a float is in its column until the next row. An object in a cell is held while it is looked at. */
 #include "fast.h"
 
 enum { TEXTS = 1024 }; /* So many texts are kept. */
@@ -21,6 +25,7 @@ typedef struct {
     size_t columns_len, rows, row;
     PyObject *measurement, *name; /* `name` has the bytes of the measurement */
     Handed handed;
+    PutsOut *write;
     Out out;
     Text *texts;
 } Rows;
@@ -120,7 +125,7 @@ static bool put_row(Rows *rows) {
     lp_line *line = &rows->handed.line;
     line->has_tag_set = line->tags > 0;
     line->fields = rows->handed.parts_len - line->tags;
-    return line->fields == 0 || put_out(write_line, &rows->handed, &rows->out) == LP_WRITTEN;
+    return line->fields == 0 || put_out(rows->write, &rows->handed, &rows->out) == LP_WRITTEN;
 }
 
 /* The bytes of a name, which must be a str. */
@@ -190,14 +195,20 @@ static void leave_table(Rows *rows) {
     rows->columns_len = 0;
 }
 
-/* Appends the measurement and the number of the row that is refused to a list. */
+/* Appends the measurement and the number of the row that is refused to a list. The error stays, unless memory for that is refused. */
 static void tell_row(const Rows *rows, PyObject *refused) {
     PyObject *type, *value, *trace;
     PyErr_Fetch(&type, &value, &trace);
     PyObject *told = Py_BuildValue("(On)", rows->measurement, (Py_ssize_t)rows->row);
-    if (told) PyList_Append(refused, told);
+    const bool is_told = told && PyList_Append(refused, told) == 0;
     Py_XDECREF(told);
-    PyErr_Restore(type, value, trace);
+    if (is_told) {
+        PyErr_Restore(type, value, trace);
+        return;
+    }
+    Py_XDECREF(type);
+    Py_XDECREF(value);
+    Py_XDECREF(trace);
 }
 
 /* Writes the rows of a table. */
@@ -211,12 +222,14 @@ static bool put_table(Rows *rows, PyObject *told, PyObject *refused) {
     return is_put;
 }
 
-/* write_columns(tables, refused): the lines of the rows of tables. The row that is refused is appended to a list. */
+/* write_columns(tables, strict, refused): the lines of the rows of tables. The row that is refused is appended to a list. */
 PyObject *fast_write_columns(PyObject *module, PyObject *args) {
     PyObject *tables, *refused, *table;
     Rows rows = { 0 };
+    int strict;
     (void)module;
-    if (!PyArg_ParseTuple(args, "OO!", &tables, &PyList_Type, &refused) || !(tables = PyObject_GetIter(tables))) return NULL;
+    if (!PyArg_ParseTuple(args, "OpO!", &tables, &strict, &PyList_Type, &refused) || !(tables = PyObject_GetIter(tables))) return NULL;
+    rows.write = writer_of(strict);
     bool is_put = (rows.texts = zeroed(TEXTS, sizeof *rows.texts)) != NULL;
     if (!is_put) PyErr_NoMemory();
     while (is_put && (table = PyIter_Next(tables)) != NULL) {

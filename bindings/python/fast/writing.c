@@ -1,4 +1,8 @@
-/* Lines are written, shown and tested; texts are rebuilt. */
+/* Lines are written, shown and tested; texts are rebuilt.
+ *
+ * Pointers: the texts of a line that is handed in are those of `bytes` objects, made of its names and values, which `texts` holds until
+ * `clear_handed`; no text points into the line itself, whose lists a call of checking.py may change meanwhile. `parts` is its own, and
+ * moves as it grows. The literals in `spelled` are there as long as the members of the line are held: while its parts are put. */
 #include "fast.h"
 
 void clear_handed(Handed *handed) {
@@ -248,14 +252,41 @@ static bool put_line(Handed *handed, PyObject *line, bool is_series) {
 
 /* What a call says that is neither written nor put out. */
 static bool set_answer_error(uint32_t answer) {
-    if (answer == LP_NOT_A_LINE || answer == LP_NOT_ADMITTED) PyErr_SetString(PyExc_ValueError, "the library does not take it for a line");
-    else PyErr_SetString(PyExc_MemoryError, "a request for memory was refused");
+    if (answer == LP_OUT_OF_MEMORY) PyErr_SetString(PyExc_MemoryError, "a request for memory was refused");
+    else PyErr_SetString(PyExc_ValueError, "the library does not take it for a line");
     return false;
 }
 
-uint32_t write_line(const lp_line *line, const lp_part *parts, size_t parts_len, uint8_t *out, size_t room, size_t *len) {
+/* Appends a name to a list. */
+static bool add_name(PyObject *names, lp_text name) {
+    PyObject *text = str_of(name);
+    const bool is_added = text && PyList_Append(names, text) == 0;
+    Py_XDECREF(text);
+    return is_added;
+}
+
+/* Raises NotAdmitted: a function of checking.py finds which name of the line it is. */
+static bool refuse_names(const Handed *handed) {
+    PyObject *names = PyList_New(0), *nothing = NULL;
+    bool are_added = names && add_name(names, handed->line.measurement.text);
+    for (size_t i = 0; are_added && i < handed->parts_len; i++) {
+        const lp_part *part = &handed->parts[i];
+        are_added = add_name(names, part->key.text) && (part->kind != LP_TAG || add_name(names, part->text.text));
+    }
+    if (are_added) nothing = PyObject_CallFunction(given.refuse_names, "On", names, (Py_ssize_t)handed->line.tags);
+    if (nothing) PyErr_SetString(PyExc_ValueError, "a name of the line is not admitted");
+    Py_XDECREF(nothing);
+    Py_XDECREF(names);
+    return false;
+}
+
+static uint32_t write_crate(const lp_line *line, const lp_part *parts, size_t parts_len, uint8_t *out, size_t room, size_t *len) {
     return lp_line_write(LP_CRATE, line, parts, parts_len, out, room, len);
 }
+static uint32_t write_strict(const lp_line *line, const lp_part *parts, size_t parts_len, uint8_t *out, size_t room, size_t *len) {
+    return lp_line_write(LP_STRICT, line, parts, parts_len, out, room, len);
+}
+PutsOut *writer_of(bool strict) { return strict ? write_strict : write_crate; }
 
 uint32_t put_out(PutsOut *call, const Handed *handed, Out *out) {
     static const lp_part no_parts[1] = { { LP_NO_VIEW, LP_NO_VIEW, 0, 0, LP_TAG, false } };
@@ -275,6 +306,7 @@ uint32_t put_out(PutsOut *call, const Handed *handed, Out *out) {
             out->len += wanted;
             return answer;
         }
+        if (answer == LP_NOT_ADMITTED) return refuse_names(handed);
         if (answer != LP_MORE_ROOM) return set_answer_error(answer);
     }
 }
@@ -297,20 +329,29 @@ static PyObject *put_out_one(PutsOut *call, PyObject *line) {
     Py_DECREF(text);
     return NULL;
 }
-PyObject *fast_write(PyObject *module, PyObject *line) { (void)module; return put_out_one(write_line, line); }
+
+/* write(line, strict): a line as the builder writes it. */
+PyObject *fast_write(PyObject *module, PyObject *args) {
+    PyObject *line;
+    int strict;
+    (void)module;
+    return PyArg_ParseTuple(args, "Op", &line, &strict) ? put_out_one(writer_of(strict), line) : NULL;
+}
 PyObject *fast_show(PyObject *module, PyObject *line) { (void)module; return put_out_one(lp_line_show, line); }
 PyObject *fast_base(PyObject *module, PyObject *line) { (void)module; return put_out_one(lp_line_base, line); }
 
-/* write_many(lines): all lines of an iterable, one after another. */
-PyObject *fast_write_many(PyObject *module, PyObject *lines) {
+/* write_many(lines, strict): all lines of an iterable, one after another. */
+PyObject *fast_write_many(PyObject *module, PyObject *args) {
     Handed handed = { 0 };
     Out out = { NULL, 0, 0 };
-    PyObject *iterator = PyObject_GetIter(lines), *line;
+    PyObject *lines, *iterator, *line;
+    int strict;
     (void)module;
-    if (!iterator) return NULL;
+    if (!PyArg_ParseTuple(args, "Op", &lines, &strict) || !(iterator = PyObject_GetIter(lines))) return NULL;
+    PutsOut *const write = writer_of(strict);
     bool is_written = true;
     while (is_written && (line = PyIter_Next(iterator)) != NULL) {
-        is_written = put_line(&handed, line, false) && put_out(write_line, &handed, &out) == LP_WRITTEN;
+        is_written = put_line(&handed, line, false) && put_out(write, &handed, &out) == LP_WRITTEN;
         Py_DECREF(line);
     }
     Py_DECREF(iterator);

@@ -38,6 +38,9 @@ NEVER = [
     ("field", "f", b"x"), ("field", "f", math.nan), ("field", "f", math.inf), ("field", "f", 2**63), ("field", "f", -(2**63) - 1),
     ("field", "f", Unsigned(2**64)), ("field", "f", Unsigned(-1)),
     ("timestamp", None), ("timestamp", True), ("timestamp", 1.9), ("timestamp", "5"), ("timestamp", 2**63),
+    ("measurement", ""), ("measurement", "a\nb"), ("measurement", "a\\"), ("measurement", "#m"), ("measurement", "\0"),
+    ("tag", "", "v"), ("tag", "a\n", "v"), ("tag", "k", ""), ("tag", "k", "a\tb"), ("tag", "k", "a\\"), ("field", "", 1),
+    ("field", "a\nb", 1), ("field", "a\\", 1),
 ]
 
 

@@ -8,7 +8,7 @@ import unittest
 from unittest import mock
 
 import line_protocol
-from line_protocol import columns
+from line_protocol import columns, write_columns
 from test_sources import Folder, located
 
 TEXT = b'cpu,host=a usage=64i,load=0.5 5\nwrong\ncpu usage=2.5\nmem s="a\nb"\n# c\nm f\n' * 40
@@ -58,6 +58,8 @@ class ByDask(Folder):
             rows = [(name, len(table)) for part in each for name, table in part.tables.items()]
             for name, table in wanted.tables.items():
                 self.assertEqual(sum(count for of, count in rows if of == name), len(table))
+            written = "".join(map(write_columns, each))
+            self.assertEqual(sorted(written.splitlines()), sorted(write_columns(wanted).splitlines()))
         self.assertEqual(module.read_columns(paths[0], 3).compute().faults, columns(paths[0]).faults)
 
     def test_the_stand_in(self):

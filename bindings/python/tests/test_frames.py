@@ -1,13 +1,16 @@
 """Frames of pandas have what `parse` gives, and are written as the lines they came from."""
 
+import copy
 import math
+import pickle
 import sys
 import unittest
 from pathlib import Path
 from unittest import mock
 
 from line_protocol import (
-    Column, FloatText, Frames, Line, Table, Unsigned, columns, from_frame, is_admitted, parse, to_frame, write_columns, write_many)
+    Column, FloatText, Frames, Line, NotAdmitted, Table, Unsigned, columns, from_frame, is_admitted, parse, to_frame, write_columns,
+    write_many)
 
 sys.path.append(str(Path(__file__).parents[3] / "bench"))
 import corpora  # noqa: E402
@@ -117,11 +120,13 @@ class FromFrame(unittest.TestCase):
 
     def test_which_columns(self):
         frame = pandas.DataFrame({"host": ["a", "b"], "rack": pandas.Categorical(["r", None]), "f": [1, 2], "g": [0.5, math.nan]})
-        self.assertEqual(from_frame(frame, "m"), 'm,rack=r host="a",f=1i,g=0.5\nm host="b",f=2i\n')
+        self.assertEqual(from_frame(frame, "m", tags=["rack"]), 'm,rack=r host="a",f=1i,g=0.5\nm host="b",f=2i\n')
+        self.assertEqual(from_frame(frame[["rack", "f", "g"]], "m"), "m,rack=r f=1i,g=0.5\nm f=2i\n")
+        self.assertEqual(from_frame(frame, "m", fields=["host", "f"]), 'm,rack=r host="a",f=1i\nm host="b",f=2i\n')
         self.assertEqual(from_frame(frame, "m", tags=["host"]), 'm,host=a rack="r",f=1i,g=0.5\nm,host=b f=2i\n')
         self.assertEqual(from_frame(frame, "m", tags=("host", "rack"), fields=["g"]), "m,host=a,rack=r g=0.5\n")
         self.assertEqual(from_frame(frame, "m", tags=[], fields=["f"], time="f"), "m f=1i 1\nm f=2i 2\n")
-        self.assertEqual(from_frame(frame[:0], "m"), "")
+        self.assertEqual(from_frame(frame[:0], "m", tags=["host"]), "")
         numbers = pandas.DataFrame({"rack": pandas.array([5, None], "Int64"), "f": [1, 2]}).astype({"rack": "string"})
         self.assertEqual(from_frame(numbers, "m", tags=["rack"]), "m,rack=5 f=1i\nm f=2i\n")
 
@@ -164,7 +169,7 @@ class FromFrame(unittest.TestCase):
         self.refuse(KeyError, "time: the frame has no column 5", frame, "m", time=5)
         twice = pandas.concat([frame, frame], axis=1)
         self.refuse(ValueError, "tags: the frame has two columns 't'", twice, "m", tags=["t"])
-        self.refuse(ValueError, "two tags, or two fields, of the frame have one name", twice, "m")
+        self.refuse(ValueError, "two tags, or two fields, of the frame have one name", twice, "m", tags=[])
         self.refuse(ValueError, "two tags, or two fields, of the frame have one name", frame, "m", tags=["t", "t"])
         self.refuse(ValueError, "the table 'm' has no field", frame, "m", fields=[])
         self.refuse(ValueError, "the table 'm' has no field", frame[["t"]], "m", tags=["t"])
@@ -188,6 +193,162 @@ class FromFrame(unittest.TestCase):
         wrong = pandas.DataFrame({"f": [1]}, index=pandas.DatetimeIndex(["2023"]))
         wrong.index = wrong.index.astype("datetime64[ns]")
         self.assertEqual(from_frame(wrong, "m"), "m f=1i 1672531200000000000\n")
+
+
+FIRST = 'cpu,host=a x=1.5,s="p" 1\ncpu,host=b x=2.5,s="q" 2\n'
+SECOND = 'cpu,host=c x=3.5,s="r" 3\n'
+
+
+@unittest.skipIf(pandas is None, "there is no pandas")
+class Series(unittest.TestCase):
+    """Tags stay tags, whatever pandas makes of a frame, or the call raises."""
+
+    def setUp(self):
+        self.first, self.second = (to_frame(text)["cpu"] for text in (FIRST, SECOND))
+        self.both = pandas.concat([self.first, self.second])
+
+    def refuse(self, frame, name, tags, **named):
+        """Sees that a column may be a tag or a field, and that these are the other tags."""
+        with self.assertRaises(ValueError) as found:
+            from_frame(frame, "cpu", **named)
+        self.assertEqual(
+            str(found.exception),
+            f"the column {name!r} may be a tag or a field: tags={[name, *tags]} makes it a tag, tags={tags} a field")
+
+    def test_what_a_frame_says_of_its_columns(self):
+        self.assertEqual(self.first.attrs, {"line_protocol.tags": ["host"], "line_protocol.object_fields": ["s"]})
+        frame = to_frame('m,a=x,b=y b=1i,c=t,d=0.5,e="s",f=7u\nm e="t",f=1i')["m"]
+        self.assertEqual(frame.attrs, {"line_protocol.tags": ["a", "b"], "line_protocol.object_fields": ["e", "f"]})
+        self.assertEqual(to_frame("m f=1i")["m"].attrs, {"line_protocol.tags": [], "line_protocol.object_fields": []})
+
+    def test_what_is_made_of_a_frame(self):
+        a, b = FIRST.splitlines(keepends=True)
+        first = self.first
+        for made, wanted in [
+            (first.copy(), FIRST), (copy.copy(first), FIRST), (copy.deepcopy(first), FIRST), (pickle.loads(pickle.dumps(first)), FIRST),
+            (self.both, FIRST + SECOND), (pandas.concat([first, first[:1]]), FIRST + a), (self.both[self.both["x"] < 2], a),
+            (first[first["x"] > 2], b), (first.query("x > 2"), b), (first.iloc[[1, 0]], b + a), (first.loc[:, ["s", "host", "x"]],
+            'cpu,host=a s="p",x=1.5 1\ncpu,host=b s="q",x=2.5 2\n'), (first[["host", "x"]], "cpu,host=a x=1.5 1\ncpu,host=b x=2.5 2\n"),
+            (first.astype({"host": "object"}), FIRST), (first.astype({"host": "string", "s": "string"}), FIRST),
+            (first.assign(x=first["x"] + 1), FIRST.replace("2.5", "3.5").replace("1.5", "2.5")), (self.both.assign(y=True)[2:],
+            'cpu,host=c x=3.5,s="r",y=true 3\n'),
+            (self.both.assign(host=self.both["host"].str.upper())[:1], a.replace("host=a", "host=A")),
+            (first.rename(columns={"host": "node"}), FIRST.replace("host", "node")),
+            (self.both.sort_values("x", ascending=False)[1:], b + a),
+        ]:
+            with self.subTest(types=types_of(made), wanted=wanted):
+                self.assertEqual(from_frame(made, "cpu"), wanted)
+
+    def test_groups(self):
+        """Of groups the series is written, or the call raises."""
+        for of_hosts in (self.first.groupby("host"), self.both.groupby("host")):
+            for host, frame in of_hosts:
+                self.assertEqual(from_frame(frame, "cpu", tags=["host"]), next(
+                    line for line in (FIRST + SECOND).splitlines(keepends=True) if f"host={host}" in line))
+            means = of_hosts[["x"]].mean()
+            with self.assertRaisesRegex(TypeError, "the index has no times, and numbers no rows: .* named 'host'"):
+                from_frame(means, "cpu")
+            wanted = "".join(f"cpu,host={host} x={x}\n" for host, x in means["x"].items())
+            self.assertEqual(from_frame(means.reset_index(), "cpu", tags=["host"]), wanted)
+            try:
+                self.assertEqual(from_frame(means.reset_index(), "cpu"), wanted)
+            except ValueError as raised:
+                self.assertIn("the column 'host' may be a tag or a field: tags=['host'] makes it a tag", str(raised))
+
+    def test_what_pandas_forgets(self):
+        """Frames of which pandas keeps neither the categories nor what to_frame said."""
+        racks = pandas.DataFrame({"host": ["a", "b"], "rack": ["r1", "r2"]})
+        merged = self.both.merge(racks, on="host")
+        self.refuse(merged, "host", [])
+        wanted = 'cpu,host=a,rack=r1 x=1.5,s="p"\ncpu,host=b,rack=r2 x=2.5,s="q"\n'
+        self.assertEqual(from_frame(merged, "cpu", tags=["host", "rack"]), wanted)
+        other = to_frame("cpu,host=d,rack=r x=4.5 4\n")["cpu"]
+        mixed = pandas.concat([self.first, other])
+        self.refuse(mixed, "host", ["rack"] if types_of(mixed)[3] == "category" else [])
+        self.assertEqual(from_frame(mixed, "cpu", tags=["host", "rack"]), FIRST + "cpu,host=d,rack=r x=4.5 4\n")
+        forgotten = pandas.DataFrame(self.both.to_dict("list"))
+        self.refuse(forgotten, "host", [])
+        self.refuse(forgotten[["x", "s"]], "s", [])
+        self.refuse(forgotten[["x", "s"]][:0], "s", [])
+        self.refuse(forgotten.astype({"host": "string"}), "host", [])
+        self.refuse(forgotten.astype({"host": "category"}), "s", ["host"])
+        self.assertEqual(from_frame(forgotten[["x"]], "cpu"), "cpu x=1.5\ncpu x=2.5\ncpu x=3.5\n")
+        self.refuse(forgotten, "host", [], time="x")
+        self.assertEqual(from_frame(forgotten, "cpu", fields=["x"]), "cpu x=1.5\ncpu x=2.5\ncpu x=3.5\n")
+
+    def test_a_column_that_is_gone(self):
+        self.assertEqual(from_frame(self.both.drop(columns="host")[:1], "cpu"), 'cpu x=1.5,s="p" 1\n')
+        self.assertEqual(from_frame(self.both.drop(columns=["host", "s"])[:1], "cpu"), "cpu x=1.5 1\n")
+        self.refuse(self.both.rename(columns={"host": "node"}), "node", [])
+        self.refuse(self.first.rename(columns={"s": "note"}), "note", ["host"])
+
+    def test_a_column_that_is_new(self):
+        for note in ("x", ["x", None], pandas.Series(["x", "y"], self.first.index, "string")):
+            self.refuse(self.first.assign(note=note), "note", ["host"])
+        noted = self.first.assign(note="x")[:1]
+        self.assertEqual(from_frame(noted, "cpu", tags=["host", "note"]), 'cpu,host=a,note=x x=1.5,s="p" 1\n')
+        self.assertEqual(from_frame(noted, "cpu", tags=["host"]), 'cpu,host=a x=1.5,s="p",note="x" 1\n')
+        self.assertEqual(from_frame(noted, "cpu", fields=["x", "note"]), 'cpu,host=a x=1.5,note="x" 1\n')
+        named = self.first.assign(node=pandas.Categorical(["n1", "n2"]), y=[1, 2])
+        self.assertEqual(from_frame(named[1:], "cpu"), 'cpu,host=b,node=n2 x=2.5,s="q",y=2i 2\n')
+
+    def test_what_the_caller_says_comes_first(self):
+        self.assertEqual(from_frame(self.both[:1], "cpu", tags=[]), 'cpu host="a",x=1.5,s="p" 1\n')
+        self.assertEqual(from_frame(self.both[:1], "cpu", tags=["s"]), 'cpu,s=p host="a",x=1.5 1\n')
+        frame = pandas.DataFrame({"host": ["a"], "f": [1]})
+        frame.attrs["line_protocol.tags"] = ("host", "nothing")
+        self.assertEqual(from_frame(frame, "m"), "m,host=a f=1i\n")
+        for key in ("line_protocol.tags", "line_protocol.object_fields"):
+            for wrong in ("host", 5, None, {"host"}):
+                frame.attrs = {key: wrong}
+                with self.subTest(key=key, wrong=wrong), self.assertRaisesRegex(TypeError, f"'{key}'. are a list of names of columns, not"):
+                    from_frame(frame, "m")
+
+    def test_a_tag_and_a_field_of_one_name(self):
+        frame = to_frame('m,a=x a="y",b=1i 5\n')["m"]
+        self.assertEqual(from_frame(frame, "m"), 'm,a=x a="y",b=1i 5\n')
+        both = pandas.concat([frame, to_frame('m,a=z a="y",b=1i 6\n')["m"]])
+        with self.assertRaisesRegex(ValueError, "two tags, or two fields, of the frame have one name"):
+            from_frame(both, "m")
+
+    def test_columns_of_parts(self):
+        """Columns that were read in parts keep tags apart; a frame that is made of them does not say which they are."""
+        tables = [columns(text).tables["cpu"] for text in (FIRST, SECOND)]
+        self.assertEqual("".join(write_columns({"cpu": table}) for table in tables), FIRST + SECOND)
+        made = pandas.concat([
+            pandas.DataFrame({key: column.values for key, column in {**table.tags, **table.fields}.items()}) for table in tables])
+        self.refuse(made, "host", [])
+        self.assertEqual(from_frame(made, "cpu", tags=list(tables[0].tags), fields=["x"])[:17], "cpu,host=a x=1.5\n")
+
+    def test_an_empty_tag_is_left_out(self):
+        hosts = ["", None, "x", "y"]
+        wanted = "m f=1i\nm f=2i\nm,host=x f=3i\nm,host=y f=4i\n"
+        for cells in (hosts, pandas.array(hosts, "string"), pandas.Categorical(hosts), pandas.Categorical(hosts, ["y", "", "x"])):
+            frame = pandas.DataFrame({"host": cells, "f": [1, 2, 3, 4]})
+            self.assertEqual(from_frame(frame, "m", tags=["host"]), wanted)
+            self.assertEqual(from_frame(frame, "m", tags=[])[:10], 'm host="",')
+        with self.assertRaisesRegex(TypeError, "row 1: the value of the tag 'host' is a str, not list"):
+            from_frame(pandas.DataFrame({"host": ["", ["x"]], "f": [1, 2]}), "m", tags=["host"])
+
+    def test_names_that_are_not_admitted(self):
+        for cells, flaw in [
+                (["a", "guest\npayments"], "holds a newline"), (["", "a\tb"], "holds a tab"), ([None, "a\\"], "ends in a backslash")]:
+            for dtype in ("object", "category", "string"):
+                frame = pandas.DataFrame({"user": pandas.Series(cells, dtype=dtype), "ok": [True, True]})
+                for strict in (False, True):
+                    with self.assertRaises(NotAdmitted) as found:
+                        from_frame(frame, "login", tags=["user"], strict=strict)
+                    refused = found.exception
+                    self.assertEqual(str(refused), (
+                        f"the table 'login', row 1: the value of the tag 'user' is not admitted: {cells[1]!r} {flaw}"))
+                    self.assertEqual((refused.part, refused.key, refused.value, refused.row, refused.table),
+                                     ("tag value", "user", cells[1], 1, "login"))
+        frame = pandas.DataFrame({"f": [1], "a\n": [2]})
+        for measurement, named, part in [("#m", {}, "measurement"), ("", {}, "measurement"), ("m", {}, "field key")]:
+            with self.assertRaises(NotAdmitted) as found:
+                from_frame(frame, measurement, **named)
+            self.assertEqual((found.exception.part, found.exception.row), (part, 0))
+        self.assertEqual(from_frame(frame, "m", fields=["f"]), "m f=1i\n")
 
 
 class WithoutPandas(unittest.TestCase):

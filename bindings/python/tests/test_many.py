@@ -168,7 +168,7 @@ class Many(unittest.TestCase):
             for line in lines:
                 write(line), show(line), base(line), is_base_safe(line), is_admitted(line)
             write_many(lines)
-            for wrong in (Line("m"), Line("m", [("a", "b")], [("f", None)]), Line("m", [("a", 5)]), None):
+            for wrong in (Line("m"), Line("m", [("a", "b")], [("f", None)]), Line("m", [("a", 5)]), Line("#", [], [("f", 1)]), None):
                 for call in (write, show, is_admitted, base, lambda line: write_many([lines[0], line])):
                     with contextlib.suppress(TypeError, ValueError):
                         call(wrong)

@@ -11,7 +11,7 @@ from array import array
 from pathlib import Path
 
 from line_protocol import (
-    Column, Columns, FloatText, Line, Table, Unsigned, columns, is_admitted, parse, write_columns, write_many)
+    Column, Columns, FloatText, Line, NotAdmitted, Table, Unsigned, columns, is_admitted, parse, write_columns, write_many)
 
 from typed import typed
 
@@ -170,13 +170,14 @@ class Values(unittest.TestCase):
     def test_memory_is_given_back(self):
         good = columns("m,t=a f=1i,g=0.5,s=\"x\",b=t 5\nm,u=b f=7i\nn f=2u\n" * 50, use_numpy=False)
         bad = {"m": Table(Column([1, 2]), {"t": Column(["a", "b"])}, {"f": Column([1.5, object()])})}
+        refused = {"m": Table(Column([1, 2]), {"t": Column(["a", "b\n"])}, {"f": Column([1.5, 2.5])})}
 
         def once():
             write_columns(good)
-            for wrong in (bad, {"m": bad["m"], 5: 6}, {"m": Table(Column([1]), {}, {"f": Column([1], [5])})}):
+            for wrong in (bad, refused, {"m": bad["m"], 5: 6}, {"m": Table(Column([1]), {}, {"f": Column([1], [5])})}):
                 try:
                     write_columns(wrong)
-                except TypeError:
+                except (TypeError, NotAdmitted):
                     pass
 
         for _ in range(50):

@@ -8,11 +8,14 @@ import gc
 import gzip
 import io
 import itertools
+import json
 import mmap
 import os
 import pathlib
 import pickle
 import random
+import re
+import subprocess
 import sys
 import tempfile
 import threading
@@ -22,18 +25,19 @@ import warnings
 import weakref
 
 import line_protocol
-from line_protocol import Fault, FaultKind, Line, parse, rebuild, split
+from line_protocol import Fault, FaultKind, Line, columns, parse, rebuild, split
 
 from typed import typed
 
+RELAY = os.environ.get("LP_RELAY", "")
 TEXT = 'cpu,host=a\\ b usage=64i,load=1.50 5\n# a comment\n\nm s="a\nb",u=7u\nm f\nümlaut,t=ö s="\\"" -3\nlast f=t'
 
 
 def located(items):
     """Items with all that a fault says."""
     return [
-        (item.kind, item.text, item.side, item.item, item.line, item.offset, item.refused) if isinstance(item, Fault) else typed(item)
-        for item in items]
+        (item.kind, item.text, item.side, item.item, item.line, item.offset, item.piece_line, item.piece_offset, item.refused)
+        if isinstance(item, Fault) else typed(item) for item in items]
 
 
 def in_parts(data, size):
@@ -194,6 +198,13 @@ def pieces_of(data, strict):
         at += len(piece) + 1
 
 
+ALPHABET = [b"\n", b"\n", b" ", b" ", b"\\", b'"', b"=", b"=", b",", b"#", b"m", b"1i", b"f=1i", b"\xff", b"\xc3", b"\t", "é".encode()]
+"""Bytes that mean something, and some that are no UTF-8."""
+
+DROPPED = re.compile(rb"(?:[ \t\n]|#[^\n]*)*")
+"""What is dropped at the start of a piece: docs/FORMAT.md, section 4."""
+
+
 def is_utf8(data):
     try:
         data.decode()
@@ -206,7 +217,8 @@ def wanted_of(data, strict, limit):
     """The items of bytes as docs/FORMAT.md has it for a relay: each piece alone."""
     items, number = [], 0
     for start, end in pieces_of(data, strict):
-        piece, line = data[start:end], 1 + data.count(b"\n", 0, start)
+        piece = data[start:end]
+        text = start + DROPPED.match(piece).end()
         if limit is not None and len(piece) > limit:
             found = [Fault(FaultKind.TOO_LONG, refused=piece[:limit])]
         elif not is_utf8(piece):
@@ -217,13 +229,45 @@ def wanted_of(data, strict, limit):
         for item in found:
             number += 1
             if isinstance(item, Fault):
-                item.item, item.line, item.offset = number, line, start
+                item.item, item.piece_offset, item.offset = number, start, start if item.kind > 100 else text
+                item.piece_line, item.line = (1 + data.count(b"\n", 0, at) for at in (item.piece_offset, item.offset))
                 item.refused = item.refused if item.kind > 100 else piece
             items.append(item)
     return located(items)
 
 
+PLACES = [
+    (b"x", None, [(1, 0, 1, 0)], None),
+    (b"  x", None, [(1, 2, 1, 0)], None),
+    (b"\n\n  \tx", None, [(3, 5, 3, 2)], None),
+    (b"\\\nx", None, [(1, 0, 1, 0)], None),
+    (b"#\\\n x", None, [(2, 4, 1, 0)], [(2, 4, 2, 3)]),
+    (b"#\\\n#\\\n\t x\nm", None, [(3, 8, 1, 0), (4, 10, 4, 10)], [(3, 8, 3, 6), (4, 10, 4, 10)]),
+    (b'# c\n\nm s="a\nb"\nx\n', None, [(5, 15, 5, 15)], None),
+    (b'\tm s="a\nb",v=9i9', None, [(1, 1, 1, 0)], None),
+    (b'# a="\nx" b\n y', None, [(2, 6, 1, 0), (3, 12, 3, 11)], [(2, 6, 2, 6), (3, 12, 3, 11)]),
+    ("# é\n é".encode(), None, [(2, 6, 2, 5)], None),
+    (b"\n\n\t\xff", None, [(3, 2, 3, 2)], None),
+    (b"#\\\n \xff", None, [(1, 0, 1, 0)], [(2, 3, 2, 3)]),
+    (b"\n   xxxx\n x", 5, [(2, 1, 2, 1), (3, 10, 3, 9)], None),
+    (b"\n#\\\n xxxx\n x", 5, [(2, 1, 2, 1), (4, 11, 4, 10)], [(3, 5, 3, 4), (4, 11, 4, 10)]),
+]
+"""Bytes, `max_line`, and line, offset, piece_line and piece_offset of each fault; also in the strict dialect, if they differ there."""
+
+
 class Places(unittest.TestCase):
+    def test_the_place_of_the_text_and_that_of_its_piece(self):
+        for data, limit, wanted, in_strict in PLACES:
+            for strict in (False, True):
+                for size in (1, 2, 3, len(data)):
+                    with self.subTest(data=data, strict=strict, size=size):
+                        items = list(parse(in_parts(data, size), strict=strict, max_line=limit))
+                        faults = [item for item in items if isinstance(item, Fault)]
+                        found = [(fault.line, fault.offset, fault.piece_line, fault.piece_offset) for fault in faults]
+                        self.assertEqual(found, in_strict if strict and in_strict else wanted)
+                        told = columns(in_parts(data, size), strict=strict, max_line=limit, use_numpy=False)
+                        self.assertEqual(located(told.faults), located(faults))
+
     def test_where_each_fault_is(self):
         items = list(parse(TEXT + "\nm f=99999999999999999999i\n\n\nx\n"))
         faults = [item for item in items if isinstance(item, Fault)]
@@ -254,6 +298,31 @@ class Places(unittest.TestCase):
             if isinstance(fault, Fault):
                 self.assertEqual(text[fault.offset : fault.offset + 4], "m f\n")
         self.assertEqual(located(parse(text)), wanted_of(text.encode(), False, None))
+
+
+@unittest.skipUnless(os.access(RELAY, os.X_OK), "LP_RELAY names no program")
+class BesideTheProgram(Folder):
+    def objects(self, path, strict, limit):
+        """What `lp_relay` says of the faults of a file."""
+        options = ["--strict"] * strict + ["--verbatim", "--check", "--faults", "json"]
+        options += [] if limit is None else ["--max-line", str(limit)]
+        said = subprocess.run([RELAY, *options, path], stdout=subprocess.DEVNULL, stderr=subprocess.PIPE, check=False)
+        self.assertIn(said.returncode, (0, 1), said.stderr[-500:])
+        return [json.loads(line) for line in said.stderr.splitlines()]
+
+    def test_each_fault_is_where_the_program_says(self):
+        chosen = random.Random(23)
+        for _ in range(60):
+            data = b"".join(chosen.choice(ALPHABET) for _ in range(chosen.randrange(400)))
+            path, strict, limit = self.file(data), chosen.random() < 0.5, chosen.choice([None, None, 1, 3, 8])
+            objects = self.objects(path, strict, limit)
+            keys = ["item", "line", "offset", "piece_line", "piece_offset"]
+            with self.subTest(data=data, strict=strict, limit=limit):
+                for source in (path, in_parts(data, 7)):
+                    faults = [item for item in parse(source, strict=strict, max_line=limit) if isinstance(item, Fault)]
+                    self.assertEqual(
+                        [[*(getattr(fault, key) for key in keys), fault.kind.name.lower(), fault.message] for fault in faults],
+                        [[*(one[key] for key in keys), one["kind"], one["text"]] for one in objects])
 
 
 class Bytes(unittest.TestCase):
@@ -302,10 +371,8 @@ class Bytes(unittest.TestCase):
     def test_each_text_cut_anywhere(self):
         """Texts over bytes that mean something, in parts of any sizes, with each limit."""
         chosen = random.Random(7)
-        alphabet = [b"\n", b"\n", b" ", b" ", b"\\", b'"', b"=", b"=", b",", b"#", b"m", b"1i", b"f=1i", b"\xff", b"\xc3"]
-        alphabet += [b"\t", "é".encode()]
         for _ in range(20_000):
-            data = b"".join(chosen.choice(alphabet) for _ in range(chosen.randrange(24)))
+            data = b"".join(chosen.choice(ALPHABET) for _ in range(chosen.randrange(24)))
             strict, limit = chosen.random() < 0.5, chosen.choice([None, None, 0, 1, 2, 3, 5, 8])
             cuts = sorted(chosen.randrange(len(data) + 1) for _ in range(chosen.randrange(6)))
             parts = [data[start:end] for start, end in zip([0, *cuts], [*cuts, len(data)])]

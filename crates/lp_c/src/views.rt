@@ -107,7 +107,7 @@ pub enum Answer {
     MoreText = 10,
     /// The piece has more bytes than it may have, whether a newline of the text ends it or not.
     TooLong = 11,
-    /// The line would not read back: one of its names is not admitted.
+    /// The line would not read back, since a name of it is not admitted: nothing was written.
     NotAdmitted = 12,
     /// No dialect has the number.
     NotADialect = 13,
@@ -129,7 +129,7 @@ impl Answer {
     }
 }
 
-/// Whose rules a line must read back by.
+/// By whose rules a line is to read back.
 #[derive(Clone, Copy, Drop)]
 pub enum Dialect {
     /// Those of the Rust crate.

@@ -4,9 +4,41 @@ from __future__ import annotations
 
 import sys
 from math import isfinite
-from typing import Any, NoReturn, Optional
+from typing import Any, List, NoReturn, Optional
 
 from .items import FloatText, Unsigned, Value, as_integer, short
+
+
+class NotAdmitted(ValueError):
+    """A name cannot be written, since what would be written for it does not read back as that name.
+
+    A name is a measurement, a key or the value of a tag. It is not admitted if it is empty, holds a newline or a tab, or ends in a
+    backslash; a measurement also if it holds a NUL or begins with `#`. The value of a field may be any text.
+
+    `part` is "measurement", "tag key", "tag value" or "field key", and `value` the name; `key` is the key of the tag, if it is the value
+    of one. `row` is the place of its line among many, or of its row in a frame or a table, from 0 on, and `table` the measurement of
+    that table; of what was written alone they are None.
+
+    >>> write(Line("login", [("user", "guest\\npayments")], [("ok", True)]))
+    Traceback (most recent call last):
+    line_protocol.checking.NotAdmitted: the value of the tag 'user' is not admitted: 'guest\\npayments' holds a newline
+    >>> try:
+    ...     write_many([Line("m", [("a", "b")], [("f", 1)]), Line("m", [("a", "")], [("f", 2)])])
+    ... except NotAdmitted as refused:
+    ...     print(refused.part, refused.key, repr(refused.value), refused.row)
+    tag value a '' 1
+    """
+
+    part: str = ""
+    key: Optional[str] = None
+    value: str = ""
+    row: Optional[int] = None
+    table: Optional[str] = None
+
+
+_PARTS = {
+    "measurement": "the measurement", "tag key": "the key of a tag", "tag value": "the value of the tag", "field key": "the key of a field"}
+"""What each part of a line is called in messages."""
 
 
 def told(value: object) -> str:
@@ -86,6 +118,50 @@ def as_text(what: str, text: Any, key: Optional[str] = None) -> str:
         refuse(what, key, text)
     text.encode()
     return text
+
+
+def _flaw(part: str, name: str) -> Optional[str]:
+    """Why a name is not admitted, or None if it is: docs/FORMAT.md, section 13."""
+    if not name:
+        return "is empty"
+    if "\n" in name:
+        return "holds a newline"
+    if "\t" in name:
+        return "holds a tab"
+    if part == "measurement" and "\0" in name:
+        return "holds a NUL"
+    if part == "measurement" and name[0] == "#":
+        return "begins with '#'"
+    return "ends in a backslash" if name[-1] == "\\" else None
+
+
+def as_name(part: str, name: Any, key: Optional[str] = None) -> str:
+    """A name that is admitted; `key` is that of the tag, of a value."""
+    text = as_text(_PARTS[part], name, key)
+    flaw = _flaw(part, text)
+    if flaw is not None:
+        raise _not_admitted(part, key, text, flaw)
+    return text
+
+
+def _not_admitted(part: str, key: Optional[str], name: str, flaw: str) -> NotAdmitted:
+    """What is raised for a name. No frame of its traceback holds it, so that it is let go at once."""
+    what = _PARTS[part] if key is None else f"{_PARTS[part]} {short(key)}"
+    refused = NotAdmitted(f"{what} is not admitted: {short(name)} {flaw}")
+    refused.part, refused.key, refused.value = part, key, name
+    return refused
+
+
+def refuse_names(names: List[str], tags: int) -> NoReturn:
+    """Raises for the first name of a line that is not admitted. The names are its measurement, the key and the value of so many tags,
+    and the keys of its fields."""
+    as_name("measurement", names[0])
+    end = 2 * tags + 1
+    for key, value in zip(names[1:end:2], names[2:end:2]):
+        as_name("tag value", value, as_name("tag key", key))
+    for key in names[end:]:
+        as_name("field key", key)
+    raise NotAdmitted("a name of the line is not admitted")
 
 
 def as_limit(max_line: Optional[int]) -> Optional[int]:

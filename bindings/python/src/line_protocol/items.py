@@ -163,16 +163,19 @@ class Fault(_fast.FaultMembers):
     """An item that is no line.
 
     `text` is the number that is out of its range, or what is left of the line, and `message` says all of it in words. `item` is its
-    number among the items, from 1 on; `line` is 1 more than there are newlines before it in the source, and `offset` how many bytes
-    there are, as UTF-8. `refused` are the bytes that are no line, of a line that is too long the first ones.
+    number among the items, from 1 on. `refused` are the bytes of its piece, of one that is too long the first ones.
+
+    `line` and `offset` are its place in the source: 1 more than there are newlines before it, and how many bytes, as UTF-8. It begins
+    after the blanks and comments of its piece; `piece_line` and `piece_offset` are the place of the piece. The two are one if the piece
+    is too long or no UTF-8.
 
     Two faults are equal if kind, text and side are.
 
-    >>> [line, fault] = parse("m f=1i\\nm f=9223372036854775808i")
+    >>> [line, fault] = parse("m f=1i\\n  m f=9223372036854775808i")
     >>> fault.kind.name, fault.message
     ('INTEGER_VALUE_INVALID', "Unable to parse integer value '9223372036854775808'")
-    >>> fault.item, fault.line, fault.offset, fault.refused
-    (2, 2, 7, b'm f=9223372036854775808i')
+    >>> fault.item, fault.line, fault.offset, fault.piece_offset, fault.refused
+    (2, 2, 9, 7, b'  m f=9223372036854775808i')
     """
 
     __slots__ = ("__weakref__",)
@@ -184,6 +187,8 @@ class Fault(_fast.FaultMembers):
     line: int = field(default=0, compare=False)
     offset: int = field(default=0, compare=False)
     refused: bytes = field(default=b"", compare=False, repr=False)
+    piece_line: int = field(default=0, compare=False)
+    piece_offset: int = field(default=0, compare=False)
 
     @property
     def message(self) -> str:
@@ -191,11 +196,13 @@ class Fault(_fast.FaultMembers):
         return _MESSAGES[self.kind].format(self.text)
 
     def __reduce__(self) -> Tuple[Any, ...]:
-        members = (self.kind, self.text, self.side, self.item, self.line, self.offset, self.refused)
+        members = (
+            self.kind, self.text, self.side, self.item, self.line, self.offset, self.refused, self.piece_line, self.piece_offset)
         return type(self), members, vars(self) if hasattr(self, "__dict__") else None
 
 
 # The defaults of a dataclass are members of its class, which would hide those of the objects.
-for _kind, _names in ((Line, ("timestamp",)), (Fault, ("text", "side", "item", "line", "offset", "refused"))):
+for _kind, _names in (
+        (Line, ("timestamp",)), (Fault, ("text", "side", "item", "line", "offset", "refused", "piece_line", "piece_offset"))):
     for _name in _names:
         delattr(_kind, _name)

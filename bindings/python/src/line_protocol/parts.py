@@ -176,7 +176,10 @@ def _faults_at(place: Place, faults: List[Fault]) -> List[Fault]:
     """Faults of a part at a place, which count from the start of the whole."""
     items, newlines, size = place
     return [
-        replace(fault, item=fault.item + items, line=fault.line + newlines, offset=fault.offset + size) for fault in faults]
+        replace(
+            fault, item=fault.item + items, line=fault.line + newlines, offset=fault.offset + size,
+            piece_line=fault.piece_line + newlines, piece_offset=fault.piece_offset + size)
+        for fault in faults]
 
 
 def _objects_of(kind: int, cells: Any, missing: Optional[bytearray]) -> List[Any]:

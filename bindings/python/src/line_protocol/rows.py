@@ -8,7 +8,7 @@ from collections.abc import Mapping as AnyMapping
 from typing import Any, Iterator, List, Mapping, Optional, Tuple, Union
 
 from . import _fast
-from .checking import refuse, told
+from .checking import NotAdmitted, refuse, told
 from .items import short
 from .tables import BOOLEAN, MIXED, TAG, Column, Columns, Table
 
@@ -26,12 +26,12 @@ ToldTable = Tuple[str, int, Tuple[Tuple[Optional[str], int, Any, Optional[bytes]
 none."""
 
 
-def write_columns(tables: Union[Columns, Mapping[str, Table]]) -> str:
+def write_columns(tables: Union[Columns, Mapping[str, Table]], *, strict: bool = False) -> str:
     """The lines of tables, one for each row: of what `columns` gave, or of a `dict` of a Table for each measurement.
 
     The values of a column are an array of NumPy, also a masked one, an `array`, a list or a tuple. A cell is left out if the mask is
-    true or the value is None, and a row that has no field then is left out too. All else is written as `write` writes it, or raises;
-    then nothing is written, and the message says which row it is, from 0 on.
+    true or the value is None, and a row that has no field then is left out too. All else is written as `write` writes it, or raises,
+    NotAdmitted if a name would not read back; then nothing is written, and the message says which row it is, from 0 on.
 
     >>> write_columns(columns("cpu,host=a usage=64i 5\\nmem free=0.5\\ncpu,host=b usage=7i\\n"))
     'cpu,host=a usage=64i 5\\ncpu,host=b usage=7i\\nmem free=0.5\\n'
@@ -43,11 +43,13 @@ def write_columns(tables: Union[Columns, Mapping[str, Table]]) -> str:
         raise TypeError(f"tables are Columns, or a dict of Table, not {told(tables)}")
     refused: List[Tuple[str, int]] = []
     try:
-        return _fast.write_columns(map(_told_table, given.keys(), given.values()), refused)
+        return _fast.write_columns(map(_told_table, given.keys(), given.values()), strict, refused)
     except (TypeError, ValueError, OverflowError) as why:
         if refused and len(why.args) == 1:
             measurement, row = refused[0]
             why.args = (f"the table {short(measurement)}, row {row}: {why}",)
+            if isinstance(why, NotAdmitted):
+                why.table, why.row = measurement, row
         raise
 
 

@@ -5,7 +5,7 @@ from __future__ import annotations
 from typing import Iterable, Iterator, List, Optional
 
 from . import _fast
-from .checking import as_text, plain_timestamp, plain_value, refuse
+from .checking import NotAdmitted, as_name, as_text, plain_timestamp, plain_value, refuse
 from .items import Line, Value
 
 
@@ -18,11 +18,13 @@ class DuplicateTag(ValueError):
     """
 
 
-def write(line: Line) -> str:
-    """A line as the builder writes it, with its newline.
+def write(line: Line, *, strict: bool = False) -> str:
+    """A line as the builder writes it, with its newline. By the rules of the Rust crate, or of the strict dialect, it reads back as this
+    line alone, whatever text comes after it.
 
-    What cannot be written raises, here and in the other calls that take a line: ValueError where there is no field, or where a
-    float is not finite and no FloatText; OverflowError where a number is out of its range; TypeError where the type is wrong.
+    NotAdmitted if a name would not read back. What else cannot be written raises here as in the other calls that take a line: ValueError
+    if there is no field, or if a float is not finite and no FloatText; OverflowError if a number is out of its range; TypeError if the
+    type is wrong.
 
     A float of a line that was read is spelled as it was read. Scalars of NumPy are written as what they are.
 
@@ -32,10 +34,10 @@ def write(line: Line) -> str:
     >>> write(line)
     'm f=1.50\\n'
     """
-    return _fast.write(line)
+    return _fast.write(line, strict)
 
 
-def write_many(lines: Iterable[Line]) -> str:
+def write_many(lines: Iterable[Line], *, strict: bool = False) -> str:
     """Lines one after another, as `write` writes each. What is raised for a line says which it is, from 1 on; then none is written.
 
     >>> write_many(Line("m", [], [("f", number)], number) for number in range(3))
@@ -49,10 +51,12 @@ def write_many(lines: Iterable[Line]) -> str:
     except TypeError:
         raise TypeError(f"lines are an iterable of Line, not {type(lines).__name__}") from None
     try:
-        return _fast.write_many(counted)
+        return _fast.write_many(counted, strict)
     except (TypeError, ValueError, OverflowError) as refused:
         if counted.is_out and len(refused.args) == 1:
             refused.args = (f"line {counted.number}: {refused}",)
+            if isinstance(refused, NotAdmitted):
+                refused.row = counted.number - 1
         raise
 
 
@@ -74,7 +78,7 @@ class _Counted:
 
 
 def show(line: Line) -> str:
-    """A line as it is shown: strings have no quotes, and there is no newline.
+    """A line as it is shown: strings have no quotes, and there is no newline at its end. It need not read back.
 
     >>> show(Line("m", [("a", "b")], [("s", "x y")], 5))
     'm,a=b s=x y 5'
@@ -108,7 +112,7 @@ def is_base_safe(line: Line) -> bool:
 
 
 def is_admitted(line: Line) -> bool:
-    """Whether a line reads back where it is written: whether each of its names is admitted.
+    """Whether a line reads back once it is written: whether each of its names is admitted. `write` raises NotAdmitted if one is not.
 
     >>> is_admitted(Line("", [], [("f", 1)]))
     False
@@ -123,12 +127,14 @@ class Builder:
     'cpu,host=a usage=64i 5\\n'
 
     A call that raises changes nothing: the line goes on as if it had not been made. The calls test what they are given as
-    `write` does. A line that cannot be finished is left out by `drop_line`.
+    `write` does, in its dialect: that which is given a name that is not admitted raises NotAdmitted. A line that cannot be finished is
+    left out by `drop_line`.
     """
 
-    def __init__(self) -> None:
+    def __init__(self, *, strict: bool = False) -> None:
         self._written: List[str] = []
         self._line: Optional[Line] = None
+        self._strict = strict
 
     def _open(self) -> Line:
         if self._line is None:
@@ -139,7 +145,7 @@ class Builder:
         """Begins a line."""
         if self._line is not None:
             raise ValueError("the line before is not closed")
-        self._line = Line(as_text("the measurement", name))
+        self._line = Line(as_name("measurement", name))
         return self
 
     def tag(self, key: str, value: str) -> Builder:
@@ -147,7 +153,7 @@ class Builder:
         line = self._open()
         if line.fields:
             raise ValueError("a tag comes before the fields")
-        line.tags.append((as_text("the key of a tag", key), as_text("the value of the tag", value, key)))
+        line.tags.append((as_name("tag key", key), as_name("tag value", value, key)))
         return self
 
     def field(self, key: str, value: Value) -> Builder:
@@ -155,7 +161,7 @@ class Builder:
         line = self._open()
         if line.timestamp is not None:
             raise ValueError("a field comes before the timestamp")
-        as_text("the key of a field", key)
+        as_name("field key", key)
         plain = plain_value(key, value)
         line.fields.append((key, as_text("the field", plain, key) if isinstance(plain, str) else plain))
         return self
@@ -173,7 +179,7 @@ class Builder:
         line = self._open()
         if not line.fields:
             refuse("no field", None, line.measurement)
-        self._written.append(_fast.write(line))
+        self._written.append(_fast.write(line, self._strict))
         self._line = None
         return self
 
