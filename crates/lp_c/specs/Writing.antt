@@ -40,8 +40,8 @@ built_in l parts = built (point_in l parts)
 abbrev pub IsNoDialect : ℕ → Type 0
 IsNoDialect number = (dialect : Dialect) → number ≢ dialect_number dialect
 
--- a line is refused, as its dialect is none, as it is no line, as a name of it is not admitted, or as a request for memory was
--- refused: the buffer and the length are as before; else what the builder writes for it is put out
+-- A line whose names are all admitted is put out, as the builder writes it. Any other is refused, as is a number of no dialect and
+-- what is no line: then, and if memory is refused, the buffer and the length are as before.
 pub record WritesLine (dialect : ℕ) (l : Line) (parts : List Part) (before after : List ℕ) (len_before len answer : ℕ) : Type 0 where
   pub not_a_dialect : (answer ≡ answer_number NotADialect) ↔ IsNoDialect dialect
   pub not_a_line : answer ≡ answer_number NotALine → ¬ IsLineIn l parts
