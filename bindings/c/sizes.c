@@ -236,6 +236,15 @@ static bool puts_base(const struct shape *shape, struct lent *lent) {
     return good;
 }
 
+/* Whether a line is told not to be admitted, and is not written. */
+static bool is_refused(const lp_line *line, const lp_part *parts, size_t parts_len) {
+    bool admitted = true;
+    size_t len = 77;
+    uint8_t out = '~';
+    bool good = lp_line_is_admitted(line, parts, parts_len, &admitted) == LP_WRITTEN && !admitted;
+    return good && write_line(line, parts, parts_len, &out, 1, &len) == LP_NOT_ADMITTED && len == 77 && out == '~';
+}
+
 /* Whether the line that is handed in is admitted, and with a last tag, or else a last field, whose name is not. */
 static bool is_tested(const struct shape *shape, struct lent *lent) {
     static const lp_view bad = { { (const uint8_t *)"a\t", 2 }, false };
@@ -246,12 +255,10 @@ static bool is_tested(const struct shape *shape, struct lent *lent) {
     lp_part *last_tag = &lent->parts[shape->tags - 1], *last_field = &lent->parts[parts_len - 1];
     const lp_part tag = *last_tag;
     last_tag->text = bad;
-    good &= lp_line_is_admitted(line, lent->parts, parts_len, &admitted) == LP_WRITTEN && !admitted;
+    good &= is_refused(line, lent->parts, parts_len);
     *last_tag = tag;
     last_field->key = bad;
-    admitted = true;
-    good &= lp_line_is_admitted(line, lent->parts, parts_len, &admitted) == LP_WRITTEN && !admitted;
-    return must(good, "lp_line_is_admitted", shape);
+    return must(good & is_refused(line, lent->parts, parts_len), "lp_line_is_admitted", shape);
 }
 
 /* Whether the base of the series that is handed in is safe: a space alone makes it unsafe, and so does a last value with a comma. */

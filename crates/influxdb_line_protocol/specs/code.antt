@@ -26,3 +26,4 @@ pub use Rattle.lp_split.specs.code.Tracks
 pub use Rattle.lp_split.specs.code.Streams
 pub use Rattle.lp_split.specs.code.Lending
 pub use Rattle.lp_split.specs.code.Bounded
+pub mod WritingAdmitted

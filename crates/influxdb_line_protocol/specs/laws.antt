@@ -1,3 +1,4 @@
+pub mod AdmittedLines
 pub mod GivenEvents
 pub mod GivenItems
 pub use Rattle.lp_format.specs.laws.NamesOfLines

@@ -4,6 +4,9 @@
 //! line without a field, a tag after a field or a second timestamp does not compile, and
 //! [`LineProtocolBuilder::build`] gives the buffer back between two lines alone.
 
+mod admitted;
+
+pub use admitted::{Unwritten, write_admitted_line, write_admitted_line_in};
 pub use lp_build::builder::{
     AfterField, AfterMeasurement, AfterTag, AfterTimestamp, BeforeMeasurement, BufMut, FieldValue,
     LineProtocolBuilder, NoRoom, Refused, is_admitted, write_line,

@@ -4,6 +4,7 @@ ghost use Rattle.lp_format.specs.laws.Laws.{AdmittedBatchesReadBack, OtherBatche
 ghost use Rattle.lp_format.specs.laws.Laws.{OtherPointsEndWithBackslash, NamesAreParsed, ParsedNamesAreInLines, StrictFieldsEnd};
 ghost use Rattle.lp_format.specs.laws.Laws.{PiecesExist, PiecesAreUnique, PiecesAreTheText, PiecesJoin, AnswersJoin, CommentTextIsIgnored};
 ghost use Rattle.lp_format.specs.laws.PointsOfLines.{LinesArePoints, LinesThatStayAreWritten, WrittenLinesStay};
+ghost use Rattle.influxdb_line_protocol.specs.laws.AdmittedLines.{AdmittedLinesAddPoints, EndedLinesAreClosed, EmptyTextIsClosed};
 ghost use Rattle.influxdb_line_protocol.specs.laws.GivenEvents.{AllEventsCome, EventsSoFar};
 ghost use Rattle.influxdb_line_protocol.specs.laws.GivenItems.{ItemsAreOfPieces, ItemsAreAnswers, ItemsSoFar, GivenLinesWereRead};
 ghost use Rattle.lp_lines.specs.laws.BaseLaws.{ClearSeriesHaveBases, SameSeriesHaveOneBase, TagsByKeyAreSorted, OneBaseIsOneSeries};
@@ -30,6 +31,18 @@ pub fn batch_reads_back()
     ensures refused { OtherBatchesDoNotReadBack }
     ensures unreadable { ItemsHaveReadableNames }
     ensures in_place { OtherPointsEndWithBackslash }
+{}
+
+/// Lines of admitted points that come after closed lines add these points and no others: in each dialect, and with any text after
+/// them, the items are those of the lines before, then just these points in order, and then those of the text. An empty text is closed
+/// lines, and so is a text with a newline after it that may end its last piece.
+///
+/// After any number of calls of [`write_admitted_line`](crate::write_admitted_line) a buffer holds what it held, and then the lines
+/// of the admitted points that were written. So these points are what it says besides, whichever lines were not written.
+pub fn admitted_lines_read_back()
+    ensures points { AdmittedLinesAddPoints }
+    ensures empty { EmptyTextIsClosed }
+    ensures ended { EndedLinesAreClosed }
 {}
 
 /// No name of a line that was read is empty or ends in a backslash, no measurement begins with `#`,

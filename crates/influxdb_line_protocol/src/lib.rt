@@ -10,7 +10,10 @@
 pub mod builder;
 pub mod laws;
 
-pub use builder::{LineProtocolBuilder, is_admitted, is_as_written, write_line};
+pub use builder::{
+    LineProtocolBuilder, is_admitted, is_as_written, write_admitted_line, write_admitted_line_in,
+    write_line,
+};
 pub use lp_events::{
     Event, EventSink, ParseEvents, parse_events, parse_events_in, read_events_in, read_line_events,
 };

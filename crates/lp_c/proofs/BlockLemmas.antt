@@ -57,6 +57,8 @@ line_own read room Answer.NotUtf8 line xs own item is h = absurd h
 line_own read room Answer.Piece line xs own item is h = absurd h
 line_own read room Answer.MoreText line xs own item is h = absurd h
 line_own read room Answer.TooLong line xs own item is h = absurd h
+line_own read room Answer.NotAdmitted line xs own item is h = absurd h
+line_own read room Answer.NotADialect line xs own item is h = absurd h
 
 -- the same of any item
 item_own : (item : Option (Result format.Line Fault)) (room : ℕ) (answer : Answer) (line : Line) (xs : List Part) (own : ℕ)

@@ -5,3 +5,4 @@ pub mod FillLemmas
 pub mod FloatLemmas
 pub mod TextLemmas
 pub mod ToldLemmas
+pub mod WritingLemmas

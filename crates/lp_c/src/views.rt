@@ -1,8 +1,9 @@
 //! What both sides see: the layouts of the types and the numbers of the answers.
 
-ghost use Rattle.std.specs.Prelude.{◌≡◌};
+ghost use Rattle.std.specs.Prelude.{◌≡◌, ◌↔◌, IfSome, None};
+ghost use Rattle.influxdb_line_protocol.specs.code.Rules.{rules_of};
 ghost use Rattle.lp_c.specs.Crossing.{is_more};
-ghost use Rattle.lp_c.specs.Numbers.{answer_number, dialect_number, fault_number, kind_number, side_number};
+ghost use Rattle.lp_c.specs.Numbers.{IsNoDialect, answer_number, dialect_number, fault_number, kind_number, rules_in, side_number};
 
 /// A text, and whether it is a copy without its escapes.
 #[repr(C)]
@@ -107,7 +108,7 @@ pub enum Answer {
     MoreText = 10,
     /// The piece has more bytes than it may have, whether a newline of the text ends it or not.
     TooLong = 11,
-    /// The line would not read back: one of its names is not admitted.
+    /// The line would not read back, since a name of it is not admitted: nothing was written.
     NotAdmitted = 12,
     /// No dialect has the number.
     NotADialect = 13,
@@ -129,7 +130,7 @@ impl Answer {
     }
 }
 
-/// Whose rules a line must read back by.
+/// By whose rules a line is to read back.
 #[derive(Clone, Copy, Drop)]
 pub enum Dialect {
     /// Those of the Rust crate.
@@ -144,6 +145,28 @@ impl Dialect {
         ensures { result ≡ dialect_number self }
     {
         self as u32
+    }
+
+    /// The dialect of a number, if a dialect has it.
+    pub fn numbered(number: u32) -> Option<Dialect>
+        ensures some { IfSome result (λ dialect. number ≡ dialect_number dialect) }
+        ensures none { result ≡ None ↔ IsNoDialect number }
+    {
+        match number {
+            0 => Some(Dialect::Crate),
+            1 => Some(Dialect::Strict),
+            _ => None,
+        }
+    }
+
+    /// Its rules.
+    pub fn rules(self) -> influxdb_line_protocol::Dialect
+        ensures { rules_of result ≡ rules_in self }
+    {
+        match self {
+            Dialect::Crate => influxdb_line_protocol::Dialect::Crate,
+            Dialect::Strict => influxdb_line_protocol::Dialect::Strict,
+        }
     }
 }
 

@@ -1,17 +1,20 @@
 //! Lines that are written, shown or tested, and bases of series: each into a buffer that the caller lends.
 
-ghost use Rattle.std.specs.Prelude.{◌≡◌, ◌≢◌, ◌≤◌, ◌++◌, ◌↔◌, length, drop, false, IsFalse};
+ghost use Rattle.std.specs.Prelude.{◌≡◌, ◌≢◌, ◌≤◌, ◌++◌, length, take, drop, false};
 ghost use Rattle.influxdb_line_protocol.specs.code.Bases.{is_base_safe};
 ghost use Rattle.influxdb_line_protocol.specs.format.Lines.{some_tags};
 ghost use Rattle.influxdb_line_protocol.specs.format.Points.{is_admitted_point};
 ghost use Rattle.lp_c.specs.declared.views.Answer.TheVariants.{MoreRoom, NotALine, OutOfMemory, Written};
 ghost use Rattle.lp_c.specs.Handed.{IsLineIn, IsSeriesIn, tag_set_in, text_in};
 ghost use Rattle.lp_c.specs.Numbers.{answer_number};
-ghost use Rattle.lp_c.specs.Writing.{IsNoDialect, PutsOut, Writes, WritesLine, answer_for_base, base_in, point_in, shown_in, text_of_base};
+ghost use Rattle.lp_c.specs.Writing.{PutsOut, ReadsAs, Writes, WritesAdmittedLine, answer_for_base, base_in, point_in, shown_in, text_of_base};
 
 use crate::handed::{line_in, series_in};
 use crate::views::{Answer, Dialect, Line, Part};
-use influxdb_line_protocol::{Error, LineProtocolBuilder, is_admitted, write_line};
+use influxdb_line_protocol::builder::Unwritten;
+use influxdb_line_protocol::{
+    Error, LineProtocolBuilder, is_admitted, laws, write_admitted_line_in,
+};
 use std::alloc::Global;
 
 /// Puts a text at the start of a buffer that has room for it.
@@ -62,13 +65,6 @@ pub extern "C" fn lp_line_is_admitted(
     }
 }
 
-// Whether a dialect has the number.
-fn is_dialect(number: u32) -> bool
-    ensures { IsFalse result ↔ IsNoDialect number }
-{
-    number == Dialect::Crate.number() || number == Dialect::Strict.number()
-}
-
 /// Writes a line, with its newline, as the builder does. In the dialect of the number, what is written reads back as that line alone,
 /// whatever text comes after it.
 ///
@@ -84,21 +80,21 @@ pub extern "C" fn lp_line_write(
     out: &mut [u8],
     len: &mut usize,
 ) -> u32
-    ensures { WritesLine dialect line.now parts.now out.old out.new len.old len.new result }
+    ensures writes { WritesAdmittedLine dialect line.now parts.now out.old out.new len.old len.new result }
+    ensures reads_back { result ≡ answer_number Written → ReadsAs (point_in line.now parts.now) (take len.new out.new) }
 {
-    if !is_dialect(dialect) {
+    let Some(dialect) = Dialect::numbered(dialect) else {
         return Answer::NotADialect.number();
-    }
+    };
     let line = match line_in(alloc, false, line, parts) {
         Ok(line) => line,
         Err(answer) => return answer.number(),
     };
-    if !is_admitted(&line) {
-        return Answer::NotAdmitted.number();
-    }
-    match write_line(LineProtocolBuilder::new(alloc), &line) {
+    laws::admitted_lines_read_back();
+    match write_admitted_line_in(LineProtocolBuilder::new(alloc), dialect.rules(), &line) {
         Ok(builder) => put_out(Answer::Written, builder.build().as_slice(), out, len),
-        Err(_) => Answer::OutOfMemory.number(),
+        Err(Unwritten::NotAdmitted(_)) => Answer::NotAdmitted.number(),
+        Err(Unwritten::Refused(_)) => Answer::OutOfMemory.number(),
     }
 }
 

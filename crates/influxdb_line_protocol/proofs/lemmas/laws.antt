@@ -1,3 +1,4 @@
+pub mod AdmittedLines
 pub mod BasesApart
 pub mod BatchesReadBack
 pub mod FatalLines

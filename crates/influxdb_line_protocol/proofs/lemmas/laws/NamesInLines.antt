@@ -1,11 +1,11 @@
 -- Each parsed name is a name in some line, whose text is UTF-8 if the name is.
 use Rattle.std.proofs.Common.{◌≡◌, ℕ, ◌+◌, ◌<◌, List, [], ◌∷◌, ◌++◌, length, get_or, refl, sym, subst, arith, append_assoc, length-append}
-use Rattle.std.proofs.Common.{◌≢◌, slice_index, false, Some, None, Ok, IsUtf8, pos, take_at, drop_at, Contains}
+use Rattle.std.proofs.Common.{false, Some, None, Ok, IsUtf8, pos, take_at, drop_at, Contains}
 use Rattle.std.proofs.Math.Seq.{get_or-append_seam}
 use Rattle.std.proofs.lemmas.{Str.Ascii.IsAscii-cons, Grind.common_steps}
 use Rattle.std.proofs.lemmas.Str.{IsUtf8-append, IsUtf8-take, IsUtf8-drop, IsUtf8-from_ascii, IsCharBoundary-before_ascii}
 use Rattle.std.proofs.lemmas.Str.{IsCharBoundary-after_ascii, IsUtf8-nil}
-use Rattle.lp_format.specs.format.{backslash, comma, hash, space, NameKind, a_measurement, a_tag_key, a_tag_value, a_field_key}
+use Rattle.lp_format.specs.format.{backslash, comma, space, NameKind, a_measurement, a_tag_key, a_tag_value, a_field_key}
 use Rattle.lp_format.specs.format.{ends_in_backslash, escapable, read_text, Pair, Dialect, Crate, Strict, Text, reads, Value, integer}
 use Rattle.lp_format.specs.format.{value, integer_at, Line, point_of, tag, field, field_set, front_before}
 use Rattle.lp_format.specs.format.{answer, HasAnswers, answers_of_piece}

@@ -1,0 +1,38 @@
+-- What a call does that writes a line only if it reads back.
+use Rattle.std.specs.Prelude.{◌≡◌, ◌⊎◌, ℕ, true, false, List, [], map, Result, Ok, Err}
+use Rattle.std.specs.List.{AllByRecursion}
+use Rattle.lp_format.specs.format.{Point, IsPoint, IsValue, built, is_admitted_point, logical_field}
+use Rattle.lp_values.specs.declared.{escaped.EscapedStr.EscapedStr, values.FieldValue.FieldValue}
+use Rattle.lp_lines.specs.code.Parsed.{field_of}
+use Rattle.lp_build.specs.declared.builder.{BeforeMeasurement.BeforeMeasurement, LineProtocolBuilder.LineProtocolBuilder}
+use Rattle.lp_build.specs.declared.builder.{Refused.Refused, buffer.NoRoom.NoRoom}
+use Rattle.lp_build.specs.code.Built.{Writes, buffer_of}
+use Rattle.influxdb_line_protocol.specs.declared.builder.admitted.Unwritten.{Unwritten}
+use Rattle.influxdb_line_protocol.specs.declared.builder.admitted.Unwritten.TheVariants.{NotAdmitted, Refused as WasRefused}
+
+-- each of these fields has a value of its type: a number in range, or a float that is a literal
+abbrev pub AreValues : List (EscapedStr × FieldValue) → Type 0
+AreValues fields = AllByRecursion (λ f. IsValue f.value) (map logical_field (map field_of fields))
+
+-- the builder that a call hands back if it wrote nothing
+abbrev pub builder_in : {B : Type 0} → Unwritten B → LineProtocolBuilder B BeforeMeasurement
+builder_in (NotAdmitted builder) = builder
+builder_in (WasRefused refused) = refused.builder
+
+-- a point without a field, or with a name that is not admitted
+abbrev pub IsNotAdmitted : Point → Type 0
+IsNotAdmitted p = (p.fields ≡ []) ⊎ (is_admitted_point p ≡ false)
+
+-- the line of a point whose names are all admitted is written, or refused
+abbrev pub WritesLine : {B : Type 0} → (B → List ℕ) → (B → ℕ) → (NoRoom → Type 0) → Point → B
+    → Result (LineProtocolBuilder B BeforeMeasurement) (Refused B BeforeMeasurement) → Type 0
+WritesLine bytes room refuses p before result =
+    IsPoint p × (is_admitted_point p ≡ true) × Writes bytes room refuses (built p) before result
+
+-- The line of a point is written, or refused, if the point has a field and each of its names is admitted. Of any other point
+-- nothing is written, and the buffer is handed back as it was.
+abbrev pub WritesAdmitted : {B : Type 0} → (B → List ℕ) → (B → ℕ) → (NoRoom → Type 0) → Point → B
+    → Result (LineProtocolBuilder B BeforeMeasurement) (Unwritten B) → Type 0
+WritesAdmitted bytes room refuses p before (Ok longer) = WritesLine bytes room refuses p before (Ok longer)
+WritesAdmitted bytes room refuses p before (Err (WasRefused refused)) = WritesLine bytes room refuses p before (Err refused)
+WritesAdmitted bytes room refuses p before (Err (NotAdmitted builder)) = IsNotAdmitted p × (buffer_of builder ≡ before)

@@ -1,0 +1,126 @@
+//! Lines that are written only if they read back.
+
+ghost use Rattle.std.specs.Prelude.{◌≡◌, true, false, IfSome};
+ghost use Rattle.lp_format.specs.format.{IsValue, fits_i64, logical_value};
+ghost use Rattle.lp_format.specs.laws.Laws.{IsAdmittedPoint};
+ghost use Rattle.lp_values.specs.code.ReadValues.{value_of};
+ghost use Rattle.lp_lines.specs.code.Parsed.{parsed_point};
+ghost use Rattle.lp_build.specs.code.Built.{buffer_of};
+ghost use Rattle.influxdb_line_protocol.specs.code.WritingAdmitted.{AreValues, IsNotAdmitted, WritesAdmitted};
+ghost use Rattle.influxdb_line_protocol.specs.laws.AdmittedLines.{AddsPointOrNothing};
+
+use lp_build::builder::{
+    BeforeMeasurement, BufMut, LineProtocolBuilder, Refused, is_admitted, write_line,
+};
+use lp_lines::ParsedLine;
+use lp_split::Dialect;
+use lp_values::{EscapedStr, FieldValue};
+
+/// Why a line was not written, with the builder as it was before the call.
+#[derive(Drop)]
+pub enum Unwritten<B: BufMut> {
+    /// A name of the line is not admitted, or the line has no field.
+    NotAdmitted(LineProtocolBuilder<B, BeforeMeasurement>),
+    /// The buffer has no room for the line, or no `usize` holds its length.
+    Refused(Refused<B, BeforeMeasurement>),
+}
+
+// A number is in the range of its type, and a float is a literal: the proof takes that from a read.
+#[tactic(auto, using(crate::proofs::lemmas::laws::AdmittedLines::literal_is_float))]
+fn value_fits(value: &FieldValue<'_>)
+    ensures { IsValue (logical_value (value_of value.now)) }
+{
+    match value {
+        FieldValue::I64(number) => {
+            let _number = *number;
+        }
+        FieldValue::U64(number) => {
+            let _number = *number;
+        }
+        FieldValue::F64(text) => {
+            let _text = *text;
+        }
+        FieldValue::String(_) | FieldValue::Boolean(_) => {}
+    }
+}
+
+// So it is with the value of each field.
+fn values_fit(fields: &[(EscapedStr<'_>, FieldValue<'_>)])
+    ensures { AreValues fields.now }
+{
+    for (_, value) in fields {
+        value_fits(value);
+    }
+}
+
+// And with the timestamp.
+fn timestamp_fits(timestamp: Option<i64>)
+    ensures { IfSome timestamp (λ t. fits_i64 t ≡ true) }
+{}
+
+// Whether a line is written in this dialect: whether it has a field, and each of its names is admitted.
+fn is_written_in(dialect: Dialect, line: &ParsedLine<'_>) -> bool
+    ensures written { result ≡ true → IsAdmittedPoint (parsed_point line.now) }
+    ensures unwritten { result ≡ false → IsNotAdmitted (parsed_point line.now) }
+{
+    values_fit(line.field_set.as_slice());
+    timestamp_fits(line.timestamp);
+    let admitted = match dialect {
+        Dialect::Crate | Dialect::Strict => is_admitted(line),
+    };
+    admitted && line.field_set.len() > 0
+}
+
+/// Appends a parsed line, with its newline, if it reads back: [`write_admitted_line_in`] in the dialect of the Rust crate.
+///
+/// ```
+/// let lines = match write_admitted_line(lines, &line) {
+///     Ok(longer) => longer,
+///     // the user of the line is `guest`, a newline and `payments`
+///     Err(Unwritten::NotAdmitted(unchanged)) => unchanged,
+///     Err(Unwritten::Refused(refused)) => return Err(refused.cause),
+/// };
+/// ```
+///
+/// # Errors
+///
+/// Those of [`write_admitted_line_in`].
+pub fn write_admitted_line<B: BufMut>(
+    builder: LineProtocolBuilder<B, BeforeMeasurement>,
+    line: &ParsedLine<'_>,
+) -> Result<LineProtocolBuilder<B, BeforeMeasurement>, Unwritten<B>>
+    ensures writes { WritesAdmitted B.bytes B.room B.refuses (parsed_point line.now) (buffer_of builder) result }
+    ensures reads_back { AddsPointOrNothing B.bytes (parsed_point line.now) (buffer_of builder) result }
+{
+    write_admitted_line_in(builder, Dialect::Crate, line)
+}
+
+/// Appends a parsed line, with its newline, if it reads back: if it has a field, and each of its names is admitted, as
+/// [`is_admitted`] says. It is written as [`write_line`] writes it. What is admitted is the same in both dialects.
+///
+/// If the buffer held closed lines, as an empty one does, it does so again, and in each dialect it then says what it said and the
+/// point of this line, and nothing else, whatever text comes after it. So no text in a name begins a line of its own, or
+/// changes another line.
+///
+/// It asks for memory only if the buffer has to grow. It goes over the line for its names, its length and its text.
+///
+/// # Errors
+///
+/// `NotAdmitted` if a name of the line is not admitted, or if it has no field; `Refused` if the buffer has no room for the whole line,
+/// or no `usize` holds its length. No part of the line is written, and the builder is handed back with the bytes that it had.
+pub fn write_admitted_line_in<B: BufMut>(
+    builder: LineProtocolBuilder<B, BeforeMeasurement>,
+    dialect: Dialect,
+    line: &ParsedLine<'_>,
+) -> Result<LineProtocolBuilder<B, BeforeMeasurement>, Unwritten<B>>
+    ensures writes { WritesAdmitted B.bytes B.room B.refuses (parsed_point line.now) (buffer_of builder) result }
+    ensures reads_back { AddsPointOrNothing B.bytes (parsed_point line.now) (buffer_of builder) result }
+{
+    if !is_written_in(dialect, line) {
+        return Err(Unwritten::NotAdmitted(builder));
+    }
+    match write_line(builder, line) {
+        Ok(longer) => Ok(longer),
+        Err(refused) => Err(Unwritten::Refused(refused)),
+    }
+}

@@ -1,0 +1,21 @@
+-- What was put out is read back.
+use Rattle.std.proofs.Common.{◌≡◌, ◌<◌, ℕ, List, [], ◌∷◌, length, drop, take, take_at, sym, subst, arith, ap, ◌∙◌}
+use Rattle.influxdb_line_protocol.specs.format.Points.{Point}
+use Rattle.influxdb_line_protocol.specs.laws.AdmittedLines.{AddsPoints, AreClosedLines, EmptyTextIsClosed}
+use Rattle.lp_c.specs.Numbers.{answer_number}
+use Rattle.lp_c.specs.Writing.{PutsOut, ReadsAs}
+use Rattle.lp_c.specs.declared.views.Answer.TheVariants.{Written}
+
+-- a text that was put out is at the start of the buffer
+put_front : (text before after : List ℕ) (len answer : ℕ) → PutsOut Written text before after len answer
+    → answer ≡ answer_number Written → take len after ≡ text
+put_front text before after len answer puts written =
+    let fits : length before < length text → ⊥ = λ short. let more = puts.short short in omega (arith, more, written) in
+    ap (take len) (puts.bytes (omega (arith, fits))) ∙ take_at text (drop (length text) before) len (sym puts.told)
+
+-- so it is read as the point that it added to an empty text
+pub reads_as : (lines text before after : List ℕ) (len answer : ℕ) (p q : Point) → PutsOut Written text before after len answer
+    → answer ≡ answer_number Written → EmptyTextIsClosed → AddsPoints lines (q ∷ []) text → lines ≡ [] → q ≡ p → ReadsAs p (take len after)
+reads_as lines text before after len answer p q puts written empty adds none same dialect =
+    let closed = subst (λ lines. AreClosedLines dialect lines []) (sym none) (empty dialect) in
+    rw (put_front text before after len answer puts written, ← same) (adds dialect [] closed)

@@ -1,0 +1,15 @@
+use Rattle.std.proofs.Common.{[], ◌∷◌, ap, arith, subst}
+use Rattle.influxdb_line_protocol.specs.code.Built.{buffer_of}
+use Rattle.influxdb_line_protocol.specs.code.Parsed.{parsed_point}
+use Rattle.influxdb_line_protocol.specs.format.Lines.{point_of}
+use Rattle.influxdb_line_protocol.specs.laws.AdmittedLines.{AddsPoints}
+use Rattle.lp_c.proofs.WritingLemmas.{reads_as}
+use Rattle.lp_c.proofs.writing.lp_line_write.Goals as goal
+
+pub returns-in-Ok-write_admitted_line_in-clause-reads_back : goal.returns-in-Ok-write_admitted_line_in-clause-reads_back
+returns-in-Ok-write_admitted_line_in-clause-reads_back c = λ written.
+    let point = parsed_point c.in-Ok.line in
+    let before = (buffer_of c.new.result).items in
+    let adds = subst (AddsPoints before (point ∷ [])) (grind arith) c.in-Ok-write_admitted_line_in.ensures.reads_back in
+    reads_as before c.as_slice.result.now _ _ _ _ _ point c.put_out.ensures written c.admitted_lines_read_back.ensures.empty adds
+    c.new.ensures (ap point_of c.in-Ok.ensures.ok.1)
