@@ -14,7 +14,7 @@ pub(crate) mod answer {
     pub(crate) const NOT_ADMITTED: u32 = 12;
 }
 
-/// Whose rules a line must read back by.
+/// By whose rules a line is to read back.
 pub(crate) mod dialect {
     pub(crate) const CRATE: u32 = 0;
     pub(crate) const STRICT: u32 = 1;
