@@ -6,7 +6,8 @@ calls cite, and what that rests on; docs/INNER_DEFINITIONS.md has what the code 
     checks/definitions.py --write    writes the lists
     checks/definitions.py --bare     names the definitions without a comment
 
-A definition is cited if a clause of a public call has its name as a word, or another cited definition has.
+A definition is cited if a clause of a public call has its name as a word, or another cited definition has, of its crate or one
+above it.
 """
 
 import re
@@ -214,13 +215,16 @@ def cite(found):
     by_name = {}
     for subject in found:
         for definition in subject.definitions:
-            by_name.setdefault(definition.name.strip("◌").rpartition(".")[2], []).append(definition)
-    due = words_of("\n".join(line for entries in calls.values() for entry in entries for line in entry))
+            named = by_name.setdefault(definition.name.strip("◌").rpartition(".")[2], [])
+            named.append((LIBRARIES.index(subject.crate), definition))
+    words = words_of("\n".join(line for entries in calls.values() for entry in entries for line in entry))
+    due = {(word, len(LIBRARIES)) for word in words}
     while due:
-        for definition in by_name.get(due.pop(), []):
-            if not definition.is_cited:
+        word, height = due.pop()
+        for at, definition in by_name.get(word, []):
+            if at <= height and not definition.is_cited:
                 definition.is_cited = True
-                due |= words_of(definition.source)
+                due |= {(inner, at) for inner in words_of(definition.source)}
 
 
 def stem(subject):

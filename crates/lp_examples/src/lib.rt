@@ -3,6 +3,7 @@
 //! What comes from `// [NAME]` to `// [end]` is the block NAME of a document.
 #![tactic(auto)]
 
+pub mod admitted;
 pub mod again;
 pub mod bases;
 pub mod bounded;

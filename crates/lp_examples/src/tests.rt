@@ -1,5 +1,6 @@
 //! What each example answers.
 
+use crate::admitted::append;
 use crate::again::{Tally, tally_of};
 use crate::bases::lines_by_series;
 use crate::bounded::Bounded;
@@ -198,6 +199,30 @@ fn what_would_not_read_back_is_left_out(rt: HostRuntime) {
             "{text}"
         );
     }
+}
+
+#[test]
+fn a_line_that_would_not_read_back_is_counted(rt: HostRuntime) {
+    let mut lines = LineProtocolBuilder::new(rt.alloc());
+    let mut left_out = 0;
+    for text in ["login,user=guest\\\npayments ok=t", "login,user=guest ok=t"] {
+        let Some(line) = line_of(rt.alloc(), text) else {
+            assert!(rt; false);
+            return;
+        };
+        lines = match append(lines, &line, &mut left_out) {
+            Ok(longer) => longer,
+            Err(_) => {
+                assert!(rt; false);
+                return;
+            }
+        };
+    }
+    assert_eq!(rt;
+        lines.build().as_slice(),
+        b"login,user=guest ok=true\n".as_slice()
+    );
+    assert_eq!(rt; left_out, 1);
 }
 
 #[test]
