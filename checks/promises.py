@@ -48,6 +48,7 @@ OTHERS = {
     r"proofs/m/f/": "it stands for those of each function `m::f`",
     r".*\b(MODULE|TYPE)": "it stands for each type",
     r"_in": "it is the end of names",
+    r"axioms": "a verdict says it",
     r"[a-z]_[a-z]": "a database makes it of a measurement and a field",
     r"snafu|(snafu::)?ErrorCompat|BytesMut|Unpin": "it is of Rust",
     r"lzma|makefile|sys\.stdin\.buffer": "it is of Python",
