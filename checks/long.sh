@@ -1,7 +1,7 @@
 #!/usr/bin/env bash
 # What takes long and is run by hand, beside the test command:
 #
-#   checks/long.sh [SECONDS]    what is installed; a relay of more than 2^32 bytes; the tables of docs/INTEROP.md;
+#   checks/long.sh [SECONDS]    what is installed; a relay of more than 2^32 bytes; the tables and the shell lines of docs/INTEROP.md;
 #                               relays by Slurm and by ssh; columns by Dask; the tests of the Python package under the address
 #                               sanitizer; the fuzzer for so many seconds, 600 if none are given; a million generated texts, compared
 #                               with the Rust crate; and the wrong bodies of checks/bodies/
