@@ -32,7 +32,8 @@ build_programs() {
 # Runs the programs.
 check_programs() {
     local rebuild=crates/lp_rebuild_program/out/lp_rebuild_program relay=crates/lp_relay/out/lp_relay
-    checks/arguments.sh "$rebuild" "$relay" && checks/inputs.sh "$rebuild" "$relay" && checks/apart.sh "$relay"
+    checks/arguments.sh "$rebuild" "$relay" && checks/losses.sh "$relay" && checks/inputs.sh "$rebuild" "$relay" &&
+        checks/apart.sh "$relay" && checks/posting.sh "$relay"
 }
 failed=0
 timed checks/refusals.sh checks/refusals.sh || failed=1

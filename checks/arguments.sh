@@ -10,6 +10,7 @@
 set -eu
 top=$(cd "$(dirname "$0")/.." && pwd)
 . "$top/checks/left_out.sh"
+. "$top/checks/given.sh"
 . "$top/launch.sh"
 PATH=$PATH:/opt/rattle/bin
 rebuild=${1:+$(readlink -f "$1")}
@@ -101,13 +102,10 @@ wanted 2 "" "$usage" --max-line +7
 # A comment, a blank line, and a string of two lines come before the line with the fault.
 text='# c\n\nm s="a\nb"\nx\n'
 string="m s=\"a${newline}b\"$newline"
-missing="A generic parsing error occurred: TakeWhile1$newline"
+missing="$x$newline"
 wanted 1 "$string" "line 5: $missing" --lines
 wanted 1 "$string" "item 2: $missing" --max-line 9
 text='m a=1i,\n'
-# A name of no file.
-unread="lp_relay: cannot read the input: "
-none="No such file or directory (os error 2)"
 # `rt try` compiles the program anew for each list, so these are for a built one.
 if [ -n "$program" ]; then
     wanted 1 "" "$strict_fault" --progress --strict
@@ -394,6 +392,19 @@ for program in ${rebuild:+"$rebuild"} "$relay"; do
 done
 printf 'm a=1i\nx\n' | "$relay" --check 2>/dev/full >"$work/out" && status=0 || status=$?
 stopped "" "standard error is full, and a check has a fault to write"
+# Why a run ends is said also if no device failed: without that, what came out could be taken for all of it.
+in_little_memory() {
+    (ulimit -v 32000 && exec "$@") <"$work/large" >"$work/out" 2>"$work/err" && status=0 || status=$?
+    stopped "lp_*: out of memory" "($*) has 32 MB of memory for an input of 42 MB"
+}
+yes 'm a=1i' | head -n 6000000 >"$work/large"
+in_little_memory "$relay" --cut 2
+if [ -n "$rebuild" ]; then
+    in_little_memory "$rebuild"
+    printf 'm a=1i\n\377\n' | "$rebuild" >"$work/out" 2>"$work/err" && status=0 || status=$?
+    stopped "lp_rebuild: the input is not UTF-8" "the input of $rebuild is not UTF-8"
+fi
+rm "$work/large"
 # A summary that cannot be written changes no status.
 "$relay" --summary <"$work/long" 2>/dev/full >"$work/out"
 cmp "$work/long" "$work/out"
@@ -411,34 +422,9 @@ for option in --help -h --version; do
 done
 echo "arguments: the programs end where a device fails, in $devices ways"
 
-# Files. `given STATUS OUTPUT FAULTS WORD..`: what the relay gives for these words in the folder `files`, if the file `std` is its input.
-# OUTPUT and FAULTS are as `printf %b` writes them.
+# Files. The relay runs in the folder `files`.
 mkdir -p "$work/files/d"
 cd "$work/files"
-given() {
-    local status_wanted=$1
-    printf '%b' "$2" >"$work/out_wanted"
-    printf '%b' "$3" >"$work/err_wanted"
-    shift 3
-    "$relay" "$@" <std >"$work/out" 2>"$work/err" && status=0 || status=$?
-    same "the words ($*)"
-}
-# The names in this folder.
-names() { find . -mindepth 1 -maxdepth 1 -printf '%f\n' | sort; }
-# Compares `out`, `err` and the status with what is wanted, and sees that no file was left that is not in `names`.
-same() {
-    if [ "$status" != "$status_wanted" ] || ! cmp "$work/out" "$work/out_wanted" || ! cmp "$work/err" "$work/err_wanted"; then
-        echo "arguments: with $1 the status of lp_relay is $status, where $status_wanted is wanted, and standard error has"
-        cat "$work/err"
-        exit 1
-    fi
-    if ! names | cmp -s - "$work/names"; then
-        echo "arguments: with $1 lp_relay leaves other files: $(names | paste -sd ' ')"
-        exit 1
-    fi
-    files=$((files + 1))
-}
-files=0
 printf 'm a=1i' >a
 printf 'm b=2i\nx\n' >b
 : >e
@@ -450,7 +436,6 @@ ln -s a link
 ln a hard
 : >out
 names >"$work/names"
-x="A generic parsing error occurred: TakeWhile1"
 given 1 'm b=2i\n' "item 2: $x\n" b
 given 1 'm a=1i\nm b=2i\n' "b: item 3: $x\n" a b
 given 1 'm a=1i\nm b=2i\n' "b: line 2: $x\n" --lines a b
@@ -501,14 +486,7 @@ given 0 "$(cat "$work/many")\\n" '' $(seq -f "$work/many-%g" 300)
 given 0 "$(cat "$work/many")\\n" '' --max-line 8 $(seq -f "$work/many-%g" 300)
 echo "arguments: lp_relay reads files, in $files ways"
 
-# `put STATUS OUTPUT FAULTS WORD..`: what the relay then has put into the file `out`, and not to standard output.
 files=0
-put() {
-    local wanted=$2
-    given "$1" "" "${@:3}"
-    printf '%b' "$wanted" | cmp out -
-}
-unwritten="lp_relay: cannot write the output: "
 for option in -o --output; do
     printf 'old\n' >out
     put 2 'old\n' "${unread}none: $none\n" "$option" out a none
@@ -588,15 +566,13 @@ for name in a link hard ./a d/../a "$work/files/a"; do
     given 2 '' "${too}standard input\n" -o std "$name" -
     given 2 '' "${too}standard input\n" -o std
     # Standard output is a file here.
-    status_wanted=2
-    printf '%s%s\n' "$too" "$name" >"$work/err_wanted"
-    : >"$work/out_wanted"
+    want 2 '' "$too$name\n"
     for words in "" "--lines c" "--cut 2" "--strict --cut 2 c"; do
         # shellcheck disable=SC2086
         "$relay" $words "$name" <std >>a 2>"$work/err" && status=0 || status=$?
         same "the words ($words $name) and the output >>a"
     done
-    printf '%sstandard input\n' "$too" >"$work/err_wanted"
+    want 2 '' "${too}standard input\n"
     for words in "" "--lines c -" "--cut 2 -"; do
         # shellcheck disable=SC2086
         "$relay" $words <"$name" >>a 2>"$work/err" && status=0 || status=$?
@@ -608,17 +584,6 @@ done
 "$relay" - /dev/null </dev/null >/dev/null
 # A device that fails while the file is written: a file that may not grow, and standard error that is full, closed or not read.
 printf 'old\n' >out
-fails() {
-    local last
-    last=$(tail -n 1 "$work/err")
-    # shellcheck disable=SC2053
-    if [ "$status" != "$1" ] || [[ $last != $2 ]] || [ -s "$work/out" ] || [ "$(cat out)" != old ] || ! names | cmp -s - "$work/names"; then
-        echo "arguments: where $3, the status is $status, where $1 is wanted, the folder has $(names | paste -sd ' '), and standard error" \
-            "ends with: $last"
-        exit 1
-    fi
-    files=$((files + 1))
-}
 (trap '' XFSZ && ulimit -f 1 && exec "$relay" -o out "$work/long") >"$work/out" 2>"$work/err" && status=0 || status=$?
 fails 2 "${unwritten}out: File too large (os error 27)" "the file may not grow"
 : >"$work/err"
@@ -746,4 +711,12 @@ for words in "'$work/first' '$work/more'" "<'$work/first'" "'$work/more' - <'$wo
     fi
 done
 rm "$work/more"
+# The lines go to a file.
+script -qec "'$relay' --progress --output '$work/lines' '$work/last'" /dev/null </dev/null >"$work/err"
+cmp "$work/last" "$work/lines"
+if [[ $(cat "$work/err") != *"K7 bytes read, 100 %, 1 lines written, faults: 0, "* ]]; then
+    echo "arguments: where the lines go to a file, the relay shows"
+    cat -v "$work/err"
+    exit 1
+fi
 echo "arguments: the relay shows its progress on a terminal, and nowhere else"

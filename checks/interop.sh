@@ -1,6 +1,6 @@
 #!/usr/bin/env bash
 # Writes texts to servers of its own, and the lines that lp_relay makes of them, rebuilt, verbatim and canonical, and compares what is
-# stored with the tables of docs/INTEROP.md. The texts are in interop.py.
+# stored with the tables of docs/INTEROP.md. The texts are in interop.py. Then posting.sh posts to the servers by the lines of the page.
 #
 #   checks/interop.sh RELAY            compares with the page
 #   checks/interop.sh --write RELAY    writes the tables into the page
@@ -32,6 +32,7 @@ fi
 work=$(mktemp -d)
 pids=()
 readers=()
+servers=()
 
 # Ends the servers, and removes what they stored.
 stop() {
@@ -70,6 +71,7 @@ start() {
         sleep 0.1
     done
     readers+=("$reader=$(version_of "$package")=http://127.0.0.1:$port")
+    servers+=("$reader=http://127.0.0.1:$port")
 }
 
 # Builds the parser of InfluxDB.
@@ -118,3 +120,10 @@ else
     left_out "VictoriaMetrics of docs/INTEROP.md" "there is no victoria-metrics"
 fi
 python3 -B "$here/interop.py" "${mode[@]}" "$relay" "${readers[@]}"
+if [ ${#mode[@]} != 0 ] || [ ${#servers[@]} = 0 ]; then
+    exit 0
+elif ! command -v curl >/dev/null; then
+    left_out "lines of docs/INTEROP.md with servers" "there is no curl"
+else
+    "$here/posting.sh" "$relay" "${servers[@]}"
+fi

@@ -1,5 +1,6 @@
 #!/usr/bin/env bash
-# Asks shellcheck of each script of the repository, and man and mandoc of each man page, and passes if these have nothing to say.
+# Asks shellcheck of each script of the repository, and of the shell lines that the documents show, which Debian's sh is to read; and man
+# and mandoc of each man page; and passes if these have nothing to say.
 set -eu
 cd "$(dirname "$0")/.."
 . checks/left_out.sh
@@ -14,7 +15,18 @@ if command -v shellcheck >/dev/null; then
         xargs -0 awk 'FNR == 1 && (/^#!.*sh$/ || /^# shellcheck shell=/) { print FILENAME } { nextfile }')
     said=$(shellcheck "${scripts[@]}") || true
     want_nothing shellcheck "the scripts" "$said"
-    echo "lint: shellcheck has nothing to say of ${#scripts[@]} scripts"
+    # Each block of `sh` comes to a file that is named after its document and its line.
+    blocks=$(mktemp -d)
+    trap 'rm -rf "$blocks"' EXIT
+    find . \( -name .git -o -name out -o -path ./dist \) -prune -o -name '*.md' -printf '%P\0' |
+        xargs -0 awk -v folder="$blocks" '
+            FNR == 1 || /^ *```$/ { inside = 0 }
+            inside { print >file }
+            /^ *```sh$/ { inside = 1; file = FILENAME; gsub("/", "_", file); file = folder "/" file ":" FNR }'
+    # Words of pkg-config are split, and who calls cd sees whether it fails.
+    said=$(shellcheck -s dash -e SC2046,SC2164 "$blocks"/*) || true
+    want_nothing shellcheck "the lines of the documents" "$said"
+    echo "lint: shellcheck has nothing to say of ${#scripts[@]} scripts, and of $(find "$blocks" -type f | wc -l) blocks of the documents"
 else
     left_out "scripts by shellcheck" "there is no shellcheck"
 fi

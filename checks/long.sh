@@ -1,16 +1,19 @@
 #!/usr/bin/env bash
 # What takes long and is run by hand, beside the test command:
 #
-#   checks/long.sh [SECONDS]    what is installed; the tables of docs/INTEROP.md; relays by Slurm and by ssh; columns by Dask; the
-#                               tests of the Python package under the address sanitizer; the fuzzer for so many seconds, 600 if
-#                               none are given; a million generated texts, compared with the Rust crate; and the wrong bodies of
-#                               checks/bodies/
+#   checks/long.sh [SECONDS]    what is installed; a relay of more than 2^32 bytes; the tables and the shell lines of docs/INTEROP.md;
+#                               relays by Slurm and by ssh; columns by Dask; the tests of the Python package under the address
+#                               sanitizer; the fuzzer for so many seconds, 600 if none are given; a million generated texts, compared
+#                               with the Rust crate; and the wrong bodies of checks/bodies/
 set -eu
 here=$(cd "$(dirname "$0")" && pwd)
 "$here/dist.sh"
+"$here/../lp_rebuild" </dev/null
 "$here/../lp_relay" </dev/null
-"$here/interop.sh" "$here/../crates/lp_relay/out/lp_relay"
-"$here/engines.sh" "$here/../crates/lp_relay/out/lp_relay"
+relay=$here/../crates/lp_relay/out/lp_relay
+"$here/large.sh" "$here/../crates/lp_rebuild_program/out/lp_rebuild_program" "$relay"
+"$here/interop.sh" "$relay"
+"$here/engines.sh" "$relay"
 "$here/dask.sh"
 WATCHED=1 "$here/../bindings/python/test.sh"
 "$here/fuzz.sh" "${1:-600}"

@@ -9,7 +9,7 @@
 # reach.
 set -eu
 PATH=$PATH:/usr/sbin
-packages=(gcc g++ git valgrind bsdutils python3 python3-dev python3-venv python3-numpy python3-pandas mypy cargo librust-bytes-dev
+packages=(gcc g++ git valgrind strace bsdutils dash python3 python3-dev python3-venv python3-numpy python3-pandas mypy cargo librust-bytes-dev
     librust-nom-dev librust-smallvec-dev shellcheck man-db groff mandoc)
 if [ "${1-}" = --engines ]; then
     packages+=(slurm-wlm munge parallel openssh-client openssh-server python3-distributed)

@@ -1,0 +1,262 @@
+#!/usr/bin/env python3
+"""Relays a small text by each combination of the options of lp_relay that change what it writes, and compares the lines, the faults, the
+refused pieces, the counts and the status with those that the table here gives: of each piece of the text it says, by the rules of
+docs/FORMAT.md, what comes of it.
+
+    checks/settings.py RELAY
+
+RELAY: a built lp_relay. The 144 settings are: lines rebuilt, verbatim or canonical; each dialect; faults as lines, raw or as objects,
+by items or by lines; with and without --summary and --refused. Each reads standard input and two files, and writes its lines to
+standard output, to a file, and nowhere: 864 runs.
+"""
+
+import collections
+import itertools
+import json
+import subprocess
+import sys
+import tempfile
+from dataclasses import dataclass
+from pathlib import Path
+
+LINES = {"rebuilt": [], "verbatim": ["--verbatim"], "canonical": ["--canonical"]}
+DIALECTS = {"crate": [], "strict": ["--strict"]}
+FAULTS = {"line": [], "raw": ["--faults", "raw"], "json": ["--faults", "json"]}
+NUMBERS = {"item": [], "line": ["--lines"]}
+SUMMARY = {False: [], True: ["--summary"]}
+REFUSED = {False: [], True: ["--refused", "refused"]}
+PLACES = {"standard output": [], "file": ["--output", "lines"], "nowhere": ["--check"]}
+INPUTS = {"standard input": [], "two files": ["one", "two"]}
+LIMIT = 200
+
+
+@dataclass(frozen=True)
+class Fault:
+    """What is wrong with an item: its kind, its text, and if the item is no line, how many bytes of it are read."""
+
+    kind: str
+    text: str
+    read: int | None = None
+
+
+@dataclass(frozen=True)
+class Piece:
+    """A piece, how many bytes come before its item, and by each form of lines the line that goes out of it, or the fault of the item.
+    Without an item nothing comes of it."""
+
+    came: bytes
+    front: int = 0
+    rebuilt: bytes | Fault | None = None
+    verbatim: bytes | Fault | None = None
+    canonical: bytes | Fault | None = None
+
+
+def refused(came, kind, text, read=None, front=0):
+    """A piece whose item is refused by each form."""
+    fault = Fault(kind, text, read)
+    return Piece(came, front, fault, fault, fault)
+
+
+def trailing(came, rest, read, front=0):
+    """A piece of which something is left after a line."""
+    return refused(came, "cannot_parse_entire_line", f"Could not parse entire line. Found trailing content: '{rest}'", read, front)
+
+
+def differing(came, rebuilt, part, front=0):
+    """A piece whose line is rebuilt to another line, which first differs in a part of it."""
+    return Piece(came, front, rebuilt, came, Fault("not_as_written", f"not as written: {part}"))
+
+
+BACKSLASH = "Measurements, tag keys and values, and field keys may not end with a backslash"
+GENERIC = "A generic parsing error occurred: TakeWhile1"
+NOT_ADMITTED = Fault("name_not_admitted", "a name cannot be written again")
+
+# Pieces that both dialects read the same.
+BEGIN = [
+    Piece(b"m,t=x a=1i 7", 0, b"m,t=x a=1i 7", b"m,t=x a=1i 7", b"m,t=x a=1i 7"),
+    Piece(b""),
+    Piece(b" # c"),
+    differing(b"  m  a=064i", b"m a=64i", "the spaces", front=2),
+    Piece(b"w\\\t a=1i", 0, NOT_ADMITTED, b"w\\\t a=1i", NOT_ADMITTED),
+    refused(b"x", "generic_parsing_error", GENERIC, 1),
+    refused(b"m a=", "field_set_missing", "No fields were provided", 4),
+    refused(b"\t,t=u a=1i", "measurement_value_invalid", "Invalid measurement was provided", 0, front=1),
+    refused(b"m a=9223372036854775808i", "integer_value_invalid", "Unable to parse integer value '9223372036854775808'", 4),
+    refused(b"m a=1i,b=18446744073709551616u", "uinteger_value_invalid",
+            "Unable to parse unsigned integer value '18446744073709551616'", 9),
+    refused(b"m a=1i  9223372036854775808", "timestamp_value_invalid", "Unable to parse timestamp value '9223372036854775808'", 8),
+    refused(b"m,t=v,u=w\\\\ a=1i", "ends_with_backslash", BACKSLASH, 8),
+    refused(b"m,t a=1i", "tag_set_malformed", "Tag Set Malformed", 3),
+    refused(b"m a=\xff", "not_utf8", "the line is not UTF-8"),
+    trailing(b"\tm s=\"a\nb\",v=9i9", "9", 14, front=1),
+    trailing("m a=1i \"ü\\\n\t\"".encode(), " \"ü\\\n\t\"", 6),
+    trailing(b"m a=1i " + b"y" * 190, " " + "y" * 190, 6),
+    refused(b"\tm s=\"a\n" + b"a" * 192 + b"\"", "too_long", "the line is too long"),
+    differing(b"m f=1.50,s=\"C:\\W\"", b"m f=1.50,s=\"C:\\\\W\"", "the value of field 2"),
+    differing(b"C:\\W f=T", b"C:\\\\W f=true", "the measurement"),
+    Piece(b"m,k=\\\\v s=\"a\nb\" -5", 0, *3 * [b"m,k=\\\\v s=\"a\nb\" -5"]),
+]
+# Pieces with a comma after the only field, a comment with a quote and one with a backslash at its end, and a last one that no newline ends.
+PIECES = {
+    "crate": BEGIN + [
+        differing(b"m a=1i,", b"m a=1i", "the comma after the fields"),
+        trailing(b"# a=\"\nm b=1i\n# c=\"", "\n# c=\"", 6, front=6),
+        Piece(b"# \\\n m b=2i", 5, b"m b=2i", b"# \\\n m b=2i", b"m b=2i"),
+        refused(b"y", "generic_parsing_error", GENERIC, 1),
+    ],
+    "strict": BEGIN + [
+        trailing(b"m a=1i,", ",", 6),
+        Piece(b"# a=\""),
+        Piece(b"m b=1i", 0, b"m b=1i", b"m b=1i", b"m b=1i"),
+        Piece(b"# c=\""),
+        Piece(b"# \\"),
+        Piece(b" m b=2i", 1, b"m b=2i", b" m b=2i", b"m b=2i"),
+        refused(b"y", "generic_parsing_error", GENERIC, 1),
+    ],
+}
+TEXT = b"\n".join(piece.came for piece in PIECES["crate"])
+
+
+@dataclass(frozen=True)
+class Settings:
+    """What the options ask for."""
+
+    lines: str
+    dialect: str
+    faults: str
+    number: str
+    summary: bool
+    refused: bool
+    place: str
+    inputs: str
+
+    def words(self):
+        """The options and the files, as the words of a command."""
+        return [*LINES[self.lines], *DIALECTS[self.dialect], *FAULTS[self.faults], *NUMBERS[self.number], *SUMMARY[self.summary],
+                *REFUSED[self.refused], "--max-line", str(LIMIT), *PLACES[self.place], *INPUTS[self.inputs]]
+
+
+class Wanted:
+    """What is to come of a relay by some settings."""
+
+    def __init__(self, settings):
+        self.settings = settings
+        self.lines = self.refused = b""
+        self.faults = []
+        self.items = 0
+        self.kinds = collections.Counter()
+        names = INPUTS[settings.inputs] or [None]
+        for name in names:
+            self.read(name)
+        self.summary = self.counts(len(names)) if settings.summary else None
+
+    def read(self, name):
+        """Adds what comes of one input."""
+        offset, line = 0, 1
+        for piece in PIECES[self.settings.dialect]:
+            made = getattr(piece, self.settings.lines)
+            self.items += made is not None
+            if isinstance(made, bytes):
+                self.lines += made + b"\n"
+            elif made is not None:
+                self.refuse(name, piece, made, offset, line)
+            offset += len(piece.came) + 1
+            line += piece.came.count(b"\n") + 1
+
+    def refuse(self, name, piece, fault, offset, line):
+        """Adds a fault, and its piece, which begins there."""
+        text = fault.text
+        if fault.kind == "too_long" and self.settings.refused:
+            text += f": its first {LIMIT} bytes are kept"
+        self.kinds[fault.kind] += 1
+        self.refused += (piece.came[:LIMIT] if fault.kind == "too_long" else piece.came) + b"\n"
+        if self.settings.faults == "json":
+            self.faults.append(fault_object(name, self.items, piece, fault, text, offset, line))
+            return
+        told = f"{self.settings.number} {self.items if self.settings.number == 'item' else line}: {text}".encode()
+        if self.settings.faults == "line":
+            told = (f"{name}: " if name else "").encode() + on_one_line(told)
+        self.faults.append(told)
+
+    def counts(self, inputs):
+        """The last line, of so many inputs."""
+        refused_items = self.kinds.total()
+        kinds = ", ".join(f"{self.kinds[kind]} {kind}" for kind in sorted(self.kinds))
+        return (f"{inputs * len(TEXT)} bytes, {inputs * (TEXT.count(10) + 1)} lines, {self.items} items: "
+                f"{self.items - refused_items} carried, {refused_items} refused: {kinds}").encode()
+
+
+def fault_object(name, item, piece, fault, text, offset, line):
+    """The members of the object of a fault, in their order, of a piece that begins there."""
+    made = {"file": name} if name else {}
+    made |= {"item": item, "line": line + piece.came[:piece.front].count(b"\n"), "offset": offset + piece.front}
+    made |= {"kind": fault.kind, "text": text}
+    if fault.read is not None:
+        read = piece.came[:piece.front + fault.read]
+        made |= {"stop_line": line + read.count(b"\n"), "stop_column": len(read) - read.rfind(b"\n")}
+    return made
+
+
+def on_one_line(told):
+    """A fault line as one line that ASCII prints, of which 200 bytes are told."""
+    marks = {9: "\\t", 10: "\\n", 13: "\\r", 92: "\\\\"}
+    text = "".join(marks.get(byte, chr(byte) if 32 <= byte < 127 else f"\\x{byte:02x}") for byte in told[:200])
+    return (text + (f".. [{len(told)} bytes]" if len(told) > 200 else "")).encode()
+
+
+def lost(settings, what, wanted, got):
+    """Ends the check."""
+    sys.exit(f"settings: with the words {' '.join(settings.words())} {what} should be\n{wanted!r}\nand here is\n{got!r}")
+
+
+def compare_faults(settings, wanted, err):
+    """Compares the faults and the counts. Objects may have more members than the table knows."""
+    lines = err.split(b"\n")[:-1]
+    if wanted.summary is not None and (not lines or lines.pop() != wanted.summary):
+        lost(settings, "the last line", wanted.summary, err[-300:])
+    if settings.faults == "json":
+        faults = [list(each.items()) for each in wanted.faults]
+        members = {name for each in wanted.faults for name in each}
+        told = [[member for member in json.loads(line).items() if member[0] in members] for line in lines]
+    else:
+        faults, told = b"\n".join(wanted.faults), b"\n".join(lines)
+    if told != faults:
+        lost(settings, "the faults", faults, told)
+
+
+def compare(relay, folder, settings):
+    """Runs the relay by some settings, and compares all that it gives."""
+    for name in ("lines", "refused"):
+        (folder / name).unlink(missing_ok=True)
+    done = subprocess.run([relay, *settings.words()], input=TEXT, cwd=folder, capture_output=True, check=False)
+    if done.returncode != 1:
+        lost(settings, "the status", 1, (done.returncode, done.stderr[-300:]))
+    wanted = Wanted(settings)
+    places = {"standard output": (wanted.lines, None), "file": (b"", wanted.lines), "nowhere": (b"", None)}
+    out, lines = places[settings.place]
+    written = {path.name: path.read_bytes() for path in folder.iterdir() if path.name not in INPUTS["two files"]}
+    files = {"lines": lines, "refused": wanted.refused if settings.refused else None}
+    files = {name: text for name, text in files.items() if text is not None}
+    if done.stdout != out:
+        lost(settings, "standard output", out, done.stdout)
+    if written != files:
+        lost(settings, "the files", files, written)
+    compare_faults(settings, wanted, done.stderr)
+
+
+def main():
+    relay = str(Path(sys.argv[1]).resolve())
+    if TEXT != b"\n".join(piece.came for piece in PIECES["strict"]):
+        sys.exit("settings: the pieces of the dialects are not those of one text")
+    count = 0
+    with tempfile.TemporaryDirectory() as name:
+        folder = Path(name)
+        for file in INPUTS["two files"]:
+            (folder / file).write_bytes(TEXT)
+        for words in itertools.product(LINES, DIALECTS, FAULTS, NUMBERS, SUMMARY, REFUSED, PLACES, INPUTS):
+            compare(relay, folder, Settings(*words))
+            count += 1
+    print(f"settings: one text is relayed as its table says, with each combination of options, in {count} runs")
+
+
+main()
