@@ -365,7 +365,7 @@ PyObject *next_row(Reader *reader, const lp_row **row) {
     return NULL;
 }
 
-/* The next item. Where memory for it is refused, it is the next one again. */
+/* The next item, or NULL without an error if none is left. If memory for it is refused, it is the next one again. */
 static PyObject *next_item(Reader *reader) {
     const lp_row *row;
     PyObject *item = next_row(reader, &row);
@@ -379,6 +379,7 @@ static PyObject *next_item(Reader *reader) {
     return item;
 }
 
+/* The next piece, or NULL without an error if none is left. */
 static PyObject *next_piece(Reader *reader) {
     lp_view piece = LP_NO_VIEW;
     return lp_lines_piece(&reader->lines, &piece) ? str_of(piece.text) : NULL;

@@ -226,6 +226,7 @@ class Refused(unittest.TestCase):
         for call, given, named in [
             (parse, (), {}), (parse, ("m", True), {}), (parse, ("m",), {"loose": True}), (split, (), {}), (split, ("m", True), {}),
             (rebuild, (), {}), (rebuild, ("m", True), {}), (write, (), {}), (write, (Line("m"), 5), {}), (write_many, (), {}),
+            (write_many, ([], True), {}), (write_many, ([],), {"loose": True}), (Builder, (True,), {}), (Builder, (), {"loose": True}),
             (show, (), {}), (base, (), {}), (is_base_safe, (), {}), (is_admitted, (), {}), (columns, (), {}), (columns, ("m", True), {}),
             (write_columns, (), {}), (write_columns, ({}, 5), {}), (Table, (), {}), (Column, (), {}),
             (part_ends, (), {}), (part_ends, ("m",), {}), (part_ends, ("m", 2, True), {}), (part_ends, ("m", 2), {"loose": True}),

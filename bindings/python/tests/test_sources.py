@@ -311,11 +311,12 @@ class BesideTheProgram(Folder):
         return [json.loads(line) for line in said.stderr.splitlines()]
 
     def test_each_fault_is_where_the_program_says(self):
-        chosen = random.Random(23)
+        chosen, count = random.Random(23), 0
         for _ in range(60):
             data = b"".join(chosen.choice(ALPHABET) for _ in range(chosen.randrange(400)))
             path, strict, limit = self.file(data), chosen.random() < 0.5, chosen.choice([None, None, 1, 3, 8])
             objects = self.objects(path, strict, limit)
+            count += len(objects)
             keys = ["item", "line", "offset", "piece_line", "piece_offset"]
             with self.subTest(data=data, strict=strict, limit=limit):
                 for source in (path, in_parts(data, 7)):
@@ -323,6 +324,7 @@ class BesideTheProgram(Folder):
                     self.assertEqual(
                         [[*(getattr(fault, key) for key in keys), fault.kind.name.lower(), fault.message] for fault in faults],
                         [[*(one[key] for key in keys), one["kind"], one["text"]] for one in objects])
+        self.assertGreater(count, 500)
 
 
 class Bytes(unittest.TestCase):
