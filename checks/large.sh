@@ -1,6 +1,6 @@
 #!/usr/bin/env bash
 # Relays more than 2^32 bytes with a fault after them, by each form of lines, and looks for each line and for the place of the fault;
-# and has 284 MB, which both hold whole, rebuilt by lp_rebuild and cut by lp_relay.
+# and has 276 MB, which both hold whole, rebuilt by lp_rebuild and cut by lp_relay.
 #
 #   checks/large.sh REBUILD RELAY
 #
