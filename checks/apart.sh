@@ -4,7 +4,8 @@
 #
 #   checks/apart.sh [RELAY]
 #
-# RELAY: a built lp_relay, which then relays a file in parts too.
+# RELAY: a built lp_relay, which then relays files in parts too, also by random options. SEED: the number that the last line tells, to try
+# the same options again.
 # shellcheck disable=SC2016
 set -eu
 top=$(cd "$(dirname "$0")/.." && pwd)
@@ -119,6 +120,15 @@ faults_wanted "--summary --check --max-line 7
 --summary --max-line 7 --check --first-item 2
 --summary --max-line 7 --check --first-item 3
 --summary --max-line 7 --check --first-item 4"
+# An object names its item and its line, in whichever order the options come.
+for words in "--lines --faults json" "--faults json --lines"; do
+    # shellcheck disable=SC2086
+    wanted 1 "$text" "--summary --faults json --check --first-item 4 --first-line 4" "$apart" "$file" 4 $words
+    faults_wanted "--summary $words
+--summary --faults json --check --first-item 2 --first-line 2
+--summary --faults json --check --first-item 3 --first-line 3
+--summary --faults json --check --first-item 4 --first-line 4"
+done
 # Each of twelve relays waits until all run.
 CUTS="seq 19 30"
 RELAYS='echo >>running; tries=0; while [ "$(wc -l <running)" -lt 12 ] && [ $tries -lt 100 ]; do sleep 0.1; tries=$((tries + 1)); done
@@ -249,25 +259,27 @@ fi
 echo "apart: $tried runs with a stub ended as they should"
 [ -n "$relay" ] || exit 0
 
-# Compares both outputs of a relay in parts, and its status, with those of one relay: INPUT OPTION..
+# Compares both outputs of a relay in parts, and its status, with those of one relay: INPUT "PARTS.." OPTION..
 compared=0
+seed=${SEED:-$RANDOM}
 compare() {
-    local input=$1 parts status_wanted=0
-    shift
+    local input=$1 counts=$2 parts status_wanted=0
+    shift 2
     "$relay" "$@" <"$input" >wanted 2>wanted_err || status_wanted=$?
-    for parts in 1 8 64; do
+    for parts in $counts; do
         run env LP_RELAY="$relay" "$apart" "$input" "$parts" "$@"
         if [ "$status" != "$status_wanted" ] || ! cmp out wanted || ! cmp err wanted_err; then
-            echo "apart: of $input in $parts parts ($*) lp_relay writes something else, or has status $status, not $status_wanted"
+            echo "apart: of $input in $parts parts ($*) lp_relay writes something else, or has status $status, not $status_wanted; SEED=$seed"
             exit 1
         fi
         compared=$((compared + 1))
     done
 }
-# Lines that a relay carries, one of which has a newline within a string, and two that it refuses.
+# Lines that a relay carries, one of which has a newline within a string, and three that it refuses, the last one after a comment,
+# with which it is one piece in the crate's dialect.
 item='m s="a
 b"'
-yes "$item"$'\nx\n# c\ncpu f=1i,g=2 5\ny' | head -n 6000 >lines
+yes "$item"$'\nx\n# c\ncpu f=1i,g=2 5\ny\n#\\\n x' | head -n 6000 >lines
 # Three of eight parts have faults, and the text does not end in a newline.
 {
     yes 'cpu f=1i 5' | head -n 8000 | sed '2500s/.*/x/; 2600s/.*/m s="a/; 2601s/.*/b"/; 4500s/.*/\xff/; 7999s/.*/a name w\\\t f=1/'
@@ -277,11 +289,27 @@ yes "$item"$'\nx\n# c\ncpu f=1i,g=2 5\ny' | head -n 6000 >lines
 { echo x; printf 'm s="'; yes 'a line of the string' | head -n 5000; printf '"\ny\nm s="'; yes $'\nz' | head -n 2000; } >string
 : >empty
 echo >newline
-for input in lines three string empty newline; do
-    compare "$input"
-    compare "$input" --lines --summary
-    compare "$input" --strict --verbatim --check --lines
-    compare "$input" --max-line 11 --summary
-    compare "$input" --faults json --strict
+inputs=(lines three string empty newline)
+for input in "${inputs[@]}"; do
+    compare "$input" "1 8 64"
+    compare "$input" "1 8 64" --lines --summary
+    compare "$input" "1 8 64" --strict --verbatim --check --lines
+    compare "$input" "1 8 64" --max-line 11 --summary
+    compare "$input" "1 8 64" --faults json --strict
 done
-echo "apart: a relay's parts give what the whole gives, also its faults, in $compared runs"
+# Each option in half of the runs, in any order.
+RANDOM=$seed
+for _ in $(seq 24); do
+    left=(--strict --lines --check --summary --progress "--max-line $((RANDOM % 20))")
+    case $((RANDOM % 3)) in 0) left+=(--verbatim) ;; 1) left+=(--canonical) ;; esac
+    case $((RANDOM % 4)) in 0) left+=("--faults raw") ;; 1) left+=("--faults line") ;; *) left+=("--faults json") ;; esac
+    options=
+    while [ ${#left[@]} != 0 ]; do
+        place=$((RANDOM % ${#left[@]}))
+        [ $((RANDOM % 2)) = 0 ] || options+=" ${left[place]}"
+        left=("${left[@]:0:place}" "${left[@]:place+1}")
+    done
+    # shellcheck disable=SC2086
+    compare "${inputs[RANDOM % 3]}" $((2 + RANDOM % 63)) $options
+done
+echo "apart: a relay's parts give what the whole gives, also its faults, in $compared runs, by random options of SEED=$seed"

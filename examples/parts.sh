@@ -106,8 +106,12 @@ why_not() {
 # whole file. The counts of the parts before it tell that number. Sets again: which parts these are.
 number_faults() {
     local number start count word items refused lines first item=1 line=1 by=item checks=("$program")
+    # An object names its item and its line, also with --lines; a fault line names its item, or with --lines its line.
+    case " ${options[*]} " in
+    *" --faults json "*) by=both ;;
+    *" --lines "*) by=line ;;
+    esac
     for word in "${options[@]}"; do
-        case $word in --lines) by=line ;; json) by=both ;; esac
         if [ "$word" != --lines ] && [ "$word" != --check ]; then checks+=("$word"); fi
     done
     while read -r number start count; do
@@ -140,11 +144,14 @@ want_relayed() {
     fail "part $number: $why"
 }
 
-# Prints what a part that starts there told, with the offsets of the whole file in its objects.
+# Prints what a part that starts there told, with the offsets of the whole file in its objects: of the text and of its piece.
 with_offsets() {
-    local start=$1 told object='^(\{"item":[0-9]+,"line":[0-9]+,"offset":)([0-9]+)(,.*)$' LC_ALL=C
+    local start=$1 told LC_ALL=C
+    local object='^(\{"item":[0-9]+,"line":[0-9]+,"offset":)([0-9]+)(,"piece_line":[0-9]+,"piece_offset":)([0-9]+)(,.*)$'
     while IFS= read -r told; do
-        if [[ $told =~ $object ]]; then told=${BASH_REMATCH[1]}$((BASH_REMATCH[2] + start))${BASH_REMATCH[3]}; fi
+        if [[ $told =~ $object ]]; then
+            told=${BASH_REMATCH[1]}$((BASH_REMATCH[2] + start))${BASH_REMATCH[3]}$((BASH_REMATCH[4] + start))${BASH_REMATCH[5]}
+        fi
         printf '%s\n' "$told" || return
     done
 }
