@@ -26,7 +26,8 @@ WORKERS = 4
 def told(columns):
     """Columns with all that their faults say."""
     faults = [
-        (fault.kind, fault.text, fault.side, fault.item, fault.line, fault.offset, fault.refused) for fault in columns.faults]
+        (fault.kind, fault.text, fault.side, fault.item, fault.line, fault.offset, fault.piece_line, fault.piece_offset, fault.refused)
+        for fault in columns.faults]
     return columns.tables, faults
 
 
