@@ -1,4 +1,4 @@
-//! The name of the file in each fault, if there is more than one input.
+//! The name of the file in each fault, but for raw fault lines, if there is more than one input.
 ghost use Rattle.std.specs.Prelude.{◌≡◌, ◌<◌, ◌≤◌, false, length, None, string_bytes, take, IfOk, OnOk};
 ghost use Rattle.lp_rebuild.specs.Devices.{CountsFailure};
 ghost use Rattle.std.specs.Io.KnownBytes.{Appends};

@@ -1,4 +1,4 @@
-//! Where the lines and the refused pieces go: to standard output, to a file that is whole or not there, or nowhere.
+//! Where the lines and the refused pieces go: to standard output, to a file that comes to its place whole or not at all, or nowhere.
 use std::fs::{self, File, OpenOptions};
 use std::io::{self, ErrorKind, Stdout, Write};
 use std::os::unix::fs::MetadataExt;

@@ -24,15 +24,16 @@ pub const VERSION: &str = "2.0.0";
 pub const HELP: &str =
     "Relays lines of InfluxDB line protocol from each FILE, one after another, or from standard input,
 to standard output as they come, and writes `item N: FAULT` to standard error for each item that
-it refuses, with the name of its FILE before it if there are several. A FILE that is - is standard
-input; ./-x names a file -x.
+it refuses, with the name of its FILE before it if there are several, but not by --faults raw. A
+FILE that is - is standard input; ./-x names a file -x.
 
   --strict           reads the strict dialect
   --verbatim         writes each line that can be read as it came, byte for byte; if it is not
                      given, lines are written again in one spelling, which some servers read as
                      other points if a name has a backslash
   --canonical        writes each line as it came that is as it would be written again, byte for
-                     byte, and refuses each other line for its first part that is not so
+                     byte, and refuses each other line, for a name that is not admitted or else for
+                     its first part that is not so
   --lines            names the line of the input in each fault, instead of the number of the item
   --first-item N     the number of the first item, in faults: 1 if it is not given
   --first-line N     the number of the first line, in faults, which name lines then
@@ -50,7 +51,8 @@ input; ./-x names a file -x.
                      fault, as objects name it:
                      `B bytes, L lines, N items: C carried, R refused: K KIND, ..`
   --check            writes no line, but the faults and the status are as ever
-  --output FILE, -o  writes the lines to FILE, which is there, and whole, once the status is 0 or 1
+  --output FILE, -o  writes the lines to FILE, which is there, and whole, once the status is 0 or 1;
+                     until then a FILE that was there stays as it was
   --refused FILE     writes each piece that is refused to FILE as it came, with its newline, and of a
                      line that is too long its first BYTES; FILE is there as that of --output is
   --cut PARTS        prints where the input, which is held whole, can be cut into so many parts of

@@ -1,7 +1,7 @@
 //! Relays lines from a reader to three writers as they come, and tells where a text can be cut, so that its parts can be relayed
 //! or rebuilt apart.
 //!
-//! [`relay`] holds a line of its input and a block. By its [`Settings`] it passes over lines that are too long, lets lines out as
+//! [`relay`] holds a line and a few blocks. By its [`Settings`] it passes over lines that are too long, lets lines out as
 //! they came, or only lines that are as they would be written, and its faults name lines of the input, or are told on one line
 //! each. [`part_ends`] gives the ends of the parts of a text.
 //!

@@ -370,8 +370,8 @@ fn finish<W: Sink, E: Sink, P: Sink>(
 /// were. The text of a refused piece is read once more for that.
 ///
 /// What each read completes is written and flushed before the next read is asked for, and the rest at the end. What is held of
-/// the input is the line that has not ended yet and one block, and of the output less than a block and what one line makes,
-/// since it is written too if it fills a block. So by `Lines::Rebuilt` `out` gains what [`run`](lp_rebuild::run) writes, and by
+/// the input is the line that has not ended yet and two blocks at most, and of each output less than a block and what one line
+/// makes, since it is written too if it fills a block. So by `Lines::Rebuilt` `out` gains what [`run`](lp_rebuild::run) writes, and by
 /// `Faults::Raw`, if items are named from 1 on, `err` does too, but not in its order.
 ///
 /// Input that is not UTF-8 does not end it: each piece that is not is one item, whose fault line is `item N: the line is not
