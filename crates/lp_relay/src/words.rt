@@ -52,7 +52,7 @@ FILE that is - is standard input; ./-x names a file -x.
                      `B bytes, L lines, N items: C carried, R refused: K KIND, ..`
   --check            writes no line, but the faults and the status are as ever
   --output FILE, -o  writes the lines to FILE, which is there, and whole, once the status is 0 or 1;
-                     by another status a FILE that was there stays as it was
+                     until then a FILE that was there stays as it was
   --refused FILE     writes each piece that is refused to FILE as it came, with its newline, and of a
                      line that is too long its first BYTES; FILE is there as that of --output is
   --cut PARTS        prints where the input, which is held whole, can be cut into so many parts of
