@@ -1,4 +1,4 @@
-/* The calls of lp_c that read and rebuild, with the sums that lp_bench gives for the same texts. */
+/* The calls of lp_c that read, write and rebuild, with the sums that lp_bench gives for the same texts. */
 #include "driver.h"
 #include "influxdb_line_protocol.h"
 #include <stdlib.h>
@@ -107,11 +107,60 @@ static uint64_t cuts(const uint8_t *text, size_t len) {
     return pieces;
 }
 
+/* The lines of a text, and how many parts they have. Their copies lie in a room that is as long as the text, and so suffices. */
+static struct { lp_row *rows; lp_part *parts; uint8_t *copies; size_t rows_len, rows_room, parts_len, parts_room; } kept;
+
+/* Makes more places for rows and parts, all of them empty. */
+static void lengthen(size_t rows_wanted, size_t parts_wanted) {
+    const lp_row empty = LP_EMPTY_ROW;
+    kept.rows = grown(kept.rows, rows_wanted * sizeof *kept.rows);
+    kept.parts = grown(kept.parts, parts_wanted * sizeof *kept.parts);
+    for (; kept.rows_room < rows_wanted; kept.rows_room++) kept.rows[kept.rows_room] = empty;
+    if (kept.parts_room < parts_wanted) lp_empty_parts(kept.parts + kept.parts_room, parts_wanted - kept.parts_room);
+    kept.parts_room = larger(kept.parts_room, parts_wanted);
+}
+
+static void read_lines(const uint8_t *text, size_t len) {
+    lp_lines lines = LP_NO_LINES;
+    uint32_t answer = lp_lines_begin(text, len, false, &lines) ? LP_LINE : LP_END;
+    lp_room room = { kept.copies = grown(kept.copies, larger(len, 1)), len };
+    kept.rows_len = kept.parts_len = 0;
+    lend(0, 256 * ROWS);
+    lengthen(larger(kept.rows_room, ROWS), larger(kept.parts_room, 16 * ROWS));
+    while (answer != LP_END) {
+        if (kept.rows_len == kept.rows_room) lengthen(2 * kept.rows_room, kept.parts_room);
+        lp_row *row = &kept.rows[kept.rows_len];
+        answer = lp_lines_next(&lines, &room, &row->line, kept.parts + kept.parts_len, kept.parts_room - kept.parts_len);
+        if (answer == LP_MORE_PARTS) lengthen(kept.rows_room, 2 * kept.parts_room + row->line.tags + row->line.fields);
+        if (answer != LP_LINE) continue;
+        row->parts_at = kept.parts_len;
+        kept.parts_len += row->line.tags + row->line.fields;
+        kept.rows_len++;
+    }
+}
+
+/* Writes the lines that were read, one by one, and gives how many bytes they take. */
+static uint64_t by_write(const uint8_t *text, size_t len) {
+    uint64_t sum = 0;
+    if (!is_utf8(text, len)) return 0;
+    for (size_t at = 0; at < kept.rows_len; at++) {
+        const lp_line *line = &kept.rows[at].line;
+        const lp_part *own = kept.parts + kept.rows[at].parts_at;
+        size_t put = 0;
+        uint32_t answer;
+        while ((answer = lp_line_write(LP_CRATE, line, own, line->tags + line->fields, bytes, bytes_len, &put)) == LP_MORE_ROOM)
+            lend(0, put);
+        if (answer == LP_WRITTEN) sum += put;
+    }
+    return sum;
+}
+
 const struct call calls[] = {
     { "lp_lines_next", by_next },
     { "lp_lines_block", by_block },
     { "lp_cuts_next", cuts },
     { "lp_rebuild", rebuilt },
+    { "lp_line_write", by_write, read_lines },
     { NULL, NULL },
 };
 

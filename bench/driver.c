@@ -36,6 +36,7 @@ static double utf8_seconds(const uint8_t *text, size_t len) {
 /* Each call tests first whether the text is UTF-8, and the time of that test is taken off: the least one beside these runs,
    so that what is left is never too little where the machine becomes faster or slower. */
 static void run(const struct call *call, const char *file, const uint8_t *text, size_t len) {
+    if (call->prepare) call->prepare(text, len);
     double seconds[RUNS], least = utf8_seconds(text, len);
     uint64_t answer = call->call(text, len);
     for (int i = 0; i < RUNS; i++) {
@@ -84,11 +85,12 @@ static uint64_t utf8_alone(const uint8_t *text, size_t len) { return is_utf8(tex
 static int once(const char *name, const char *path) {
     size_t len;
     uint8_t *text = read_file(path, &len);
-    uint64_t (*call)(const uint8_t *, size_t) = strcmp(name, "utf8") ? NULL : utf8_alone;
-    for (const struct call *at = calls; at->name && !call; at++) if (!strcmp(at->name, name)) call = at->call;
-    if (!call) { fprintf(stderr, "%s: no such call\n", name); return 2; }
-    call(text, len);
-    counted(call, text, len);
+    const struct call utf8 = { "utf8", utf8_alone, NULL }, *call = strcmp(name, utf8.name) ? calls : &utf8;
+    while (call->name && strcmp(call->name, name)) call++;
+    if (!call->name) { fprintf(stderr, "%s: no such call\n", name); return 2; }
+    if (call->prepare) call->prepare(text, len);
+    call->call(text, len);
+    counted(call->call, text, len);
     free(text);
     return 0;
 }

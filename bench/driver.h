@@ -3,9 +3,11 @@
 #include <stddef.h>
 #include <stdint.h>
 
+/* A call, and what makes what it takes of a text, if it takes more than the text: that is not timed. */
 struct call {
     const char *name;
     uint64_t (*call)(const uint8_t *text, size_t len);
+    void (*prepare)(const uint8_t *text, size_t len);
 };
 
 /* The calls over a text; the last one has no name. Each tests first whether the text is UTF-8. */

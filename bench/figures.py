@@ -28,6 +28,7 @@ CALLERS = {
     "lp_lines_block": "C, `lp_lines_block`",
     "lp_cuts_next": "C, `lp_cuts_next`",
     "lp_rebuild": "C, `lp_rebuild`",
+    "lp_line_write": "C, `lp_line_write`",
     "rust parse": "Rust, `parse_lines`",
     "rust rebuild": "Rust, read and built",
 }

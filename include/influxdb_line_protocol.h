@@ -32,8 +32,13 @@ enum lp_answer {
     LP_NOT_UTF8 = 8,      /* the text is no UTF-8 */
     LP_PIECE = 9,         /* a newline of the text ends the piece */
     LP_MORE_TEXT = 10,    /* no newline of the text ends the piece: it goes on in the text that comes */
-    LP_TOO_LONG = 11      /* the piece has more bytes than it may have */
+    LP_TOO_LONG = 11,     /* the piece has more bytes than it may have */
+    LP_NOT_ADMITTED = 12, /* the line would not read back, since a name of it is not admitted: nothing was written */
+    LP_NOT_A_DIALECT = 13 /* no dialect has the number */
 };
+
+/* By whose rules a line is to read back. */
+enum lp_dialect { LP_CRATE = 0, LP_STRICT = 1 };
 
 /* What a part is. */
 enum lp_kind {
@@ -149,7 +154,7 @@ static inline void lp_empty_parts(lp_part *parts, size_t len) {
     for (size_t i = 0; i < len; i++) parts[i] = empty;
 }
 
-/* The version of the library: 20000 is 2.0.0. */
+/* The version of the library: 30000 is 3.0.0. */
 uint32_t lp_version(void);
 
 /* Begins to read a text of `len` bytes, by the rules of the strict dialect or else of the Rust crate.
@@ -201,11 +206,16 @@ uint32_t lp_cuts_next(lp_cuts *cuts, const uint8_t *text, size_t len, size_t *cu
  * test it. LP_NOT_A_LINE: a text, a kind or a count is not as it must be, or there is no field.
  *
  * Each call puts its text at the start of `out`, and `len` is how long it is: LP_WRITTEN. LP_MORE_ROOM: `out` is too short,
- * and `len` is how much is needed. LP_NOT_A_LINE and LP_OUT_OF_MEMORY leave `len` as it was. Where nothing is put out, `out`
- * is as it was. */
+ * and `len` is how much is needed. LP_NOT_A_LINE, LP_NOT_ADMITTED, LP_NOT_A_DIALECT and LP_OUT_OF_MEMORY leave `len` as it was.
+ * Where nothing is put out, `out` is as it was. */
 
-/* The line as the builder writes it, with its newline. */
-uint32_t lp_line_write(const lp_line *line, const lp_part *parts, size_t parts_len, uint8_t *out, size_t room, size_t *len);
+/* The line as the builder writes it, with its newline. In the dialect, of enum lp_dialect, what is put out reads back as one line of
+ * the same names, values and timestamp, and as nothing else, whatever text comes after it. LP_NOT_ADMITTED: it would not, since one
+ * of its names is not admitted. A name, the key or value of a tag, the key of a field or the measurement, is admitted if it is not
+ * empty, holds no tab and no newline, and does not end in a backslash; a measurement, besides, holds no NUL and does not begin with
+ * `#`. The text of a string may hold all of these. LP_NOT_A_DIALECT: no dialect has the number. */
+uint32_t lp_line_write(uint32_t dialect, const lp_line *line, const lp_part *parts, size_t parts_len, uint8_t *out, size_t room,
+                       size_t *len);
 
 /* The line as it is shown: strings have no quotes, and there is no newline. */
 uint32_t lp_line_show(const lp_line *line, const lp_part *parts, size_t parts_len, uint8_t *out, size_t room, size_t *len);
@@ -220,7 +230,7 @@ uint32_t lp_line_base(const lp_line *line, const lp_part *parts, size_t parts_le
  * bases, their bases are the same exactly where measurement and tags are. With at most eight tags it takes no memory. */
 uint32_t lp_line_is_base_safe(const lp_line *line, const lp_part *parts, size_t parts_len, bool *safe);
 
-/* Whether the line reads back where it is written: whether each of its names is admitted. LP_WRITTEN: `admitted` says so.
+/* Whether lp_line_write writes the line: whether each of its names is admitted. LP_WRITTEN: `admitted` says so.
  * With at most eight tags and four fields it takes no memory. */
 uint32_t lp_line_is_admitted(const lp_line *line, const lp_part *parts, size_t parts_len, bool *admitted);
 

@@ -222,8 +222,7 @@ static void give_float(FILE *out, lp_text text, bool strict) {
     const lp_part field = { VIEW("f"), { text, false }, 0, 0, LP_FLOAT, false };
     const lp_line line = { LP_NO_TEXT, VIEW("m"), LP_NO_TEXT, 0, 1, 0, 0, 0, 0, false, false };
     size_t len = 0;
-    uint32_t answer = lp_line_write(&line, &field, 1, written, BYTES, &len);
-    (void)strict;
+    uint32_t answer = lp_line_write(strict ? LP_STRICT : LP_CRATE, &line, &field, 1, written, BYTES, &len);
     if (answer == LP_WRITTEN || answer == LP_NOT_A_LINE) fputs(answer == LP_WRITTEN ? "true" : "false", out);
 }
 

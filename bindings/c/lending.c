@@ -101,7 +101,7 @@ int main(void) {
     size_t len = sizeof TEXT - 1, wide_len = sizeof WIDE - 1;
     uint8_t *text = copy_of(TEXT, len), *wide_text = copy_of(WIDE, wide_len);
     lp_lines lines = LP_NO_LINES;
-    int failed = lp_version() != 20000 || lp_lines_begin((const uint8_t *)"\xff", 1, false, &lines) || pieces(text, len) != 7;
+    int failed = lp_version() != 30000 || lp_lines_begin((const uint8_t *)"\xff", 1, false, &lines) || pieces(text, len) != 7;
     struct seen all = read_all(text, len, false), strict = read_all(text, len, true);
     failed |= all.lines != 2 || all.faults != 3 || all.others || all.more_parts != 1 || all.more_room < 2;
     failed |= strict.lines != 2 || strict.faults != 3 || strict.others;

@@ -185,6 +185,11 @@ static bool reads_fault(const struct shape *shape) {
 
 typedef uint32_t writer(const lp_line *, const lp_part *, size_t, uint8_t *, size_t, size_t *);
 
+/* lp_line_write by the strict rules. */
+static uint32_t write_line(const lp_line *line, const lp_part *parts, size_t parts_len, uint8_t *out, size_t room, size_t *len) {
+    return lp_line_write(LP_STRICT, line, parts, parts_len, out, room, len);
+}
+
 /* Puts a text out into a buffer that is a byte too short, and into one of just its length. */
 static bool puts_out(writer *write, const struct lent *lent, uint32_t wanted, const struct text *text, const char *what,
                      const struct shape *shape) {
@@ -203,7 +208,7 @@ static bool puts_out(writer *write, const struct lent *lent, uint32_t wanted, co
 static bool puts_line(const struct text *written, const struct shape *shape, const struct lent *lent) {
     struct text shown = { NULL, 0, 0 };
     put_line(&shown, shape, "");
-    bool good = puts_out(lp_line_write, lent, LP_WRITTEN, written, "lp_line_write", shape);
+    bool good = puts_out(write_line, lent, LP_WRITTEN, written, "lp_line_write", shape);
     good &= puts_out(lp_line_show, lent, LP_WRITTEN, &shown, "lp_line_show", shape);
     free(shown.at);
     return good;

@@ -106,7 +106,7 @@ fi
 if command -v g++ >/dev/null; then
     printf '%s\n' '#include "influxdb_line_protocol.h"' 'int main() {' '    lp_part parts[2] = { lp_empty_part, lp_empty_part };' \
         '    lp_line line = lp_empty_line;' '    uint8_t out[64];' '    size_t len = 0;' '    lp_empty_parts(parts, 2);' \
-        '    return lp_fault_message(&line, out, sizeof out, &len) != LP_NOT_A_LINE || lp_version() != 20000;' '}' >"$built/header.cpp"
+        '    return lp_fault_message(&line, out, sizeof out, &len) != LP_NOT_A_LINE || lp_version() != 30000;' '}' >"$built/header.cpp"
     g++ -Wall -Wextra -Werror -I"$top/include" "$built/header.cpp" -x c++ "$here/heap.c" "$here/empty.c" -x none "$archive" \
         -o "$built/header"
     "$built/header"

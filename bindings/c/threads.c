@@ -17,8 +17,13 @@ struct outcome {
     lp_counts counts;
 };
 
+/* lp_line_write in the dialect of the Rust crate. */
+static uint32_t write_line(const lp_line *line, const lp_part *parts, size_t parts_len, uint8_t *out, size_t room, size_t *len) {
+    return lp_line_write(LP_CRATE, line, parts, parts_len, out, room, len);
+}
+
 typedef uint32_t writer(const lp_line *, const lp_part *, size_t, uint8_t *, size_t, size_t *);
-static writer *const WRITERS[] = { lp_line_write, lp_line_show, lp_line_base };
+static writer *const WRITERS[] = { write_line, lp_line_show, lp_line_base };
 
 static bool put_line(struct outcome *out, const lp_line *line, const lp_part *parts) {
     bool good = true;

@@ -25,6 +25,11 @@ static const lp_line LINE = { LP_NO_TEXT, { TEXT("a b,c"), true }, LP_NO_TEXT, 2
 
 typedef uint32_t writer(const lp_line *, const lp_part *, size_t, uint8_t *, size_t, size_t *);
 
+/* lp_line_write in the dialect of the Rust crate. */
+static uint32_t write_line(const lp_line *line, const lp_part *parts, size_t parts_len, uint8_t *out, size_t room, size_t *len) {
+    return lp_line_write(LP_CRATE, line, parts, parts_len, out, room, len);
+}
+
 /* Each buffer is of just its length, so that the address sanitizer sees what is touched past it. */
 static bool writes(writer *write, const lp_line *line, const lp_part *parts, uint32_t wanted, const char *text, size_t len) {
     bool good = true;
@@ -65,7 +70,7 @@ static bool is_tested(void) {
     bool admitted = false, good = lp_line_is_admitted(&LINE, PARTS, 7, &admitted) == LP_WRITTEN && admitted;
     lp_line line = LINE;
     line.fields = 0;
-    good &= lp_line_write(&line, PARTS, 7, out, sizeof out, &told) == LP_NOT_A_LINE && told == 5;
+    good &= lp_line_write(LP_CRATE, &line, PARTS, 7, out, sizeof out, &told) == LP_NOT_A_LINE && told == 5;
     line = LINE;
     line.fields = 6;
     good &= lp_line_show(&line, PARTS, 7, out, sizeof out, &told) == LP_NOT_A_LINE;
@@ -74,9 +79,91 @@ static bool is_tested(void) {
     good &= lp_line_base(&line, PARTS, 7, out, sizeof out, &told) == LP_NOT_A_LINE;
     line = LINE;
     line.measurement.text = (lp_text){ (const uint8_t *)"\xff", 1 };
-    good &= lp_line_write(&line, PARTS, 7, out, sizeof out, &told) == LP_NOT_A_LINE;
+    good &= lp_line_write(LP_CRATE, &line, PARTS, 7, out, sizeof out, &told) == LP_NOT_A_LINE;
     line.measurement.text = (lp_text){ (const uint8_t *)"a\\", 2 };
     return good && lp_line_is_admitted(&line, PARTS, 7, &admitted) == LP_WRITTEN && !admitted;
+}
+
+/* The places of the texts of LINE that are tried, and whether each of these texts may stand there, by docs/FORMAT.md. */
+enum place { MEASUREMENT, TAG_KEY, TAG_VALUE, FIELD_KEY, STRING, PLACES };
+
+static const struct { lp_text text; bool may_stand[PLACES]; } TRIED[] = {
+    { TEXT(""), { false, false, false, false, true } },       { TEXT("a\nb"), { false, false, false, false, true } },
+    { TEXT("\n"), { false, false, false, false, true } },     { TEXT("a\tb"), { false, false, false, false, true } },
+    { TEXT("a\\"), { false, false, false, false, true } },    { TEXT("\\\\"), { false, false, false, false, true } },
+    { TEXT("#a"), { false, true, true, true, true } },        { TEXT("a\0b"), { false, true, true, true, true } },
+    { TEXT("a\\nb"), { true, true, true, true, true } },      { TEXT("a#"), { true, true, true, true, true } },
+    { TEXT("a\r"), { true, true, true, true, true } },        { TEXT("\"a, =b\""), { true, true, true, true, true } },
+};
+
+/* The text in a place of a line. */
+static lp_text *text_in(enum place place, lp_line *line, lp_part *parts) {
+    if (place == MEASUREMENT) return &line->measurement.text;
+    if (place == TAG_VALUE || place == STRING) return &parts[place == STRING ? 5 : 1].text.text;
+    return &parts[place == FIELD_KEY ? 6 : 0].key.text;
+}
+
+/* Whether what was written is read as a line with the text in this place, and the text after it as if it stood alone. */
+static bool reads_back(bool strict, enum place place, lp_text text, const uint8_t *written, size_t len) {
+    lp_lines lines = LP_NO_LINES;
+    lp_line line = LP_EMPTY_LINE;
+    lp_part parts[7];
+    uint8_t bytes[64];
+    lp_room room = { bytes, sizeof bytes };
+    lp_empty_parts(parts, 7);
+    bool good = lp_lines_begin(written, len, strict, &lines);
+    good = good && lp_lines_next(&lines, &room, &line, parts, 7) == LP_LINE && line.tags == 2 && line.fields == 5;
+    const lp_text read = *text_in(place, &line, parts);
+    good = good && read.len == text.len && memcmp(read.at, text.at, text.len) == 0;
+    good = good && lp_lines_next(&lines, &room, &line, parts, 7) == LP_LINE && line.measurement.text.len == 1;
+    return good && lp_lines_next(&lines, &room, &line, parts, 7) == LP_END;
+}
+
+/* Writes LINE with a text in a place: it reads back, or is refused, and then the buffer and the length are as they were, though no
+ * room is lent. */
+static bool is_as_told(uint32_t dialect, enum place place, lp_text text, bool may_stand) {
+    uint8_t out[96];
+    size_t told = 77;
+    lp_line line = LINE;
+    lp_part parts[7];
+    memcpy(parts, PARTS, sizeof PARTS);
+    memset(out, '~', sizeof out);
+    *text_in(place, &line, parts) = text;
+    bool admitted = !may_stand, good = lp_line_is_admitted(&line, parts, 7, &admitted) == LP_WRITTEN && admitted == may_stand;
+    if (!may_stand) good &= lp_line_write(dialect, &line, parts, 7, out, 0, &told) == LP_NOT_ADMITTED && told == 77;
+    good &= lp_line_write(dialect, &line, parts, 7, out, sizeof out, &told) == (may_stand ? LP_WRITTEN : LP_NOT_ADMITTED);
+    const size_t put = may_stand ? told : 0;
+    for (size_t at = put; at < sizeof out; at++) good &= out[at] == '~';
+    if (!may_stand) return good && told == 77;
+    memcpy(out + put, "n g=t", 5);
+    return good && reads_back(dialect == LP_STRICT, place, text, out, put + 5);
+}
+
+static bool are_as_told(void) {
+    bool good = true;
+    for (size_t at = 0; at < sizeof TRIED / sizeof *TRIED; at++) {
+        for (int place = 0; place < PLACES; place++) {
+            good &= is_as_told(LP_CRATE, (enum place)place, TRIED[at].text, TRIED[at].may_stand[place]);
+            good &= is_as_told(LP_STRICT, (enum place)place, TRIED[at].text, TRIED[at].may_stand[place]);
+        }
+    }
+    return good;
+}
+
+/* No dialect has these numbers: whatever is handed in, the buffer and the length are as they were. */
+static bool are_no_dialects(void) {
+    static const uint32_t numbers[] = { LP_STRICT + 1, 0x100, 0x10000, 0x80000000, UINT32_MAX };
+    const lp_line none = LP_EMPTY_LINE;
+    bool good = true;
+    for (size_t number = 0; number < sizeof numbers / sizeof *numbers; number++) {
+        uint8_t out[96];
+        size_t told = 77;
+        memset(out, '~', sizeof out);
+        good &= lp_line_write(numbers[number], &LINE, PARTS, 7, out, sizeof out, &told) == LP_NOT_A_DIALECT;
+        good &= lp_line_write(numbers[number], &none, PARTS, 7, out, sizeof out, &told) == LP_NOT_A_DIALECT && told == 77;
+        for (size_t at = 0; at < sizeof out; at++) good &= out[at] == '~';
+    }
+    return good;
 }
 
 /* Reads the one line of a text: whether its base is safe to group by is as wanted, and so is the base. */
@@ -201,13 +288,13 @@ int main(void) {
     lp_part repeated[7];
     memcpy(repeated, PARTS, sizeof PARTS);
     repeated[0].key = repeated[1].key;
-    bool good = writes(lp_line_write, &LINE, PARTS, LP_WRITTEN, WRITTEN, sizeof WRITTEN - 1);
+    bool good = writes(write_line, &LINE, PARTS, LP_WRITTEN, WRITTEN, sizeof WRITTEN - 1);
     good &= writes(lp_line_show, &LINE, PARTS, LP_WRITTEN, SHOWN, sizeof SHOWN - 1);
     good &= writes(lp_line_base, &LINE, PARTS, LP_WRITTEN, BASE, sizeof BASE - 1);
     good &= writes(lp_line_base, &LINE, repeated, LP_FAULT, "k", 1);
-    good &= is_tested() && are_bases_safe() && is_nothing_told() && is_rebuilt();
+    good &= is_tested() && are_as_told() && are_no_dialects() && are_bases_safe() && is_nothing_told() && is_rebuilt();
     good &= are_messages() && are_no_messages() && are_empty();
-    long requests = refused(lp_line_write, sizeof WRITTEN - 1, &good) + refused(lp_line_show, sizeof SHOWN - 1, &good);
+    long requests = refused(write_line, sizeof WRITTEN - 1, &good) + refused(lp_line_show, sizeof SHOWN - 1, &good);
     requests += refused(lp_line_base, sizeof BASE - 1, &good);
     printf("lines, bases, messages and rebuilt texts written, each of %ld requests refused in turn\n", requests);
     return !good;

@@ -146,6 +146,9 @@ bool put_timestamp(Handed *handed, PyObject *timestamp);
 typedef struct { uint8_t *at; size_t len, room; } Out;
 typedef uint32_t PutsOut(const lp_line *, const lp_part *, size_t, uint8_t *, size_t, size_t *);
 
+/* lp_line_write in the dialect of the Rust crate. */
+PutsOut write_line;
+
 /* Appends what a call puts out for the line that was handed in, and gives its answer; 0 after an error. */
 uint32_t put_out(PutsOut *call, const Handed *handed, Out *out);
 

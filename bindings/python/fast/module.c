@@ -94,7 +94,7 @@ static PyType_Spec fault_spec = {
     "line_protocol._fast.FaultMembers", sizeof(Fault), 0, Py_TPFLAGS_DEFAULT | Py_TPFLAGS_BASETYPE | Py_TPFLAGS_HAVE_GC, fault_slots };
 
 
-/* version(): the version of the library, 20000 for 2.0.0. */
+/* version(): the version of the library, 30000 for 3.0.0. */
 static PyObject *fast_version(PyObject *module, PyObject *nothing) {
     (void)module;
     (void)nothing;

@@ -120,7 +120,7 @@ static bool put_row(Rows *rows) {
     lp_line *line = &rows->handed.line;
     line->has_tag_set = line->tags > 0;
     line->fields = rows->handed.parts_len - line->tags;
-    return line->fields == 0 || put_out(lp_line_write, &rows->handed, &rows->out) == LP_WRITTEN;
+    return line->fields == 0 || put_out(write_line, &rows->handed, &rows->out) == LP_WRITTEN;
 }
 
 /* The bytes of a name, which must be a str. */

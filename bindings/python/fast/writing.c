@@ -248,9 +248,13 @@ static bool put_line(Handed *handed, PyObject *line, bool is_series) {
 
 /* What a call says that is neither written nor put out. */
 static bool set_answer_error(uint32_t answer) {
-    if (answer == LP_NOT_A_LINE) PyErr_SetString(PyExc_ValueError, "the library does not take it for a line");
+    if (answer == LP_NOT_A_LINE || answer == LP_NOT_ADMITTED) PyErr_SetString(PyExc_ValueError, "the library does not take it for a line");
     else PyErr_SetString(PyExc_MemoryError, "a request for memory was refused");
     return false;
+}
+
+uint32_t write_line(const lp_line *line, const lp_part *parts, size_t parts_len, uint8_t *out, size_t room, size_t *len) {
+    return lp_line_write(LP_CRATE, line, parts, parts_len, out, room, len);
 }
 
 uint32_t put_out(PutsOut *call, const Handed *handed, Out *out) {
@@ -293,7 +297,7 @@ static PyObject *put_out_one(PutsOut *call, PyObject *line) {
     Py_DECREF(text);
     return NULL;
 }
-PyObject *fast_write(PyObject *module, PyObject *line) { (void)module; return put_out_one(lp_line_write, line); }
+PyObject *fast_write(PyObject *module, PyObject *line) { (void)module; return put_out_one(write_line, line); }
 PyObject *fast_show(PyObject *module, PyObject *line) { (void)module; return put_out_one(lp_line_show, line); }
 PyObject *fast_base(PyObject *module, PyObject *line) { (void)module; return put_out_one(lp_line_base, line); }
 
@@ -306,7 +310,7 @@ PyObject *fast_write_many(PyObject *module, PyObject *lines) {
     if (!iterator) return NULL;
     bool is_written = true;
     while (is_written && (line = PyIter_Next(iterator)) != NULL) {
-        is_written = put_line(&handed, line, false) && put_out(lp_line_write, &handed, &out) == LP_WRITTEN;
+        is_written = put_line(&handed, line, false) && put_out(write_line, &handed, &out) == LP_WRITTEN;
         Py_DECREF(line);
     }
     Py_DECREF(iterator);

@@ -1,6 +1,7 @@
 -- The numbers that callers in C see.
 use Rattle.std.specs.Prelude.{ℕ}
 use Rattle.lp_c.specs.declared.views.Answer.{Answer}
+use Rattle.lp_c.specs.declared.views.Dialect.{Dialect}
 use Rattle.lp_c.specs.declared.views.FaultKind.{FaultKind}
 use Rattle.lp_c.specs.declared.views.Kind.{Kind}
 use Rattle.lp_c.specs.declared.views.Side.{Side}
@@ -19,6 +20,13 @@ answer_number Answer.NotUtf8 = 8
 answer_number Answer.Piece = 9
 answer_number Answer.MoreText = 10
 answer_number Answer.TooLong = 11
+answer_number Answer.NotAdmitted = 12
+answer_number Answer.NotADialect = 13
+
+-- the number of a dialect
+abbrev pub dialect_number : Dialect → ℕ
+dialect_number Dialect.Crate = 0
+dialect_number Dialect.Strict = 1
 
 -- the number of what a part is
 abbrev pub kind_number : Kind → ℕ

@@ -1,15 +1,16 @@
 -- What callers in C get written.
-use Rattle.std.specs.Prelude.{◌≡◌, ◌≢◌, ℕ, ◌<◌, ◌≤◌, List, ◌++◌, length, drop, true, false}
+use Rattle.std.specs.Prelude.{◌≡◌, ◌≢◌, ◌↔◌, ℕ, ◌<◌, ◌≤◌, List, ◌++◌, length, drop, true, false}
 use Rattle.influxdb_line_protocol.specs.format.Lines.{point_of, some_tags}
-use Rattle.influxdb_line_protocol.specs.format.Points.{Point, built}
+use Rattle.influxdb_line_protocol.specs.format.Points.{Point, built, is_admitted_point}
 use Rattle.influxdb_line_protocol.specs.code.Bases.{Base, borrowed, owned, duplicate_key, base_of}
 use Rattle.influxdb_line_protocol.specs.code.Shown.{shown_line}
 use Rattle.lp_c.specs.declared.views.Answer.{Answer}
-use Rattle.lp_c.specs.declared.views.Answer.TheVariants.{Fault, MoreRoom, NotALine, OutOfMemory, Written}
+use Rattle.lp_c.specs.declared.views.Answer.TheVariants.{Fault, MoreRoom, NotADialect, NotALine, NotAdmitted, OutOfMemory, Written}
+use Rattle.lp_c.specs.declared.views.Dialect.{Dialect}
 use Rattle.lp_c.specs.declared.views.Line.{Line}
 use Rattle.lp_c.specs.declared.views.Part.{Part}
-use Rattle.lp_c.specs.Handed.{line_in, tag_set_in, text_in}
-use Rattle.lp_c.specs.Numbers.{answer_number}
+use Rattle.lp_c.specs.Handed.{IsLineIn, line_in, tag_set_in, text_in}
+use Rattle.lp_c.specs.Numbers.{answer_number, dialect_number}
 
 -- a text is put out: its length is told; it lies at the start of the buffer, and what is after it is as before; or the
 -- buffer is too short for it, and is as before
@@ -34,6 +35,21 @@ point_in l parts = point_of (line_in false l parts)
 -- what the builder writes for the line that views hold
 abbrev pub built_in : Line → List Part → List ℕ
 built_in l parts = built (point_in l parts)
+
+-- no dialect has the number
+abbrev pub IsNoDialect : ℕ → Type 0
+IsNoDialect number = (dialect : Dialect) → number ≢ dialect_number dialect
+
+-- a line is refused, as its dialect is none, as it is no line, as a name of it is not admitted, or as a request for memory was
+-- refused: the buffer and the length are as before; else what the builder writes for it is put out
+pub record WritesLine (dialect : ℕ) (l : Line) (parts : List Part) (before after : List ℕ) (len_before len answer : ℕ) : Type 0 where
+  pub not_a_dialect : (answer ≡ answer_number NotADialect) ↔ IsNoDialect dialect
+  pub not_a_line : answer ≡ answer_number NotALine → ¬ IsLineIn l parts
+  pub not_admitted : answer ≡ answer_number NotAdmitted → IsLineIn l parts × (is_admitted_point (point_in l parts) ≡ false)
+  pub kept : answer ≢ answer_number Written → answer ≢ answer_number MoreRoom → (after ≡ before) × (len ≡ len_before)
+  pub puts : answer ≢ answer_number NotADialect → answer ≢ answer_number NotALine → answer ≢ answer_number NotAdmitted
+      → answer ≢ answer_number OutOfMemory → IsLineIn l parts × (is_admitted_point (point_in l parts) ≡ true)
+      × PutsOut Written (built_in l parts) before after len answer
 
 -- what is shown of the line that views hold
 abbrev pub shown_in : Line → List Part → List ℕ

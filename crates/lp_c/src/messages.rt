@@ -87,7 +87,7 @@ fn put_message(message: Message<'_>, out: &mut [u8])
 
 /// The message of the fault that a line shows, which is what `{}` writes of the library's `Error`. It asks for no memory.
 ///
-/// Answers as [`lp_line_write`](crate::writing) does: `NotALine`, if the kind of the fault is none, or its text is no UTF-8. The
+/// Answers as [`lp_line_show`](crate::writing) does: `NotALine`, if the kind of the fault is none, or its text is no UTF-8. The
 /// kind and the text alone are looked at, and a fault with the number of `DuplicateTag` has its key as its text.
 #[unsafe(no_mangle)]
 pub extern "C" fn lp_fault_message(line: &Line<'_>, out: &mut [u8], len: &mut usize) -> u32

@@ -13,9 +13,9 @@ use lp_events::lines::next_line;
 /// The version of the library: 10,000 times its first number, 100 times its second, and its third.
 #[unsafe(no_mangle)]
 pub extern "C" fn lp_version() -> u32
-    ensures { result ≡ 20000 }
+    ensures { result ≡ 30000 }
 {
-    20000
+    30000
 }
 
 /// Begins to read a text by the rules of a dialect, and says whether the text is UTF-8: else nothing may be read of it.

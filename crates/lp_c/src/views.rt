@@ -2,7 +2,7 @@
 
 ghost use Rattle.std.specs.Prelude.{◌≡◌};
 ghost use Rattle.lp_c.specs.Crossing.{is_more};
-ghost use Rattle.lp_c.specs.Numbers.{answer_number, fault_number, kind_number, side_number};
+ghost use Rattle.lp_c.specs.Numbers.{answer_number, dialect_number, fault_number, kind_number, side_number};
 
 /// A text, and whether it is a copy without its escapes.
 #[repr(C)]
@@ -107,6 +107,10 @@ pub enum Answer {
     MoreText = 10,
     /// The piece has more bytes than it may have, whether a newline of the text ends it or not.
     TooLong = 11,
+    /// The line would not read back, since a name of it is not admitted: nothing was written.
+    NotAdmitted = 12,
+    /// No dialect has the number.
+    NotADialect = 13,
 }
 
 impl Answer {
@@ -122,6 +126,24 @@ impl Answer {
         ensures { result ≡ is_more self }
     {
         matches!(self, Answer::MoreParts | Answer::MoreRoom)
+    }
+}
+
+/// By whose rules a line is to read back.
+#[derive(Clone, Copy, Drop)]
+pub enum Dialect {
+    /// Those of the Rust crate.
+    Crate = 0,
+    /// Those of the strict dialect.
+    Strict = 1,
+}
+
+impl Dialect {
+    /// The number of a dialect.
+    pub fn number(self) -> u32
+        ensures { result ≡ dialect_number self }
+    {
+        self as u32
     }
 }
 

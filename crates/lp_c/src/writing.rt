@@ -1,16 +1,16 @@
 //! Lines that are written, shown or tested, and bases of series: each into a buffer that the caller lends.
 
-ghost use Rattle.std.specs.Prelude.{◌≡◌, ◌≢◌, ◌≤◌, ◌++◌, length, drop, false};
+ghost use Rattle.std.specs.Prelude.{◌≡◌, ◌≢◌, ◌≤◌, ◌++◌, ◌↔◌, length, drop, false, IsFalse};
 ghost use Rattle.influxdb_line_protocol.specs.code.Bases.{is_base_safe};
 ghost use Rattle.influxdb_line_protocol.specs.format.Lines.{some_tags};
 ghost use Rattle.influxdb_line_protocol.specs.format.Points.{is_admitted_point};
 ghost use Rattle.lp_c.specs.declared.views.Answer.TheVariants.{MoreRoom, NotALine, OutOfMemory, Written};
 ghost use Rattle.lp_c.specs.Handed.{IsLineIn, IsSeriesIn, tag_set_in, text_in};
 ghost use Rattle.lp_c.specs.Numbers.{answer_number};
-ghost use Rattle.lp_c.specs.Writing.{PutsOut, Writes, answer_for_base, base_in, built_in, point_in, shown_in, text_of_base};
+ghost use Rattle.lp_c.specs.Writing.{IsNoDialect, PutsOut, Writes, WritesLine, answer_for_base, base_in, point_in, shown_in, text_of_base};
 
 use crate::handed::{line_in, series_in};
-use crate::views::{Answer, Line, Part};
+use crate::views::{Answer, Dialect, Line, Part};
 use influxdb_line_protocol::{Error, LineProtocolBuilder, is_admitted, write_line};
 use std::alloc::Global;
 
@@ -62,24 +62,40 @@ pub extern "C" fn lp_line_is_admitted(
     }
 }
 
-/// Writes a line, with its newline, as the builder does.
+// Whether a dialect has the number.
+fn is_dialect(number: u32) -> bool
+    ensures { IsFalse result ↔ IsNoDialect number }
+{
+    number == Dialect::Crate.number() || number == Dialect::Strict.number()
+}
+
+/// Writes a line, with its newline, as the builder does. In the dialect of the number, what is written reads back as that line alone,
+/// whatever text comes after it.
 ///
 /// Answers `Written`, and `len` is how many bytes were written; or `MoreRoom`, and `len` is how many are needed; or
-/// `NotALine` or `OutOfMemory`. Only `Written` changes `out`.
+/// `NotADialect`, `NotALine`, `NotAdmitted` if a name of the line is not admitted, or `OutOfMemory`, and `len` is as it was. Only
+/// `Written` changes `out`.
 #[unsafe(no_mangle)]
 pub extern "C" fn lp_line_write(
     alloc: Global,
+    dialect: u32,
     line: &Line<'_>,
     parts: &[Part<'_>],
     out: &mut [u8],
     len: &mut usize,
 ) -> u32
-    ensures { Writes (IsLineIn line.now parts.now) Written (built_in line.now parts.now) out.old out.new len.old len.new result }
+    ensures { WritesLine dialect line.now parts.now out.old out.new len.old len.new result }
 {
+    if !is_dialect(dialect) {
+        return Answer::NotADialect.number();
+    }
     let line = match line_in(alloc, false, line, parts) {
         Ok(line) => line,
         Err(answer) => return answer.number(),
     };
+    if !is_admitted(&line) {
+        return Answer::NotAdmitted.number();
+    }
     match write_line(LineProtocolBuilder::new(alloc), &line) {
         Ok(builder) => put_out(Answer::Written, builder.build().as_slice(), out, len),
         Err(_) => Answer::OutOfMemory.number(),
@@ -88,7 +104,8 @@ pub extern "C" fn lp_line_write(
 
 /// Shows a line: what `{}` writes of it.
 ///
-/// Answers as [`lp_line_write`] does.
+/// Answers `Written`, and `len` is how many bytes were written; or `MoreRoom`, and `len` is how many are needed; or
+/// `NotALine` or `OutOfMemory`, and `len` is as it was. Only `Written` changes `out`.
 #[unsafe(no_mangle)]
 pub extern "C" fn lp_line_show(
     alloc: Global,
@@ -111,7 +128,7 @@ pub extern "C" fn lp_line_show(
 
 /// The base of the series of a line.
 ///
-/// Answers as [`lp_line_write`] does, but if a key of the tags is repeated it answers `Fault`, and writes that key. The
+/// Answers as [`lp_line_show`] does, but if a key of the tags is repeated it answers `Fault`, and writes that key. The
 /// fields are not looked at. It tells the series from others if [`lp_line_is_base_safe`], and else it may not: `m,a=1\,b\=2` and
 /// `m,a=1,b=2` are two series with one base, and `m,\,=v` and `m,,=v` one series with two.
 #[unsafe(no_mangle)]

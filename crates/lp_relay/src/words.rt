@@ -18,7 +18,7 @@ pub const USAGE: &str =
        lp_relay --help | --version";
 
 /// The version of this state, which `--version` prints: the newest of CHANGELOG.md.
-pub const VERSION: &str = "2.0.0";
+pub const VERSION: &str = "3.0.0";
 
 /// What `--help` prints after that, without the last newline.
 pub const HELP: &str =
