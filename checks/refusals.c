@@ -600,8 +600,9 @@ static void growing_builder(void) {
     if (most > 4 * strlen(lines)) fail("a request is for %zu bytes", most);
 }
 
-/* A stream takes no memory before its first part, and then for what it holds. */
+/* A stream takes no memory before its first part, and then for what it holds, with few requests. */
 static void streams(void) {
+    static char lines[ROOM];
     static const char *const text = "m a=1i\nn s=\"x\ny\"\no b=2i";
     static const char *const wanted[] = {"m a=1i", "n s=\"x\ny\"", "o b=2i"};
     subject = "a stream";
@@ -620,6 +621,13 @@ static void streams(void) {
     if (count != COUNT(wanted)) fail("%lu pieces came", (unsigned long)count);
     for (size_t place = 0; place < COUNT(wanted); place++) must_be(place, wanted[place]);
     if (most > 4 * strlen(text)) fail("a request is for %zu bytes", most);
+    repeat(lines, "", "m a=1i\n", 1000, "");
+    begin(0);
+    count = lp_checks_streamed(false, (const uint8_t *)lines, strlen(lines), 64, out, ROOM, ends, ENTRIES);
+    end();
+    if (count != 1001) fail("%lu pieces of many parts came", (unsigned long)count);
+    if (asked > 50) fail("%lu requests came", asked);
+    if (most > 4 * strlen(lines)) fail("a request is for %zu bytes", most);
 }
 
 int main(void) {

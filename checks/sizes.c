@@ -242,12 +242,12 @@ static void all_settings(void) {
     }
 }
 
-/* Settings for texts that are large: each two of a form of lines, a form of faults and refused pieces. */
-static const char *const LARGE[] = {"k", "olr", "vjrk", "svl", "cork", "scj", "jlr"};
+/* Settings for large texts. The first three have each form of lines and of faults. */
+static const char *const LARGE[] = {"k", "vjrk", "cork", "olr", "svl", "scj", "jlr"};
 
-/* More than 65,535 faults of each kind, and lines, in more than 16 MiB. */
+/* More than 65,535 lines, and faults of each kind. */
 static void many_pieces(void) {
-    for (size_t at = 0; at < COUNT(LARGE); at++) relay_copies(LARGE[at], SHORT_LIMIT, SHORT, COUNT(SHORT), 70000, SIZE_MAX);
+    for (size_t at = 0; at < 3; at++) relay_copies(LARGE[at], SHORT_LIMIT, SHORT, COUNT(SHORT), 66000, SIZE_MAX);
 }
 
 /* Pieces of more than 16 MiB: a line; a line that is not as written; a line at fault; a line whose fault tells most of it; and a line
