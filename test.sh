@@ -38,6 +38,7 @@ check_programs() {
 failed=0
 timed checks/refusals.sh checks/refusals.sh || failed=1
 timed checks/events.sh checks/events.sh || failed=1
+timed checks/sizes.sh checks/sizes.sh || failed=1
 { timed "both programs, proved" build_programs && timed "both programs, run" check_programs; } || failed=1
 wait "$misuses" || failed=1
 cat "$told"

@@ -163,10 +163,13 @@ static void must_be_rebuilt(uint8_t answer, const uint64_t lens[2]) {
 /* A run writes what `rebuild` gives, and so does a relay of the text in parts. */
 static void check_run(bool is_strict, const uint8_t *text, size_t len) {
     static const size_t parts[] = {1, 7, TEXT};
-    uint64_t lens[2];
+    static uint8_t refused[1];
+    uint64_t lens[3], kinds[13];
     must_be_rebuilt(lp_checks_run(is_strict, text, len, one.out, ROOM, again.out, ROOM, lens), lens);
     for (int i = 0; i < 3; i++)
-        must_be_rebuilt(lp_checks_relay(is_strict, text, len, parts[i], one.out, ROOM, again.out, ROOM, lens), lens);
+        must_be_rebuilt(lp_checks_relay((const uint8_t *)"s", is_strict, SIZE_MAX, text, len, parts[i], one.out, ROOM, again.out,
+                                        ROOM, refused, 0, lens, kinds),
+                        lens);
 }
 
 /* Bytes that spell calls of the builder are written, and read without harm. */

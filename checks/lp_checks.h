@@ -9,6 +9,8 @@
 bool lp_checks_is_utf8(const uint8_t *text, size_t len);
 uint64_t lp_checks_pieces(bool is_strict, const uint8_t *text, size_t len, uint8_t *out, size_t room, uint64_t *ends,
                           size_t entries);
+uint64_t lp_checks_streamed(bool is_strict, const uint8_t *text, size_t len, size_t part, uint8_t *out, size_t room,
+                            uint64_t *ends, size_t entries);
 uint64_t lp_checks_items(bool is_strict, const uint8_t *text, size_t len, uint8_t *out, size_t room, uint64_t *ends,
                          size_t entries);
 uint64_t lp_checks_events(bool is_strict, const uint8_t *text, size_t len, uint8_t *out, size_t room, uint64_t *ends,
@@ -26,6 +28,7 @@ uint64_t lp_checks_rebuild(bool is_strict, const uint8_t *text, size_t len, uint
                            size_t entries);
 uint8_t lp_checks_run(bool is_strict, const uint8_t *input, size_t len, uint8_t *out, size_t room, uint8_t *err,
                       size_t err_room, uint64_t lens[2]);
-uint8_t lp_checks_relay(bool is_strict, const uint8_t *input, size_t len, size_t part, uint8_t *out, size_t room, uint8_t *err,
-                        size_t err_room, uint64_t lens[2]);
+uint8_t lp_checks_relay(const uint8_t *letters, size_t letters_len, size_t limit, const uint8_t *input, size_t len, size_t part,
+                        uint8_t *out, size_t room, uint8_t *err, size_t err_room, uint8_t *refused, size_t refused_room,
+                        uint64_t lens[3], uint64_t kinds[13]);
 #endif

@@ -70,7 +70,7 @@ static void fail(const char *format, ...) {
 
 /* ---- runs ---- */
 
-static uint8_t out[ROOM], err[ROOM];
+static uint8_t out[ROOM], err[ROOM], pieces[ROOM];
 static uint64_t ends[ENTRIES], count, refused_at;
 
 static void begin(unsigned long n) {
@@ -312,7 +312,7 @@ static const struct step STAMPED_FIELD[] = {
     {'.', NULL, NULL, 0, "\n"},
 };
 
-static uint8_t program[4096];
+static uint8_t program[1 << 15];
 static size_t program_len;
 
 static void spell(const void *bytes, size_t len) {
@@ -455,10 +455,16 @@ static void written(void) {
 
 /* ---- rebuild, run and relay ---- */
 
-static const char *const INPUT = "m a=T 5\n# c\nx\nw\\\t a=1i\n";
-static const char *const BATCH = "m a=true 5\n";
+/* Lines that are as written are copied, and no names are read of them. Names with escapes are read before a fault, and before names
+   without any. */
+static const char *const INPUT =
+    "m a=T 5\n# c\nx\nw\\\t a=1i\na\\ b f=1 x\na\\ b f=1i x\na\\ b,c\\ d=e\\ f  g\\ h=\"i\\\"j\"\nn,c=e  g=\"i\"\n";
+static const char *const BATCH = "m a=true 5\na\\ b,c\\ d=e\\ f g\\ h=\"i\\\"j\"\nn,c=e g=\"i\"\n";
 static const char *const FAULTS =
-    "item 2: A generic parsing error occurred: TakeWhile1\nitem 3: a name cannot be written again\n";
+    "item 2: A generic parsing error occurred: TakeWhile1\nitem 3: a name cannot be written again\n"
+    "item 4: Could not parse entire line. Found trailing content: ' x'\n"
+    "item 5: Could not parse entire line. Found trailing content: ' x'\n";
+static const char *const REFUSED_PIECES = "x\nw\\\t a=1i\na\\ b f=1 x\na\\ b f=1i x\n";
 
 static void rebuild(bool is_strict) {
     subject = is_strict ? "rebuild in the strict dialect" : "rebuild";
@@ -475,33 +481,50 @@ static void rebuild(bool is_strict) {
     if (count != 3) fail("no answer came");
     must_be(0, BATCH);
     must_be(1, FAULTS);
-    must_be(2, "1 carried, 2 refused");
+    must_be(2, "3 carried, 4 refused");
 }
 
-/* A relay is given all of the input at one read. */
-static void run(bool is_relay, bool is_strict) {
-    static const char *const subjects[2][2] = {{"run", "run in the strict dialect"}, {"relay", "relay in the strict dialect"}};
-    subject = subjects[is_relay][is_strict];
+/* Runs, or relays by the settings that these letters spell. A relay is given all of the input at one read. */
+static uint8_t run_or_relay(bool is_relay, const char *letters, uint64_t lens[3]) {
+    uint64_t kinds[13];
     const uint8_t *input = (const uint8_t *)INPUT;
     size_t len = strlen(INPUT);
-    uint64_t lens[2];
+    if (!is_relay) return lp_checks_run(strchr(letters, 's') != NULL, input, len, out, ROOM, err, ROOM, lens);
+    return lp_checks_relay((const uint8_t *)letters, strlen(letters), SIZE_MAX, input, len, len, out, ROOM, err, ROOM, pieces, ROOM,
+                           lens, kinds);
+}
+
+static void must_hold(const char *what, const uint8_t *bytes, uint64_t len, const char *wanted) {
+    if (len != strlen(wanted) || memcmp(bytes, wanted, strlen(wanted))) fail("%s is not as stated", what);
+}
+
+static void run(bool is_relay, const char *letters) {
+    char name[64];
+    snprintf(name, sizeof name, "%s by the settings \"%s\"", is_relay ? "relay" : "run", letters);
+    subject = name;
+    uint64_t lens[3];
     uint8_t answer;
     for (unsigned long n = 1;; n++) {
         lens[0] = lens[1] = NOWHERE;
+        lens[2] = 0;
+        memset(pieces, UNTOUCHED, sizeof pieces);
         begin(n);
-        answer = is_relay ? lp_checks_relay(is_strict, input, len, len, out, ROOM, err, ROOM, lens)
-                          : lp_checks_run(is_strict, input, len, out, ROOM, err, ROOM, lens);
+        answer = run_or_relay(is_relay, letters, lens);
         end();
         if (asked < n) break;
         if (answer != 3) fail("the answer is %d and not out of memory", answer);
-        if (lens[0] || lens[1]) fail("the sinks hold %lu and %lu bytes", (unsigned long)lens[0], (unsigned long)lens[1]);
+        for (int i = 0; i < 3; i++)
+            if (lens[i]) fail("the sink %d holds %lu bytes", i, (unsigned long)lens[i]);
         must_be_untouched(out, "the output");
         must_be_untouched(err, "the output of faults");
+        must_be_untouched(pieces, "the output of refused pieces");
     }
     if (asked == 0) fail("no request was made");
     if (answer != 0) fail("the answer is %d", answer);
-    if (lens[0] != strlen(BATCH) || memcmp(out, BATCH, strlen(BATCH))) fail("the output is not the batch");
-    if (lens[1] != strlen(FAULTS) || memcmp(err, FAULTS, strlen(FAULTS))) fail("the faults are not as stated");
+    must_hold("the output", out, lens[0], BATCH);
+    must_hold("the output of faults", err, lens[1], FAULTS);
+    must_hold("the output of refused pieces", pieces, lens[2], strchr(letters, 'r') ? REFUSED_PIECES : "");
+    refuse = 0;
 }
 
 /* ---- sizes of requests ---- */
@@ -528,14 +551,20 @@ static void repeat(char *text, const char *front, const char *part, int times, c
     strcat(text, back);
 }
 
-/* These lines, each as it is written again, are rebuilt with few requests, of some hundred bytes at most for each byte of them. */
+/* Lines, with two spaces where the builder writes one, so that they are read into a line that is used again. They are rebuilt with
+   few requests, of some hundred bytes at most for each byte of them. */
 static void few_requests(const char *what, const char *lines) {
+    static char batch[ROOM];
+    size_t len = 0;
+    for (const char *at = lines; *at; at++)
+        if (at[0] != ' ' || at[1] != ' ') batch[len++] = *at;
+    batch[len] = 0;
     subject = what;
     begin(0);
     count = lp_checks_rebuild(false, (const uint8_t *)lines, strlen(lines), out, ROOM, ends, ENTRIES);
     end();
     if (count != 3) fail("no answer came");
-    must_be(0, lines);
+    must_be(0, batch);
     if (asked > 50) fail("%lu requests came", asked);
     if (most > 200 * strlen(lines)) fail("a request is for %zu bytes", most);
 }
@@ -543,21 +572,70 @@ static void few_requests(const char *what, const char *lines) {
 /* What grows gets several times its room at once. A set of tags that has grown is kept for the next line with tags. */
 static void growing(void) {
     static char lines[ROOM], wide[ROOM];
-    repeat(lines, "", "m a=1i\n", 1000, "");
+    repeat(lines, "", "m  a=1i\n", 1000, "");
     few_requests("a thousand lines", lines);
-    repeat(lines, "m f=1i", ",a=1i", 1000, " 5\n");
+    few_requests("a line of five fields", "m  a=1i,b=1i,c=1i,d=1i,e=1i\n");
+    repeat(lines, "m  f=1i", ",a=1i", 1000, " 5\n");
     few_requests("a line of a thousand fields", lines);
-    repeat(lines, "m", ",a=b", 1000, " f=1i\n");
+    few_requests("a line of nine tags", "m,a=b,c=d,e=f,g=h,i=j,k=l,m=n,o=p,q=r  f=1i\n");
+    repeat(lines, "m", ",a=b", 1000, "  f=1i\n");
     few_requests("a line of a thousand tags", lines);
-    repeat(wide, "m", ",a=b", 100, " f=1i\nm f=1i\n");
+    repeat(wide, "m", ",a=b", 100, "  f=1i\nm  f=1i\n");
     repeat(lines, "", wide, 20, "");
     few_requests("twenty lines of a hundred tags, and one without tags after each", lines);
+}
+
+/* A thousand lines of the builder. */
+static void growing_builder(void) {
+    static const struct step line[] = {{'m', "m", NULL, 0, "m"}, {'i', "a", NULL, 1, " a=1i"}, {'.', NULL, NULL, 0, "\n"}};
+    static char lines[ROOM];
+    subject = "a thousand lines of the builder";
+    program_len = 0;
+    for (size_t i = 0; i < 3000; i++) spell_step(&line[i % 3]);
+    repeat(lines, "", "m a=1i\n", 1000, "");
+    build(0, true, 0);
+    if (count != 1) fail("no bytes came");
+    must_be(0, lines);
+    if (asked > 50) fail("%lu requests came", asked);
+    if (most > 4 * strlen(lines)) fail("a request is for %zu bytes", most);
+}
+
+/* A stream takes no memory before its first part, and then for what it holds, with few requests. */
+static void streams(void) {
+    static char lines[ROOM];
+    static const char *const text = "m a=1i\nn s=\"x\ny\"\no b=2i";
+    static const char *const wanted[] = {"m a=1i", "n s=\"x\ny\"", "o b=2i"};
+    subject = "a stream";
+    begin(0);
+    count = lp_checks_streamed(false, (const uint8_t *)text, 0, 1, out, ROOM, ends, ENTRIES);
+    end();
+    if (asked) fail("%lu requests came before the first part", asked);
+    for (unsigned long n = 1;; n++) {
+        begin(n);
+        count = lp_checks_streamed(false, (const uint8_t *)text, strlen(text), 4, out, ROOM, ends, ENTRIES);
+        end();
+        if (asked < n) break;
+        if (count) fail("%lu pieces came", (unsigned long)count);
+    }
+    refuse = 0;
+    if (count != COUNT(wanted)) fail("%lu pieces came", (unsigned long)count);
+    for (size_t place = 0; place < COUNT(wanted); place++) must_be(place, wanted[place]);
+    if (most > 4 * strlen(text)) fail("a request is for %zu bytes", most);
+    repeat(lines, "", "m a=1i\n", 1000, "");
+    begin(0);
+    count = lp_checks_streamed(false, (const uint8_t *)lines, strlen(lines), 64, out, ROOM, ends, ENTRIES);
+    end();
+    if (count != 1001) fail("%lu pieces of many parts came", (unsigned long)count);
+    if (asked > 50) fail("%lu requests came", asked);
+    if (most > 4 * strlen(lines)) fail("a request is for %zu bytes", most);
 }
 
 int main(void) {
     no_requests();
     just_their_length();
     growing();
+    growing_builder();
+    streams();
     items();
     long_name();
     bases();
@@ -566,9 +644,10 @@ int main(void) {
     written();
     for (int is_strict = 0; is_strict < 2; is_strict++) {
         rebuild(is_strict);
-        run(false, is_strict);
-        run(true, is_strict);
+        run(false, is_strict ? "s" : "");
+        run(true, is_strict ? "s" : "");
     }
+    run(true, "ork");
     printf("%lu runs, and %lu texts whose events and blocks ask for nothing", runs, told);
     return 0;
 }

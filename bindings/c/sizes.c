@@ -1,6 +1,8 @@
 /* Hands names, strings and copies of up to a million bytes and lines of up to a hundred thousand tags and fields over the border,
  * each to every call that may answer that memory is out, and rebuilds a text of four million bytes. What must come is composed
- * here, by the rules of docs/FORMAT.md. Each block that is lent has just the length that is needed. */
+ * here, by the rules of docs/FORMAT.md. Each block that is lent has just the length that is needed. Then it reads and cuts a million
+ * short lines, and sees that the time of each call grows as the text does. */
+#include "../../checks/growth.h"
 #include "influxdb_line_protocol.h"
 #include <stdio.h>
 #include <stdlib.h>
@@ -9,9 +11,10 @@
 enum { LONGEST = 1048577 };
 enum order { RISING, FALLING, REPEATED };
 
-/* A line: how many bytes each of its names and strings has, and how many tags and fields it has; whether names hold spaces, and
- * strings quotes, which are spelled with a backslash; and how the keys of its tags come: the last one may repeat the first. */
-struct shape { size_t bytes, tags, fields; bool escaped; enum order order; };
+/* A line: how many bytes each of its names and strings has, and how many tags and fields it has; whether it has a timestamp; whether
+ * names hold spaces, and strings quotes, which are spelled with a backslash; and how the keys of its tags come: the last one may repeat
+ * the first. */
+struct shape { size_t bytes, tags, fields; bool stamped, escaped; enum order order; };
 
 /* A text that is composed. */
 struct text { uint8_t *at; size_t len, room; };
@@ -20,8 +23,8 @@ struct text { uint8_t *at; size_t len, room; };
 struct lent { lp_row rows[2]; lp_part *parts; uint8_t *bytes; };
 
 static bool must(bool holds, const char *what, const struct shape *shape) {
-    if (!holds) fprintf(stderr, "sizes: %s is wrong: %zu bytes, %zu tags, %zu fields, escaped %d, order %d\n", what,
-                        shape->bytes, shape->tags, shape->fields, shape->escaped, (int)shape->order);
+    if (!holds) fprintf(stderr, "sizes: %s is wrong: %zu bytes, %zu tags, %zu fields, stamped %d, escaped %d, order %d\n", what,
+                        shape->bytes, shape->tags, shape->fields, shape->stamped, shape->escaped, (int)shape->order);
     return holds;
 }
 
@@ -75,7 +78,7 @@ static void put_series(struct text *text, const struct shape *shape, bool spelle
     }
 }
 
-/* Puts a line: its series; its fields, by turns a string, in these quotes, and an integer; and a timestamp. */
+/* Puts a line: its series; its fields, by turns a string, in these quotes, and an integer; and a timestamp, if it has one. */
 static void put_line(struct text *text, const struct shape *shape, const char *quote) {
     char integer[32];
     put_series(text, shape, true);
@@ -91,7 +94,7 @@ static void put_line(struct text *text, const struct shape *shape, const char *q
         put_name(text, shape, 's', at, true);
         put(text, quote, strlen(quote));
     }
-    put(text, " -7", 3);
+    if (shape->stamped) put(text, " -7", 3);
 }
 
 /* Whether a text that holds an escape and more is a copy: one escape alone is a part of the input. */
@@ -122,9 +125,9 @@ static bool shows_fields(const lp_part *parts, const struct shape *shape) {
 }
 
 static bool shows_line(const lp_line *line, const lp_part *parts, const struct shape *shape) {
-    return line->tags == shape->tags && line->fields == shape->fields && line->has_tag_set && line->has_timestamp &&
-           line->timestamp == -7 && shows(&line->measurement, shape, 'm', 0) && shows_tags(parts, shape) &&
-           shows_fields(parts + shape->tags, shape);
+    return line->tags == shape->tags && line->fields == shape->fields && line->has_tag_set == (shape->tags > 0) &&
+           line->has_timestamp == shape->stamped && line->timestamp == (shape->stamped ? -7 : 0) &&
+           shows(&line->measurement, shape, 'm', 0) && shows_tags(parts, shape) && shows_fields(parts + shape->tags, shape);
 }
 
 /* Reads the line by itself, with nothing lent, then a byte too little, then just enough. */
@@ -245,35 +248,43 @@ static bool is_refused(const lp_line *line, const lp_part *parts, size_t parts_l
     return good && write_line(line, parts, parts_len, &out, 1, &len) == LP_NOT_ADMITTED && len == 77 && out == '~';
 }
 
-/* Whether the line that is handed in is admitted, and with a last tag, or else a last field, whose name is not. */
-static bool is_tested(const struct shape *shape, struct lent *lent) {
+/* Whether the line that is handed in is told as admitted, and is refused with this view in the place of one of its own. */
+static bool is_admitted_but_with(const struct shape *shape, struct lent *lent, lp_view *place) {
     static const lp_view bad = { { (const uint8_t *)"a\t", 2 }, false };
     const lp_line *line = &lent->rows[0].line;
     const size_t parts_len = shape->tags + shape->fields;
+    const lp_view good = *place;
     bool admitted = false;
-    bool good = lp_line_is_admitted(line, lent->parts, parts_len, &admitted) == LP_WRITTEN && admitted;
-    lp_part *last_tag = &lent->parts[shape->tags - 1], *last_field = &lent->parts[parts_len - 1];
-    const lp_part tag = *last_tag;
-    last_tag->text = bad;
-    good &= is_refused(line, lent->parts, parts_len);
-    *last_tag = tag;
-    last_field->key = bad;
-    return must(good & is_refused(line, lent->parts, parts_len), "lp_line_is_admitted", shape);
+    bool answered = lp_line_is_admitted(line, lent->parts, parts_len, &admitted) == LP_WRITTEN;
+    *place = bad;
+    answered &= is_refused(line, lent->parts, parts_len);
+    *place = good;
+    return answered && admitted;
 }
 
-/* Whether the base of the series that is handed in is safe: a space alone makes it unsafe, and so does a last value with a comma. */
+/* Whether the line is admitted, and with a measurement, a last tag or a last field whose name is not. */
+static bool is_tested(const struct shape *shape, struct lent *lent) {
+    const size_t parts_len = shape->tags + shape->fields;
+    bool good = is_admitted_but_with(shape, lent, &lent->rows[0].line.measurement);
+    if (shape->tags > 0) good &= is_admitted_but_with(shape, lent, &lent->parts[shape->tags - 1].text);
+    good &= is_admitted_but_with(shape, lent, &lent->parts[parts_len - 1].key);
+    return must(good, "lp_line_is_admitted", shape);
+}
+
+/* Whether the base of the series that is handed in is safe: a space alone makes it unsafe, and so does a measurement, or a last value,
+ * with a comma. */
 static bool is_told_safe(const struct shape *shape, struct lent *lent) {
-    const lp_line *line = &lent->rows[0].line;
+    lp_line *line = &lent->rows[0].line;
     const size_t parts_len = shape->tags + shape->fields;
     const bool wanted = !(shape->escaped && shape->bytes == 1);
+    lp_view *last = shape->tags > 0 ? &lent->parts[shape->tags - 1].text : &line->measurement;
+    const lp_view kept = *last;
     bool safe = !wanted;
     bool good = lp_line_is_base_safe(line, lent->parts, parts_len, &safe) == LP_WRITTEN && safe == wanted;
-    lp_part *last_tag = &lent->parts[shape->tags - 1];
-    const lp_part tag = *last_tag;
-    last_tag->text.text = (lp_text){ (const uint8_t *)"a,", 2 };
+    last->text = (lp_text){ (const uint8_t *)"a,", 2 };
     safe = true;
     good &= lp_line_is_base_safe(line, lent->parts, parts_len, &safe) == LP_WRITTEN && !safe;
-    *last_tag = tag;
+    *last = kept;
     return must(good, "lp_line_is_base_safe", shape);
 }
 
@@ -324,20 +335,77 @@ static bool rebuilds(size_t items) {
     return good && (items < 100000 || text.len > 4000000);
 }
 
-int main(void) {
-    static const size_t sizes[][3] = {
-        { 1, 1, 1 }, { 65, 1, 1 }, { 1025, 1, 1 }, { 65537, 1, 1 }, { LONGEST, 1, 1 },
-        { 8, 9, 9 }, { 8, 17, 17 }, { 8, 1001, 1001 }, { 8, 100001, 100001 }, { 65537, 17, 17 },
+static size_t items; /* how many a call gave */
+
+static void call_next(const uint8_t *text, size_t len) {
+    lp_lines lines = LP_NO_LINES;
+    lp_line line = LP_EMPTY_LINE;
+    lp_part part = LP_EMPTY_PART;
+    lp_room room = { (uint8_t *)&part, 0 };
+    lp_lines_begin(text, len, false, &lines);
+    for (items = 0; lp_lines_next(&lines, &room, &line, &part, 1) == LP_LINE;) items++;
+}
+
+static void call_block(const uint8_t *text, size_t len) {
+    lp_lines lines = LP_NO_LINES;
+    lp_row rows[4] = { LP_EMPTY_ROW, LP_EMPTY_ROW, LP_EMPTY_ROW, LP_EMPTY_ROW };
+    lp_part parts[4];
+    lp_room room = { (uint8_t *)parts, 0 };
+    size_t filled = 4;
+    lp_empty_parts(parts, 4);
+    lp_lines_begin(text, len, false, &lines);
+    for (items = 0; filled == 4; items += filled) lp_lines_block(&lines, &room, rows, 4, parts, 4, &filled);
+}
+
+static void call_piece(const uint8_t *text, size_t len) {
+    lp_lines lines = LP_NO_LINES;
+    lp_view piece;
+    lp_lines_begin(text, len, false, &lines);
+    for (items = 0; lp_lines_piece(&lines, &piece);) items += piece.text.len > 0;
+}
+
+static void call_cuts(const uint8_t *text, size_t len) {
+    lp_cuts cuts;
+    size_t at = 0, cut;
+    lp_cuts_begin(false, SIZE_MAX, &cuts);
+    for (items = 0; lp_cuts_next(&cuts, text + at, len - at, &cut) == LP_PIECE; at += cut + 1) items++;
+}
+
+/* Whether a million short lines come of each call that reads or cuts, in time that grows as the text does. */
+static bool reads_evenly(void) {
+    static const struct { const char *name; growth_call *call; } calls[] = {
+        { "lp_lines_next", call_next }, { "lp_lines_block", call_block }, { "lp_lines_piece", call_piece },
+        { "lp_cuts_next", call_cuts },
     };
-    bool good = rebuilds(2) && rebuilds(160000);
+    static const struct growth lines = { "", "m a=1i\n", "" };
+    for (size_t at = 0; at < sizeof calls / sizeof *calls; at++) {
+        const bool even = growth_is_even(calls[at].call, &lines, 1000000);
+        if (even && items == 1000000) continue;
+        fprintf(stderr, "sizes: %s of many lines %s\n", calls[at].name, even ? "gives others" : "takes too long for more of them");
+        return false;
+    }
+    return true;
+}
+
+int main(void) {
+    static const struct shape sizes[] = {
+        { 1, 1, 1, true, false, RISING }, { 65, 1, 1, true, false, RISING }, { 1025, 1, 1, true, false, RISING },
+        { 65537, 1, 1, true, false, RISING }, { LONGEST, 1, 1, true, false, RISING }, { 8, 9, 9, true, false, RISING },
+        { 8, 17, 17, true, false, RISING }, { 8, 1001, 1001, true, false, RISING }, { 8, 100001, 100001, true, false, RISING },
+        { 65537, 17, 17, true, false, RISING }, { 8, 0, 5, false, false, RISING }, { 8, 0, 100001, false, false, RISING },
+        { 8, 17, 17, false, false, RISING },
+    };
+    bool good = reads_evenly() && rebuilds(2) && rebuilds(160000);
     int lines = 0;
     for (size_t at = 0; at < 6 * (sizeof sizes / sizeof *sizes); at++) {
-        const size_t *size = sizes[at / 6];
-        const struct shape shape = { size[0], size[1], size[2], at % 2 == 1, (enum order)(at % 6 / 2) };
-        if (shape.order != RISING && shape.tags == 1) continue;
+        struct shape shape = sizes[at / 6];
+        shape.escaped = at % 2 == 1;
+        shape.order = (enum order)(at % 6 / 2);
+        if (shape.order != RISING && shape.tags < 2) continue;
         good &= is_right(&shape);
         lines++;
     }
-    printf("%d lines of up to %d bytes a name and 100001 tags and fields handed over, and 4 MB rebuilt\n", lines, LONGEST);
+    printf("%d lines of up to %d bytes a name and 100001 tags and fields handed over, 4 MB rebuilt, and a million lines read and cut",
+           lines, LONGEST);
     return !good;
 }

@@ -96,7 +96,9 @@ extern "C" {
         lens: *mut u64,
     ) -> u8;
     fn lp_checks_relay(
-        strict: bool,
+        letters: *const u8,
+        letters_len: usize,
+        limit: usize,
         input: *const u8,
         len: usize,
         part: usize,
@@ -104,7 +106,10 @@ extern "C" {
         room: usize,
         err: *mut u8,
         err_room: usize,
+        refused: *mut u8,
+        refused_room: usize,
         lens: *mut u64,
+        kinds: *mut u64,
     ) -> u8;
 }
 
@@ -237,7 +242,7 @@ impl Report {
 pub struct Written {
     out: Vec<u8>,
     err: Vec<u8>,
-    lens: [u64; 2],
+    lens: [u64; 3],
 }
 
 impl Written {
@@ -245,7 +250,7 @@ impl Written {
         Written {
             out: vec![0; ROOM],
             err: vec![0; ROOM],
-            lens: [0; 2],
+            lens: [0; 3],
         }
     }
 
@@ -276,8 +281,15 @@ impl Written {
     /// Relays a text that comes in parts of so many bytes.
     pub fn relay(&mut self, strict: bool, text: &str, part: usize) -> &Self {
         let (input, len) = (text.as_ptr(), text.len());
+        let letters = if strict { "s" } else { "" };
+        let (letters, letters_len) = (letters.as_ptr(), letters.len());
+        let (mut refused, mut kinds) = ([0; 1], [0; 13]);
+        let (refused, kinds) = (refused.as_mut_ptr(), kinds.as_mut_ptr());
         self.fill(|out, err, lens| unsafe {
-            lp_checks_relay(strict, input, len, part, out, ROOM, err, ROOM, lens)
+            lp_checks_relay(
+                letters, letters_len, usize::MAX, input, len, part, out, ROOM, err, ROOM, refused,
+                0, lens, kinds,
+            )
         })
     }
 }

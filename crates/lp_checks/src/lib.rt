@@ -10,19 +10,21 @@ mod devices;
 mod events;
 mod render;
 mod report;
+mod settings;
 
 ghost use Rattle.std.specs.Prelude.{IsUtf8};
+ghost use Rattle.influxdb_line_protocol.specs.format.Pieces.{IsLastPiece};
 
 use calls::{Answer, Lines};
 use devices::{InParts, Room};
 use events::Items;
 use influxdb_line_protocol::builder::BeforeMeasurement;
 use influxdb_line_protocol::{
-    Dialect, EscapedStr, LineProtocolBuilder, ParsedLine, parse_events_in, parse_lines,
+    Dialect, EscapedStr, LineProtocolBuilder, LineStream, ParsedLine, parse_events_in, parse_lines,
     parse_lines_in, read_events_in, split_lines_in, write_line,
 };
 use lp_rebuild::{RunFault, rebuild_in, run_in};
-use lp_relay_core::{Nowhere, Settings, relay};
+use lp_relay_core::{KINDS, relay};
 use report::Report;
 use std::alloc::Global;
 use std::fmt::Write;
@@ -58,6 +60,44 @@ pub extern "C" fn lp_checks_pieces(
         report.push(piece.as_bytes());
         report.end();
     }
+    report.count()
+}
+
+// Reports the pieces that a stream can give.
+fn report_pieces(report: &mut Report<'_>, stream: &mut LineStream)
+    ensures { IsLastPiece stream.new.dialect stream.new.bytes }
+{
+    while let Some(piece) = stream.next() {
+        report.push(piece);
+        report.end();
+    }
+}
+
+/// The pieces of a text that comes in parts of `part` bytes: one piece is taken after each part, and the others at the end. 0 is
+/// taken as 1. No entry if memory was refused.
+#[unsafe(no_mangle)]
+pub extern "C" fn lp_checks_streamed(
+    alloc: Global,
+    is_strict: bool,
+    text: &[u8],
+    part: usize,
+    out: &mut [u8],
+    ends: &mut [u64],
+) -> u64 {
+    let mut report = Report::new(out, ends);
+    let mut stream = LineStream::new_in(alloc, dialect(is_strict));
+    for part in text.chunks(part.max(1)) {
+        if stream.push(part).is_err() {
+            return 0;
+        }
+        if let Some(piece) = stream.next() {
+            report.push(piece);
+            report.end();
+        }
+    }
+    report_pieces(&mut report, &mut stream);
+    report.push(stream.finish());
+    report.end();
     report.count()
 }
 
@@ -433,33 +473,45 @@ pub extern "C" fn lp_checks_run(
     told_end(run.err())
 }
 
-/// Relays bytes that come in parts of `part` bytes, which must not be 0; what it writes and answers is told as that of
+/// Relays bytes that come in parts of `part` bytes, which must not be 0, by the settings that `letters` spell, as `settings` says;
+/// a line may have `limit` bytes. `lens` gets how many bytes `out`, `err` and `refused` hold then, and `kinds`, if kinds are
+/// counted, how many items were refused for each kind of fault, in their order. What it answers is told as that of
 /// `lp_checks_run`.
 #[unsafe(no_mangle)]
 pub extern "C" fn lp_checks_relay(
     alloc: Global,
-    is_strict: bool,
+    letters: &[u8],
+    limit: usize,
     input: &[u8],
     part: usize,
     out: &mut [u8],
     err: &mut [u8],
-    lens: &mut [u64; 2],
+    refused: &mut [u8],
+    lens: &mut [u64; 3],
+    kinds: &mut [u64; KINDS.len()],
 ) -> u8 {
-    let settings = Settings {
-        dialect: dialect(is_strict),
-        ..Settings::default()
-    };
+    let settings = settings::spelled(letters, limit);
     let mut reader = InParts::new(input, part);
     let mut out = Room::new(out);
     let mut err = Room::new(err);
+    let mut refused = Room::new(refused);
     let relayed = relay(
         alloc,
         settings,
         &mut reader,
         &mut out,
         &mut err,
-        &mut Nowhere::new(),
+        &mut refused,
     );
-    *lens = [out.len() as u64, err.len() as u64];
-    told_end(relayed.err())
+    *lens = [out.len() as u64, err.len() as u64, refused.len() as u64];
+    let relayed = match relayed {
+        Ok(relayed) => relayed,
+        Err(fault) => return told_end(Some(fault)),
+    };
+    if let Some(counts) = relayed.kinds {
+        for (kind, count) in kinds.iter_mut().zip(counts.iter()) {
+            *kind = *count as u64;
+        }
+    }
+    0
 }

@@ -1,0 +1,35 @@
+//! Settings of a relay that the caller spells as letters. Without letters they are the default ones.
+//!
+//! | letter | setting |
+//! |---|---|
+//! | `s` | the strict dialect |
+//! | `v` `c` | lines go out verbatim, or if they are canonical |
+//! | `l` | fault lines name lines |
+//! | `o` `j` | faults are told on one line, or as objects of JSON |
+//! | `r` | refused pieces go out |
+//! | `k` | kinds of faults are counted |
+
+use influxdb_line_protocol::Dialect;
+use lp_relay_core::{Faults, Lines, Numbering, Settings};
+
+/// The settings that these letters spell, with this limit. Other letters spell nothing.
+pub fn spelled(letters: &[u8], limit: usize) -> Settings {
+    let mut settings = Settings {
+        limit,
+        ..Settings::default()
+    };
+    for letter in letters {
+        match *letter {
+            b's' => settings.dialect = Dialect::Strict,
+            b'v' => settings.lines = Lines::Verbatim,
+            b'c' => settings.lines = Lines::Canonical,
+            b'l' => settings.numbering = Numbering::Lines,
+            b'o' => settings.faults = Faults::OneLine,
+            b'j' => settings.faults = Faults::Json { first_line: 1 },
+            b'r' => settings.puts_refused = true,
+            b'k' => settings.counts_kinds = true,
+            _ => {}
+        }
+    }
+    settings
+}
