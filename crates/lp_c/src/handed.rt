@@ -121,17 +121,24 @@ fn push_tag<'a>(
     }
 }
 
-// The tags of parts.
-fn tags_in<'a>(alloc: Global, copies: bool, parts: &[Part<'a>]) -> Result<TagSet<'a>, Answer>
-    ensures ok { IfOk result (λ s. AllByRecursion IsTagIn parts.now × (map tag_of s.items ≡ map (tag_in copies) parts.now)) }
+// Takes the tags of parts into an empty set.
+fn take_tags<'a>(
+    alloc: Global,
+    copies: bool,
+    parts: &[Part<'a>],
+    tags: &mut TagSet<'a>,
+) -> Result<(), Answer>
+    requires none { tags.old.items ≡ [] }
+    requires room { 8 ≤ tags.old.capacity }
+    ensures are { OnOk result (AllByRecursion IsTagIn parts.now) }
+    ensures taken { OnOk result (map tag_of tags.new.items ≡ map (tag_in copies) parts.now) }
     ensures err { IfErr result (λ e. RefusesFor (AllByRecursion IsTagIn parts.now) e) }
     ensures told { copies ≡ false → length parts.now ≤ 8 → IfErr result (λ e. e ≡ NotALine) }
 {
-    let mut tags = TagSet::new(alloc);
     for part in parts {
-        push_tag(alloc, copies, part, &mut tags)?;
+        push_tag(alloc, copies, part, tags)?;
     }
-    Ok(tags)
+    Ok(())
 }
 
 // Appends the field of a part.
@@ -157,62 +164,90 @@ fn push_field<'a>(
     }
 }
 
-// The fields of parts.
-fn fields_in<'a>(alloc: Global, copies: bool, parts: &[Part<'a>]) -> Result<FieldSet<'a>, Answer>
-    ensures ok { IfOk result (λ s. AllByRecursion IsFieldIn parts.now × (map field_of s.items ≡ map (field_in copies) parts.now)) }
+// Takes the fields of parts into an empty set.
+fn take_fields<'a>(
+    alloc: Global,
+    copies: bool,
+    parts: &[Part<'a>],
+    fields: &mut FieldSet<'a>,
+) -> Result<(), Answer>
+    requires none { fields.old.items ≡ [] }
+    requires room { 4 ≤ fields.old.capacity }
+    ensures are { OnOk result (AllByRecursion IsFieldIn parts.now) }
+    ensures taken { OnOk result (map field_of fields.new.items ≡ map (field_in copies) parts.now) }
     ensures err { IfErr result (λ e. RefusesFor (AllByRecursion IsFieldIn parts.now) e) }
     ensures told { copies ≡ false → length parts.now ≤ 4 → IfErr result (λ e. e ≡ NotALine) }
 {
-    let mut fields = FieldSet::new(alloc);
     for part in parts {
-        push_field(alloc, copies, part, &mut fields)?;
+        push_field(alloc, copies, part, fields)?;
     }
-    Ok(fields)
+    Ok(())
 }
 
-// The series that views hold.
-pub(crate) fn series_in<'a>(
+/// Takes the series that views hold into the place of another.
+pub(crate) fn take_series<'a>(
     alloc: Global,
     copies: bool,
     line: &Line<'a>,
     parts: &[Part<'a>],
-) -> Result<Series<'a>, Answer>
-    ensures ok { IfOk result (λ s. IsSeriesIn line.now parts.now × IsSeriesRead copies line.now parts.now s) }
+    series: &mut Series<'a>,
+) -> Result<(), Answer>
+    ensures ok { OnOk result (IsSeriesIn line.now parts.now × IsSeriesRead copies line.now parts.now series.new) }
     ensures err { IfErr result (λ e. RefusesFor (IsSeriesIn line.now parts.now) e) }
     ensures told { copies ≡ false → line.now.tags ≤ 8 → IfErr result (λ e. e ≡ NotALine) }
 {
     let Ok(raw_input) = str::from_utf8(line.series) else {
         return Err(Answer::NotALine);
     };
-    let measurement = text_in(alloc, copies, &line.measurement)?;
+    series.raw_input = raw_input;
+    series.measurement = text_in(alloc, copies, &line.measurement)?;
     if parts.len() < line.tags {
         return Err(Answer::NotALine);
     }
-    if !line.has_tag_set && line.tags != 0 {
-        return Err(Answer::NotALine);
+    if !line.has_tag_set {
+        series.tag_set = None;
+        return if line.tags == 0 {
+            Ok(())
+        } else {
+            Err(Answer::NotALine)
+        };
     }
-    let tags = tags_in(alloc, copies, &parts[..line.tags])?;
-    let tag_set = if line.has_tag_set { Some(tags) } else { None };
-    Ok(Series {
-        raw_input,
-        measurement,
-        tag_set,
-    })
+    let tags = series.tag_set.insert(TagSet::new(alloc));
+    take_tags(alloc, copies, &parts[..line.tags], tags)
 }
 
-// The line that views hold.
-pub(crate) fn line_in<'a>(
+/// A line that says nothing, into which a line is taken.
+pub(crate) fn empty_line<'a>(alloc: Global) -> ParsedLine<'a>
+    ensures none { result.field_set.items ≡ [] }
+    ensures room { 4 ≤ result.field_set.capacity }
+{
+    ParsedLine {
+        series: Series {
+            raw_input: "",
+            measurement: EscapedStr::SingleSlice(""),
+            tag_set: None,
+        },
+        field_set: FieldSet::new(alloc),
+        timestamp: None,
+    }
+}
+
+/// Takes the line that views hold into one that says nothing.
+pub(crate) fn take_line<'a>(
     alloc: Global,
     copies: bool,
     line: &Line<'a>,
     parts: &[Part<'a>],
-) -> Result<ParsedLine<'a>, Answer>
-    ensures ok { IfOk result (λ l. IsLineIn line.now parts.now × (line_read l ≡ line_in copies line.now parts.now)) }
-    ensures some { IfOk result (λ l. 0 < length l.field_set.items) }
+    taken: &mut ParsedLine<'a>,
+) -> Result<(), Answer>
+    requires none { taken.old.field_set.items ≡ [] }
+    requires room { 4 ≤ taken.old.field_set.capacity }
+    ensures ok { OnOk result (IsLineIn line.now parts.now × (line_read taken.new ≡ line_in copies line.now parts.now)) }
+    ensures some { OnOk result (0 < length taken.new.field_set.items) }
     ensures err { IfErr result (λ e. RefusesFor (IsLineIn line.now parts.now) e) }
     ensures told { copies ≡ false → line.now.tags ≤ 8 → line.now.fields ≤ 4 → IfErr result (λ e. e ≡ NotALine) }
 {
-    let series = series_in(alloc, copies, line, parts)?;
+    take_series(alloc, copies, line, parts, &mut taken.series)?;
     if line.fields == 0 {
         return Err(Answer::NotALine);
     }
@@ -220,15 +255,10 @@ pub(crate) fn line_in<'a>(
     if fields.len() < line.fields {
         return Err(Answer::NotALine);
     }
-    let field_set = fields_in(alloc, copies, &fields[..line.fields])?;
-    let timestamp = if line.has_timestamp {
+    taken.timestamp = if line.has_timestamp {
         Some(line.timestamp)
     } else {
         None
     };
-    Ok(ParsedLine {
-        series,
-        field_set,
-        timestamp,
-    })
+    take_fields(alloc, copies, &fields[..line.fields], &mut taken.field_set)
 }

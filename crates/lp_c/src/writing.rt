@@ -9,7 +9,7 @@ ghost use Rattle.lp_c.specs.Handed.{IsLineIn, IsSeriesIn, tag_set_in, text_in};
 ghost use Rattle.lp_c.specs.Numbers.{answer_number};
 ghost use Rattle.lp_c.specs.Writing.{PutsOut, ReadsAs, Writes, WritesAdmittedLine, answer_for_base, base_in, point_in, shown_in, text_of_base};
 
-use crate::handed::{line_in, series_in};
+use crate::handed::{empty_line, take_line, take_series};
 use crate::views::{Answer, Dialect, Line, Part};
 use influxdb_line_protocol::builder::Unwritten;
 use influxdb_line_protocol::{
@@ -56,9 +56,10 @@ pub extern "C" fn lp_line_is_admitted(
         (result ≡ answer_number Written) × IsLineIn line.now parts.now
         × (admitted.new ≡ is_admitted_point (point_in line.now parts.now)) }
 {
-    match line_in(alloc, false, line, parts) {
-        Ok(line) => {
-            *admitted = is_admitted(&line);
+    let mut taken = empty_line(alloc);
+    match take_line(alloc, false, line, parts, &mut taken) {
+        Ok(()) => {
+            *admitted = is_admitted(&taken);
             Answer::Written.number()
         }
         Err(answer) => answer.number(),
@@ -86,12 +87,12 @@ pub extern "C" fn lp_line_write(
     let Some(dialect) = Dialect::numbered(dialect) else {
         return Answer::NotADialect.number();
     };
-    let line = match line_in(alloc, false, line, parts) {
-        Ok(line) => line,
-        Err(answer) => return answer.number(),
-    };
+    let mut taken = empty_line(alloc);
+    if let Err(answer) = take_line(alloc, false, line, parts, &mut taken) {
+        return answer.number();
+    }
     laws::admitted_lines_read_back();
-    match write_admitted_line_in(LineProtocolBuilder::new(alloc), dialect.rules(), &line) {
+    match write_admitted_line_in(LineProtocolBuilder::new(alloc), dialect.rules(), &taken) {
         Ok(builder) => put_out(Answer::Written, builder.build().as_slice(), out, len),
         Err(Unwritten::NotAdmitted(_)) => Answer::NotAdmitted.number(),
         Err(Unwritten::Refused(_)) => Answer::OutOfMemory.number(),
@@ -112,11 +113,11 @@ pub extern "C" fn lp_line_show(
 ) -> u32
     ensures { Writes (IsLineIn line.now parts.now) Written (shown_in line.now parts.now) out.old out.new len.old len.new result }
 {
-    let line = match line_in(alloc, false, line, parts) {
-        Ok(line) => line,
-        Err(answer) => return answer.number(),
-    };
-    match format!(in alloc; "{line}") {
+    let mut taken = empty_line(alloc);
+    if let Err(answer) = take_line(alloc, false, line, parts, &mut taken) {
+        return answer.number();
+    }
+    match format!(in alloc; "{taken}") {
         Ok(text) => put_out(Answer::Written, text.as_str().as_bytes(), out, len),
         Err(_) => Answer::OutOfMemory.number(),
     }
@@ -138,11 +139,11 @@ pub extern "C" fn lp_line_base(
     ensures { let base = base_in line.now parts.now in
         Writes (IsSeriesIn line.now parts.now) (answer_for_base base) (text_of_base base) out.old out.new len.old len.new result }
 {
-    let series = match series_in(alloc, true, line, parts) {
-        Ok(series) => series,
-        Err(answer) => return answer.number(),
-    };
-    match series.generate_base(alloc) {
+    let mut taken = empty_line(alloc);
+    if let Err(answer) = take_series(alloc, true, line, parts, &mut taken.series) {
+        return answer.number();
+    }
+    match taken.series.generate_base(alloc) {
         Ok(base) => put_out(Answer::Written, base.as_str().as_bytes(), out, len),
         Err(Error::DuplicateTag { tag_key }) => put_out(
             Answer::Fault,
@@ -173,9 +174,10 @@ pub extern "C" fn lp_line_is_base_safe(
         (result ≡ answer_number Written) × IsSeriesIn line.now parts.now
         × (safe.new ≡ is_base_safe (text_in false line.now.measurement) (some_tags (tag_set_in false line.now parts.now))) }
 {
-    match series_in(alloc, false, line, parts) {
-        Ok(series) => {
-            *safe = series.is_base_safe();
+    let mut taken = empty_line(alloc);
+    match take_series(alloc, false, line, parts, &mut taken.series) {
+        Ok(()) => {
+            *safe = taken.series.is_base_safe();
             Answer::Written.number()
         }
         Err(answer) => answer.number(),

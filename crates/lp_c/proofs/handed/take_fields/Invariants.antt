@@ -2,7 +2,7 @@ use Rattle.std.proofs.Common.{◌≡◌, ◌≤◌, length, map, drop, ◌++◌}
 use Rattle.std.specs.List.{AllByRecursion}
 use Rattle.influxdb_line_protocol.specs.code.Parsed.{field_of}
 use Rattle.lp_c.specs.Handed.{IsFieldIn, field_in}
-use Rattle.lp_c.proofs.handed.fields_in.Given as goal
+use Rattle.lp_c.proofs.handed.take_fields.Given as goal
 
 -- if the parts that are left are fields, all are; those so far were pushed, and the first four take no memory
 abbrev pub invariant-loop-part : goal.invariant-loop-part

@@ -2,7 +2,7 @@ use Rattle.std.proofs.Common.{◌≡◌, ◌≤◌, length, map, drop, ◌++◌}
 use Rattle.std.specs.List.{AllByRecursion}
 use Rattle.influxdb_line_protocol.specs.code.Parsed.{tag_of}
 use Rattle.lp_c.specs.Handed.{IsTagIn, tag_in}
-use Rattle.lp_c.proofs.handed.tags_in.Given as goal
+use Rattle.lp_c.proofs.handed.take_tags.Given as goal
 
 -- if the parts that are left are tags, all are; those so far were pushed, and the first eight take no memory
 abbrev pub invariant-loop-part : goal.invariant-loop-part
