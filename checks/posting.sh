@@ -99,6 +99,7 @@ post_batches() {
 }
 
 runs=0
+names=${*%%=*}
 export CURL='' DB ADDRESS
 [ $# = 0 ] || CURL=$(command -v curl)
 for shell in dash bash; do
@@ -115,4 +116,4 @@ for shell in dash bash; do
         [ "$server" = influx ] || post_batches "Before VictoriaMetrics"
     done
 done
-echo "posting: the lines of docs/INTEROP.md post each line once, in $runs runs"
+echo "posting: the lines of docs/INTEROP.md post each line once, to ${names:-a stub}, in $runs runs"
