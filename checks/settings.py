@@ -191,6 +191,7 @@ def fault_object(name, item, piece, fault, text, offset, line):
     """The members of the object of a fault, in their order, of a piece that begins there."""
     made = {"file": name} if name else {}
     made |= {"item": item, "line": line + piece.came[:piece.front].count(b"\n"), "offset": offset + piece.front}
+    made |= {"piece_line": line, "piece_offset": offset}
     made |= {"kind": fault.kind, "text": text}
     if fault.read is not None:
         read = piece.came[:piece.front + fault.read]
@@ -211,14 +212,13 @@ def lost(settings, what, wanted, got):
 
 
 def compare_faults(settings, wanted, err):
-    """Compares the faults and the counts. Objects may have more members than the table knows."""
+    """Compares the faults and the counts."""
     lines = err.split(b"\n")[:-1]
     if wanted.summary is not None and (not lines or lines.pop() != wanted.summary):
         lost(settings, "the last line", wanted.summary, err[-300:])
     if settings.faults == "json":
         faults = [list(each.items()) for each in wanted.faults]
-        members = {name for each in wanted.faults for name in each}
-        told = [[member for member in json.loads(line).items() if member[0] in members] for line in lines]
+        told = [list(json.loads(line).items()) for line in lines]
     else:
         faults, told = b"\n".join(wanted.faults), b"\n".join(lines)
     if told != faults:
