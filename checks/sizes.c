@@ -108,10 +108,11 @@ static enum form form_of(const struct relay *relay) {
     return has(relay, 'v') ? VERBATIM : has(relay, 'c') ? CANONICAL : REBUILT;
 }
 
-/* Puts the members of an object that tell places in the input: those of the text, and where reading stops in it. */
+/* Puts the members of an object after the number of its item. */
 static void put_places(struct text *err, const struct piece *piece, struct place place, const char *kind, const char *wrong) {
     const size_t line = place.newlines + 1;
     put_form(err, "\"line\":%zu,\"offset\":%zu", line + newlines_in(piece->text, piece->front), place.bytes + piece->front);
+    put_form(err, ",\"piece_line\":%zu,\"piece_offset\":%zu", line, place.bytes);
     put_form(err, ",\"kind\":\"%s\",\"text\":\"", kind);
     put_text(err, wrong);
     put_text(err, "\"");
