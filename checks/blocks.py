@@ -17,7 +17,8 @@ from pathlib import Path
 
 TOP = Path(__file__).resolve().parent.parent
 EXAMPLES = TOP / "crates" / "lp_examples"
-PLACES = ["crates/lp_examples/src/*.rt", "bindings/c/example.c", "bindings/c/cuts.c", "bindings/rust/examples/*.rs", "bindings/python/example.py"]
+PLACES = ["crates/lp_examples/src/*.rt", "bindings/c/example.c", "bindings/c/cuts.c", "bindings/c/writing.c",
+          "bindings/rust/examples/*.rs", "bindings/python/example.py"]
 DOCUMENTS = ["README.md", "docs/RATTLE.md", "docs/BINDINGS.md"]
 LANGUAGES = ("rust", "antt", "c", "rs", "python")  # of the blocks that must be copies
 

@@ -213,7 +213,8 @@ uint32_t lp_cuts_next(lp_cuts *cuts, const uint8_t *text, size_t len, size_t *cu
  * the same names, values and timestamp, and as nothing else, whatever text comes after it. LP_NOT_ADMITTED: it would not, since one
  * of its names is not admitted. A name, the key or value of a tag, the key of a field or the measurement, is admitted if it is not
  * empty, holds no tab and no newline, and does not end in a backslash; a measurement, besides, holds no NUL and does not begin with
- * `#`. The text of a string may hold all of these. LP_NOT_A_DIALECT: no dialect has the number. */
+ * `#`. The text of a string may hold all of these. With at most eight tags and four fields that answer takes no memory.
+ * LP_NOT_A_DIALECT: no dialect has the number. */
 uint32_t lp_line_write(uint32_t dialect, const lp_line *line, const lp_part *parts, size_t parts_len, uint8_t *out, size_t room,
                        size_t *len);
 

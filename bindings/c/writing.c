@@ -150,6 +150,32 @@ static bool are_as_told(void) {
     return good;
 }
 
+// [line_in_c]
+#define VIEW_OF(text, size) { { (const uint8_t *)(text), (size) }, true } /* of no input, so it passes for a copy */
+
+/* Writes that a user of this name came, and gives how long the line is. 0: nothing is written, as no line can hold the name, or as
+ * `room` is too short. */
+static size_t write_login(const char *user, uint8_t *out, size_t room) {
+    const lp_part parts[] = {
+        { VIEW_OF("user", 4), VIEW_OF(user, strlen(user)), 0, 0, LP_TAG, false },
+        { VIEW_OF("ok", 2), LP_NO_VIEW, 0, 0, LP_BOOLEAN, true },
+    };
+    lp_line line = LP_EMPTY_LINE;
+    size_t len = 0;
+    line.measurement = (lp_view)VIEW_OF("login", 5);
+    line.has_tag_set = true, line.tags = 1, line.fields = 1;
+    return lp_line_write(LP_CRATE, &line, parts, 2, out, room, &len) == LP_WRITTEN ? len : 0;
+}
+// [end]
+
+/* A user whose name has a newline in it begins no line. */
+static bool are_logins(void) {
+    static const char wanted[] = "login,user=guest\\ 2 ok=true\n";
+    uint8_t out[64];
+    bool good = write_login("guest 2", out, sizeof out) == sizeof wanted - 1 && memcmp(out, wanted, sizeof wanted - 1) == 0;
+    return good && write_login("guest\npayments", out, sizeof out) == 0 && memcmp(out, wanted, sizeof wanted - 1) == 0;
+}
+
 /* No dialect has these numbers: whatever is handed in, the buffer and the length are as they were. */
 static bool are_no_dialects(void) {
     static const uint32_t numbers[] = { LP_STRICT + 1, 0x100, 0x10000, 0x80000000, UINT32_MAX };
@@ -189,6 +215,19 @@ static bool are_bases_safe(void) {
            has_base("m,\\,=v f=t", false, "m,\\,=v") && has_base("m,,=v f=t", false, "m,,=v") &&
            has_base("m\\,n f=t", false, "m,n") && has_base("m,k\\=l=v f=t", false, "m,k=l=v") &&
            has_base("m,k\\,l=\\=\\  f=t", true, "m,k,l== ") && has_base("\\  f=t", false, "\\ ");
+}
+
+/* With four fields a line that is not admitted is refused without memory. */
+static bool is_refused_at_once(void) {
+    uint8_t out[96];
+    size_t told = 77;
+    lp_line line = LINE;
+    line.fields = 4;
+    line.measurement.text.len = 0;
+    lp_requests = 0, lp_refused = 0;
+    const uint32_t answer = lp_line_write(LP_STRICT, &line, PARTS, 7, out, sizeof out, &told);
+    lp_refused = -1;
+    return answer == LP_NOT_ADMITTED && told == 77 && lp_requests == 0;
 }
 
 /* With nine tags a test may ask for memory: where it is refused, and where there is no series, nothing is told. */
@@ -292,7 +331,7 @@ int main(void) {
     good &= writes(lp_line_show, &LINE, PARTS, LP_WRITTEN, SHOWN, sizeof SHOWN - 1);
     good &= writes(lp_line_base, &LINE, PARTS, LP_WRITTEN, BASE, sizeof BASE - 1);
     good &= writes(lp_line_base, &LINE, repeated, LP_FAULT, "k", 1);
-    good &= is_tested() && are_as_told() && are_no_dialects() && are_bases_safe() && is_nothing_told() && is_rebuilt();
+    good &= is_tested() && are_as_told() && are_logins() && are_no_dialects() && are_bases_safe() && is_refused_at_once() && is_nothing_told() && is_rebuilt();
     good &= are_messages() && are_no_messages() && are_empty();
     long requests = refused(write_line, sizeof WRITTEN - 1, &good) + refused(lp_line_show, sizeof SHOWN - 1, &good);
     requests += refused(lp_line_base, sizeof BASE - 1, &good);

@@ -38,7 +38,7 @@ fn put_out(done: Answer, text: &[u8], out: &mut [u8], len: &mut usize) -> u32
     done.number()
 }
 
-/// Whether a line reads back if it is written: whether each of its names is admitted.
+/// Whether [`lp_line_write`] writes a line: whether each of its names is admitted.
 ///
 /// Answers `Written` and sets `admitted`; or `NotALine` or `OutOfMemory`, and changes nothing. With at most eight tags and
 /// four fields it takes no memory.
@@ -66,12 +66,12 @@ pub extern "C" fn lp_line_is_admitted(
     }
 }
 
-/// Writes a line, with its newline, as the builder does. In the dialect of the number, what is written reads back as that line alone,
-/// whatever text comes after it.
+/// Writes a line, with its newline, as the builder does, if it reads back: if each of its names is admitted. What is written is read as
+/// the point of the line and as no other, whatever text comes after it; `dialect` is the number of the [`Dialect`] in which it is read.
 ///
-/// Answers `Written`, and `len` is how many bytes were written; or `MoreRoom`, and `len` is how many are needed; or
-/// `NotADialect`, `NotALine`, `NotAdmitted` if a name of the line is not admitted, or `OutOfMemory`, and `len` is as it was. Only
-/// `Written` changes `out`.
+/// Answers `Written`, and `len` is how many bytes were written; or `MoreRoom`, and `len` is how many are needed; or `NotADialect`,
+/// `NotALine`, `NotAdmitted` or `OutOfMemory`, and `len` is as it was. Only `Written` changes `out`. With at most eight tags and four
+/// fields a line that is not admitted is refused without memory.
 #[unsafe(no_mangle)]
 pub extern "C" fn lp_line_write(
     alloc: Global,
@@ -82,6 +82,8 @@ pub extern "C" fn lp_line_write(
     len: &mut usize,
 ) -> u32
     ensures writes { WritesAdmittedLine dialect line.now parts.now out.old out.new len.old len.new result }
+    ensures memory { line.now.tags ≤ 8 → line.now.fields ≤ 4 → is_admitted_point (point_in line.now parts.now) ≡ false →
+        result ≢ answer_number OutOfMemory }
     ensures reads_back { result ≡ answer_number Written → ReadsAs (point_in line.now parts.now) (take len.new out.new) }
 {
     let Some(dialect) = Dialect::numbered(dialect) else {
