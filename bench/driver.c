@@ -34,7 +34,8 @@ static double utf8_seconds(const uint8_t *text, size_t len) {
 }
 
 /* Each call tests first whether the text is UTF-8, and the time of that test is taken off: the least one beside these runs,
-   so that what is left is never too little where the machine becomes faster or slower. */
+   so that what is left is never too little where the machine becomes faster or slower. The rate is that of the text, or of the
+   bytes written if what is written was made before. */
 static void run(const struct call *call, const char *file, const uint8_t *text, size_t len) {
     if (call->prepare) call->prepare(text, len);
     double seconds[RUNS], least = utf8_seconds(text, len);
@@ -47,7 +48,7 @@ static void run(const struct call *call, const char *file, const uint8_t *text, 
         if (utf8 < least) least = utf8;
     }
     for (int i = 0; i < RUNS; i++) seconds[i] -= least;
-    show(call->name, file, (double)len, seconds, answer);
+    show(call->name, file, call->prepare ? (double)answer : (double)len, seconds, answer);
 }
 
 /* The rate is that of the bytes written. */

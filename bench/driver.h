@@ -3,7 +3,7 @@
 #include <stddef.h>
 #include <stdint.h>
 
-/* A call, and what makes what it takes of a text, if it takes more than the text: that is not timed. */
+/* A call, and what reads before what it writes, if it writes what was read of a text: that is not timed. */
 struct call {
     const char *name;
     uint64_t (*call)(const uint8_t *text, size_t len);
