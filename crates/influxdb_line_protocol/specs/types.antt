@@ -1,4 +1,4 @@
--- The types of the crates below, by their names: their fields and variants, for clauses.
+-- The types of the library, by their names: their fields and variants, for clauses.
 pub use Rattle.lp_split.specs.declared.split.Dialect
 pub use Rattle.lp_split.specs.declared.split.SplitLines
 pub use Rattle.lp_split.specs.declared.stream.LineStream
@@ -21,3 +21,4 @@ pub use Rattle.lp_events.specs.declared.pull.ParseEvents
 pub use Rattle.lp_build.specs.declared.builder.buffer.NoRoom
 pub use Rattle.lp_build.specs.declared.builder.LineProtocolBuilder
 pub use Rattle.lp_build.specs.declared.builder.Refused
+pub use Rattle.influxdb_line_protocol.specs.declared.builder.admitted.Unwritten
