@@ -6,62 +6,44 @@ use lp_vectors_shared::render;
 use std::alloc::{AllocError, Global};
 use std::borrow::CowStr;
 
-/// What a row asks of its text.
-#[derive(Clone, Copy, Drop)]
-pub enum Kind {
-    Items,
-    Pieces,
-    RestsOfPieces,
-    RestsOfItems,
-    Series,
-    Columns,
-    Fault,
-    Base,
-    Shown,
-    Rebuilt,
-    Run,
-    Float,
-    AsWritten,
-}
-
-/// The kinds, each with the word that rows have for it.
-pub const KINDS: [(&str, Kind); 13] = [
-    ("items", Kind::Items),
-    ("pieces", Kind::Pieces),
-    ("rests_of_pieces", Kind::RestsOfPieces),
-    ("rests_of_items", Kind::RestsOfItems),
-    ("series", Kind::Series),
-    ("columns", Kind::Columns),
-    ("fault", Kind::Fault),
-    ("base", Kind::Base),
-    ("shown", Kind::Shown),
-    ("rebuilt", Kind::Rebuilt),
-    ("run", Kind::Run),
-    ("float", Kind::Float),
-    ("as_written", Kind::AsWritten),
+/// The words for what a row asks of its text.
+pub const KINDS: &[&str] = &[
+    "items",
+    "pieces",
+    "rests_of_pieces",
+    "rests_of_items",
+    "series",
+    "columns",
+    "fault",
+    "base",
+    "shown",
+    "rebuilt",
+    "run",
+    "float",
+    "as_written",
 ];
 
 /// What the library gives for a text.
 pub fn answer(
     alloc: Global,
-    kind: Kind,
+    kind: &str,
     dialect: Dialect,
     text: &str,
 ) -> Result<String, AllocError> {
     match kind {
-        Kind::Items => render::items_in(alloc, dialect, text),
-        Kind::Pieces => render::pieces_in(alloc, dialect, text),
-        Kind::RestsOfPieces => render::rests_of_pieces_in(alloc, dialect, text),
-        Kind::RestsOfItems => render::rests_of_items_in(alloc, dialect, text),
-        Kind::Series => series(alloc, dialect, text),
-        Kind::Columns => of_first_line(alloc, dialect, text, Part::Columns),
-        Kind::Fault => fault(alloc, dialect, text),
-        Kind::Base => of_first_line(alloc, dialect, text, Part::Base),
-        Kind::Shown => of_first_line(alloc, dialect, text, Part::Shown),
-        Kind::Rebuilt => rebuilt(alloc, dialect, text),
-        Kind::Run => run(alloc, dialect, text),
-        Kind::Float => format!(in alloc; "{}", FloatText::new(text).is_some()),
-        Kind::AsWritten => format!(in alloc; "{}", is_as_written(text)),
+        "items" => render::items_in(alloc, dialect, text),
+        "pieces" => render::pieces_in(alloc, dialect, text),
+        "rests_of_pieces" => render::rests_of_pieces_in(alloc, dialect, text),
+        "rests_of_items" => render::rests_of_items_in(alloc, dialect, text),
+        "series" => series(alloc, dialect, text),
+        "columns" => of_first_line(alloc, dialect, text, Part::Columns),
+        "fault" => fault(alloc, dialect, text),
+        "base" => of_first_line(alloc, dialect, text, Part::Base),
+        "shown" => of_first_line(alloc, dialect, text, Part::Shown),
+        "rebuilt" => rebuilt(alloc, dialect, text),
+        "run" => run(alloc, dialect, text),
+        "float" => format!(in alloc; "{}", FloatText::new(text).is_some()),
+        _ => format!(in alloc; "{}", is_as_written(text)),
     }
 }
 

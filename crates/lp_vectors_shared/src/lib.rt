@@ -10,5 +10,6 @@ pub mod given;
 pub mod lent;
 pub mod random;
 pub mod render;
+pub mod rows;
 pub mod short_line;
 pub mod short_texts;
