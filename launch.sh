@@ -14,20 +14,13 @@ kit() { dirname "$(dirname "$(readlink -f "$(command -v rt)")")"; }
 line_of() { grep -E "^$1( [^:]*)?:" "$top/crates.txt"; }
 
 # The crates of this repository that a crate's line names.
-named_by() {
-    local low
-    for low in $(line_of "$1" | cut -d : -f 2); do
-        [ ! -d "$top/crates/$low" ] || echo "$low"
-    done
-}
+named_by() (for low in $(line_of "$1" | cut -d : -f 2); do [ ! -d "$top/crates/$low" ] || echo "$low"; done)
 
 # Adds to `below`, the lowest first, a crate and the crates of this repository on which it stands.
 add_below() {
     local low
     [[ " ${below[*]-} " != *" $1 "* ]] || return 0
-    for low in $(named_by "$1"); do
-        add_below "$low"
-    done
+    for low in $(named_by "$1"); do add_below "$low"; done
     below+=("$1")
 }
 
@@ -35,9 +28,7 @@ add_below() {
 sources() {
     local crate below=() folders=()
     add_below "$1"
-    for crate in "${below[@]}"; do
-        folders+=("$top/crates/$crate"/{src,specs,proofs})
-    done
+    for crate in "${below[@]}"; do folders+=("$top/crates/$crate"/{src,specs,proofs}); done
     find "$top/crates.txt" "${folders[@]}" -type f -print0 2>/dev/null | sort -z | xargs -0 cat | cksum
 }
 
@@ -55,14 +46,12 @@ run_rt() {
 
 # A job: proves and builds a crate, in a copy of the sources if a folder for it is given.
 build() {
-    local crate=$1 room=${2-} command=lib made out=$top/crates/$1/out child='' below=()
+    local crate=$1 room=${2-} command=lib made out=$top/crates/$1/out child=''
     trap '[ -z "$child" ] || kill "$child"; wait; exit 1' TERM
     made=$(made_of "$crate")
     [ "$made" != "$crate" ] || command=run
     [ -n "$room" ] || { run_rt "$top"; return; }
-    add_below "$crate"
-    mkdir "$room" && tar -C "$top" --exclude=out -cf - crates.txt "${below[@]/#/crates/}" | tar -C "$room" -xf - || return
-    run_rt "$room" || return
+    mkdir "$room" && "$top/bin/take" "$room" "$crate" && run_rt "$room" || return
     [ -n "$made" ] || { run_rt "$top"; return; }
     rm -rf "$out/incremental" && mkdir -p "$out" && mv "$room/crates/$crate/out"/* "$out/"
 }

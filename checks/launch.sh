@@ -23,7 +23,7 @@ lp_left: lp_low
 lp_right: lp_low
 lp_c staticlib: lp_left
 LINES
-cp "$top/launch.sh" "$top/lp_relay" "$top/lp_rebuild" "$copy"
+cp -r "$top"/{launch.sh,lp_relay,lp_rebuild,bin} "$copy"
 ln -s "$copy/lp_relay" "$made/elsewhere/relay"
 cat >"$copy/several" <<'SCRIPT'
 #!/usr/bin/env bash
