@@ -98,7 +98,7 @@ print_left_out() {
 part checks/documents.sh checks/documents.sh || stop checks/documents.sh
 part checks/lint.sh checks/lint.sh || stop checks/lint.sh
 beside beside_archives
-part "lp_c and lp_checks, proved" build_if_changed test lp_checks lp_c || stop "the build of lp_c and lp_checks"
+part "lp_c and lp_checks, proved" build_all test lp_checks lp_c || stop "the build of lp_c and lp_checks"
 joined
 cp crates/lp_c/out/liblp_c.a crates/lp_checks/out/liblp_checks.a "$made"
 export ARCHIVES=$made
