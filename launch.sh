@@ -107,8 +107,8 @@ show() {
     for crate in "${below[@]}"; do
         if [ -n "${jobs[$crate]-}" ]; then
             said=$(grep -aE '^so far: |waiting for' "$rooms/$crate.log" | tail -n 1)
-            said=${said#so far: }
-            words+=", $crate${said:+ (${said%%;*})}"
+            said=${said#so far: } said=${said% functions checked}
+            words+=", $crate${said:+ ($said)}"
             [[ ! $said =~ ([0-9]+)\ of\ ([1-9][0-9]*) ]] || share[$crate]=$((100 * BASH_REMATCH[1] / BASH_REMATCH[2]))
         fi
         [ "${took[$crate]-9}" -le 5 ] || all=$((all + 100 * weights[$crate])) got=$((got + weights[$crate] * ${share[$crate]-0}))

@@ -6,7 +6,7 @@
 #   2. The archives of lp_c and lp_checks are built; beside that, the checks of bin/take and of the launchers.
 #   3. The misuses, which begin with what was proved for the archives. The gate sets that aside, so they come before it.
 #   4. The gate, and beside it the checks that link the archives.
-#   5. The checks of the programs that the gate made, and of Python, which runs one of them too.
+#   5. The checks of the programs that the gate made, and beside them that of Python, which runs one of them too.
 #
 # Before the gate's last line, which comes last, it tells how long each part took, what the gate did for each crate, what the checks
 # left out, and which failed. The status is that of the gate, or 1 if a check failed.
@@ -50,6 +50,7 @@ beside_gate() {
 }
 beside_programs() {
     LP_RELAY=$made/lp_relay part bindings/python bindings/python/test.sh "$made/liblp_c.a"
+    part checks/apart.sh checks/apart.sh "$made/lp_relay"
 }
 # beside FUNCTION: starts one of them. `joined` waits for it, where `failed` names what failed.
 beside() {
@@ -62,7 +63,6 @@ check_programs() {
     part checks/arguments.sh checks/arguments.sh "$made/lp_rebuild_program" "$made/lp_relay"
     part checks/losses.sh checks/losses.sh "$made/lp_relay"
     part checks/inputs.sh checks/inputs.sh "$made/lp_rebuild_program" "$made/lp_relay"
-    part checks/apart.sh checks/apart.sh "$made/lp_relay"
     part checks/posting.sh checks/posting.sh "$made/lp_relay"
 }
 
