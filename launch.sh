@@ -126,7 +126,7 @@ build_all() (
     shift
     command -v rt >/dev/null || { echo "$name: there is no rt, which proves and builds $*: the kit belongs in /opt/rattle" >&2; exit 1; }
     choose_most
-    rooms=$(mktemp -d)
+    rooms=$(mktemp -d) || exit
     # shellcheck disable=SC2046
     trap '{ kill $(jobs -p) || true; } 2>/dev/null; wait; rm -rf "$rooms"' EXIT
     for crate in "$@"; do add_below "$crate"; done
