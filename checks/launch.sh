@@ -37,7 +37,7 @@ chmod +x "$copy/several"
 # until all of them are being built. The program that it makes prints its arguments, a line each, and its input, and ends with status 7.
 cat >"$made/kit/bin/rt" <<'STUB'
 #!/bin/sh
-until_called() { timeout 5 sh -c 'until grep -q "^$0 " "$CALLS"; do sleep 0.05; done' "$1"; }
+until_called() { timeout 30 sh -c 'until grep -q "^$0 " "$CALLS"; do sleep 0.05; done' "$1"; }
 crate=$(basename "$PWD")
 for low in $(sed -n "s/^$crate[^:]*://p" ../../crates.txt); do
     [ ! -d "$COPY/crates/$low" ] || [ "$(cat "$KEPT/$low")" = here ] || { echo "$low is not built"; exit 1; }
@@ -91,7 +91,7 @@ is_clean() {
 }
 # ended WHAT: sees that this is so in a moment.
 ended() {
-    for _ in $(seq 40); do
+    for _ in $(seq 200); do
         ! is_clean || return 0
         sleep 0.05
     done
@@ -140,7 +140,7 @@ if [ "$most" -gt 1 ]; then
         : >"$CALLS"
         SLOW=lp_right setsid env --default-signal=INT "$copy/several" >"$made/out" 2>&1 &
         # shellcheck disable=SC2016
-        timeout 5 sh -c 'until grep -q lp_left "$CALLS" && grep -q lp_right "$CALLS"; do sleep 0.05; done'
+        timeout 30 sh -c 'until grep -q lp_left "$CALLS" && grep -q lp_right "$CALLS"; do sleep 0.05; done'
         kill -s "$signal" -- "-$!"
         wait "$!" && status=0 || status=$?
         runs=$((runs + 1))
