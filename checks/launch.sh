@@ -4,6 +4,7 @@
 # built or the run is ended.
 set -euo pipefail
 top=$(cd "$(dirname "$0")/.." && pwd)
+. "$top/checks/left_out.sh"
 made=$(mktemp -d)
 trap 'rm -rf "$made"' EXIT
 mkdir -p "$made"/{kit/bin,rattle-kept,elsewhere,rooms,kept}
@@ -150,6 +151,8 @@ if [ "$most" -gt 1 ]; then
     rm "$KEPT"/*
     MEET="lp_left lp_right" wanted 0 "" "sorted"$'\n'"$several" "$copy/several"
     wanted 0 "" "" "$copy/several"
+else
+    left_out "crates side by side" "there is one processor, or less than 6 GB of memory, for checks/launch.sh"
 fi
 # One after the other, where rt can keep nothing.
 rm -r "${KEPT:?}"/* "$made/rattle-kept" "$copy"/crates/*/out
