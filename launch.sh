@@ -1,100 +1,172 @@
 # shellcheck shell=bash
 # For the scripts that build crates. `launch NAME CRATE ARGUMENTS..`, of `lp_rebuild` and `lp_relay`, runs the program of a crate,
-# and ends with its exit status. If the program was not built from these sources, they are proved and it is built first; a terminal
-# sees how far that is.
+# and ends with its exit status. What was not built from these sources is proved and built first; a terminal sees how far that is.
+# Crates that do not stand on one another are proved side by side. A run of rt keeps others out of its crate's folder and of those of the
+# crates below. So where more than one crate can be proved, each is proved in a copy of the sources: rt takes what was proved in
+# another copy, by the folder rattle-kept beside the kit. Where that cannot be written to, one crate is proved after the other.
 top=$(cd "$(dirname "$(readlink -f "${BASH_SOURCE[0]}")")" && pwd)
 PATH=$PATH:/opt/rattle/bin
 
+# The folder of the kit.
+kit() { dirname "$(dirname "$(readlink -f "$(command -v rt)")")"; }
+
 # The line of a crate in crates.txt.
-line_of() {
-    grep -E "^$1( [^:]*)?:" "$top/crates.txt"
-}
+line_of() { grep -E "^$1( [^:]*)?:" "$top/crates.txt"; }
+
+# The crates of this repository that a crate's line names.
+named_by() (for low in $(line_of "$1" | cut -d : -f 2); do [ ! -d "$top/crates/$low" ] || echo "$low"; done)
 
 # Adds to `below`, the lowest first, a crate and the crates of this repository on which it stands.
 add_below() {
-    local crate=$1 name words low
-    [[ " ${below[*]-} " != *" $crate "* ]] || return 0
-    while IFS=: read -r name words; do
-        [ "${name%% *}" = "$crate" ] || continue
-        for low in $words; do
-            [ ! -d "$top/crates/$low" ] || add_below "$low"
-        done
-    done <"$top/crates.txt"
-    below+=("$crate")
+    local low
+    [[ " ${below[*]-} " != *" $1 "* ]] || return 0
+    for low in $(named_by "$1"); do add_below "$low"; done
+    below+=("$1")
 }
 
 # What a program is built from.
 sources() {
     local crate below=() folders=()
     add_below "$1"
-    for crate in "${below[@]}"; do
-        folders+=("$top/crates/$crate"/{src,specs,proofs})
-    done
+    for crate in "${below[@]}"; do folders+=("$top/crates/$crate"/{src,specs,proofs}); done
     find "$top/crates.txt" "${folders[@]}" -type f -print0 2>/dev/null | sort -z | xargs -0 cat | cksum
 }
 
-# Keeps what comes in `log`. On a terminal the last line that says how far a proof is, or what is waited for, stays in sight, after
-# `$1`.
-keep_log() {
-    local line
-    while IFS= read -r line; do
-        printf '%s\n' "$line" >>"$log"
-        if [ -t 2 ] && [[ $line = "so far: "* || $line = *"waiting for"* ]]; then
-            printf '\r\033[K%s: %s' "$1" "${line%%;*}" >&2
-        fi
-    done
+# The file of its out/ that a crate is built for, if it is a program or a static library.
+made_of() {
+    if [ -f "$top/crates/$1/src/main.rt" ]; then echo "$1"; elif line_of "$1" | grep -q staticlib; then echo "lib$1.a"; fi
 }
 
-# Proves and builds a crate by a command of `rt`, in a line of its own on a terminal.
+# Runs rt for `crate` in a copy of the repository. It ends if the job does.
+run_rt() {
+    (cd "$1/crates/$crate" && exec rt "$command" </dev/null) &
+    child=$!
+    wait "$child"
+}
+
+# A job: proves and builds a crate, in a copy of the sources if a folder for it is given.
 build() {
-    local what="$1: $2"
-    [ ! -t 2 ] || printf '%s' "$what" >&2
-    (cd "$top/crates/$2" && rt "$3" </dev/null 2>&1) | keep_log "$what"
-    [ "${PIPESTATUS[0]}" = 0 ] || return 1
-    [ ! -t 2 ] || printf '\r\033[K%s: done\n' "$what" >&2
+    local crate=$1 room=${2-} command=lib made out=$top/crates/$1/out child=''
+    trap '[ -z "$child" ] || kill "$child"; wait; exit 1' TERM
+    made=$(made_of "$crate")
+    [ "$made" != "$crate" ] || command=run
+    [ -n "$room" ] || { run_rt "$top"; return; }
+    mkdir "$room" && "$top/bin/take" "$room" "$crate" && run_rt "$room" || return
+    [ -n "$made" ] || { run_rt "$top"; return; }
+    rm -rf "$out/incremental" && mkdir -p "$out" && mv "$room/crates/$crate/out"/* "$out/"
 }
 
-# Proves and builds the libraries on which a crate stands, and the crate by a command of `rt`. `$1` is whom a message is from. What
-# `rt` says is shown if that fails.
-build_all() {
-    local name=$1 crate=$2 command=$3 low log below=()
-    if ! command -v rt >/dev/null; then
-        echo "$name: there is no rt, which proves and builds $crate: the kit belongs in /opt/rattle" >&2
-        return 1
-    fi
-    log=$(mktemp)
-    add_below "$crate"
-    for low in "${below[@]}"; do
-        if ! build "$name" "$low" "$([ "$low" = "$crate" ] && echo "$command" || echo lib)"; then
-            [ ! -t 2 ] || echo >&2
-            cat "$log" >&2
-            rm -f "$log"
-            echo "$name: $low was not built" >&2
-            return 1
-        fi
+# Puts into `most` how many crates are proved at a time: one a processor, and 3 GB of memory for each.
+choose_most() {
+    local kept
+    most=$(awk -v most="$(nproc)" '/^MemAvailable:/ { free = int($2 / 3000000); print free < most ? free : most }' /proc/meminfo)
+    kept=$(dirname "$(kit)")/rattle-kept
+    [ -e "$kept" ] || kept=${kept%/*}
+    [ -d "$kept" ] && [ -w "$kept" ] && [ "$most" -gt 1 ] || most=1
+}
+
+# Starts a job for each crate whose lower crates are built.
+start_jobs() {
+    local crate low ready=()
+    for crate in "${below[@]}"; do
+        [ -z "${began[$crate]-}" ] || continue
+        for low in ${lows[$crate]}; do [ -n "${took[$low]-}" ] || continue 2; done
+        ready+=("$crate")
     done
-    rm -f "$log"
+    for crate in "${ready[@]}"; do
+        [ ${#jobs[@]} -lt "$most" ] || break
+        began[$crate]=$SECONDS
+        if [ "$most" = 1 ] || [ $((${#jobs[@]} + ${#ready[@]})) = 1 ]; then build "$crate"; else build "$crate" "$rooms/$crate"; fi \
+            >"$rooms/$crate.log" 2>&1 &
+        jobs[$crate]=$!
+    done
 }
 
-# Proves and builds a crate as `build_all` does, if this file of its out/ was not built from these sources.
+# Takes note of the jobs that have ended. If one failed, what rt said is shown, and all end.
+end_jobs() {
+    local crate
+    for crate in "${!jobs[@]}"; do
+        ! kill -0 "${jobs[$crate]}" 2>/dev/null || continue
+        if ! wait "${jobs[$crate]}"; then
+            [ ! -t 2 ] || echo >&2
+            cat "$rooms/$crate.log" >&2
+            echo "$name: $crate was not built" >&2
+            exit 1
+        fi
+        unset "jobs[$crate]"
+        took[$crate]=$((SECONDS - began[$crate])) share[$crate]=100
+        rm -rf "${rooms:?}/$crate"
+        [ ! -t 2 ] || printf '\r\033[K%s: %s: done in %s s\n' "$name" "$crate" "${took[$crate]}" >&2
+    done
+}
+
+# Shows on one line of the terminal which crates are being proved, how far each is, and about how long all takes yet, by their lines. A
+# crate that took five seconds or less was not proved now.
+show() {
+    local crate said words='' all=0 got=0 columns
+    for crate in "${below[@]}"; do
+        if [ -n "${jobs[$crate]-}" ]; then
+            said=$(grep -aE '^so far: |waiting for' "$rooms/$crate.log" | tail -n 1)
+            said=${said#so far: } said=${said% functions checked}
+            words+=", $crate${said:+ ($said)}"
+            [[ ! $said =~ ([0-9]+)\ of\ ([1-9][0-9]*) ]] || share[$crate]=$((100 * BASH_REMATCH[1] / BASH_REMATCH[2]))
+        fi
+        [ "${took[$crate]-9}" -le 5 ] || all=$((all + 100 * weights[$crate])) got=$((got + weights[$crate] * ${share[$crate]-0}))
+    done
+    [ "$SECONDS" -lt 20 ] || [ "$got" = 0 ] || words=", about $((1 + SECONDS * (all - got) / got / 60)) min left$words"
+    columns=$(stty size <&2 2>/dev/null) || columns="24 80"
+    words="$name: ${#took[@]} of ${#below[@]} crates$words"
+    printf '\r\033[K%s' "${words:0:${columns#* }-1}" >&2
+}
+
+# Proves and builds crates and the libraries on which they stand. `$1` is whom a message is from.
+build_all() (
+    local name=$1 crate rooms most below=()
+    local -A lows=() weights=() jobs=() began=() took=() share=()
+    shift
+    command -v rt >/dev/null || { echo "$name: there is no rt, which proves and builds $*: the kit belongs in /opt/rattle" >&2; exit 1; }
+    choose_most
+    rooms=$(mktemp -d) || exit
+    # shellcheck disable=SC2046
+    trap '{ kill $(jobs -p) || true; } 2>/dev/null; wait; rm -rf "$rooms"' EXIT
+    for crate in "$@"; do add_below "$crate"; done
+    for crate in "${below[@]}"; do
+        lows[$crate]=$(named_by "$crate")
+        # A line of code takes ten times as long as one of a definition or a proof.
+        weights[$crate]=$(find "$top/crates/$crate"/{src,specs,proofs} -type f \
+            -exec awk '{ lines += FILENAME ~ "/src/" ? 10 : 1 } END { print lines + 0 }' {} + 2>/dev/null) || true
+    done
+    SECONDS=0
+    while [ ${#took[@]} -lt ${#below[@]} ]; do
+        start_jobs
+        [ ! -t 2 ] || { show; sleep 1 & }
+        wait -n || true
+        end_jobs
+    done
+)
+
+# Proves and builds those of these crates of which the program or the static library was not built from these sources.
 build_if_changed() {
-    local name=$1 crate=$2 command=$3 file=$4 wanted out=$top/crates/$2/out
-    wanted=$(sources "$crate")
-    if [ ! -s "$out/$file" ] || [ "$(cat "$out/launcher.stamp" 2>/dev/null)" != "$wanted" ]; then
-        [ ! -t 2 ] || echo "$name: proving and building $file, which takes some minutes" >&2
-        build_all "$name" "$crate" "$command" || return 1
-        echo "$wanted" >"$out/launcher.stamp"
-    fi
+    local name=$1 crate changed=()
+    local -A stamps=()
+    shift
+    for crate in "$@"; do
+        stamps[$crate]=$(sources "$crate")
+        if [ ! -s "$top/crates/$crate/out/$(made_of "$crate")" ] ||
+            [ "$(cat "$top/crates/$crate/out/launcher.stamp" 2>/dev/null)" != "${stamps[$crate]}" ]; then changed+=("$crate"); fi
+    done
+    [ ${#changed[@]} -gt 0 ] || return 0
+    [ ! -t 2 ] || echo "$name: proving and building ${changed[*]}, which takes some minutes" >&2
+    build_all "$name" "${changed[@]}" || return 1
+    for crate in "${changed[@]}"; do echo "${stamps[$crate]}" >"$top/crates/$crate/out/launcher.stamp"; done
 }
 
 launch() {
     local name=$1 crate=$2
     shift 2
-    build_if_changed "$name" "$crate" run "$crate" || exit 2
+    build_if_changed "$name" "$crate" || exit 2
     exec "$top/crates/$crate/out/$crate" "$@"
 }
 
 # The version of this state: the newest that CHANGELOG.md names.
-version() {
-    sed -n '/^## [0-9]*\.[0-9]*\.[0-9]*$/ { s/^## //p; q; }' "$top/CHANGELOG.md"
-}
+version() { sed -n '/^## [0-9]*\.[0-9]*\.[0-9]*$/ { s/^## //p; q; }' "$top/CHANGELOG.md"; }

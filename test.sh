@@ -1,62 +1,93 @@
 #!/usr/bin/env bash
-# The test command: first the checks that the gate cannot make, then the gate. Before the gate's last line, which comes last, it tells
-# how long each part took, and what the checks left out.
-# shellcheck disable=SC2317  # functions that `timed` calls
-# The misuses are tried beside the checks of refusals and programs, and told after them.
+# The test command. It proves twice and no more: what its checks link, side by side, for the archives; and then all, by the gate, which
+# takes nothing that other commands proved.
+#
+#   1. The checks of documents and scripts. If one fails, nothing else is run.
+#   2. The archives of lp_c and lp_checks are built; beside that, the checks of bin/take and of the launchers.
+#   3. The misuses, which begin with what was proved for the archives. The gate sets that aside, so they come before it.
+#   4. The gate, and beside it the checks that link the archives.
+#   5. The checks of the programs that the gate made, and beside them that of Python, which runs one of them too.
+#
+# Before the gate's last line, which comes last, it tells how long each part took, what the gate did for each crate, what the checks
+# left out, and which failed. The status is that of the gate, or 1 if a check failed.
+# shellcheck disable=SC2317  # functions that `part` calls
 set -eu
 cd "$(dirname "$0")"
-PATH=$PATH:/opt/rattle/bin
-told=$(mktemp)
-TIMES=$(mktemp)
-LEFT_OUT=$(mktemp)
-export LEFT_OUT
-trap 'rm -f "$told" "$TIMES" "$LEFT_OUT"' EXIT
+. ./launch.sh
+made=$(mktemp -d)
+export LEFT_OUT=$made/left_out
+touch "$made"/{left_out,times,crates,failed,last}
+# shellcheck disable=SC2046
+trap '{ kill $(jobs -p) || true; } 2>/dev/null; rm -rf "$made"' EXIT
 
-# Runs a part of the test command, and keeps how long it took.
-timed() {
-    local TIMEFORMAT="$1|%0R|%0U|%0S"
+# part NAME COMMAND..: runs a part of the test command, and keeps how long it took, and that it failed if it did.
+part() {
+    local name=$1 status=0 TIMEFORMAT="$1|%0R|%0U|%0S"
     shift
-    { time "$@" 2>&3; } 3>&2 2>>"$TIMES"
+    { time "$@" 2>&3; } 3>&2 2>>"$made/times" || status=$?
+    [ "$status" = 0 ] || echo "$name" >>"$made/failed"
+    return "$status"
 }
-timed checks/documents.sh checks/documents.sh
-timed checks/lint.sh checks/lint.sh
-timed checks/take.sh checks/take.sh
-timed checks/launch.sh checks/launch.sh
 
-timed misuses/check.sh misuses/check.sh >"$told" 2>&1 &
-misuses=$!
-# Proves and builds the programs.
-build_programs() {
-    ./lp_rebuild </dev/null && ./lp_relay </dev/null
+# stop WHAT: ends where a part failed without which the others are of no use.
+stop() {
+    echo "test: $1 failed, so nothing else is run"
+    exit 1
 }
-# Runs the programs.
+
+# Each of these runs its parts to the end, whether or not one fails, and then shows what they said.
+beside_archives() {
+    part checks/take.sh checks/take.sh
+    part checks/launch.sh checks/launch.sh
+}
+beside_gate() {
+    part checks/refusals.sh checks/refusals.sh
+    part checks/events.sh checks/events.sh
+    part checks/sizes.sh checks/sizes.sh
+    part checks/differential.sh checks/differential.sh
+    part bindings/c bindings/c/test.sh "$made/liblp_c.a"
+    LP_LIB_DIR=$made part bindings/rust bindings/rust/test.sh
+}
+beside_programs() {
+    LP_RELAY=$made/lp_relay part bindings/python bindings/python/test.sh "$made/liblp_c.a"
+    part checks/apart.sh checks/apart.sh "$made/lp_relay"
+}
+# beside FUNCTION: starts one of them. `joined` waits for it, where `failed` names what failed.
+beside() {
+    { "$1" >"$made/$1" 2>&1 || true; cat "$made/$1"; } &
+}
+joined() {
+    wait "$!" || echo "checks that were cut off" >>"$made/failed"
+}
 check_programs() {
-    local rebuild=crates/lp_rebuild_program/out/lp_rebuild_program relay=crates/lp_relay/out/lp_relay
-    checks/arguments.sh "$rebuild" "$relay" && checks/losses.sh "$relay" && checks/inputs.sh "$rebuild" "$relay" &&
-        checks/apart.sh "$relay" && checks/posting.sh "$relay"
+    part checks/arguments.sh checks/arguments.sh "$made/lp_rebuild_program" "$made/lp_relay"
+    part checks/losses.sh checks/losses.sh "$made/lp_relay"
+    part checks/inputs.sh checks/inputs.sh "$made/lp_rebuild_program" "$made/lp_relay"
+    part checks/posting.sh checks/posting.sh "$made/lp_relay"
 }
-failed=0
-timed checks/refusals.sh checks/refusals.sh || failed=1
-timed checks/events.sh checks/events.sh || failed=1
-timed checks/sizes.sh checks/sizes.sh || failed=1
-{ timed "both programs, proved" build_programs && timed "both programs, run" check_programs; } || failed=1
-wait "$misuses" || failed=1
-cat "$told"
-[ "$failed" = 0 ]
 
-timed checks/differential.sh checks/differential.sh
-timed bindings/test.sh bindings/test.sh
+# Hands on the lines of the gate but the last, which comes to a file.
+hold_last() {
+    local line last
+    while IFS= read -r line || [ -n "$line" ]; do
+        [ -z "${last+set}" ] || printf '%s\n' "$last"
+        last=$line
+    done
+    [ -z "${last+set}" ] || printf '%s\n' "$last" >"$made/last"
+}
 
-# Prints how long each part took, in seconds of the clock and of processors.
+# Prints how long each part took, in seconds of the clock and of processors, and what the gate took for each crate.
 print_times() {
     local name clock user system
     while IFS='|' read -r name clock user system; do
         printf 'time: %-26s %5s s, %6s s of processors\n' "$name" "$clock" "$((user + system))"
-    done <"$TIMES"
+    done <"$made/times"
+    cat "$made/crates"
 }
 
 # Prints what the checks left out.
 print_left_out() {
+    local line
     [ -s "$LEFT_OUT" ] || echo "left out: nothing"
     while IFS= read -r line; do
         line=${line#left out: }
@@ -64,18 +95,29 @@ print_left_out() {
     done <"$LEFT_OUT"
 }
 
-# Hands on the lines of the gate, and before the last one the times and what the checks left out.
-hold_last() {
-    local line lines=0 last=
-    while IFS= read -r line || [ -n "$line" ]; do
-        [ "$lines" = 0 ] || printf '%s\n' "$last"
-        last=$line
-        lines=$((lines + 1))
-    done
-    print_times
-    print_left_out
-    [ "$lines" = 0 ] || printf '%s\n' "$last"
-}
+part checks/documents.sh checks/documents.sh || stop checks/documents.sh
+part checks/lint.sh checks/lint.sh || stop checks/lint.sh
+beside beside_archives
+part "lp_c and lp_checks, proved" build_all test lp_checks lp_c || stop "the build of lp_c and lp_checks"
+joined
+cp crates/lp_c/out/liblp_c.a crates/lp_checks/out/liblp_checks.a "$made"
+export ARCHIVES=$made
 set +e
-timed "rt ci" rt ci | hold_last
-exit "${PIPESTATUS[0]}"
+beside beside_gate
+part misuses/check.sh misuses/check.sh
+part "rt ci" checks/times.py run "$made/crates" rt ci | hold_last
+gate=${PIPESTATUS[0]}
+joined
+if cp crates/lp_rebuild_program/out/lp_rebuild_program crates/lp_relay/out/lp_relay "$made"; then
+    beside beside_programs
+    check_programs
+    joined
+else
+    echo "the checks of programs, which the gate did not make" >>"$made/failed"
+fi
+print_times
+print_left_out
+sed 's/^/failed: /' "$made/failed"
+cat "$made/last"
+[ "$gate" != 0 ] || [ ! -s "$made/failed" ] || exit 1
+exit "$gate"

@@ -37,10 +37,8 @@ else
     set -- "${files[@]}"
 fi
 
-for crate in lp_bench lp_bench_streams lp_c; do
-    build_all bench "$crate" lib
-done
-heap=$(dirname "$(dirname "$(readlink -f "$(command -v rt)")")")/c/liblibc_c.a
+build_if_changed bench lp_bench lp_bench_streams lp_c || exit 1
+heap=$(kit)/c/liblibc_c.a
 archive=$top/crates/lp_c/out/liblp_c.a
 ARCHIVE=$archive "${PYTHON:-python3}" "$top/bindings/python/build_backend.py" "$built/package"
 cc -O2 "$here"/{driver,library}.c "$top/crates/lp_bench/out/liblp_bench.a" "$heap" -o "$built/library"

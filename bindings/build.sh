@@ -1,7 +1,7 @@
 #!/usr/bin/env bash
 # Makes the static library of crates/lp_c, and of it the shared library that callers load at run time:
 #
-#     bindings/build.sh                      proves what is not proved yet, and makes out/liblp_c.a of it;
+#     bindings/build.sh                      makes out/liblp_c.a, if it was not built from these sources;
 #                                            a terminal sees how far that is
 #     bindings/build.sh ARCHIVE [FOLDER]     takes an archive that was made before
 #
@@ -13,8 +13,7 @@ here=$(cd "$(dirname "$0")" && pwd)
 archive=${1:-$top/crates/lp_c/out/liblp_c.a}
 folder=${2:-$here/out}
 if [ $# = 0 ]; then
-    [ ! -t 2 ] || echo "build: proving and building the library, which takes some minutes" >&2
-    build_all build lp_c lib || exit 1
+    build_if_changed build lp_c || exit 1
 fi
 mkdir -p "$folder"
 version=$(version)

@@ -19,10 +19,9 @@ if ! CARGO_NET_RETRY=1 cargo fetch ${CARGO_FLAGS:-} >"$built/log" 2>&1; then
     exit 0
 fi
 . "$here/library.sh"
-build_library
-build_all differential lp_c lib
+build_library lp_checks lp_c
 cc -O2 -Wall -Wextra -I"$top/include" -c "$here/rows.c" -o "$built/rows.o"
-export LP_CHECKS_ROWS=$built/rows.o LP_CHECKS_LIBRARY=$library LP_C_LIBRARY=$top/crates/lp_c/out/liblp_c.a LP_CHECKS_HEAP=$heap
+export LP_CHECKS_ROWS=$built/rows.o LP_CHECKS_LIBRARY=$library LP_C_LIBRARY=$archive LP_CHECKS_HEAP=$heap
 # shellcheck disable=SC2086
 cargo build --release ${CARGO_FLAGS:-} --target-dir "$built/target" >"$built/log" 2>&1 || {
     tail -n 40 "$built/log" >&2

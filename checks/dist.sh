@@ -28,9 +28,7 @@ fail() {
 # The built files come into a folder of this check.
 mkdir "$work/built"
 if [ $# = 0 ]; then
-    build_if_changed dist lp_rebuild_program run lp_rebuild_program || exit 1
-    build_if_changed dist lp_relay run lp_relay || exit 1
-    build_if_changed dist lp_c lib liblp_c.a || exit 1
+    build_if_changed dist lp_rebuild_program lp_relay lp_c || exit 1
     cp "$top"/crates/{lp_rebuild_program/out/lp_rebuild_program,lp_relay/out/lp_relay,lp_c/out/liblp_c.a} "$work/built"
 else
     cp "$1"/{lp_rebuild_program,lp_relay,liblp_c.a} "$work/built"

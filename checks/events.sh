@@ -10,12 +10,11 @@ if ! command -v cc >/dev/null; then
     exit 0
 fi
 . "$here/library.sh"
-build_library
-build_all events lp_c lib
+build_library lp_checks lp_c
 built=$(mktemp -d)
 trap 'rm -rf "$built"' EXIT
 
-cc -O2 -Wall -Wextra -I"$top/include" "$here/events.c" "$library" "$top/crates/lp_c/out/liblp_c.a" "$heap" -o "$built/events"
+cc -O2 -Wall -Wextra -I"$top/include" "$here/events.c" "$library" "$archive" "$heap" -o "$built/events"
 if ! said=$("$built/events"); then
     echo "events: they tell other items than are read, or blocks have others" >&2
     exit 1

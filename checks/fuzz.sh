@@ -23,11 +23,10 @@ if ! clang -fsanitize=fuzzer,address "$built/probe.c" -o "$built/probe" >/dev/nu
     left_out checks/fuzz.sh "there is no clang with libFuzzer"
     exit 0
 fi
-build_library
-build_all fuzz lp_c lib
+build_library lp_checks lp_c
 
 # The kit's toolchain, but for a clang that adds counters.
-kit=$(dirname "$(dirname "$heap")")
+kit=$(kit)
 mkdir -p "$built/toolchain/bin"
 ln -s "$kit/toolchain/lib" "$built/toolchain/lib"
 ln -s "$kit"/toolchain/bin/* "$built/toolchain/bin/"
@@ -51,7 +50,7 @@ done
     --antt-project "$kit/rattle/logic/antt-project.json" --logic-built "$kit/logic_built" --links lp_checks= \
     --incremental out/incremental --backend llvm --toolchain "$built/toolchain" -o "$built/liblp_checks.a") \
     >"$built/log" 2>&1 || { tail -n 20 "$built/log" >&2; exit 1; }
-clang -O2 -g -Wall -Wextra -I"$top/include" -fsanitize=fuzzer,address "$here/fuzz.c" "$built/liblp_checks.a" "$top/crates/lp_c/out/liblp_c.a" "$heap" \
+clang -O2 -g -Wall -Wextra -I"$top/include" -fsanitize=fuzzer,address "$here/fuzz.c" "$built/liblp_checks.a" "$archive" "$heap" \
     -o "$built/fuzz"
 
 corpus=${CORPUS:-$built/corpus}

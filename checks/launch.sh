@@ -1,44 +1,77 @@
 #!/usr/bin/env bash
-# Runs both launchers in a copy of this repository that has two small crates, where a stub is in the place of `rt`: when it builds,
-# what the program gets and gives, and what comes if it cannot be built.
+# Runs both launchers, and builds several crates at once, in a copy of this repository that has small crates, where a stub is in the place
+# of `rt`: when they build, in which order and what side by side, what the program gets and gives, and what comes if a crate cannot be
+# built or the run is ended.
 set -euo pipefail
 top=$(cd "$(dirname "$0")/.." && pwd)
+. "$top/checks/left_out.sh"
 made=$(mktemp -d)
 trap 'rm -rf "$made"' EXIT
-mkdir "$made/bin" "$made/elsewhere"
+mkdir -p "$made"/{kit/bin,rattle-kept,elsewhere,rooms,kept}
 copy="$made/a copy"
-for crate in lp_low lp_relay lp_rebuild_program lp_other; do
+for crate in lp_low lp_relay lp_rebuild_program lp_other lp_left lp_right lp_both lp_c; do
     mkdir -p "$copy/crates/$crate"/{src,specs,proofs/f}
     touch "$copy/crates/$crate"/{src/lib.rt,specs/Lib.antt,proofs/f/Answers.antt}
 done
-printf 'lp_rebuild_program: lp_low\nlp_relay: lp_low std_lib\nlp_other:\nlp_low staticlib:\n' >"$copy/crates.txt"
-cp "$top/launch.sh" "$top/lp_relay" "$top/lp_rebuild" "$copy"
+for crate in lp_relay lp_rebuild_program lp_both; do mv "$copy/crates/$crate/src"/{lib,main}.rt; done
+cat >"$copy/crates.txt" <<'LINES'
+lp_rebuild_program: lp_low
+lp_relay: lp_low std_lib
+lp_other:
+lp_low:
+lp_both: lp_right std_lib lp_left
+lp_left: lp_low
+lp_right: lp_low
+lp_c staticlib: lp_left
+LINES
+cp -r "$top"/{launch.sh,lp_relay,lp_rebuild,bin} "$copy"
 ln -s "$copy/lp_relay" "$made/elsewhere/relay"
+cat >"$copy/several" <<'SCRIPT'
+#!/usr/bin/env bash
+. "$(dirname "$0")/launch.sh"
+build_if_changed several lp_both lp_c || exit 2
+SCRIPT
+chmod +x "$copy/several"
 
-# The stub notes the crate and the command. It says WHY and fails in the crate that FAILS names; the program that it makes prints its
-# arguments, a line each, and its input, and ends with status 7.
-cat >"$made/bin/rt" <<'STUB'
+# The stub notes the crate and the command, but not if it takes a library that it built in another folder. It fails where a lower crate is
+# not built. It says WHY and fails in the crate that FAILS names, once SLOW is being built, which takes a minute. Each crate of MEET waits
+# until all of them are being built. The program that it makes prints its arguments, a line each, and its input, and ends with status 7.
+cat >"$made/kit/bin/rt" <<'STUB'
 #!/bin/sh
+until_called() { timeout 30 sh -c 'until grep -q "^$0 " "$CALLS"; do sleep 0.05; done' "$1"; }
 crate=$(basename "$PWD")
+for low in $(sed -n "s/^$crate[^:]*://p" ../../crates.txt); do
+    [ ! -d "$COPY/crates/$low" ] || [ "$(cat "$KEPT/$low")" = here ] || { echo "$low is not built"; exit 1; }
+done
+case $PWD in "$COPY"/*) place=here ;; *) place=$PWD ;; esac
+if [ "$place $1" = "here lib" ] && grep -q / "$KEPT/$crate" 2>/dev/null; then echo here >"$KEPT/$crate"; exit; fi
 echo "$crate $1" >>"$CALLS"
-[ "$crate" != "$FAILS" ] || { echo "$WHY" >&2; exit 1; }
-mkdir -p out
-printf '#!/bin/sh\necho %s\nprintf "%%s\\\\n" "$@"\ncat\nexit 7\n' "$crate" >"out/$crate"
-chmod +x "out/$crate"
+[ "$crate" != "$FAILS" ] || { [ -z "$SLOW" ] || until_called "$SLOW"; echo "$WHY" >&2; exit 1; }
+[ "$crate" != "$SLOW" ] || { echo $$ >"$KEPT/slow"; exec sleep 60; }
+case " $MEET " in *" $crate "*) for other in $MEET; do until_called "$other" || exit 1; done ;; esac
+echo "$place" >"$KEPT/$crate"
+mkdir -p out/incremental
+made=out/$crate
+[ "$1" = run ] || made=out/lib$crate.a
+printf '#!/bin/sh\necho %s\nprintf "%%s\\\\n" "$@"\ncat\nexit 7\n' "$crate" >"$made"
+chmod +x "$made"
 STUB
-chmod +x "$made/bin/rt"
-export PATH=$made/bin:$PATH CALLS=$made/calls FAILS=none WHY="so far: a reason"
+chmod +x "$made/kit/bin/rt"
+export PATH=$made/kit/bin:$PATH CALLS=$made/calls FAILS=none SLOW='' MEET='' WHY="so far: a reason" KEPT=$made/kept COPY=$copy
+export TMPDIR=$made/rooms
 
 # wanted STATUS OUTPUT CALLS LAUNCHER: what a launcher gives for the arguments `--strict`, `a  b` and an empty one, and the input `in`;
-# and what it had the stub do. The last line of standard error is left in `last`.
+# and what it had the stub do, in this order or, if CALLS begins with `sorted`, in any. The last line of standard error is left in `last`.
 runs=0
 wanted() {
-    local status=0
+    local status=0 calls
     : >"$CALLS"
     printf in | "$4" --strict "a  b" "" >"$made/out" 2>"$made/err" || status=$?
     last=$(tail -n 1 "$made/err")
     runs=$((runs + 1))
-    if [ "$status" = "$1" ] && [ "$(cat "$made/out")" = "$2" ] && [ "$(cat "$CALLS")" = "$3" ] &&
+    calls=$(cat "$CALLS")
+    [[ $3 != sorted* ]] || calls=sorted$'\n'$(sort "$CALLS")
+    if [ "$status" = "$1" ] && [ "$(cat "$made/out")" = "$2" ] && [ "$calls" = "$3" ] && [ -z "$(ls -A "$TMPDIR")" ] &&
         { [ "$status" = 2 ] || [ ! -s "$made/err" ]; }; then return; fi
     echo "launch: $4 ends with status $status, where $1 is wanted, calls rt for ($(paste -sd, "$CALLS")), and prints"
     cat "$made/out" "$made/err"
@@ -51,6 +84,21 @@ said() {
     cat "$made/err"
     exit 1
 }
+# Whether what takes a minute has ended, with nothing left in TMPDIR, or noted as built.
+is_clean() {
+    local left
+    left=$(find "$copy"/crates/lp_{both,c} "$TMPDIR" -name launcher.stamp -o -name 'tmp.*' 2>/dev/null)
+    [ -z "$left" ] && ! kill -0 "$(cat "$KEPT/slow")" 2>/dev/null
+}
+# ended WHAT: sees that this is so in a moment.
+ended() {
+    for _ in $(seq 200); do
+        ! is_clean || return 0
+        sleep 0.05
+    done
+    echo "launch: where $1, something runs on, is left in TMPDIR, or is noted as built"
+    exit 1
+}
 given=$'--strict\na  b\n\nin'
 relay=$'lp_low lib\nlp_relay run'
 wanted 7 "lp_relay"$'\n'"$given" "$relay" "$copy/lp_relay"
@@ -61,7 +109,7 @@ touch "$copy/crates/lp_other/src/more.rt"
 echo '// more' >>"$copy/crates/lp_other/src/lib.rt"
 wanted 7 "lp_relay"$'\n'"$given" "" ./relay
 # A change of what it is built from, of its own or of a crate below, and a program that is gone.
-for file in crates/lp_relay/src/lib.rt crates/lp_low/src/lib.rt crates/lp_low/specs/Lib.antt crates/lp_low/proofs/f/Answers.antt \
+for file in crates/lp_relay/src/main.rt crates/lp_low/src/lib.rt crates/lp_low/specs/Lib.antt crates/lp_low/proofs/f/Answers.antt \
     crates/lp_relay/proofs/f/Answers.antt crates.txt; do
     echo "# more" >>"$copy/$file"
     wanted 7 "lp_relay"$'\n'"$given" "$relay" ./relay
@@ -79,4 +127,35 @@ for _ in 1 2; do
 done
 wanted 7 "lp_relay"$'\n'"$given" "$relay" ./relay
 wanted 7 "lp_relay"$'\n'"$given" "" ./relay
+
+# Several crates at once: those that do not stand on one another are built side by side, where that can be done, and each once.
+several=$'lp_both run\nlp_c lib\nlp_left lib\nlp_low lib\nlp_right lib'
+. "$copy/launch.sh"
+choose_most
+if [ "$most" -gt 1 ]; then
+    # One fails, or the run is ended, while another is being built.
+    FAILS=lp_left SLOW=lp_right wanted 2 "" $'sorted\nlp_left lib\nlp_low lib\nlp_right lib' "$copy/several"
+    said "several: lp_left was not built" "$WHY"
+    ended "a crate fails"
+    for signal in INT TERM; do
+        : >"$CALLS"
+        SLOW=lp_right setsid env --default-signal=INT "$copy/several" >"$made/out" 2>&1 &
+        # shellcheck disable=SC2016
+        timeout 30 sh -c 'until grep -q lp_left "$CALLS" && grep -q lp_right "$CALLS"; do sleep 0.05; done'
+        kill -s "$signal" -- "-$!"
+        wait "$!" && status=0 || status=$?
+        runs=$((runs + 1))
+        [ "$status" -gt 128 ] || { echo "launch: after SIG$signal the status is $status" && exit 1; }
+        ended "SIG$signal comes"
+    done
+    rm "$KEPT"/*
+    MEET="lp_left lp_right" wanted 0 "" "sorted"$'\n'"$several" "$copy/several"
+    wanted 0 "" "" "$copy/several"
+else
+    left_out "crates side by side" "there is one processor, or less than 6 GB of memory, for checks/launch.sh"
+fi
+# One after the other, where rt can keep nothing.
+rm -r "${KEPT:?}"/* "$made/rattle-kept" "$copy"/crates/*/out
+: >"$made/rattle-kept"
+wanted 0 "" $'lp_low lib\nlp_right lib\nlp_left lib\nlp_both run\nlp_c lib' "$copy/several"
 echo "launch: $runs runs of the launchers"

@@ -1,16 +1,12 @@
 # shellcheck shell=bash disable=SC2034,SC2154
-# Builds the static library of crates/lp_checks where it is missing or older than its sources; for the scripts beside it.
-# They set `top` to the top of the repository. It sets `library` and `heap` to what a C compiler links.
+# For the scripts beside it, which set `top` to the top of the repository: the static libraries of crates/lp_checks and crates/lp_c. They
+# are taken from the folder that ARCHIVES names, if it is set, and else proved and built if they were not built from these sources.
 . "$top/launch.sh"
-library=$top/crates/lp_checks/out/liblp_checks.a
-heap=$(dirname "$(dirname "$(readlink -f "$(command -v rt)")")")/c/liblibc_c.a
+heap=$(kit)/c/liblibc_c.a
 
+# Sets `library` and `archive` to those of lp_checks and lp_c. Its arguments name the ones that are needed.
 build_library() {
-    local wanted stamp=$top/crates/lp_checks/out/checks.stamp
-    wanted=$(sources lp_checks)
-    if [ -f "$library" ] && [ "$(cat "$stamp" 2>/dev/null)" = "$wanted" ]; then
-        return
-    fi
-    build_all "$(basename "$0")" lp_checks lib || exit 1
-    echo "$wanted" >"$stamp"
+    library=${ARCHIVES:-$top/crates/lp_checks/out}/liblp_checks.a
+    archive=${ARCHIVES:-$top/crates/lp_c/out}/liblp_c.a
+    [ -n "${ARCHIVES:-}" ] || build_if_changed "$(basename "$0" .sh)" "$@" || exit 1
 }

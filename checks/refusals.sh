@@ -10,8 +10,7 @@ if ! command -v cc >/dev/null; then
     exit 0
 fi
 . "$here/library.sh"
-build_library
-build_all refusals lp_c lib
+build_library lp_checks lp_c
 built=$(mktemp -d)
 trap 'rm -rf "$built"' EXIT
 
@@ -24,7 +23,7 @@ if ! { cc $sanitizer "$built/probe.c" -o "$built/probe" && "$built/probe"; } >/d
     left_out "address sanitizer" "cc has none, so leaks are not seen by checks/refusals.sh"
 fi
 cc -O2 -Wall -Wextra -I"$top/include" $sanitizer -Wl,--wrap=malloc,--wrap=realloc,--wrap=free "$here/refusals.c" "$library" \
-    "$top/crates/lp_c/out/liblp_c.a" "$heap" -o "$built/refusals"
+    "$archive" "$heap" -o "$built/refusals"
 if ! said=$("$built/refusals"); then
     echo "refusals: what should come with a request refused did not come" >&2
     exit 1

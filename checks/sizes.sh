@@ -10,7 +10,7 @@ if ! command -v cc >/dev/null; then
     exit 0
 fi
 . "$here/library.sh"
-build_library
+build_library lp_checks
 built=$(mktemp -d)
 trap 'rm -rf "$built"' EXIT
 

@@ -1,6 +1,7 @@
 #!/usr/bin/env bash
 # Each text of this folder is a use of the builder that must not compile: put into a copy of the builder's crate, the
-# compiler must refuse the call that the text's second line names, for the state that the builder is in.
+# compiler must refuse the call that the text's second line names, for the state that the builder is in. All are put there together, as
+# the compiler names what is wrong in each file. The copy begins with what other copies on this machine proved of the crates below.
 set -eu
 here=$(cd "$(dirname "$0")" && pwd)
 top=$(dirname "$here")
@@ -10,19 +11,23 @@ cp "$top/HANDLES" "$copy/"
 "$top/bin/take" "$copy" lp_build >/dev/null
 git -C "$copy" init -q
 crate=$copy/crates/lp_build
-echo 'pub mod misuse;' >>"$crate/src/lib.rt"
+for text in "$here"/*.txt; do
+    name=misuse_$(basename "$text" .txt)
+    echo "pub mod $name;" >>"$crate/src/lib.rt"
+    cp "$text" "$crate/src/$name.rt"
+done
+if (cd "$crate" && timeout 1800 rt check --only misuse) >"$copy/log" 2>&1; then
+    echo "misuse: all compile"
+    exit 1
+fi
 
 refused=0
 for text in "$here"/*.txt; do
     call=$(sed -n 's,^// wanted: ,,p' "$text")
-    cp "$text" "$crate/src/misuse.rt"
-    (cd "$crate" && timeout 1800 rt check --only misuse::misuse) >"$copy/log" 2>&1 && {
-        echo "misuse: $(basename "$text") compiles"
-        exit 1
-    }
-    if ! grep -q "^src/misuse.rt:.*error\[unknown-method\]: the method \`$call\` takes \`self\` as" "$copy/log"; then
+    name=$(basename "$text" .txt)
+    if ! grep -q "^src/misuse_$name.rt:.*error\[unknown-method\]: the method \`$call\` takes \`self\` as" "$copy/log"; then
         cat "$copy/log"
-        echo "misuse: $(basename "$text") is not refused at \`$call\`"
+        echo "misuse: $name.txt is not refused at \`$call\`"
         exit 1
     fi
     refused=$((refused + 1))
