@@ -9,8 +9,6 @@ mod built;
 #[cfg(test)]
 mod lines;
 #[cfg(test)]
-mod rebuilt;
-#[cfg(test)]
 mod rows;
 #[cfg(test)]
 mod streams;

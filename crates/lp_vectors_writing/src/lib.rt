@@ -6,36 +6,16 @@ mod admitted;
 #[cfg(test)]
 mod built;
 #[cfg(test)]
-mod canonical_relays;
-#[cfg(test)]
 mod changed;
-#[cfg(test)]
-mod counted_kinds;
 #[cfg(test)]
 mod failed_relays;
 #[cfg(test)]
 mod failures;
 #[cfg(test)]
-mod long_relays;
-#[cfg(test)]
-mod numbered_relays;
-#[cfg(test)]
-mod part_tables;
-#[cfg(test)]
-mod refused_pieces;
-#[cfg(test)]
 mod relays;
-#[cfg(test)]
-mod relays_cut_anywhere;
-#[cfg(test)]
-mod runs;
 #[cfg(test)]
 mod series;
 #[cfg(test)]
 mod small_buffers;
-#[cfg(test)]
-mod told_objects;
-#[cfg(test)]
-mod verbatim_relays;
 #[cfg(test)]
 mod wrote;

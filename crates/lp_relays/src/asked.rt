@@ -1,0 +1,78 @@
+//! What the first cell of a row asks for: by which settings its text is relayed, and how it comes.
+
+use influxdb_line_protocol::Dialect;
+use lp_relay_core::{Faults, Lines, Numbering, Settings};
+use lp_vectors_shared::rows::number_of;
+
+const BOTH: &[Dialect] = &[Dialect::Crate, Dialect::Strict];
+
+const CRATE: &[Dialect] = &[Dialect::Crate];
+
+const STRICT: &[Dialect] = &[Dialect::Strict];
+
+/// What a row asks for.
+#[derive(Clone, Copy)]
+pub struct Asked {
+    /// The dialects in which all that it asks is asked.
+    pub dialects: &'static [Dialect],
+    /// By which settings its text is relayed.
+    pub settings: Settings,
+    /// How many bytes come at each read, if the row says so.
+    pub reads: Option<usize>,
+    /// How often a cell comes that has a number between braces.
+    pub times: usize,
+}
+
+impl Asked {
+    // Takes one word. Whether it means something.
+    fn take(&mut self, word: &str) -> bool {
+        if let Some((name, number)) = word.split_once('=') {
+            return match number_of(number.as_bytes()) {
+                Some(number) => self.take_number(name, number),
+                None => false,
+            };
+        }
+        match word {
+            "crate" => self.dialects = CRATE,
+            "strict" => self.dialects = STRICT,
+            "both" => self.dialects = BOTH,
+            "lines" => self.settings.numbering = Numbering::Lines,
+            "verbatim" => self.settings.lines = Lines::Verbatim,
+            "canonical" => self.settings.lines = Lines::Canonical,
+            "one_line" => self.settings.faults = Faults::OneLine,
+            "refused" => self.settings.puts_refused = true,
+            "kinds" => self.settings.counts_kinds = true,
+            _ => return false,
+        }
+        true
+    }
+
+    // Takes one word that has a number. Whether it means something.
+    fn take_number(&mut self, name: &str, number: usize) -> bool {
+        match name {
+            "limit" => self.settings.limit = number,
+            "first" => self.settings.first = number,
+            "json" => self.settings.faults = Faults::Json { first_line: number },
+            "reads" => self.reads = Some(number),
+            "times" => self.times = number,
+            _ => return false,
+        }
+        true
+    }
+}
+
+/// What these words ask for, or `None` if one of them means nothing.
+pub fn asked_by(words: &str) -> Option<Asked> {
+    let mut asked = Asked {
+        dialects: CRATE,
+        settings: Settings::default(),
+        reads: None,
+        times: 1,
+    };
+    for word in words.split(' ') {
+        if !asked.take(word) {
+            return None;
+        }
+    }
+    Some(asked)
+}

@@ -1,0 +1,95 @@
+//! The ways by which a text comes to a relay, and what the relay gives.
+
+use lp_rebuild::{DeviceFault, Kept, RunFault, Source};
+use lp_relay_core::{Relayed, Settings, relay};
+use lp_vectors_shared::cuts::CutSource;
+use std::alloc::{AllocError, Global};
+
+/// How a text comes.
+#[derive(Clone, Copy, Debug)]
+pub enum Way {
+    /// So many bytes at each read.
+    Reads(usize),
+    /// In parts, as [`Parts`](lp_vectors_shared::cuts::Parts) cuts it.
+    Cut(u64),
+}
+
+/// A source that gives so many bytes at each read.
+#[derive(Drop)]
+pub struct Blocks<'a> {
+    pub left: &'a [u8],
+    pub len: usize,
+}
+
+impl<'a> Source for Blocks<'a> {
+    ghost use Rattle.std.specs.Prelude.{None};
+
+    ghost bytes = { λ _. None };
+
+    ghost failures = { λ _. 0 };
+
+    fn read(&mut self, buf: &mut [u8]) -> Result<usize, DeviceFault> {
+        let n = self.len.min(self.left.len());
+        let mut front = &self.left[..n];
+        let given = front.read(buf)?;
+        if given <= self.left.len() {
+            self.left = &self.left[given..];
+        }
+        Ok(given)
+    }
+}
+
+/// What was answered and written.
+#[derive(Drop)]
+pub struct Wrote {
+    pub answer: Result<Relayed, RunFault>,
+    pub lines: Kept,
+    pub faults: Kept,
+    pub refused: Kept,
+}
+
+// Relays what a source gives.
+fn relayed_from<R: Source>(alloc: Global, settings: Settings, reader: &mut R) -> Wrote {
+    let mut lines = Kept::new(alloc);
+    let mut faults = Kept::new(alloc);
+    let mut refused = Kept::new(alloc);
+    let answer = relay(
+        alloc,
+        settings,
+        reader,
+        &mut lines,
+        &mut faults,
+        &mut refused,
+    );
+    Wrote {
+        answer,
+        lines,
+        faults,
+        refused,
+    }
+}
+
+/// Relays a text that comes so.
+pub fn relayed(alloc: Global, settings: Settings, way: Way, text: &[u8]) -> Wrote {
+    match way {
+        Way::Reads(len) => relayed_from(alloc, settings, &mut Blocks { left: text, len }),
+        Way::Cut(cuts) => relayed_from(alloc, settings, &mut CutSource::new(text, cuts, 0)),
+    }
+}
+
+/// The ways by which a text of so many bytes comes: as its row says, or else at once, byte by byte if it is not long, and, if it is
+/// short, cut at each single place.
+pub fn ways(alloc: Global, reads: Option<usize>, len: usize) -> Result<Vec<Way>, AllocError> {
+    let mut ways = Vec::new(alloc);
+    ways.push(Way::Reads(reads.unwrap_or(usize::MAX)))?;
+    if reads.is_none() && len <= 4_096 {
+        ways.push(Way::Reads(1))?;
+    }
+    let places = if reads.is_none() && len <= 64 { len } else { 0 };
+    let mut cut = 1u64;
+    for _ in 1..places {
+        ways.push(Way::Cut(cut))?;
+        cut = cut.wrapping_mul(2);
+    }
+    Ok(ways)
+}
