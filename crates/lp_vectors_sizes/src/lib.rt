@@ -3,12 +3,6 @@
 #![tactic(auto)]
 
 #[cfg(test)]
-mod bases;
-#[cfg(test)]
-mod built;
-#[cfg(test)]
-mod lines;
-#[cfg(test)]
 mod rebuilt;
 #[cfg(test)]
 mod rows;

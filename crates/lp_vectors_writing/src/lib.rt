@@ -1,14 +1,8 @@
-//! Tests of what is written and shown: lines that are built, and runs of the program.
+//! Tests of what is written: runs of the program, and relays.
 #![tactic(auto)]
 
 #[cfg(test)]
-mod admitted;
-#[cfg(test)]
-mod built;
-#[cfg(test)]
 mod canonical_relays;
-#[cfg(test)]
-mod changed;
 #[cfg(test)]
 mod counted_kinds;
 #[cfg(test)]
@@ -29,10 +23,6 @@ mod relays;
 mod relays_cut_anywhere;
 #[cfg(test)]
 mod runs;
-#[cfg(test)]
-mod series;
-#[cfg(test)]
-mod small_buffers;
 #[cfg(test)]
 mod told_objects;
 #[cfg(test)]
