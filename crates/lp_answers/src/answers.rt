@@ -4,7 +4,6 @@ use influxdb_line_protocol::{Dialect, FloatText, ParsedLine, is_as_written, pars
 use lp_rebuild::{Kept, rebuild_in, run_in, status};
 use lp_vectors_shared::render;
 use std::alloc::{AllocError, Global};
-use std::borrow::CowStr;
 
 /// The words for what a row asks of its text.
 pub const KINDS: &[&str] = &[
@@ -91,7 +90,7 @@ fn of_first_line(
     };
     match part {
         Part::Columns => columns(alloc, &line),
-        Part::Base => base(alloc, line),
+        Part::Base => render::shown_base(alloc, line.series),
         Part::Shown => format!(in alloc; "{line}"),
     }
 }
@@ -106,15 +105,6 @@ fn columns(alloc: Global, line: &ParsedLine<'_>) -> Result<String, AllocError> {
         return format!(in alloc; "{}", line.column_count());
     }
     String::from_str(alloc, "too many to count")
-}
-
-// The base of a line's series: `B` and its text if it is borrowed, `O` and its text if it is owned, or the fault.
-fn base(alloc: Global, line: ParsedLine<'_>) -> Result<String, AllocError> {
-    match line.series.generate_base(alloc) {
-        Ok(CowStr::Borrowed(text)) => format!(in alloc; "B<{text}>"),
-        Ok(CowStr::Owned(text)) => format!(in alloc; "O<{text}>"),
-        Err(fault) => format!(in alloc; "{fault}"),
-    }
 }
 
 // Bytes that are read as text.

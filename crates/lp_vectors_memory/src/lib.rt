@@ -1,4 +1,4 @@
-//! Tests with requests for memory refused, one after another, and over memory of their own.
+//! Tests with requests for memory refused, one after another, over memory of their own, and in buffers that are too small.
 #![tactic(auto)]
 
 #[cfg(test)]
@@ -13,5 +13,7 @@ mod refused;
 mod refused_relays;
 #[cfg(test)]
 mod refused_runs;
+#[cfg(test)]
+mod small_buffers;
 #[cfg(test)]
 mod used_again;

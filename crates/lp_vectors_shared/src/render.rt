@@ -1,7 +1,7 @@
 //! Items as one line of text each, so that a table can hold what is wanted.
 
 use influxdb_line_protocol::{
-    Dialect, Error, EscapedStr, FieldValue, ParsedLine, parse_lines_in, split_lines_in,
+    Dialect, Error, EscapedStr, FieldValue, ParsedLine, Series, parse_lines_in, split_lines_in,
 };
 use std::alloc::{AllocError, Global};
 use std::borrow::CowStr;
@@ -115,6 +115,15 @@ pub fn base(
         Ok(CowStr::Borrowed(text)) => format!(in alloc; "B<{text}>"),
         Ok(CowStr::Owned(text)) => format!(in alloc; "O<{text}>"),
         Err(error) => fault(alloc, error),
+    }
+}
+
+/// The base of a series: `B` and its text if it is borrowed, `O` and its text if it is owned, or the fault as it is shown.
+pub fn shown_base(alloc: Global, series: Series<'_>) -> Result<String, AllocError> {
+    match series.generate_base(alloc) {
+        Ok(CowStr::Borrowed(text)) => format!(in alloc; "B<{text}>"),
+        Ok(CowStr::Owned(text)) => format!(in alloc; "O<{text}>"),
+        Err(fault) => format!(in alloc; "{fault}"),
     }
 }
 

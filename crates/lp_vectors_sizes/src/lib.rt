@@ -8,6 +8,7 @@ mod bases;
 mod built;
 #[cfg(test)]
 mod lines;
+mod rebuilt;
 #[cfg(test)]
 mod rows;
 #[cfg(test)]

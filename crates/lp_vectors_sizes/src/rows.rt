@@ -1,8 +1,6 @@
 //! Lines of each size, with what must come of them by the format's rules. Each is spelled as the builder writes it, so one table
 //! serves for what is read, shown and written again.
 
-use influxdb_line_protocol::{ParsedLine, parse_lines};
-use lp_vectors_shared::fault::Fault;
 use std::alloc::{AllocError, Global};
 use std::process::Abort;
 
@@ -125,12 +123,4 @@ pub fn all(alloc: Global) -> Result<Vec<Row>, AllocError> {
         rows.push(wide_row(alloc, count, tag, field)?)?;
     }
     Ok(rows)
-}
-
-/// The line of a text that has one.
-pub fn parsed<'a>(alloc: Global, text: &'a str) -> Result<ParsedLine<'a>, Fault> {
-    match parse_lines(alloc, text).next() {
-        Some(Ok(line)) => Ok(line),
-        _ => Err(Fault::Unexpected),
-    }
 }

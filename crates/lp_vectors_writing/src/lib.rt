@@ -1,4 +1,4 @@
-//! Tests of what is written and shown: lines that are built, and runs of the program.
+//! Tests of what is written: runs of the program, and relays.
 #![tactic(auto)]
 
 #[cfg(test)]
@@ -7,6 +7,9 @@ mod admitted;
 mod built;
 #[cfg(test)]
 mod changed;
+mod canonical_relays;
+#[cfg(test)]
+mod counted_kinds;
 #[cfg(test)]
 mod failed_relays;
 #[cfg(test)]
@@ -17,5 +20,12 @@ mod relays;
 mod series;
 #[cfg(test)]
 mod small_buffers;
+mod relays_cut_anywhere;
+#[cfg(test)]
+mod runs;
+#[cfg(test)]
+mod told_objects;
+#[cfg(test)]
+mod verbatim_relays;
 #[cfg(test)]
 mod wrote;

@@ -1,6 +1,6 @@
 use Rattle.std.proofs.Common.{◌≡◌, ◌+◌, ◌≤◌, ◌++◌}
 use Rattle.std.specs.Prelude.{replicate}
-use Rattle.lp_vectors_writing.proofs.built.ZerosFieldValue.fmt.Given as goal
+use Rattle.lp_vectors_memory.proofs.small_buffers.ZerosFieldValue.fmt.Given as goal
 
 abbrev pub invariant-loop-i : goal.invariant-loop-i
 invariant-loop-i g l =

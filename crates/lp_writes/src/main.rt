@@ -1,0 +1,67 @@
+//! Compares each row of a file of what is written, shown and copied with what the library gives. It prints each row that differs, and
+//! how many rows of each kind there are. The file is named by the argument, and says at its head how a row is spelled.
+#![tactic(auto)]
+
+mod compared;
+mod copied;
+mod points;
+mod shown;
+mod written;
+
+use compared::Compared;
+use lp_vectors_shared::fault::Fault;
+use lp_vectors_shared::rows::{Table, compare};
+use std::alloc::{AllocError, Global};
+use std::process::ExitCode;
+
+// The table of what is written.
+#[derive(Drop)]
+struct Writes;
+
+// Compares a row.
+fn compare_row(
+    alloc: Global,
+    told: &mut Compared,
+    kind: &str,
+    cells: &[Vec<u8>],
+) -> Result<(), Fault> {
+    match kind {
+        "line" => written::line(alloc, told, cells),
+        "lines" => written::lines(alloc, told, cells),
+        "admitted" => written::admitted(alloc, told, cells),
+        "read" => written::read(alloc, told, cells),
+        "value" => shown::value(alloc, told, cells),
+        "shown" => shown::line(alloc, told, cells),
+        "series" => shown::changed_series(alloc, told, cells),
+        "base" => shown::base(alloc, told, cells),
+        "tags" => shown::tags(alloc, told, cells),
+        _ => copied::text(alloc, told, cells),
+    }
+}
+
+impl Table for Writes {
+    fn kinds(&self) -> &[&str] {
+        &[
+            "line", "lines", "admitted", "read", "value", "shown", "series", "base", "tags",
+            "copied",
+        ]
+    }
+
+    fn difference(
+        &self,
+        alloc: Global,
+        kind: &str,
+        cells: &[Vec<u8>],
+    ) -> Result<Option<String>, AllocError> {
+        let mut told = Compared::new(alloc);
+        match compare_row(alloc, &mut told, kind, cells) {
+            Ok(()) => Ok(told.told),
+            Err(Fault::Memory(fault)) => Err(fault),
+            Err(fault) => Ok(Some(format!(in alloc; "{kind}: {fault}")?)),
+        }
+    }
+}
+
+fn main(rt: HostRuntime) -> ExitCode {
+    compare(&rt, "lp_writes", &Writes)
+}
