@@ -12,5 +12,3 @@ mod lines;
 mod rebuilt;
 #[cfg(test)]
 mod rows;
-#[cfg(test)]
-mod streams;
