@@ -1,5 +1,4 @@
-//! The texts of faults that no line has, or that a run has. That of a repeated tag is the Rust crate's, the others are from the
-//! format's rules.
+//! The texts of faults that no row of a table has. They are from the format's rules.
 
 use influxdb_line_protocol::Error;
 use lp_rebuild::RunFault;
@@ -14,10 +13,6 @@ fn other_faults_are_shown_so(rt: HostRuntime) -> Result<(), Fault> {
         format!(in rt.alloc(); "{fault}")?.as_str(),
         "out of memory"
     );
-    let tag_key = String::from_str(rt.alloc(), "K")?;
-    let fault = Error::DuplicateTag { tag_key };
-    let wanted = "Must not contain duplicate tags, but \"K\" was repeated";
-    assert_eq!(rt; format!(in rt.alloc(); "{fault}")?.as_str(), wanted);
     Ok(())
 }
 

@@ -6,9 +6,7 @@ mod dialects;
 #[cfg(test)]
 mod faults;
 #[cfg(test)]
-mod hostile;
-#[cfg(test)]
-mod long;
+mod fronts;
 #[cfg(test)]
 mod names;
 #[cfg(test)]

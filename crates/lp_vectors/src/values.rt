@@ -1,27 +1,7 @@
-//! Values: a long one, and copies. What is wanted comes from the format's rules.
+//! Values, copied and compared. What is wanted comes from the format's rules.
 
 use influxdb_line_protocol::{FieldValue, parse_lines};
 use lp_vectors_shared::fault::Fault;
-use lp_vectors_shared::render;
-
-#[test]
-fn a_long_float_is_read(rt: HostRuntime) -> Result<(), Fault> {
-    let mut literal = String::new(rt.alloc());
-    for _ in 0..1000 {
-        literal.push_str("9")?;
-    }
-    literal.push_str(".")?;
-    for _ in 0..1000 {
-        literal.push_str("9")?;
-    }
-    let text = format!(in rt.alloc(); "m0 field={literal}")?;
-    let wanted = format!(in rt.alloc(); "S<m0> S<field>=f<{literal}>")?;
-    assert_eq!(rt;
-        render::items(rt.alloc(), text.as_str())?.as_str(),
-        wanted.as_str()
-    );
-    Ok(())
-}
 
 #[test]
 fn values_are_cloned_and_compared(rt: HostRuntime) -> Result<(), Fault> {

@@ -10,6 +10,8 @@ mod own_heap;
 #[cfg(test)]
 mod refused;
 #[cfg(test)]
+mod refused_parts;
+#[cfg(test)]
 mod refused_relays;
 #[cfg(test)]
 mod refused_runs;

@@ -13,3 +13,4 @@ pub mod render;
 pub mod rows;
 pub mod short_line;
 pub mod short_texts;
+pub mod streams;

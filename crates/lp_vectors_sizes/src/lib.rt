@@ -11,5 +11,3 @@ mod lines;
 mod rebuilt;
 #[cfg(test)]
 mod rows;
-#[cfg(test)]
-mod streams;
