@@ -1,16 +1,16 @@
-//! Tests with requests for memory refused, one after another, and over memory of their own.
+//! Tests over devices that fail, with requests for memory refused, one after another, and over memory of their own.
 #![tactic(auto)]
 
 #[cfg(test)]
-mod items;
+mod failed_relays;
 #[cfg(test)]
-mod memory;
+mod failures;
 #[cfg(test)]
-mod own_heap;
+mod programs;
 #[cfg(test)]
-mod refused;
+mod refused_calls;
 #[cfg(test)]
-mod refused_relays;
+mod refused_lines;
 #[cfg(test)]
 mod refused_runs;
 #[cfg(test)]

@@ -12,10 +12,6 @@ mod changed;
 #[cfg(test)]
 mod counted_kinds;
 #[cfg(test)]
-mod failed_relays;
-#[cfg(test)]
-mod failures;
-#[cfg(test)]
 mod long_relays;
 #[cfg(test)]
 mod numbered_relays;

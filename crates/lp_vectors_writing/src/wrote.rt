@@ -3,8 +3,7 @@
 
 use influxdb_line_protocol::Dialect;
 use lp_rebuild::{Kept, Rebuilt, RunFault, Source, run};
-use lp_relay_core::{Nowhere, Numbering, Relayed, Settings, relay};
-use lp_vectors_shared::drops::Basin;
+use lp_relay_core::{Numbering, Relayed, Settings, relay};
 use std::alloc::Global;
 use std::process::Abort;
 
@@ -103,56 +102,6 @@ pub fn relayed_by<R: Source>(
     relayed_so(alloc, settings, reader)
 }
 
-/// With which fault it ended, if any, and what the basins hold.
-#[derive(Drop)]
-pub struct Ended {
-    pub fault: Option<RunFault>,
-    pub out: Basin,
-    pub err: Basin,
-}
-
-impl Ended {
-    /// It ended so, and the basins hold these bytes. `place` says where that is tried.
-    pub fn assert_is(
-        &self,
-        rt: &impl Abort,
-        fault: Option<RunFault>,
-        out: &[u8],
-        err: &[u8],
-        place: usize,
-    ) {
-        assert_eq!(rt; self.fault, fault, "at {place}");
-        assert_same(rt, self.out.as_slice(), out, place);
-        assert_same(rt, self.err.as_slice(), err, place);
-    }
-}
-
-/// Relays what a source gives into basins that fail at these calls, and at none if that is 0.
-pub fn relayed_into<R: Source>(
-    alloc: Global,
-    dialect: Dialect,
-    reader: &mut R,
-    out_at: usize,
-    err_at: usize,
-) -> Ended {
-    let mut out = Basin::new(out_at);
-    let mut err = Basin::new(err_at);
-    let settings = Settings {
-        dialect,
-        ..Settings::default()
-    };
-    let fault = relay(
-        alloc,
-        settings,
-        reader,
-        &mut out,
-        &mut err,
-        &mut Nowhere::new(),
-    )
-    .err();
-    Ended { fault, out, err }
-}
-
 /// What a run answered, and what it wrote into memory.
 #[derive(Drop)]
 pub struct Ran {
@@ -177,12 +126,4 @@ pub fn run_over<R: Source>(alloc: Global, reader: &mut R) -> Ran {
     let mut err = Kept::new(alloc);
     let answer = run(alloc, reader, &mut out, &mut err);
     Ran { answer, out, err }
-}
-
-/// The same into basins that fail at these calls, and at none if that is 0.
-pub fn run_into<R: Source>(alloc: Global, reader: &mut R, out_at: usize, err_at: usize) -> Ended {
-    let mut out = Basin::new(out_at);
-    let mut err = Basin::new(err_at);
-    let fault = run(alloc, reader, &mut out, &mut err).err();
-    Ended { fault, out, err }
 }
