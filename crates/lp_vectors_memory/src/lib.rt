@@ -1,18 +1,19 @@
-//! Tests with requests for memory refused, one after another, over memory of their own, and in buffers that are too small.
+//! Tests over devices that fail, with requests for memory refused, one after another, over memory of their own, and in buffers that
+//! are too small.
 #![tactic(auto)]
 
 #[cfg(test)]
-mod items;
+mod failed_relays;
 #[cfg(test)]
-mod memory;
+mod failures;
 #[cfg(test)]
-mod own_heap;
+mod programs;
 #[cfg(test)]
-mod refused;
+mod refused_calls;
+#[cfg(test)]
+mod refused_lines;
 #[cfg(test)]
 mod refused_parts;
-#[cfg(test)]
-mod refused_relays;
 #[cfg(test)]
 mod refused_runs;
 #[cfg(test)]
