@@ -1,6 +1,8 @@
 //! The line that the cells of a row spell, as a line that was read is held, and its text by the calls of a builder.
 
-use influxdb_line_protocol::{EscapedStr, FieldValue, FloatText, ParsedLine, TagSet};
+use influxdb_line_protocol::{
+    EscapedStr, FieldSet, FieldValue, FloatText, ParsedLine, Series, TagSet,
+};
 use lp_vectors_shared::building::{
     Begun, Lines, Whole, closed, closed_at, next_begun, tagged, with_field, with_next_field,
 };
@@ -45,28 +47,35 @@ pub fn value(cell: &[u8]) -> Result<FieldValue<'_>, Fault> {
     }
 }
 
-// Appends the tag or the field of a pair. A cell that is alone is the timestamp, or says that there is a tag set.
+// Appends the tag or the field of a pair of cells.
 fn add<'a>(
-    alloc: Global,
-    line: &mut ParsedLine<'a>,
     tags: &mut TagSet<'a>,
-    cells: &'a [Vec<u8>],
+    fields: &mut FieldSet<'a>,
+    key: &'a [u8],
+    value: &'a [u8],
 ) -> Result<(), Fault> {
-    match cells {
-        [key, value] => {
-            let key = EscapedStr::from(text_of(key.as_slice()));
-            match typed_value(value.as_slice())? {
-                Typed::Tag(text) => tags.push((key, EscapedStr::from(text)))?,
-                Typed::Field(value) => line.field_set.push((key, value))?,
-            }
-        }
-        [alone] if alone.as_slice() == b",".as_slice() => line.series.tag_set = Some(TagSet::new(
-            alloc,
-        )),
-        [timestamp] => line.timestamp = Some(integer(timestamp.as_slice())?),
-        _ => return Err(Fault::Unexpected),
+    let key = EscapedStr::from(text_of(key));
+    match typed_value(value)? {
+        Typed::Tag(text) => tags.push((key, EscapedStr::from(text)))?,
+        Typed::Field(value) => fields.push((key, value))?,
     }
     Ok(())
+}
+
+// Appends the tags and the fields of pairs of cells. The cell that is left alone at the end, if one is.
+fn fill<'a>(
+    tags: &mut TagSet<'a>,
+    fields: &mut FieldSet<'a>,
+    cells: &'a [Vec<u8>],
+) -> Result<Option<&'a [u8]>, Fault> {
+    for part in cells.chunks(2) {
+        match part {
+            [key, value] => add(tags, fields, key.as_slice(), value.as_slice())?,
+            [alone] => return Ok(Some(alone.as_slice())),
+            _ => {}
+        }
+    }
+    Ok(None)
 }
 
 /// The line of a measurement, the pairs of tags and fields, and perhaps a cell alone, as if it was read from `raw_input` and then
@@ -80,16 +89,22 @@ pub fn line<'a>(
         return Err(Fault::Unexpected);
     };
     let mut tags = TagSet::new(alloc);
-    let mut line = ParsedLine::new(alloc);
-    line.series.raw_input = raw_input;
-    line.series.measurement = EscapedStr::from(text_of(measurement.as_slice()));
-    for part in parts.chunks(2) {
-        add(alloc, &mut line, &mut tags, part)?;
-    }
-    if tags.len() > 0 {
-        line.series.tag_set = Some(tags);
-    }
-    Ok(line)
+    let mut field_set = FieldSet::new(alloc);
+    let (timestamp, has_tag_set) = match fill(&mut tags, &mut field_set, parts)? {
+        None => (None, tags.len() > 0),
+        Some([b',']) => (None, true),
+        Some(number) => (Some(integer(number)?), tags.len() > 0),
+    };
+    let series = Series {
+        raw_input,
+        measurement: EscapedStr::from(text_of(measurement.as_slice())),
+        tag_set: if has_tag_set { Some(tags) } else { None },
+    };
+    Ok(ParsedLine {
+        series,
+        field_set,
+        timestamp,
+    })
 }
 
 // Appends the tags.
