@@ -1,6 +1,7 @@
 //! Calls of a stream, one after another, with what each gives.
 
 use crate::answers::{Asked, Wrong, put_answer, put_piece};
+use influxdb_line_protocol::LineStream;
 use lp_vectors_shared::rows::text_of;
 use lp_vectors_shared::streams::AnyStream;
 use std::alloc::{AllocError, Global};
@@ -19,6 +20,24 @@ fn put_text(
     Ok(true)
 }
 
+// Makes a call that gives a piece as text, and appends what it gives. Whether it gives something.
+fn put_text_call(
+    told: &mut Vec<u8>,
+    stream: &mut LineStream,
+    name: &str,
+) -> Result<bool, AllocError> {
+    match name {
+        "next_text" => put_text(told, stream.next_text()),
+        "finish_text" => {
+            if stream.next().is_some() {
+                return Ok(false);
+            }
+            put_text(told, Some(stream.finish_text()))
+        }
+        _ => put_text(told, Some(Ok("no such call"))),
+    }
+}
+
 // Makes the call of this name, and appends what it gives. Whether it gives something.
 fn put_call(
     alloc: Global,
@@ -26,17 +45,13 @@ fn put_call(
     stream: &mut AnyStream,
     name: &str,
 ) -> Result<bool, AllocError> {
-    match (name, stream) {
-        ("next", stream) => put_answer(alloc, told, stream.next()),
-        ("finish", stream) => put_answer(alloc, told, stream.finish()),
-        ("next_text", AnyStream::Whole(stream)) => put_text(told, stream.next_text()),
-        ("finish_text", AnyStream::Whole(stream)) => {
-            if stream.next().is_some() {
-                return Ok(false);
-            }
-            put_text(told, Some(stream.finish_text()))
-        }
-        _ => Ok(false),
+    match name {
+        "next" => put_answer(alloc, told, stream.next()),
+        "finish" => put_answer(alloc, told, stream.finish()),
+        _ => match stream {
+            AnyStream::Whole(stream) => put_text_call(told, stream, name),
+            AnyStream::Bounded(_) => put_text(told, Some(Ok("no such call"))),
+        },
     }
 }
 
