@@ -65,6 +65,11 @@ def code_words(text):
     return {word for span in re.findall(r"`([^`]+)`", text) for word in re.findall(r"[A-Za-z_]\w*", span)}
 
 
+def without_types(name):
+    """A name of a type or a method without the types in `<>`."""
+    return re.sub(r"<(?:[^<>]|<[^<>]*>)*>", "", name)
+
+
 def calls_of(crates, names, modules):
     """The functions that have one of these names, or whose type and trait have, or that are in one of these modules: of each the words
     that name it, its name, its clauses and its file."""
@@ -73,7 +78,7 @@ def calls_of(crates, names, modules):
     for path, text in files.items():
         for name, entries in surface([text]).items():
             owner, _, method = name.rpartition("::")
-            owners = set(re.findall(r"\w+", re.sub(r"<(?:[^<>]|<[^<>]*>)*>", "", owner)))
+            owners = set(re.findall(r"\w+", without_types(owner)))
             clauses = [line for head, *lines in entries if "fn " in head for line in lines]
             is_handed_on = owners & names and not owners & hidden if owner else method in names or path.stem in modules
             if "fn " in entries[0][0] and (is_handed_on or 'extern "C"' in entries[0][0]):

@@ -18,7 +18,7 @@ from typing import NamedTuple
 from bodies import bodies_of
 from clauses import bare, function, members
 from definitions import LIBRARIES
-from promises import TOP, handed_on_calls, read
+from promises import TOP, handed_on_calls, read, without_types
 
 INNER = r"(?:[^()]|\((?:[^()]|\((?:[^()]|\([^()]*\))*\))*\))*"  # what is between two brackets
 ONE_CALL = re.compile(rf"\s*((?:\w+::)*|self\.)(\w+)\({INNER}\)\s*")
@@ -62,46 +62,46 @@ def changes():
 
 
 def called_by(caller, functions):
-    """The functions that a body may call which is one call."""
+    """The functions that the body of a caller may call, if it is one call."""
     found = ONE_CALL.fullmatch(caller.body.strip()[1:-1])
     if not found:
         return []
-    plain = {each: re.sub(r"<(?:[^<>]|<[^<>]*>)*>", "", each.name) for each in functions}
-    owner = re.sub(r"<(?:[^<>]|<[^<>]*>)*>", "", caller.name).rpartition("::")[0]
+    owner = without_types(caller.name).rpartition("::")[0]
     name = re.sub(r"^(self\.|Self::)", f"{owner}::", found[1]) + found[2]
-    named = [each for each in functions if plain[each] == name]
-    return [each for each in named if each.path == caller.path] or named if len(named) > 1 else named
+    named = [each for each in functions if without_types(each.name) == name]
+    return [each for each in named if each.path == caller.path] or named
 
 
 def witnesses(functions):
-    """The names of the changes of each function."""
+    """The names of the edits and bodies that change each function."""
     found = {each: [] for each in functions}
-    by_path = {}
-    for each in functions:
-        by_path.setdefault(each.path, []).append(each)
     for name, path, at, old in changes():
-        for each in by_path.get(path, []):
-            if at >= 0 and each.is_changed_at(at, old) and name not in found[each]:
+        for each in functions:
+            if each.path == path and each.is_changed_at(at, old) and name not in found[each]:
                 found[each].append(name)
     return found
 
 
-def main(words):
+def witnesses_of_calls():
+    """Each public call with a body, and its witnesses."""
     paths = [path for crate in LIBRARIES for path in sorted((TOP / "crates" / crate / "src").rglob("*.rt"))]
     functions = [each for path in paths for each in functions_in(path)]
     public = {(path, name) for _, name, _, path in handed_on_calls() if path.stem != "laws" and not name.startswith(NOT_PROMISED)}
-    calls, found = [each for each in functions if (each.path, each.name) in public], witnesses(functions)
-    bare_calls = []
-    for call in calls:
-        handed = [f"by {inner.name}: {name}" for inner in called_by(call, functions) for name in found[inner]]
-        told = f"{call.path.relative_to(TOP / 'crates')}: {call.name}"
-        if words == ["--list"]:
-            print(f"{told}: {', '.join(found[call] or handed)}")
-        if not found[call] and not handed:
-            bare_calls.append(told)
-    print("\n".join(f"witnesses: no edit and no body changes {told}" for told in bare_calls)
+    found = witnesses(functions)
+    for call in functions:
+        if (call.path, call.name) in public:
+            handed = [f"by {inner.name}: {name}" for inner in called_by(call, functions) for name in found[inner]]
+            yield f"{call.path.relative_to(TOP / 'crates')}: {call.name}", found[call] or handed
+
+
+def main(words):
+    calls = list(witnesses_of_calls())
+    if words == ["--list"]:
+        print("\n".join(f"{call}: {', '.join(names)}" for call, names in calls))
+    alone = [call for call, names in calls if not names]
+    print("\n".join(f"witnesses: no edit and no body changes {call}" for call in alone)
           or f"witnesses: each of {len(calls)} public calls with a body has an edit or a body that changes it")
-    return 1 if bare_calls else 0
+    return 1 if alone else 0
 
 
 if __name__ == "__main__":
