@@ -1,16 +1,20 @@
 #!/usr/bin/env python3
 """Wrong bodies that the prover must refuse, of checks/bodies/CRATE.edits.
 
-    checks/bodies.py                   prints each body whose `old` text is not just once in its file
+    checks/bodies.py                   prints each body whose `old` text is not just once in its file, and where must-fail/ has more
+                                       edits than the gate has time for; status 1 if there is anything to print
     checks/bodies.py --write FOLDER    writes the bodies of each crate as edits into FOLDER/CRATE/must-fail
 
 A file has the bodies of a crate, each after a line `== NAME`, in the form of an edit of must-fail/.
 """
+import collections
 import pathlib
 import re
 import sys
 
 TOP = pathlib.Path(__file__).resolve().parent.parent
+# So many edits a crate may have in must-fail/, and all crates together.
+MOST_OF_A_CRATE, MOST = 12, 120
 
 
 def bodies_of(path):
@@ -37,8 +41,18 @@ def misses(crate, name, text):
     return told
 
 
+def too_many():
+    """Tells which crates have more edits than a crate may have, and whether all have."""
+    counts = collections.Counter(path.parts[-3] for path in TOP.glob("crates/*/must-fail/*.edit"))
+    told = [f"{crate}: {count} edits, where a crate may have {MOST_OF_A_CRATE}" for crate, count in sorted(counts.items())
+            if count > MOST_OF_A_CRATE]
+    if counts.total() > MOST:
+        told.append(f"{counts.total()} edits in all, where there may be {MOST}")
+    return told
+
+
 def main(arguments):
-    told, count = [], 0
+    told, count = too_many(), 0
     for path in sorted((TOP / "checks" / "bodies").glob("*.edits")):
         edits = {it.stem for it in (TOP / "crates" / path.stem / "must-fail").glob("*.edit")}
         for name, text in bodies_of(path):

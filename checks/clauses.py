@@ -21,7 +21,7 @@ import sys
 from pathlib import Path
 
 TOP = Path(__file__).resolve().parent.parent
-HEAD = re.compile(r'( *)(pub )?((?:const |unsafe |extern "C" )*fn (\w+).*)')
+HEAD = re.compile(r'( *)(pub )?(?:pub\(\w+\) )?((?:const |unsafe |extern "C" )*fn (\w+).*)')
 CLAUSE = re.compile(r"\s*((?:requires|ensures|decreases)\*?(?: \w+)?) *\{")
 
 
@@ -64,14 +64,14 @@ def one_line(text):
 
 
 def function(text):
-    """The head and the clauses of the function that a text begins with."""
-    begun = re.search(r"\n\s*(?:requires|ensures|decreases)\b|\s*\{|;", text)
+    """The head and the clauses of the function that a text begins with, and the place after them."""
+    begun = re.search(r"\n\s*(?:requires|ensures|decreases)\b|\s*\{|;$", text, re.M)
     head, at = one_line(text[:begun.start()]), begun.start()
     clauses = []
     while found := CLAUSE.match(text, at):
         at = closing(text, found.end() - 1)
         clauses.append(one_line(f"{found[1]} {text[found.end() - 1:at]}"))
-    return head, clauses
+    return head, clauses, at
 
 
 def container(line):
@@ -82,24 +82,37 @@ def container(line):
     return name.split(" where")[0].strip(), (kind == "impl" and " for " in name) or (kind == "trait" and line.startswith("pub "))
 
 
+def bare(text):
+    """A text with a space for each character of a line that is a comment."""
+    return re.sub(r"(?m)^[ \t]*//.*", lambda line: " " * len(line[0]), text)
+
+
+def members(text):
+    """Of each function of a bare text, and of what each impl says of its type, the name with that of its type or trait, whether it is
+    public, what it is, and its place. What a line at the margin opens is its type or trait."""
+    name, is_public, place = "", False, 0
+    for line in text.split("\n"):
+        here, place = place, place + len(line) + 1
+        if re.match(r"(pub )?(unsafe )?(impl|trait|mod)\b.*\{", line):
+            name, is_public = container(line)
+        elif line == "}":
+            name, is_public = "", False
+        elif (head := HEAD.match(line)) and len(head[1]) <= 4:
+            yield f"{name}::{head[4]}" if head[1] else head[4], bool(head[2] or head[1] and is_public), "fn", here
+        elif (ghost := re.match(r"    ghost (\w+)(?: =|:) \{", line)) and ghost[1] != "use":
+            yield f"{name}::{ghost[1]}", is_public, "ghost", here
+
+
 def surface(files):
     """Of each public function its head and clauses, and of each impl what it says of its type, by name."""
     found = {}
-    for text in files:
-        text = "\n".join(line for line in text.split("\n") if not re.match(r"\s*//", line))
-        name, is_public, place = "", False, 0
-        for line in text.split("\n"):
-            here, place = place, place + len(line) + 1
-            if re.match(r"(pub )?(unsafe )?(impl|trait|mod)\b.*\{", line):
-                name, is_public = container(line)
-            elif line == "}":
-                name, is_public = "", False
-            elif (head := HEAD.match(line)) and len(head[1]) <= 4 and (head[2] or (head[1] and is_public)):
-                entry = function(text[here:])
-                found.setdefault(f"{name}::{head[4]}" if head[1] else head[4], []).append([entry[0], *entry[1]])
-            elif is_public and (ghost := re.match(r"    ghost (\w+)(?: =|:) \{", line)) and ghost[1] != "use":
-                body = one_line(text[here:closing(text, here + ghost.end() - 1)])
-                found.setdefault(f"{name}::{ghost[1]}", []).append([body])
+    for text in map(bare, files):
+        for name, is_public, what, here in members(text):
+            if is_public and what == "fn":
+                head, clauses, _ = function(text[here:])
+                found.setdefault(name, []).append([head, *clauses])
+            elif is_public:
+                found.setdefault(name, []).append([one_line(text[here:closing(text, text.index("{", here))])])
     return {name: sorted(entries) for name, entries in sorted(found.items())}
 
 

@@ -65,27 +65,38 @@ def code_words(text):
     return {word for span in re.findall(r"`([^`]+)`", text) for word in re.findall(r"[A-Za-z_]\w*", span)}
 
 
+def without_types(name):
+    """A name of a type or a method without the types in `<>`."""
+    return re.sub(r"<(?:[^<>]|<[^<>]*>)*>", "", name)
+
+
 def calls_of(crates, names, modules):
-    """The calls with a clause that have one of these names, or whose type and trait have, or that are in one of these modules: of
-    each the words that name it, its name and its clauses."""
+    """The functions that have one of these names, or whose type and trait have, or that are in one of these modules: of each the words
+    that name it, its name, its clauses and its file."""
     files = {path: read(path) for crate in crates for path in sorted((TOP / "crates" / crate / "src").rglob("*.rt"))}
     hidden = {word for text in files.values() for word in re.findall(r"\b(?:struct|enum|trait) (\w+)", text)} - names
     for path, text in files.items():
         for name, entries in surface([text]).items():
             owner, _, method = name.rpartition("::")
-            owners = set(re.findall(r"\w+", re.sub(r"<(?:[^<>]|<[^<>]*>)*>", "", owner)))
+            owners = set(re.findall(r"\w+", without_types(owner)))
             clauses = [line for head, *lines in entries if "fn " in head for line in lines]
             is_handed_on = owners & names and not owners & hidden if owner else method in names or path.stem in modules
-            if clauses and (is_handed_on or 'extern "C"' in entries[0][0]):
-                yield owners & names | {method}, name, clauses
+            if "fn " in entries[0][0] and (is_handed_on or 'extern "C"' in entries[0][0]):
+                yield owners & names | {method}, name, clauses, path
 
 
-def public_calls():
+def handed_on_calls():
+    """Every public call, also one without a clause of its own."""
     found = list(calls_of(["lp_c"], set(), set()))
     for root, crates in ROOTS.items():
         modules = re.findall(r"^pub mod (\w+);", read(TOP / "crates" / root / "src" / "lib.rt"), re.M)
         found += [*calls_of(crates, handed_on(root), set()), *calls_of([root], set(), modules)]
     return found
+
+
+def public_calls():
+    """The words that name each public call with a clause, its name and its clauses."""
+    return [(words, name, clauses) for words, name, clauses, _ in handed_on_calls() if clauses]
 
 
 def unnamed_calls(calls):
