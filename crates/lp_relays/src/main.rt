@@ -60,12 +60,11 @@ fn is_as_asked(
             let count = number(alloc, count.as_slice())?;
             rebuilt::ends_are(alloc, dialect, text, count, text_of(ends.as_slice()))
         }
-        ("short_texts", [most, count]) => {
+        ("short_texts", [count]) => {
             let bytes = text
                 .as_array()
                 .ok_or(told(alloc, "there are not seven bytes"))?;
-            let most = number(alloc, most.as_slice())?;
-            rebuilt::short_texts_agree(alloc, dialect, bytes, most, count.as_slice())
+            rebuilt::short_texts_agree(alloc, dialect, bytes, count.as_slice())
         }
         ("random", [count]) => {
             let seed = number(alloc, text)?;

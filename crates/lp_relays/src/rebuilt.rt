@@ -107,47 +107,51 @@ pub fn ends_are(
     )
 }
 
-// A text, cut in each of so many ways, is relayed as it is rebuilt.
-fn cut_text_agrees(alloc: Global, dialect: Dialect, text: &str, ways: u64) -> Result<(), Unlike> {
+// A text, cut in each of so many ways, is relayed as it is rebuilt. Of 32 ways those are tried that cut it once or not at all. Gives
+// how many are tried.
+fn cut_text_agrees(alloc: Global, dialect: Dialect, text: &str, ways: u64) -> Result<u64, Unlike> {
     let rebuilt = rebuild_in(alloc, dialect, text)?;
+    let mut tried = 0u64;
     for cuts in 0..ways {
-        relay_agrees(alloc, dialect, text, Way::Cut(cuts), &rebuilt)?;
+        if ways < 32 || cuts & cuts.wrapping_sub(1) == 0 {
+            relay_agrees(alloc, dialect, text, Way::Cut(cuts), &rebuilt)?;
+            tried = tried.saturating_add(1);
+        }
     }
-    Ok(())
+    Ok(tried)
 }
 
-// Each text that fills the buffer, so many, is relayed so.
+// Each text that fills the buffer, so many, is relayed so. Gives how many cut texts there are.
 fn texts_agree(
     alloc: Global,
     dialect: Dialect,
     bytes: &[u8; 7],
     buffer: &mut [u8],
     (count, ways): (u32, u64),
-) -> Result<(), Unlike> {
+) -> Result<u64, Unlike> {
+    let mut tried = 0u64;
     for number in 0..count {
         let Ok(text) = short_text(buffer, bytes, number) else {
             return Err(told(alloc, "the bytes are not ASCII"));
         };
-        cut_text_agrees(alloc, dialect, text, ways)?;
+        tried = tried.saturating_add(cut_text_agrees(alloc, dialect, text, ways)?);
     }
-    Ok(())
+    Ok(tried)
 }
 
-/// All texts of at most so many bytes over these, cut in every way, are relayed as they are rebuilt, and are so many.
+/// All texts of at most six bytes over these are relayed as they are rebuilt, and there are so many cut texts: those of at most five
+/// bytes are cut in every way, the others at each single place.
 pub fn short_texts_agree(
     alloc: Global,
     dialect: Dialect,
     bytes: &[u8; 7],
-    most: usize,
     wanted: &[u8],
 ) -> Result<(), Unlike> {
     let mut buffer = [b't'; 6];
     let mut cut_texts = 0u64;
     for (len, (count, ways)) in COUNTS.iter().enumerate() {
-        if len <= most {
-            texts_agree(alloc, dialect, bytes, &mut buffer[..len], (*count, *ways))?;
-            cut_texts = cut_texts.saturating_add(ways.saturating_mul(*count as u64));
-        }
+        let tried = texts_agree(alloc, dialect, bytes, &mut buffer[..len], (*count, *ways))?;
+        cut_texts = cut_texts.saturating_add(tried);
     }
     let given = format!(in alloc; "{cut_texts}")?;
     same(alloc, "the cut texts", given.as_bytes(), wanted)
