@@ -12,7 +12,7 @@ use std::process::ExitCode;
 
 // The table of answers.
 #[derive(Drop)]
-struct Answers;
+struct TableOfAnswers;
 
 // What the library gives for a text otherwise than is wanted.
 fn difference(
@@ -30,7 +30,7 @@ fn difference(
     unless_same(alloc, asked, given.as_bytes(), wanted)
 }
 
-impl Table for Answers {
+impl Table for TableOfAnswers {
     fn kinds(&self) -> &[&str] {
         KINDS
     }
@@ -61,5 +61,5 @@ impl Table for Answers {
 }
 
 fn main(rt: HostRuntime) -> ExitCode {
-    compare(&rt, "lp_answers", &Answers)
+    compare(&rt, "lp_answers", &TableOfAnswers)
 }

@@ -60,25 +60,41 @@ fn writes_whole<const CAP: usize>(rt: &impl Abort, line: &ParsedLine<'_>) -> Res
     Ok(())
 }
 
-macro_rules! at_capacities {
-    ($rt:expr, $line:expr, [$($capacity:literal),*]) => {
-        $(
-            writes_by_calls::<$capacity>($rt)?;
-            writes_whole::<$capacity>($rt, $line)?;
-        )*
+macro_rules! at_each_capacity {
+    ($check:ident, $($argument:expr),*) => {
+        $check::<0>($($argument),*)?;
+        $check::<1>($($argument),*)?;
+        $check::<2>($($argument),*)?;
+        $check::<3>($($argument),*)?;
+        $check::<4>($($argument),*)?;
+        $check::<5>($($argument),*)?;
+        $check::<6>($($argument),*)?;
+        $check::<7>($($argument),*)?;
+        $check::<8>($($argument),*)?;
+        $check::<9>($($argument),*)?;
+        $check::<10>($($argument),*)?;
+        $check::<11>($($argument),*)?;
+        $check::<12>($($argument),*)?;
+        $check::<13>($($argument),*)?;
+        $check::<14>($($argument),*)?;
+        $check::<15>($($argument),*)?;
+        $check::<16>($($argument),*)?;
+        $check::<17>($($argument),*)?;
+        $check::<18>($($argument),*)?;
+        $check::<19>($($argument),*)?;
     };
 }
 
 #[test]
-fn a_line_that_does_not_fit_is_refused(rt: HostRuntime) -> Result<(), Fault> {
+fn the_call_that_does_not_fit_is_refused(rt: HostRuntime) -> Result<(), Fault> {
+    at_each_capacity!(writes_by_calls, &rt);
+    Ok(())
+}
+
+#[test]
+fn a_line_that_does_not_fit_is_refused_as_a_whole(rt: HostRuntime) -> Result<(), Fault> {
     let line = parsed(rt.alloc(), LINE)?;
-    at_capacities!(
-        &rt,
-        &line,
-        [
-            0, 1, 2, 3, 4, 5, 6, 7, 8, 9, 10, 11, 12, 13, 14, 15, 16, 17, 18, 19
-        ]
-    );
+    at_each_capacity!(writes_whole, &rt, &line);
     Ok(())
 }
 
