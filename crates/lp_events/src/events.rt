@@ -1,7 +1,7 @@
 //! Lines, told to a sink part by part, with no memory.
 
 ghost use Rattle.std.specs.Prelude.{◌≡◌, ◌<◌, ◌++◌, ℕ, List, length, slice_index, IfOk, IfSome};
-ghost use Rattle.lp_format.specs.format.{space, answer, field, field_set, front_before, separated_list, tag, tag_set};
+ghost use Rattle.lp_format.specs.format.{space, answer, field, front_before, tag};
 ghost use Rattle.lp_split.specs.code.{rules_of};
 ghost use Rattle.lp_values.specs.code.SpelledParts.{GivesSpelled, spelled_fault, spelled_text};
 ghost use Rattle.lp_events.specs.code.Events.{AreCounted, AreEventsOf, AreEventsOfText, AreFields, AreTags, AreToldBefore, Event};
@@ -93,7 +93,7 @@ pub(crate) fn field<'a>(text: &'a str) -> Front<'a, (Spelled<'a>, SpelledValue<'
 #[tactic(auto, using(crate::proofs::lemmas::events::LineEvents::told_all))]
 #[inline(always)]
 fn tags<'a, S: EventSink<'a>>(text: &'a str, sink: &mut S) -> Front<'a, usize>
-    ensures { WasToldParts S.takes tagged sink.old sink.new (AreCounted result (separated_list tag text.now)) }
+    ensures { WasToldParts S.takes tagged sink.old sink.new (AreCounted result tag text.now) }
 {
     let mut count = 0;
     let mut rest = text;
@@ -117,7 +117,7 @@ fn tags<'a, S: EventSink<'a>>(text: &'a str, sink: &mut S) -> Front<'a, usize>
 #[tactic(auto, using(crate::proofs::lemmas::events::LineEvents::told_all))]
 #[inline(always)]
 fn fields<'a, S: EventSink<'a>>(text: &'a str, sink: &mut S) -> Front<'a, usize>
-    ensures { WasToldParts S.takes valued sink.old sink.new (AreCounted result (separated_list field text.now)) }
+    ensures { WasToldParts S.takes valued sink.old sink.new (AreCounted result field text.now) }
 {
     let mut count = 0;
     let mut rest = text;
@@ -140,7 +140,7 @@ fn fields<'a, S: EventSink<'a>>(text: &'a str, sink: &mut S) -> Front<'a, usize>
 // Tells the tags after the comma at the start of `text`, and gives the rest. If no comma is there, there are none.
 #[inline(always)]
 fn tag_set<'a, S: EventSink<'a>>(text: &'a str, sink: &mut S) -> Result<&'a str, SpelledFault<'a>>
-    ensures { WasToldParts S.takes tagged sink.old sink.new (AreTags result (tag_set text.now)) }
+    ensures { WasToldParts S.takes tagged sink.old sink.new (AreTags result text.now) }
 {
     let Some(rest) = strip_byte(b',', text) else {
         return Ok(text);
@@ -159,7 +159,7 @@ fn field_set<'a, S: EventSink<'a>>(
     text: &'a str,
     sink: &mut S,
 ) -> Result<Option<&'a str>, SpelledFault<'a>>
-    ensures { WasToldParts S.takes valued sink.old sink.new (AreFields result (field_set (rules_of dialect) text.now)) }
+    ensures { WasToldParts S.takes valued sink.old sink.new (AreFields result (rules_of dialect) text.now) }
 {
     let Some((count, rest)) = fields(text, sink)? else {
         return Ok(None);
@@ -188,7 +188,7 @@ fn parts<'a, S: EventSink<'a>>(
     line: &'a str,
     sink: &mut S,
 ) -> Result<(), SpelledFault<'a>>
-    ensures { WasTold S.takes sink.old sink.new (AreToldBefore result (answer (rules_of dialect) line.now)) }
+    ensures { WasTold S.takes sink.old sink.new (AreToldBefore result line.now (answer (rules_of dialect) line.now)) }
 {
     let Some((measurement, rest)) = spelled_parts::name(NameKind::Measurement, line)? else {
         return Err(SpelledFault::MeasurementValueInvalid);
@@ -223,7 +223,7 @@ fn parts<'a, S: EventSink<'a>>(
 /// ```
 #[inline(always)]
 pub fn read_line_events<'a, S: EventSink<'a>>(dialect: Dialect, line: &'a str, sink: &mut S)
-    ensures { WasTold S.takes sink.old sink.new (λ events. AreEventsOf events (answer (rules_of dialect) line.now)) }
+    ensures { WasTold S.takes sink.old sink.new (λ events. AreEventsOf line.now events (answer (rules_of dialect) line.now)) }
 {
     if let Err(fault) = parts(dialect, line, sink) {
         sink.fault(fault);

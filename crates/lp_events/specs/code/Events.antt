@@ -1,7 +1,9 @@
 -- What a reader of lines tells a sink.
-use Rattle.std.specs.Prelude.{◌≡◌, ◌⊎◌, ◌++◌, ℕ, ℤ, List, [], ◌∷◌, map, length, Option, Some, None, Result, Ok, Err}
+use Rattle.std.specs.Prelude.{◌≡◌, ◌⊎◌, ◌++◌, ◌≤◌, ℕ, ℤ, List, [], ◌∷◌, map, drop, length, Option, Some, None, Result, Ok, Err}
 use Rattle.std.specs.Borrow.{Bor}
-use Rattle.lp_format.specs.format.{Dialect, HasAnswers, Line, some_tags, Pair, Fault, Read, Reading, Text, miss, fatal, reads, Value}
+use Rattle.lp_format.specs.format.{space, Dialect, Line, answers_of_piece, byte, field, field_set, separated_list, some_tags, spaces, tag, tag_set}
+use Rattle.lp_format.specs.format.{Pieces.Pieces, a_measurement, name, Pair, Fault, Reading, Text, miss, fatal, reads, trimmed, Value}
+use Rattle.lp_format.specs.laws.Meanings.{LongestList, NextHasFault, SeparatedAfterComma, SeparatedBy}
 use Rattle.lp_values.specs.declared.{spelled.Spelled.Spelled, spelled.SpelledFault.SpelledFault, spelled.SpelledValue.SpelledValue}
 use Rattle.lp_values.specs.code.SpelledParts.{spelled_fault, spelled_text, spelled_value}
 
@@ -21,29 +23,57 @@ front_events measurement tags fields = named measurement ∷ map tagged tags ++ 
 abbrev pub events_of_line : Line → List Event
 events_of_line l = front_events l.measurement (some_tags l.tags) l.fields ++ ended l.series l.timestamp ∷ []
 
--- a front of the events of some line, without the end
-abbrev pub AreFrontEvents : List Event → Type 0
-AreFrontEvents events =
+-- these fields come after spaces in a text, joined by commas; or there are none
+abbrev pub AreFieldsAfterSpaces : List (Pair Text (Value Text)) → List ℕ → Type 0
+AreFieldsAfterSpaces [] text = Unit {0}
+AreFieldsAfterSpaces (f ∷ fields) text =
+    (gap rest : List ℕ) × (byte space text ≡ reads space gap) × SeparatedBy field (f ∷ fields) (drop (spaces text) text) rest
+
+-- these read, one after another, from the start of a line: a measurement, tags, each after a comma, and fields after spaces
+pub record AreAtStart (line : List ℕ) (measurement : Text) (tags : List (Pair Text Text)) (fields : List (Pair Text (Value Text)))
+    : Type 0 where
+  pub after_name : List ℕ
+  pub after_tags : List ℕ
+  pub named : name a_measurement line ≡ reads measurement after_name
+  pub tags_are : SeparatedAfterComma tag tags after_name after_tags
+  pub fields_are : AreFieldsAfterSpaces fields after_tags
+
+-- a front of the parts of a line: none, or a measurement and the tags and fields that read after it
+abbrev pub AreFrontEvents : List ℕ → List Event → Type 0
+AreFrontEvents line events =
     (events ≡ [])
     ⊎ ((measurement : Text) × (tags : List (Pair Text Text)) × (fields : List (Pair Text (Value Text)))
-    × (events ≡ front_events measurement tags fields))
+    × AreAtStart line measurement tags fields × (events ≡ front_events measurement tags fields))
 
--- the events of an answer: those of the line that was read; or parts of a line, and then the fault
-abbrev pub AreEventsOf : List Event → Result Line Fault → Type 0
-AreEventsOf events (Ok line) = events ≡ events_of_line line
-AreEventsOf events (Err fault) = (front : List Event) × AreFrontEvents front × (events ≡ front ++ failed fault ∷ [])
+-- the longest front of the parts of a line: all that read before the place where reading stops
+pub record AreLongestFront (line : List ℕ) (events : List Event) : Type 0 where
+  pub front : AreFrontEvents line events
+  pub longest : (others : List Event) → AreFrontEvents line others → length others ≤ length events
 
--- the events of answers, one answer after another
-abbrev pub AreEventsOfAll : List Event → List (Result Line Fault) → Type 0
-AreEventsOfAll events [] = events ≡ []
-AreEventsOfAll events (answer ∷ answers) =
-    (first others : List Event) × (events ≡ first ++ others) × AreEventsOf first answer × AreEventsOfAll others answers
+-- the events of a line that has this answer: those of what was read; or the longest front of its parts, and then the fault
+abbrev pub AreEventsOf : List ℕ → List Event → Result Line Fault → Type 0
+AreEventsOf line events (Ok l) = events ≡ events_of_line l
+AreEventsOf line events (Err fault) = (front : List Event) × AreLongestFront line front × (events ≡ front ++ failed fault ∷ [])
 
--- the events of a text are those of its answers
+-- the events of a piece: those of the line that it holds, by its answer; or none, if it has no answer
+abbrev pub AreEventsOfPiece : Dialect → List Event → List ℕ → Type 0
+AreEventsOfPiece dialect events piece = by_answer (answers_of_piece dialect piece)
+  where
+    by_answer : List (Result Line Fault) → Type 0
+    by_answer [] = events ≡ []
+    by_answer (answer ∷ others) = AreEventsOf (trimmed piece) events answer
+
+-- the events of pieces, one piece after another
+abbrev pub AreEventsOfAll : Dialect → List Event → List (List ℕ) → Type 0
+AreEventsOfAll dialect events [] = events ≡ []
+AreEventsOfAll dialect events (piece ∷ pieces) =
+    (first others : List Event) × (events ≡ first ++ others) × AreEventsOfPiece dialect first piece × AreEventsOfAll dialect others pieces
+
+-- the events of a text are those of its pieces
 pub record AreEventsOfText (dialect : Dialect) (text : List ℕ) (events : List Event) : Type 0 where
-  pub answers : List (Result Line Fault)
-  pub has : HasAnswers dialect text answers
-  pub are : AreEventsOfAll events answers
+  pub pieces : List (List ℕ)
+  pub has : Pieces dialect text pieces
+  pub are : AreEventsOfAll dialect events pieces
 
 -- a sink comes from one state to another if it takes these events, one after another
 abbrev pub TakesAll : {S : Type 0} → (S → Event → S → Type 0) → S → List Event → S → Type 0
@@ -71,25 +101,35 @@ spelled_tag t = record { key = spelled_text t.0; value = spelled_text t.1 }
 abbrev pub spelled_field : Spelled × SpelledValue → Pair Text (Value Text)
 spelled_field f = record { key = spelled_text f.0; value = spelled_value f.1 }
 
--- with their number and the rest that the code returned, these are what reading gives, or the fault is that one
-abbrev pub AreCounted : {A : Type 0} → Result (Option (ℕ × Bor (List ℕ))) SpelledFault → Reading (List A) → List A → Type 0
-AreCounted (Ok None) reading parts = reading ≡ miss
-AreCounted (Ok (Some p)) reading parts = (p.0 ≡ length parts) × (reading ≡ reads parts p.1.now)
-AreCounted (Err e) reading parts = reading ≡ fatal (spelled_fault e)
+-- the most tags that read after a name, each after a comma, and what is left
+pub record AreMostTags (text : List ℕ) (tags : List (Pair Text Text)) (rest : List ℕ) : Type 0 where
+  pub are : SeparatedAfterComma tag tags text rest
+  pub most : (others : List (Pair Text Text)) (after : List ℕ) → SeparatedAfterComma tag others text after → length others ≤ length tags
 
--- with the rest that the code returned these are the fields to be read, or the fault is that one
-abbrev pub AreFields : {A : Type 0} → Result (Option (Bor (List ℕ))) SpelledFault → Reading (List A) → List A → Type 0
-AreFields (Ok None) reading parts = reading ≡ miss
-AreFields (Ok (Some rest)) reading parts = reading ≡ reads parts rest.now
-AreFields (Err e) reading parts = reading ≡ fatal (spelled_fault e)
+-- these are the most parts that read at the start of a text, and the next one has this fault
+abbrev pub AreBeforeFault : {A : Type 0} → (List ℕ → Reading A) → List ℕ → List A → Fault → Type 0
+AreBeforeFault one text parts fault = (rest : List ℕ) × LongestList one text parts rest × NextHasFault one parts rest fault
 
--- with the rest that the code returned these are the tags to be read, or the fault is that one
-abbrev pub AreTags : {A : Type 0} → Result (Bor (List ℕ)) SpelledFault → Result (Read (Option (List A))) Fault → List A → Type 0
-AreTags {A} (Ok rest) wanted parts =
-    (set : Option (List A)) × (wanted ≡ Ok (record { value = set; rest = rest.now })) × (some_tags set ≡ parts)
-AreTags (Err e) wanted parts = wanted ≡ Err (spelled_fault e)
+-- with their number and the rest that the code returned, these are what reading gives; or the next one has the fault
+abbrev pub AreCounted : {A : Type 0} → Result (Option (ℕ × Bor (List ℕ))) SpelledFault → (List ℕ → Reading A) → List ℕ → List A → Type 0
+AreCounted (Ok None) one text parts = (one text ≡ miss) × (parts ≡ [])
+AreCounted (Ok (Some p)) one text parts = (p.0 ≡ length parts) × (separated_list one text ≡ reads parts p.1.now)
+AreCounted (Err e) one text parts = AreBeforeFault one text parts (spelled_fault e)
 
--- these are the events of the line that is the answer; or parts of a line, if the code returned the fault
-abbrev pub AreToldBefore : {X : Type 0} → Result X SpelledFault → Result Line Fault → List Event → Type 0
-AreToldBefore (Ok done) answer events = (line : Line) × (answer ≡ Ok line) × (events ≡ events_of_line line)
-AreToldBefore (Err e) answer events = (answer ≡ Err (spelled_fault e)) × AreFrontEvents events
+-- with the rest that the code returned these are the fields to be read; or the next one has the fault
+abbrev pub AreFields : Result (Option (Bor (List ℕ))) SpelledFault → Dialect → List ℕ → List (Pair Text (Value Text)) → Type 0
+AreFields (Ok None) dialect text parts = (field text ≡ miss) × (parts ≡ [])
+AreFields (Ok (Some rest)) dialect text parts = field_set dialect text ≡ reads parts rest.now
+AreFields (Err e) dialect text parts = AreBeforeFault field text parts (spelled_fault e)
+
+-- with the rest that the code returned these are the tags to be read; or the tag set has the fault, and no fields come after them
+abbrev pub AreTags : Result (Bor (List ℕ)) SpelledFault → List ℕ → List (Pair Text Text) → Type 0
+AreTags (Ok rest) text parts =
+    (set : Option (List (Pair Text Text))) × (tag_set text ≡ Ok (record { value = set; rest = rest.now })) × (some_tags set ≡ parts)
+AreTags (Err e) text parts =
+    (tag_set text ≡ Err (spelled_fault e)) × (rest : List ℕ) × AreMostTags text parts rest × (byte space rest ≡ miss)
+
+-- these are the events of the line, whose answer is this; or the longest front of its parts, if the code returned the fault
+abbrev pub AreToldBefore : {X : Type 0} → Result X SpelledFault → List ℕ → Result Line Fault → List Event → Type 0
+AreToldBefore (Ok done) line answer events = (l : Line) × (answer ≡ Ok l) × (events ≡ events_of_line l)
+AreToldBefore (Err e) line answer events = (answer ≡ Err (spelled_fault e)) × AreLongestFront line events

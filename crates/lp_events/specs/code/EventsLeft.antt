@@ -1,9 +1,10 @@
 -- The events that are left of a text, from a place in one of its lines on.
 use Rattle.std.specs.Prelude.{◌≡◌, ℕ, ◌+◌, ◌<◌, ◌≤◌, ◌==◌, Bool, true, false, List, [], ◌∷◌, ◌++◌, drop, length, Option, Some, None, Result}
 use Rattle.std.specs.Prelude.{Ok, Err}
-use Rattle.lp_format.specs.format.{comma, space, answers_of, after_comma, answer, byte, field, front_before, many, prepend, separated_list}
+use Rattle.lp_format.specs.format.{comma, space, after_comma, answer, byte, field, front_before, many, prepend, separated_list}
 use Rattle.lp_format.specs.format.{some_tags, spaces, tag, tag_set, a_measurement, name, Left, PiecesLeft, most_pieces, Pair, Reading, Text}
 use Rattle.lp_format.specs.format.{reads, Value}
+use Rattle.lp_format.specs.laws.Meanings.{SeparatedBy}
 use Rattle.lp_values.specs.code.SpelledParts.{spelled_fault, spelled_text}
 use Rattle.lp_values.specs.declared.spelled.SpelledFault.{SpelledFault}
 use Rattle.lp_events.specs.code.Events.{AreEventsOf, AreEventsOfAll, Event, ended, failed, front_events, named, spelled_field, spelled_tag}
@@ -21,9 +22,11 @@ told (Field key value) = valued (spelled_field (key, value))
 told (End series timestamp) = ended series.now timestamp
 told (Fault fault) = failed (spelled_fault fault)
 
--- what is read of a text whose front was read: `done` was read, `rest` is left, and the whole is done and as many as
--- are at the start of the rest
+-- what is read of a text whose front was read: `done`, joined by commas, were read, `rest` is left, and the whole is done
+-- and as many as are at the start of the rest
 pub record SoFar {A : Type 0} (one : List ℕ → Reading A) (text : List ℕ) (done : List A) (rest : List ℕ) : Type 0 where
+  pub some : 0 < length done
+  pub done_are : SeparatedBy one done text rest
   pub fuel : ℕ
   pub enough : length rest ≤ fuel
   pub is : separated_list one text ≡ prepend done (many (after_comma one) fuel rest)
@@ -52,21 +55,20 @@ pub record FieldsRead (line series : List ℕ) (measurement : Text) (tags : List
   pub series_is : series ≡ front_before line after
   pub gap_is : byte space after ≡ reads space gap
   pub so_far : SoFar field (drop (spaces after) after) fields rest
-  pub some : 0 < length fields
   pub first_is : is_first ≡ (length fields == 1)
 
 -- the events of the pieces that are left
 pub record AreEventsLeft (left : Left) (events : List Event) : Type 0 where
   pub pieces : List (List ℕ)
   pub are_left : PiecesLeft left pieces
-  pub are : AreEventsOfAll events (answers_of left.dialect pieces)
+  pub are : AreEventsOfAll left.dialect events pieces
 
 -- with the front that was given, the first of these are the events of the line, and the others those of the pieces after it
 pub record Completes (line : List ℕ) (front : List Event) (left : Left) (events : List Event) : Type 0 where
   pub first : List Event
   pub others : List Event
   pub events_are : events ≡ first ++ others
-  pub line_is : AreEventsOf (front ++ first) (answer left.dialect line)
+  pub line_is : AreEventsOf line (front ++ first) (answer left.dialect line)
   pub others_are : AreEventsLeft left others
 
 -- these events are left after the tags of a line, whichever they are

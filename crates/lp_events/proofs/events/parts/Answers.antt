@@ -3,6 +3,7 @@ use Rattle.lp_format.specs.format.{answer}
 use Rattle.lp_values.specs.declared.error.ErrorKind.TheVariants.{TakeWhile1}
 use Rattle.lp_values.specs.declared.spelled.SpelledFault.TheVariants.{CannotParseEntireLine, FieldSetMissing, GenericParsingError}
 use Rattle.lp_events.proofs.lemmas.events.LineEvents.{complete_none, complete_some, fields_fault, line_told, tags_fault}
+use Rattle.lp_events.proofs.lemmas.fields.{FrontLemmas.fields_told, FrontLemmas.front_fields, FrontLemmas.front_names, FrontLemmas.tags_told}
 use Rattle.lp_events.proofs.lemmas.fields.ManyLemmas.{series_ends}
 use Rattle.lp_events.proofs.events.parts.Goals as goal
 
@@ -10,13 +11,17 @@ pub returns-in_err-rest : goal.returns-in_err-rest
 unfolding answer
 returns-in_err-rest g c =
     let p = err_from_is_err_and c.from_residual-in_err-rest.result c.from_residual-in_err-rest.ensures.1 in
-    rw (p.1, p.2) (tags_fault g.S.EventSink.takes _ _ _ _ c.measurement.ensures _ c.in_err-rest.ensures _ _ (grind arith))
+    let name = rw c.in-Some.is at c.in_ok-measurement.ensures.value in
+    let are = c.in_err-rest.ensures.are in
+    rw (p.1, p.2) (tags_fault g.S.EventSink.takes _ _ _ _ c.measurement.ensures _ c.in_err-rest.ensures c.args.line.now _ _ (grind arith)
+    (front_names c.args.line.now _ _ name _ are.1 are.2 are.3))
 
 pub returns-in_default-strip_byte : goal.returns-in_default-strip_byte
 unfolding answer
 returns-in_default-strip_byte g c =
-    tags_fault g.S.EventSink.takes _ _ _ _ c.measurement.ensures _ c.in_ok-rest.ensures _
-    (GenericParsingError TakeWhile1) (grind arith)
+    let name = rw c.in-Some.is at c.in_ok-measurement.ensures.value in
+    tags_fault g.S.EventSink.takes _ _ _ _ c.measurement.ensures _ c.in_ok-rest.ensures c.args.line.now _
+    (GenericParsingError TakeWhile1) (grind arith) (front_names c.args.line.now _ _ name _ _ (tags_told _ _ _ c.in_ok-rest.ensures.are) (grind arith))
 
 pub front_before-series-requires-clause-ends : goal.front_before-series-requires-clause-ends
 front_before-series-requires-clause-ends g c =
@@ -28,32 +33,45 @@ pub returns-in_err-rest-2 : goal.returns-in_err-rest-2
 unfolding answer
 returns-in_err-rest-2 g c =
     let p = err_from_is_err_and c.from_residual-in_err-rest-2.result c.from_residual-in_err-rest-2.ensures.1 in
-    rw (p.1, p.2) (fields_fault g.S.EventSink.takes _ _ _ _ c.measurement.ensures _ c.in_ok-rest.ensures _ _ _
-    c.in_err-rest-2.ensures _ (grind arith))
+    let name = rw c.in-Some.is at c.in_ok-measurement.ensures.value in
+    let most = tags_told _ _ _ c.in_ok-rest.ensures.are in
+    let last = rw c.trim_start_spaces.ensures at (fields_told _ _ _ _ c.in_err-rest-2.ensures.are) in
+    rw (p.1, p.2) (fields_fault g.S.EventSink.takes _ _ _ _ c.measurement.ensures _ c.in_ok-rest.ensures c.args.line.now _ _ _
+    c.in_err-rest-2.ensures _ (grind arith) (front_fields c.args.line.now _ _ name _ _ most ? _ _ (grind arith) last.1))
 
 pub returns-in_default-2 : goal.returns-in_default-2
 unfolding answer
 returns-in_default-2 g c =
-    fields_fault g.S.EventSink.takes _ _ _ _ c.measurement.ensures _ c.in_ok-rest.ensures _ _ _
-    c.in_ok-rest-2.ensures FieldSetMissing (grind arith)
+    let name = rw c.in-Some.is at c.in_ok-measurement.ensures.value in
+    let most = tags_told _ _ _ c.in_ok-rest.ensures.are in
+    let last = rw c.trim_start_spaces.ensures at (fields_told _ _ _ _ c.in_ok-rest-2.ensures.are) in
+    fields_fault g.S.EventSink.takes _ _ _ _ c.measurement.ensures _ c.in_ok-rest.ensures c.args.line.now _ _ _
+    c.in_ok-rest-2.ensures FieldSetMissing (grind arith) (front_fields c.args.line.now _ _ name _ _ most ? _ _ (grind arith) last.1)
 
 pub returns-in_err-timestamp : goal.returns-in_err-timestamp
 unfolding answer
 returns-in_err-timestamp g c =
     let p = err_from_is_err_and c.from_residual-in_err-timestamp.result c.from_residual-in_err-timestamp.ensures.1 in
-    rw (p.1, p.2) (fields_fault g.S.EventSink.takes _ _ _ _ c.measurement.ensures _ c.in_ok-rest.ensures _ _ _
-    c.in_ok-rest-2.ensures _ (grind arith))
+    let name = rw c.in-Some.is at c.in_ok-measurement.ensures.value in
+    let most = tags_told _ _ _ c.in_ok-rest.ensures.are in
+    let last = rw c.trim_start_spaces.ensures at (fields_told _ _ _ _ c.in_ok-rest-2.ensures.are) in
+    rw (p.1, p.2) (fields_fault g.S.EventSink.takes _ _ _ _ c.measurement.ensures _ c.in_ok-rest.ensures c.args.line.now _ _ _
+    c.in_ok-rest-2.ensures _ (grind arith) (front_fields c.args.line.now _ _ name _ _ most ? _ _ (grind arith) last.1))
 
 pub returns-then-not-is_empty : goal.returns-then-not-is_empty
 unfolding answer
 returns-then-not-is_empty g c =
-    fields_fault g.S.EventSink.takes _ _ _ _ c.measurement.ensures _ c.in_ok-rest.ensures _ _ _
+    let name = rw c.in-Some.is at c.in_ok-measurement.ensures.value in
+    let most = tags_told _ _ _ c.in_ok-rest.ensures.are in
+    let last = rw c.trim_start_spaces.ensures at (fields_told _ _ _ _ c.in_ok-rest-2.ensures.are) in
+    fields_fault g.S.EventSink.takes _ _ _ _ c.measurement.ensures _ c.in_ok-rest.ensures c.args.line.now _ _ _
     c.in_ok-rest-2.ensures
     (CannotParseEntireLine c.in_ok-timestamp.rest) (grind (arith, common_steps, complete_some))
+    (front_fields c.args.line.now _ _ name _ _ most ? _ _ (grind arith) last.1)
 
 pub returns : goal.returns
 unfolding answer
 returns g c =
-    line_told g.S.EventSink.takes _ _ _ _ c.measurement.ensures _ c.in_ok-rest.ensures _ _ _
+    line_told g.S.EventSink.takes _ _ _ _ c.measurement.ensures _ c.in_ok-rest.ensures c.args.line.now _ _ _
     c.in_ok-rest-2.ensures _ _ _ c.in_ok-rest.ensures.are.0
     c.end.ensures c.in_ok-rest.ensures.are.2 (grind (arith, common_steps, complete_none))

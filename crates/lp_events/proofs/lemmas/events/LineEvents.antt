@@ -2,12 +2,12 @@
 use Rattle.std.proofs.Common.{◌≡◌, ℕ, ◌+◌, ◌<◌, List, [], ◌∷◌, ◌++◌, length, length-append, map, refl, sym, arith, inr}
 use Rattle.std.proofs.Common.{append_assoc, Some, Ok, Result, ℤ, Option, Err, Bor, append-nil, All, eq-eqb, ne_eqb}
 use Rattle.std.proofs.lemmas.{List.map_push, List.Elements.All-head, List.Elements.All-tail}
-use Rattle.lp_format.specs.format.{comma, Fault, Reading, fatal, miss, reads, Text, cannot_parse_entire_line, byte, separated_list, Line}
-use Rattle.lp_format.specs.format.{answer, some_tags, complete, Dialect, answers_of, answers_of_piece, Left, Pair, trimmed, Value}
+use Rattle.lp_format.specs.format.{comma, Fault, Reading, fatal, miss, reads, Text, cannot_parse_entire_line, byte, Line}
+use Rattle.lp_format.specs.format.{answer, some_tags, complete, Dialect, answers_of_piece, Left, Pair, trimmed, Value}
 use Rattle.lp_values.specs.declared.spelled.SpelledFault.{SpelledFault}
 use Rattle.lp_values.specs.code.SpelledParts.{spelled_fault}
-use Rattle.lp_events.specs.code.Events.{AreCounted, Event, TakesAll, WasToldParts, AreEventsOf, AreEventsOfAll, AreToldBefore, WasTold}
-use Rattle.lp_events.specs.code.Events.{ended, front_events, named, tagged, valued}
+use Rattle.lp_events.specs.code.Events.{AreCounted, AreLongestFront, Event, TakesAll, WasToldParts, AreEventsOf, AreEventsOfAll, AreToldBefore}
+use Rattle.lp_events.specs.code.Events.{WasTold, ended, front_events, named, tagged, valued}
 use Rattle.lp_events.specs.code.EventsLeft.{AreEventsLeft, Completes}
 use Rattle.lp_events.specs.code.LineSteps.{GivesLine, IsBlankPiece}
 use Rattle.lp_events.proofs.lemmas.fields.ManyLemmas.{Reached, last_read, reached_all, reached_fatal, reached_more}
@@ -50,12 +50,12 @@ module _ {S A : Type 0} (takes : S → Event → S → Type 0) (event : A → Ev
         record {
           parts = _;
           told = told_more;
-          are = (one_more, inr (record { so_far = read; mark = mark; some = omega (arith, one_more) }));
+          are = (one_more, inr (record { so_far = read; mark = mark }));
         }
 
     -- one part more was told, and no comma comes after it
     pub told_last : (end : Bor (List ℕ)) → one place ≡ reads x end.now → length end.now < length place → byte comma end.now ≡ miss
-        → WasToldParts takes event before after (AreCounted (Ok (Some (n, end))) (separated_list one text))
+        → WasToldParts takes event before after (AreCounted (Ok (Some (n, end))) one text)
     told_last end is less none =
         let all = last_read one (reached_more one end.now x so_far.are.1 is less) none in
         record { parts = _; told = told_more; are = (one_more, all) }
@@ -63,7 +63,7 @@ module _ {S A : Type 0} (takes : S → Event → S → Type 0) (event : A → Ev
   module _ (before after : S) (text : List ℕ) (count : ℕ) (place : List ℕ) where
     -- no part reads at the place: these were all
     pub told_all : (rest : Bor (List ℕ)) → ToldSoFar takes event one before after text count rest.now place → one place ≡ miss
-        → 0 < count → WasToldParts takes event before after (AreCounted (Ok (Some (count, rest))) (separated_list one text))
+        → 0 < count → WasToldParts takes event before after (AreCounted (Ok (Some (count, rest))) one text)
     told_all rest so_far none some =
         let all = reached_all one so_far.are.1 none (let count = so_far.are.0 in omega arith) in
         record { parts = so_far.parts; told = so_far.told; are = (so_far.are.0, all) }
@@ -71,7 +71,7 @@ module _ {S A : Type 0} (takes : S → Event → S → Type 0) (event : A → Ev
     -- what is at the place is fatal
     pub told_fatal : (rest : List ℕ) (fault : SpelledFault) → ToldSoFar takes event one before after text count rest place
         → one place ≡ fatal (spelled_fault fault)
-        → WasToldParts takes event before after (AreCounted (Err fault) (separated_list one text))
+        → WasToldParts takes event before after (AreCounted (Err fault) one text)
     told_fatal rest fault so_far is =
         record { parts = so_far.parts; told = so_far.told; are = reached_fatal one (spelled_fault fault) so_far.are.1 is }
 
@@ -85,14 +85,14 @@ complete_some l rest some = grind (arith)
 
 -- the measurement of a line was told, and then tags
 module _ {S : Type 0} (takes : S → Event → S → Type 0) (before begun mid : S) (m : Text) (first : takes before (named m) begun)
-    (Are : List (Pair Text Text) → Type 0) (tags : WasToldParts takes tagged begun mid Are) (answer : Result Line Fault) where
+    (Are : List (Pair Text Text) → Type 0) (tags : WasToldParts takes tagged begun mid Are) (line : List ℕ) (answer : Result Line Fault) where
   -- the line is at fault after them
-  pub tags_fault : (fault : SpelledFault) → answer ≡ Err (spelled_fault fault)
-      → WasTold takes before mid (AreToldBefore {X = Unit {0}} (Err fault) answer)
-  tags_fault fault is = record {
+  pub tags_fault : (fault : SpelledFault) → answer ≡ Err (spelled_fault fault) → AreLongestFront line (front_events m tags.parts [])
+      → WasTold takes before mid (AreToldBefore {X = Unit {0}} (Err fault) line answer)
+  tags_fault fault is front = record {
     events = front_events m tags.parts [];
     told = (begun, first, rw (sym (append-nil (map tagged tags.parts))) at tags.told);
-    are = (is, inr (m, tags.parts, [], refl));
+    are = (is, front);
   }
 
   -- and then fields
@@ -104,15 +104,15 @@ module _ {S : Type 0} (takes : S → Event → S → Type 0) (before begun mid :
 
     -- the line is at fault after them
     pub fields_fault : (fault : SpelledFault) → answer ≡ Err (spelled_fault fault)
-        → WasTold takes before after (AreToldBefore {X = Unit {0}} (Err fault) answer)
-    fields_fault fault is =
-        record { events = _; told = front_told; are = (is, inr (m, tags.parts, fields.parts, refl)) }
+        → AreLongestFront line (front_events m tags.parts fields.parts)
+        → WasTold takes before after (AreToldBefore {X = Unit {0}} (Err fault) line answer)
+    fields_fault fault is front = record { events = _; told = front_told; are = (is, front) }
 
     -- the line ends after them
     pub line_told : (last : S) (series : List ℕ) (time : Option ℤ) (set : Option (List (Pair Text Text)))
         → takes after (ended series time) last → some_tags set ≡ tags.parts
         → answer ≡ Ok (record { series = series; measurement = m; tags = set; fields = fields.parts; timestamp = time })
-        → WasTold takes before last (AreToldBefore {X = Unit {0}} (Ok (tt {0})) answer)
+        → WasTold takes before last (AreToldBefore {X = Unit {0}} (Ok (tt {0})) line answer)
     line_told last series time set done tags_are is =
         record {
           events = front_events m tags.parts fields.parts ++ ended series time ∷ [];
@@ -121,7 +121,7 @@ module _ {S : Type 0} (takes : S → Event → S → Type 0) (before begun mid :
         }
 
 -- blank pieces have no events
-pub blank_events : (dialect : Dialect) (skipped : List (List ℕ)) → All IsBlankPiece skipped → AreEventsOfAll [] (answers_of dialect skipped)
+pub blank_events : (dialect : Dialect) (skipped : List (List ℕ)) → All IsBlankPiece skipped → AreEventsOfAll dialect [] skipped
 unfolding answers_of_piece
 blank_events dialect [] blank = refl
 blank_events dialect (p ∷ skipped) blank =
@@ -129,8 +129,8 @@ blank_events dialect (p ∷ skipped) blank =
 
 -- the events of a line after blank pieces, and of the pieces after it
 line_first : (dialect : Dialect) (skipped : List (List ℕ)) (piece : List ℕ) (pieces : List (List ℕ)) (first others events : List Event)
-    → All IsBlankPiece skipped → 0 < length (trimmed piece) → events ≡ first ++ others → AreEventsOf first (answer dialect (trimmed piece))
-    → AreEventsOfAll others (answers_of dialect pieces) → AreEventsOfAll events (answers_of dialect (skipped ++ piece ∷ pieces))
+    → All IsBlankPiece skipped → 0 < length (trimmed piece) → events ≡ first ++ others → AreEventsOf (trimmed piece) first (answer dialect (trimmed piece))
+    → AreEventsOfAll dialect others pieces → AreEventsOfAll dialect events (skipped ++ piece ∷ pieces)
 unfolding answers_of_piece
 line_first dialect [] piece pieces first others events blank some is one all = grind (arith, ne_eqb)
 line_first dialect (p ∷ skipped) piece pieces first others events blank some is one all =
@@ -164,7 +164,7 @@ module _ {S : Type 0} (takes : S → Event → S → Type 0) (before mid after :
 
   -- it was told of a line that was found
   pub told_line : (dialect : Dialect) (found left : Left) (line : Bor (List ℕ)) → found.dialect ≡ dialect → GivesLine found (Some line) left
-      → WasTold takes mid after (λ events. AreEventsOf events (answer dialect line.now))
+      → WasTold takes mid after (λ events. AreEventsOf line.now events (answer dialect line.now))
       → ToldTo takes mid after (AreEventsLeft found) (AreEventsLeft left)
   told_line dialect found left line same given was =
       record {

@@ -1,14 +1,14 @@
 -- Values that commas join are read one after another; and what a tag set was read from.
 use Rattle.std.proofs.Common.{◌≡◌, ℕ, suc, ◌<◌, List, [], ◌∷◌, ◌++◌, length, length-append, refl, ap, ◌∙◌, arith, inl, inr}
-use Rattle.std.proofs.Common.{◌-◌, append_assoc, ◌⊎◌, Option, Some, None, Ok, append-nil}
+use Rattle.std.proofs.Common.{◌-◌, append_assoc, ◌⊎◌, Option, Some, None, Ok, append-nil, sym, ◌≤◌}
 use Rattle.std.proofs.lemmas.Bool.{cases_Bool}
 use Rattle.lp_format.specs.format.{comma, Dialect, Fault, Text, Read, Reading, miss, fatal, reads, name, a_measurement, Pair, Value}
 use Rattle.lp_format.specs.format.{after_comma, byte, field, field_set, many, prepend, separated_list, some_tags, tag, tag_set}
-use Rattle.lp_format.specs.laws.Meanings.{SeparatedBy, SeparatedAfterComma}
+use Rattle.lp_format.specs.laws.Meanings.{LongestList, SeparatedBy, SeparatedAfterComma}
 use Rattle.lp_format.proofs.lemmas.meanings.{JoinedMeaning.the_most_is_read, ShorterRests.tag_no_longer}
 use Rattle.lp_values.proofs.lemmas.fields.ReadingLemmas.{EndsIn, EndsIn-end, EndsIn-self, bind_reads, byte_ends, byte_parts, name_ends}
 use Rattle.lp_values.proofs.lemmas.fields.ReadingLemmas.{tag_ends}
-use Rattle.lp_events.specs.code.EventsLeft.{SoFar}
+use Rattle.lp_events.specs.code.{Events.AreBeforeFault, EventsLeft.SoFar}
 
 -- those that are read after others
 prepend-prepend : {A : Type 0} (xs ys : List A) (r : Reading (List A)) → prepend xs (prepend ys r) ≡ prepend (xs ++ ys) r
@@ -22,16 +22,75 @@ many_miss one n rest e = grind (arith)
 pub record AtNext {A : Type 0} (one : List ℕ → Reading A) (text : List ℕ) (done : List A) (rest place : List ℕ) : Type 0 where
   pub so_far : SoFar one text done rest
   pub mark : byte comma rest ≡ reads comma place
-  pub some : 0 < length done
 
 -- where the next one may be: at the start of all, or after those that were read and a comma
 abbrev pub Reached : {A : Type 0} → (List ℕ → Reading A) → List ℕ → List A → List ℕ → List ℕ → Type 0
 Reached one text done rest place = ((done ≡ []) × (place ≡ text)) ⊎ AtNext one text done rest place
 
+-- a reading that does not read: it misses, or is fatal
+abbrev pub DoesNotRead : {A : Type 0} → Reading A → Type 0
+DoesNotRead (reads x rest) = ⊥
+DoesNotRead other = Unit {0}
+
 module _ {A : Type 0} (one : List ℕ → Reading A) where
+  -- what reads after a comma comes after one
+  comma_there : (text : List ℕ) (x : A) (rest : List ℕ) → after_comma one text ≡ reads x rest
+      → (suffix : List ℕ) × (text ≡ comma ∷ suffix) × (one suffix ≡ reads x rest)
+  comma_there text x rest e = grind (arith, bind_reads, byte_parts)
+
+  -- and back
+  there_comma : (text suffix : List ℕ) (x : A) (rest : List ℕ) → text ≡ comma ∷ suffix → one suffix ≡ reads x rest
+      → after_comma one text ≡ reads x rest
+  there_comma text suffix x rest is e = rw is e
+
+  -- one more after those that come after commas
+  after_more : (done : List A) (text rest after : List ℕ) (y : A) → SeparatedAfterComma one done text rest
+      → after_comma one rest ≡ reads y after → SeparatedAfterComma one (done ++ y ∷ []) text after
+  after_more [] text rest after y h e = let s = comma_there rest y after e in (s.0, after, h ∙ s.1, s.2, refl)
+  after_more (x ∷ done) text rest after y h e = (h.0, h.1, h.2, h.3, after_more done h.1 rest after y h.4 e)
+
+  -- one more after those that commas join
+  joined_more : (done : List A) (text rest after : List ℕ) (y : A) → 0 < length done → SeparatedBy one done text rest
+      → after_comma one rest ≡ reads y after → SeparatedBy one (done ++ y ∷ []) text after
+  joined_more [] text rest after y some h e = absurd (omega arith)
+  joined_more (x ∷ done) text rest after y some h e = (h.0, h.1, after_more done h.0 rest after y h.2 e)
+
+  -- no more come after commas than those after which none reads
+  after_most : (xs ys : List A) (text a b : List ℕ) → SeparatedAfterComma one xs text a → SeparatedAfterComma one ys text b
+      → DoesNotRead (after_comma one a) → length ys ≤ length xs
+  after_most xs [] text a b h k none = omega arith
+  after_most [] (y ∷ ys) text a b h k none = absurd (rw (there_comma a k.0 y k.1 (sym h ∙ k.2) k.3) at none)
+  after_most (x ∷ xs) (y ∷ ys) text a b h k none = grind (arith, after_most xs ys h.1 a b h.4)
+
+  -- if none reads at the start, none are the most
+  pub none_most : (text : List ℕ) → DoesNotRead (one text) → LongestList one text [] text
+  none_most text none = record { separated = refl; most = most }
+    where
+      most : (others : List A) (after : List ℕ) → SeparatedBy one others text after → length others ≤ 0
+      most [] after k = omega arith
+      most (y ∷ ys) after k = absurd (rw k.1 at none)
+
+  -- if no comma and element follow, these are the most
+  pub so_far_most : (text : List ℕ) (done : List A) (rest : List ℕ) → SoFar one text done rest → DoesNotRead (after_comma one rest)
+      → LongestList one text done rest
+  so_far_most text [] rest so_far none = absurd (let some = so_far.some in omega arith)
+  so_far_most text (x ∷ xs) rest so_far none = record { separated = so_far.done_are; most = most so_far.done_are }
+    where
+      most : SeparatedBy one (x ∷ xs) text rest → (others : List A) (after : List ℕ) → SeparatedBy one others text after
+          → length others ≤ length (x ∷ xs)
+      most h [] after k = omega arith
+      most h (y ∷ ys) after k =
+          after_most (x ∷ xs) (y ∷ ys) (comma ∷ text) rest after (text, h.0, refl, h.1, h.2) (text, k.0, refl, k.1, k.2) none
+
   -- after the first element the list has it alone
   pub so_far_start : (x : A) (text rest : List ℕ) → one text ≡ reads x rest → SoFar one text (x ∷ []) rest
-  so_far_start x text rest e = grind (arith)
+  so_far_start x text rest e = record {
+    some = omega arith;
+    done_are = (rest, e, refl);
+    fuel = length rest;
+    enough = omega arith;
+    is = rw e refl;
+  }
 
   -- if no comma and element follow, the list has ended
   pub so_far_end : (text : List ℕ) (done : List A) (rest : List ℕ) → SoFar one text done rest
@@ -45,7 +104,13 @@ module _ {A : Type 0} (one : List ℕ → Reading A) where
   so_far_more text done rest after y so_far e less =
       let fuel : so_far.fuel ≡ suc (so_far.fuel - 1) = omega arith in
       let joined = prepend-prepend done (y ∷ []) (many (after_comma one) (so_far.fuel - 1) after) in
-      record { fuel = so_far.fuel - 1; enough = omega arith; is = rw fuel at so_far.is ∙ rw e joined }
+      record {
+        some = omega (arith, length-append done (y ∷ []));
+        done_are = joined_more done text rest after y so_far.some so_far.done_are e;
+        fuel = so_far.fuel - 1;
+        enough = omega arith;
+        is = rw fuel at so_far.is ∙ rw e joined;
+      }
 
   -- what is fatal after a comma is fatal for all
   pub so_far_fatal : (text : List ℕ) (done : List A) (rest : List ℕ) (e : Fault) → SoFar one text done rest
@@ -63,12 +128,17 @@ module _ {A : Type 0} (one : List ℕ → Reading A) where
   reached_more {text} {done} {rest} {place} after y (inl first) e less = rw first.0 (so_far_start y text after (rw first.1 at e))
   reached_more {text} {done} {rest} {place} after y (inr more) e less = grind (arith, byte_ends, so_far_more, next_is, length-append)
 
-  -- what is fatal where the next one may be is fatal for all
+  -- before what is fatal where the next one may be, these are the most
   pub reached_fatal : {text : List ℕ} {done : List A} {rest place : List ℕ} (e : Fault)
-      → Reached one text done rest place → one place ≡ fatal e → separated_list one text ≡ fatal e
-  reached_fatal {text} {done} {rest} {place} e (inl first) found = rw (rw first.1 at found) refl
-  reached_fatal {text} {done} {rest} {place} e (inr more) found =
-      so_far_fatal text done rest e more.so_far (next_is rest place more.mark ∙ found)
+      → Reached one text done rest place → one place ≡ fatal e → AreBeforeFault one text done e
+  reached_fatal {text = text} {done = []} {rest = rest} {place = place} e (inl first) found = let here = rw first.1 at found in (text, none_most text (rw here (tt {0})), here)
+  reached_fatal {text = text} {done = x ∷ done} {rest = rest} {place = place} e (inl first) found = absurd (cc)
+  reached_fatal {text = text} {done = []} {rest = rest} {place = place} e (inr more) found = absurd (let some = more.so_far.some in omega arith)
+  reached_fatal {text = text} {done = x ∷ done} {rest = rest} {place = place} e (inr more) found = (
+    rest,
+    so_far_most text (x ∷ done) rest more.so_far (rw (next_is rest place more.mark ∙ found) (tt {0})),
+    (place, (byte_parts comma rest comma place more.mark).1, found),
+  )
 
   -- nothing is read where the next one may be: these are all
   pub reached_all : {text : List ℕ} {done : List A} {rest place : List ℕ} → Reached one text done rest place

@@ -8,12 +8,15 @@ use Rattle.lp_events.specs.declared.pull.Event as given
 use Rattle.lp_format.specs.format.{comma, space, Dialect, after_comma, answer, byte, field, field_set, front_before, spaces, tag}
 use Rattle.lp_format.specs.format.{timestamp, without_comma, NameKind, name, Left, Pair, Fault, Text, cannot_parse_entire_line}
 use Rattle.lp_format.specs.format.{fatal, miss, reads, tag_set_malformed, Value}
+use Rattle.lp_format.specs.laws.Meanings.{LongestList}
 use Rattle.lp_values.proofs.lemmas.fields.ReadingLemmas.{EndsIn, bind_reads, byte_parts, name_ends, name_parts}
 use Rattle.lp_values.specs.declared.spelled.SpelledFault.{SpelledFault}
-use Rattle.lp_events.specs.code.Events.{AreEventsOf, AreFrontEvents, Event, ended, failed, front_events, tagged, valued}
+use Rattle.lp_events.specs.code.Events.{AreEventsOf, AreLongestFront, AreMostTags, Event, ended, failed, front_events, tagged, valued}
 use Rattle.lp_events.specs.code.EventsLeft.{AreEventsLeft, Completes, FieldsRead, NamesRead, SeriesRead, Steps, most_of_line}
 use Rattle.lp_events.specs.declared.{place.Place.Place}
-use Rattle.lp_events.proofs.lemmas.fields.ManyLemmas.{so_far_end, so_far_fatal, so_far_more, so_far_start, comma_cases}
+use Rattle.lp_events.proofs.lemmas.fields.ManyLemmas.{DoesNotRead, comma_cases, none_most, so_far_end, so_far_fatal, so_far_more}
+use Rattle.lp_events.proofs.lemmas.fields.ManyLemmas.{so_far_most, so_far_start}
+use Rattle.lp_events.proofs.lemmas.fields.FrontLemmas.{comma_no_space, front_fields, front_names, front_none, no_tags, set_most, tags_after}
 use Rattle.lp_events.proofs.lemmas.events.LineEvents.{complete_none, complete_some}
 
 -- a line that is completed after one event more is completed with that event
@@ -24,12 +27,12 @@ completes_more {line} {front} {event} {left} h =
       first = event ∷ h.first;
       others = h.others;
       events_are = ap (λ (es : List Event). event ∷ es) h.events_are;
-      line_is = subst (λ es. AreEventsOf es (answer left.dialect line)) (append_assoc front (event ∷ []) h.first) h.line_is;
+      line_is = subst (λ es. AreEventsOf line es (answer left.dialect line)) (append_assoc front (event ∷ []) h.first) h.line_is;
       others_are = h.others_are;
     }
 
 -- a fault completes its line
-pub completes_fault : {line : List ℕ} {front : List Event} {fault : Fault} {left : Left} {others : List Event} → AreFrontEvents front
+pub completes_fault : {line : List ℕ} {front : List Event} {fault : Fault} {left : Left} {others : List Event} → AreLongestFront line front
     → answer left.dialect line ≡ Err fault → AreEventsLeft left others → Completes line front left (failed fault ∷ others)
 completes_fault {front = front} {fault = fault} {others = others} is_front is h =
     record {
@@ -93,12 +96,43 @@ module _ (line : List ℕ) (m : Text) (tags : List (Pair Text Text)) (rest : Lis
   unfolding answer
   names_malformed dialect x1 place h first mark is = grind (arith)
 
+  -- at a comma after which no tag reads, what was read is the longest front of the line
+  pub names_front : (is_first : Bool) (place : List ℕ) → NamesRead line m tags rest is_first → byte comma rest ≡ reads comma place
+      → DoesNotRead (after_comma tag rest) → AreLongestFront line (front_events m tags [])
+  names_front true place (e, none) mark no_tag = rw none (front_names line m rest e [] rest (no_tags rest no_tag) (comma_no_space rest place mark))
+  names_front false place (start, first, e, sign, so_far) mark no_tag =
+      let most = tags_after start first tags rest sign so_far.some (so_far_most tag first tags rest so_far no_tag) in
+      front_names line m start e tags rest most (comma_no_space rest place mark)
+
   -- if no tag follows, all were read
   pub names_end : (is_first : Bool) → NamesRead line m tags rest is_first → (is_first ≡ true → byte comma rest ≡ miss)
       → after_comma tag rest ≡ miss → SeriesRead line m tags rest
   names_end true (e, none) bare is = grind (arith)
   names_end false (start, place, e, mark, so_far) bare is =
       record { start = start; set = Some tags; name_is = e; set_is = rw (mark, so_far_end tag place tags rest so_far is) refl; tags_are = refl }
+
+-- what is fatal after a comma comes after one
+pub fatal_comma : (rest : List ℕ) (fault : Fault) → after_comma tag rest ≡ fatal fault → (place : List ℕ) × (byte comma rest ≡ reads comma place)
+fatal_comma rest fault is = grind (arith, comma_cases)
+
+module _ {line : List ℕ} {m : Text} {tags : List (Pair Text Text)} {rest : List ℕ} (h : SeriesRead line m tags rest) where
+  -- all tags of a series are the most
+  series_most : AreMostTags h.start tags rest
+  series_most = rw h.tags_are at (set_most h.start rest h.set h.set_is)
+
+  -- without a space after it, what was read is the longest front of the line
+  pub series_front : byte space rest ≡ miss → AreLongestFront line (front_events m tags [])
+  series_front none = front_names line m h.start h.name_is tags rest series_most none
+
+  -- with a space and these fields, the most that are there, too
+  pub valued_front : (gap end : List ℕ) (fields : List (Pair Text (Value Text))) → byte space rest ≡ reads space gap
+      → LongestList field (drop (spaces rest) rest) fields end → AreLongestFront line (front_events m tags fields)
+  valued_front gap end fields s most = front_fields line m h.start h.name_is tags rest series_most gap end fields s most
+
+  -- and with a space after which no field reads
+  pub first_front : (gap : List ℕ) → byte space rest ≡ reads space gap → DoesNotRead (field (drop (spaces rest) rest))
+      → AreLongestFront line (front_events m tags [])
+  first_front gap s none = valued_front gap _ [] s (none_most field (drop (spaces rest) rest) none)
 
 -- the first field after the tags
 pub first_read : {line : List ℕ} {m : Text} {tags : List (Pair Text Text)} {rest : List ℕ} → SeriesRead line m tags rest
@@ -113,6 +147,11 @@ module _ {line series : List ℕ} {m : Text} {tags : List (Pair Text Text)} {fie
   pub fields_more : (x : Pair Text (Value Text)) (after : List ℕ) → after_comma field rest ≡ reads x after
       → length after < length rest → FieldsRead line series m tags (fields ++ x ∷ []) after false
   fields_more x after is less = grind (arith, length-append, so_far_more, ne_eqb)
+
+  -- if no field reads after a comma, what was read is the longest front of the line
+  pub fields_front : DoesNotRead (after_comma field rest) → AreLongestFront line (front_events m tags fields)
+  fields_front none = valued_front h.series_read h.gap rest fields h.gap_is
+      (so_far_most field (drop (spaces h.after) h.after) fields rest h.so_far none)
 
   -- a field that is fatal
   pub fields_fatal : (dialect : Dialect) (fault : Fault) → after_comma field rest ≡ fatal fault → answer dialect line ≡ Err fault
@@ -182,4 +221,4 @@ pub step_less : (result : Result (given.Event × Place) SpelledFault) (line afte
 step_less fault line after before less fits = grind (arith)
 
 -- what shows that the first steps of a line are right
-pub ruleset first_steps = (common_steps, err_from_is_err_and, completes_fault, front_is, name_ends, name_shorter)
+pub ruleset first_steps = (common_steps, err_from_is_err_and, completes_fault, front_is, front_none, name_ends, name_shorter)

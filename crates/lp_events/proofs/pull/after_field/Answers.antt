@@ -1,9 +1,9 @@
-use Rattle.std.proofs.Common.{[], ◌∷◌, ◌++◌, arith, refl, inr}
+use Rattle.std.proofs.Common.{[], ◌∷◌, ◌++◌, arith}
 use Rattle.std.proofs.lemmas.{Grind.common_steps, Result.err_from_is_err_and}
 use Rattle.lp_split.specs.code.{rules_of}
 use Rattle.lp_events.specs.code.Events.{spelled_field}
-use Rattle.lp_events.proofs.lemmas.pull.EventSteps.{completes_end, completes_fault, completes_more, field_after, fields_fatal, fields_more}
-use Rattle.lp_events.proofs.lemmas.pull.EventSteps.{left_fault, time_fault}
+use Rattle.lp_events.proofs.lemmas.pull.EventSteps.{completes_end, completes_fault, completes_more, field_after, fields_fatal, fields_front}
+use Rattle.lp_events.proofs.lemmas.pull.EventSteps.{fields_more, left_fault, time_fault}
 use Rattle.lp_events.proofs.pull.after_field.Goals as goal
 
 pub returns-in_err-key-clause-steps : goal.returns-in_err-key-clause-steps
@@ -11,7 +11,8 @@ returns-in_err-key-clause-steps c =
     let p = err_from_is_err_and c.from_residual.result c.from_residual.ensures.1 in
     rw (p.1, p.2)
     (λ left others later d line m tags fs h.
-    completes_fault (inr (m, tags, fs, refl)) (fields_fatal h left.dialect _ c.in_err-key.ensures.value) later)
+    let is = c.in_err-key.ensures.value in
+    completes_fault (fields_front h (rw is (tt {0}))) (fields_fatal h left.dialect _ is) later)
 
 pub returns-in-Some-clause-steps : goal.returns-in-Some-clause-steps
 returns-in-Some-clause-steps c = λ left others later d line m tags fs h.
@@ -26,14 +27,18 @@ pub returns-in_err-timestamp-clause-steps : goal.returns-in_err-timestamp-clause
 returns-in_err-timestamp-clause-steps c =
     let p = err_from_is_err_and c.from_residual-in_err-timestamp.result c.from_residual-in_err-timestamp.ensures.1 in
     rw (p.1, p.2) (λ left others later d line m tags fs h.
-    let rest = c.rest_after.ensures fs h.first_is in grind (arith, completes_fault, time_fault h (rules_of c.args.dialect)))
+    let rest = c.rest_after.ensures fs h.first_is in
+    let none = rw c.in_default.is at c.in_ok-key.ensures.value in
+    completes_fault (fields_front h (rw none (tt {0})))
+    (rw d (time_fault h (rules_of c.args.dialect) none _ (rw rest at c.in_err-timestamp.ensures))) later)
 
 pub returns-then-not-is_empty-clause-steps : goal.returns-then-not-is_empty-clause-steps
 returns-then-not-is_empty-clause-steps c = λ left others later d line m tags fs h.
     let rest = c.rest_after.ensures fs h.first_is in
     let more = c.in_ok-timestamp.rest.now in
-    completes_fault (inr (m, tags, fs, refl))
-    (rw d (left_fault h (rules_of c.args.dialect) (grind arith) c.in_ok-timestamp.timestamp more (grind arith)
+    let none = rw c.in_default.is at c.in_ok-key.ensures.value in
+    completes_fault (fields_front h (rw none (tt {0})))
+    (rw d (left_fault h (rules_of c.args.dialect) none c.in_ok-timestamp.timestamp more (grind arith)
     (grind (arith, common_steps)))) later
 
 pub returns-clause-steps : goal.returns-clause-steps

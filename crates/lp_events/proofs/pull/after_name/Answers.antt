@@ -4,18 +4,28 @@ use Rattle.lp_format.specs.format.{comma, byte, tag, miss}
 use Rattle.lp_values.proofs.lemmas.fields.ReadingLemmas.{EndsIn, EndsIn-end, after_comma_ends, tag_ends}
 use Rattle.lp_events.specs.code.{Events.spelled_tag, EventsLeft.AreLeftAfterSeries, EventsLeft.AreLeftFrom}
 use Rattle.lp_events.specs.declared.place.Place.TheVariants.{Names}
-use Rattle.lp_events.proofs.lemmas.pull.EventSteps.{completes_fault, completes_more, front_is, names_end, names_fatal, names_malformed}
-use Rattle.lp_events.proofs.lemmas.pull.EventSteps.{names_more, not_stripped, steps_from, stripped, tag_after}
+use Rattle.lp_events.proofs.lemmas.pull.EventSteps.{completes_fault, completes_more, fatal_comma, front_is, names_end, names_fatal}
+use Rattle.lp_events.proofs.lemmas.pull.EventSteps.{names_front, names_malformed, names_more, not_stripped, steps_from, stripped, tag_after}
 use Rattle.lp_events.proofs.pull.after_name.Goals as goal
 use Rattle.lp_events.proofs.pull.after_name.Goals.{else-names-via-then-names+else-is_some, else-names-via-else-names}
 
 pub returns-in_err-key-clause-steps : goal.returns-in_err-key-clause-steps
 returns-in_err-key-clause-steps c =
     let p = err_from_is_err_and c.from_residual.result c.from_residual.ensures.1 in
-    rw (p.1, p.2) (λ left others later m tags h. grind (arith, completes_fault, names_fatal))
+    let names = c.args.names in
+    rw (p.1, p.2) (λ left others later m tags h.
+    let is = c.in_err-key.ensures.value in
+    let mark = fatal_comma names.rest.now _ is in
+    completes_fault (names_front names.line.now m tags names.rest.now names.is_first mark.0 h mark.1 (rw is (tt {0})))
+    (names_fatal names.line.now m tags names.rest.now left.dialect names.is_first _ h is) later)
 
 pub returns-then-is_some-clause-steps : goal.returns-then-is_some-clause-steps
-returns-then-is_some-clause-steps c = λ left others later m tags h. grind (arith, completes_fault, names_malformed, stripped)
+returns-then-is_some-clause-steps c = λ left others later m tags h.
+    let names = c.args.names in
+    let no_tag = rw c.in_default.is at c.in_ok-key.ensures.value in
+    let mark = stripped c.strip_byte.result names.rest.now c.strip_byte.ensures.value (grind arith) in
+    completes_fault (names_front names.line.now m tags names.rest.now names.is_first mark.0 h mark.1 (rw no_tag (tt {0})))
+    (names_malformed names.line.now m tags names.rest.now left.dialect names.is_first mark.0 h (grind arith) mark.1 no_tag) later
 
 pub returns-in_default-clause-steps : goal.returns-in_default-clause-steps
 returns-in_default-clause-steps c =
