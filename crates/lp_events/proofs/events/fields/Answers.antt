@@ -7,7 +7,7 @@ use Rattle.lp_events.proofs.events.fields.Goals as goal
 pub returns-in_err-key : goal.returns-in_err-key
 returns-in_err-key g c =
     let p = err_from_is_err_and c.from_residual.result c.from_residual.ensures.1 in
-    rw (p.1, p.2) (grind (arith, told_fatal))
+    rw (p.1, p.2) (told_fatal g.S.EventSink.takes valued field _ _ _ _ _ _ _ c.loop-key.invariant.told c.in_err-key.ensures.value)
 
 pub loop-key-preserved : goal.loop-key-preserved
 loop-key-preserved g c = record {

@@ -1,9 +1,10 @@
-use Rattle.std.proofs.{Common.arith, lemmas.Grind.common_steps, lemmas.Result.err_from_is_err_and}
+use Rattle.std.proofs.{Common.Ok, Common.Err, Common.arith, lemmas.Grind.common_steps, lemmas.Result.err_from_is_err_and}
 use Rattle.lp_format.specs.format.{answer}
+use Rattle.lp_split.specs.code.{rules_of}
 use Rattle.lp_values.specs.declared.error.ErrorKind.TheVariants.{TakeWhile1}
 use Rattle.lp_values.specs.declared.spelled.SpelledFault.TheVariants.{CannotParseEntireLine, FieldSetMissing, GenericParsingError}
 use Rattle.lp_events.proofs.lemmas.events.LineEvents.{complete_none, complete_some, fields_fault, line_told, tags_fault}
-use Rattle.lp_events.proofs.lemmas.fields.{FrontLemmas.fields_told, FrontLemmas.front_fields, FrontLemmas.front_names, FrontLemmas.tags_told}
+use Rattle.lp_events.proofs.lemmas.fields.FrontLemmas.{fields_fatal_is, front_names, tags_told, told_front}
 use Rattle.lp_events.proofs.lemmas.fields.ManyLemmas.{series_ends}
 use Rattle.lp_events.proofs.events.parts.Goals as goal
 
@@ -21,7 +22,7 @@ unfolding answer
 returns-in_default-strip_byte g c =
     let name = rw c.in-Some.is at c.in_ok-measurement.ensures.value in
     tags_fault g.S.EventSink.takes _ _ _ _ c.measurement.ensures _ c.in_ok-rest.ensures c.args.line.now _
-    (GenericParsingError TakeWhile1) (grind arith) (front_names c.args.line.now _ _ name _ _ (tags_told _ _ _ c.in_ok-rest.ensures.are) (grind arith))
+    (GenericParsingError TakeWhile1) (grind arith) (front_names c.args.line.now _ _ name _ _ (tags_told c.in_ok-rest.rest _ _ c.in_ok-rest.ensures.are) (grind arith))
 
 pub front_before-series-requires-clause-ends : goal.front_before-series-requires-clause-ends
 front_before-series-requires-clause-ends g c =
@@ -34,40 +35,41 @@ unfolding answer
 returns-in_err-rest-2 g c =
     let p = err_from_is_err_and c.from_residual-in_err-rest-2.result c.from_residual-in_err-rest-2.ensures.1 in
     let name = rw c.in-Some.is at c.in_ok-measurement.ensures.value in
-    let most = tags_told _ _ _ c.in_ok-rest.ensures.are in
-    let last = rw c.trim_start_spaces.ensures at (fields_told _ _ _ _ c.in_err-rest-2.ensures.are) in
+    let fault = fields_fatal_is (rules_of c.args.dialect) _ _ _ c.in_err-rest-2.ensures.are in
     rw (p.1, p.2) (fields_fault g.S.EventSink.takes _ _ _ _ c.measurement.ensures _ c.in_ok-rest.ensures c.args.line.now _ _ _
-    c.in_err-rest-2.ensures _ (grind arith) (front_fields c.args.line.now _ _ name _ _ most ? _ _ (grind arith) last.1))
+    c.in_err-rest-2.ensures _ (grind arith) (told_front c.args.line.now _ _ _ c.in_ok-rest.rest _ _
+    (Err c.in_err-rest-2.field-0.0) (rules_of c.args.dialect) _ name c.in_ok-rest.ensures.are
+    c.in-Some-strip_byte.ensures.value c.trim_start_spaces.ensures c.in_err-rest-2.ensures.are))
 
 pub returns-in_default-2 : goal.returns-in_default-2
 unfolding answer
 returns-in_default-2 g c =
     let name = rw c.in-Some.is at c.in_ok-measurement.ensures.value in
-    let most = tags_told _ _ _ c.in_ok-rest.ensures.are in
-    let last = rw c.trim_start_spaces.ensures at (fields_told _ _ _ _ c.in_ok-rest-2.ensures.are) in
     fields_fault g.S.EventSink.takes _ _ _ _ c.measurement.ensures _ c.in_ok-rest.ensures c.args.line.now _ _ _
-    c.in_ok-rest-2.ensures FieldSetMissing (grind arith) (front_fields c.args.line.now _ _ name _ _ most ? _ _ (grind arith) last.1)
+    c.in_ok-rest-2.ensures FieldSetMissing (grind arith) (told_front c.args.line.now _ _ _ c.in_ok-rest.rest _ _
+    (Ok c.in_ok-rest-2.field-0) (rules_of c.args.dialect) _ name c.in_ok-rest.ensures.are
+    c.in-Some-strip_byte.ensures.value c.trim_start_spaces.ensures c.in_ok-rest-2.ensures.are)
 
 pub returns-in_err-timestamp : goal.returns-in_err-timestamp
 unfolding answer
 returns-in_err-timestamp g c =
     let p = err_from_is_err_and c.from_residual-in_err-timestamp.result c.from_residual-in_err-timestamp.ensures.1 in
     let name = rw c.in-Some.is at c.in_ok-measurement.ensures.value in
-    let most = tags_told _ _ _ c.in_ok-rest.ensures.are in
-    let last = rw c.trim_start_spaces.ensures at (fields_told _ _ _ _ c.in_ok-rest-2.ensures.are) in
     rw (p.1, p.2) (fields_fault g.S.EventSink.takes _ _ _ _ c.measurement.ensures _ c.in_ok-rest.ensures c.args.line.now _ _ _
-    c.in_ok-rest-2.ensures _ (grind arith) (front_fields c.args.line.now _ _ name _ _ most ? _ _ (grind arith) last.1))
+    c.in_ok-rest-2.ensures _ (grind arith) (told_front c.args.line.now _ _ _ c.in_ok-rest.rest _ _
+    (Ok c.in_ok-rest-2.field-0) (rules_of c.args.dialect) _ name c.in_ok-rest.ensures.are
+    c.in-Some-strip_byte.ensures.value c.trim_start_spaces.ensures c.in_ok-rest-2.ensures.are))
 
 pub returns-then-not-is_empty : goal.returns-then-not-is_empty
 unfolding answer
 returns-then-not-is_empty g c =
     let name = rw c.in-Some.is at c.in_ok-measurement.ensures.value in
-    let most = tags_told _ _ _ c.in_ok-rest.ensures.are in
-    let last = rw c.trim_start_spaces.ensures at (fields_told _ _ _ _ c.in_ok-rest-2.ensures.are) in
     fields_fault g.S.EventSink.takes _ _ _ _ c.measurement.ensures _ c.in_ok-rest.ensures c.args.line.now _ _ _
     c.in_ok-rest-2.ensures
     (CannotParseEntireLine c.in_ok-timestamp.rest) (grind (arith, common_steps, complete_some))
-    (front_fields c.args.line.now _ _ name _ _ most ? _ _ (grind arith) last.1)
+    (told_front c.args.line.now _ _ _ c.in_ok-rest.rest _ _
+    (Ok c.in_ok-rest-2.field-0) (rules_of c.args.dialect) _ name c.in_ok-rest.ensures.are
+    c.in-Some-strip_byte.ensures.value c.trim_start_spaces.ensures c.in_ok-rest-2.ensures.are)
 
 pub returns : goal.returns
 unfolding answer

@@ -3,7 +3,7 @@ use Rattle.std.proofs.Common.{◌≡◌, ℕ, ◌+◌, ◌≤◌, ◌<◌, List,
 use Rattle.std.proofs.Common.{arith, inl, inr, Option, Some, None, Ok, Err, Result, Bor}
 use Rattle.std.proofs.lemmas.List.{length-map}
 use Rattle.lp_format.specs.format.{comma, space, Dialect, Fault, Text, Reading, miss, fatal, reads, name, a_measurement, Pair, Value, after_comma}
-use Rattle.lp_format.specs.format.{byte, field, separated_list, some_tags, spaces, tag, tag_set, tag_set_malformed}
+use Rattle.lp_format.specs.format.{byte, field, field_set, separated_list, some_tags, spaces, tag, tag_set, tag_set_malformed}
 use Rattle.lp_format.specs.laws.Meanings.{LongestList, NextHasFault, SeparatedBy, SeparatedAfterComma}
 use Rattle.lp_format.proofs.lemmas.meanings.{JoinedMeaning.the_most_is_read, JoinedMeaning.the_next_has_the_fault}
 use Rattle.lp_format.proofs.lemmas.meanings.{ShorterRests.tag_no_longer, ShorterRests.field_no_longer}
@@ -35,6 +35,7 @@ tags_after text place (x ∷ xs) rest mark some longest =
   where
     is : text ≡ comma ∷ place
     is = (byte_parts comma text comma place mark).1
+
     most : (others : List (Pair Text Text)) (after : List ℕ) → SeparatedAfterComma tag others text after → length others ≤ length (x ∷ xs)
     most [] after k = omega arith
     most (y ∷ ys) after k = let same : k.0 ≡ place = cc in longest.most (y ∷ ys) after (k.1, rw same at k.3, k.4)
@@ -56,7 +57,7 @@ pub tags_told : (rest : Bor (List ℕ)) (text : List ℕ) (tags : List (Pair Tex
 tags_told rest text tags h = rw h.2 at (set_most text rest.now h.0 h.1)
 
 -- the fields that the code told are the most
-pub fields_told : (result : Result (Option (Bor (List ℕ))) SpelledFault) (dialect : Dialect) (text : List ℕ)
+fields_told : (result : Result (Option (Bor (List ℕ))) SpelledFault) (dialect : Dialect) (text : List ℕ)
     (fields : List (Pair Text (Value Text))) → AreFields result dialect text fields → (end : List ℕ) × LongestList field text fields end
 fields_told (Ok None) dialect text fields h = rw h.1 (text, none_most field text (rw h.0 (tt {0})))
 fields_told (Ok (Some rest)) dialect text fields h =
@@ -64,17 +65,29 @@ fields_told (Ok (Some rest)) dialect text fields h =
     (joined.0, ((the_most_is_read field (λ t. (field_no_longer t).holds) text fields joined.0).0 joined.1).longest)
 fields_told (Err fault) dialect text fields h = (h.0, h.1)
 
--- before the fault of a tag the most tags were read, and no space comes after them
-pub tags_before_fault : (text place : List ℕ) (tags : List (Pair Text Text)) (e : Fault) → byte comma text ≡ reads comma place
-    → AreBeforeFault tag place tags e → (rest : List ℕ) × AreMostTags text tags rest × (byte space rest ≡ miss)
-tags_before_fault text place [] e mark h = (text, no_tags text (rw (mark, h.1.separated, h.2) (tt {0})), comma_no_space text place mark)
-tags_before_fault text place (x ∷ xs) e mark h = (h.0, tags_after text place (x ∷ xs) h.0 mark (omega arith) h.1, rw h.2.1 refl)
-
--- and the set has that fault
+-- the fault of a tag is that of the tag set: the most tags were read before it, and no space comes after them
 pub set_fault : (text place : List ℕ) (tags : List (Pair Text Text)) (e : Fault) → byte comma text ≡ reads comma place
-    → AreBeforeFault tag place tags e → tag_set text ≡ Err e
+    → AreBeforeFault tag place tags e
+    → (tag_set text ≡ Err e) × (rest : List ℕ) × AreMostTags text tags rest × (byte space rest ≡ miss)
 set_fault text place tags e mark h =
-    rw (mark, (the_next_has_the_fault tag (λ t. (tag_no_longer t).holds) place e).1 (tags, h.0, h.1, h.2)) refl
+    let b = before tags h in (rw (mark, (the_next_has_the_fault tag (λ t. (tag_no_longer t).holds) place e).1 (tags, h.0, h.1, h.2)) refl, b.0, b.1, b.2)
+  where
+    before : (tags : List (Pair Text Text)) → AreBeforeFault tag place tags e
+        → (rest : List ℕ) × AreMostTags text tags rest × (byte space rest ≡ miss)
+    before [] h = (text, no_tags text (rw (mark, h.1.separated, h.2) (tt {0})), comma_no_space text place mark)
+    before (x ∷ xs) h = (h.0, tags_after text place (x ∷ xs) h.0 mark (omega arith) h.1, rw h.2.1 refl)
+
+-- a comma with no tag after it is malformed: no tags are read, and no space comes after them
+pub set_malformed : (text place : List ℕ) → byte comma text ≡ reads comma place → tag place ≡ miss
+    → (tag_set text ≡ Err tag_set_malformed) × (rest : List ℕ) × AreMostTags text [] rest × (byte space rest ≡ miss)
+set_malformed text place mark none =
+    (rw (mark, none) refl, text, no_tags text (rw (mark, none) (tt {0})), comma_no_space text place mark)
+
+-- the fault of a field is that of the field set
+pub fields_fatal_is : (dialect : Dialect) (text : List ℕ) (fields : List (Pair Text (Value Text))) (e : Fault)
+    → AreBeforeFault field text fields e → field_set dialect text ≡ fatal e
+fields_fatal_is dialect text fields e h =
+    rw ((the_next_has_the_fault field (λ t. (field_no_longer t).holds) text e).1 (fields, h.0, h.1, h.2)) refl
 
 -- of two fronts of tags, a space comes only after the longer one
 after_longer : (xs ys : List (Pair Text Text)) (text a b gap : List ℕ) → SeparatedAfterComma tag xs text a
@@ -152,3 +165,12 @@ module _ (line : List ℕ) (m : Text) (start : List ℕ) (read : name a_measurem
   pub front_fields : (gap end : List ℕ) (fields : List (Pair Text (Value Text))) → byte space rest ≡ reads space gap
       → LongestList field (drop (spaces rest) rest) fields end → AreLongestFront line (front_events m tags fields)
   front_fields gap end fields s h = front_longest fields (are_fields fields rest gap end s h) (λ others are. most_fields fields others rest end h are)
+
+-- what the code told before a fault, after a space, is the longest front
+pub told_front : (line start : List ℕ) (m : Text) (tags : List (Pair Text Text)) (rest : Bor (List ℕ)) (gap text : List ℕ)
+    (result : Result (Option (Bor (List ℕ))) SpelledFault) (dialect : Dialect) (fields : List (Pair Text (Value Text)))
+    → name a_measurement line ≡ reads m start → AreTags (Ok rest) start tags → byte space rest.now ≡ reads space gap
+    → text ≡ drop (spaces rest.now) rest.now → AreFields result dialect text fields → AreLongestFront line (front_events m tags fields)
+told_front line start m tags rest gap text result dialect fields read tags_are s is are =
+    let last = rw is at (fields_told result dialect text fields are) in
+    front_fields line m start read tags rest.now (tags_told rest start tags tags_are) gap last.0 fields s last.1
