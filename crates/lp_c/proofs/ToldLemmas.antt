@@ -399,7 +399,7 @@ events_told dialect text l old new short is (begun, first, told) =
 
 -- what the format answers for a line was told
 pub answer_told : (dialect : Dialect) (text : List ℕ) (old new : Telling) (events : List Event) → length text < 2 ^ 63 → old.fault ≡ None
-    → AreEventsOf events (answer dialect text) → TakesAll Tells old events new
+    → AreEventsOf text events (answer dialect text) → TakesAll Tells old events new
     → Told (answer dialect text) new.fault (lent_to old) (lent_to new)
 answer_told dialect text old new events short none are told = go (answer dialect text) refl are
   where
@@ -410,7 +410,7 @@ answer_told dialect text old new events short none are told = go (answer dialect
     kept_fault (Some kept) fault is = cc
 
     -- by what is answered
-    go : (read : Result format.Line Fault) → answer dialect text ≡ read → AreEventsOf events read
+    go : (read : Result format.Line Fault) → answer dialect text ≡ read → AreEventsOf text events read
         → Told read new.fault (lent_to old) (lent_to new)
     go (Ok l) is are =
         let line = events_told dialect text l old new short is (rw are at told) in

@@ -1,5 +1,5 @@
 -- What the events of a text tell of it.
-use Rattle.std.proofs.Common.{◌≡◌, List, [], ◌∷◌, ◌++◌, map, Option, Some, None, Result, Ok, Err, is_none, is_ok, option_map, refl, sym, ap, ◌∙◌}
+use Rattle.std.proofs.Common.{◌≡◌, ℕ, List, [], ◌∷◌, ◌++◌, map, Option, Some, None, Result, Ok, Err, is_none, is_ok, option_map, refl, sym, ap, ◌∙◌}
 use Rattle.influxdb_line_protocol.specs.format.Readings.{Fault, Text}
 use Rattle.influxdb_line_protocol.specs.format.Points.{Pair}
 use Rattle.influxdb_line_protocol.specs.format.Values.{Value}
@@ -49,11 +49,11 @@ told_line l =
     ∙ ap (λ (f : Option Fault). fault_told f fields) (told_tags None (some_tags l.tags)) ∙ told_fields None l.fields
 
 -- a verdict on a text has its fault
-pub verdict_is : (old new : Verdict) (events : List Event) (answer : Result Line Fault) → fault_known old ≡ None
-    → TakesAll Judges old events new → AreEventsOf events answer → fault_known new ≡ fault_in answer
-verdict_is old new events (Ok line) fresh told are =
+pub verdict_is : (old new : Verdict) (text : List ℕ) (events : List Event) (answer : Result Line Fault) → fault_known old ≡ None
+    → TakesAll Judges old events new → AreEventsOf text events answer → fault_known new ≡ fault_in answer
+verdict_is old new text events (Ok line) fresh told are =
     judges_all old new events told ∙ ap (λ (f : Option Fault). fault_told f events) fresh ∙ ap (fault_told None) are ∙ told_line line
-verdict_is old new events (Err fault) fresh told are =
+verdict_is old new text events (Err fault) fresh told are =
     judges_all old new events told ∙ ap (fault_told (fault_known old)) are.2 ∙ told_append (fault_known old) are.0 (failed fault ∷ [])
 
 -- a text that has no fault is a line

@@ -23,13 +23,13 @@ front_events measurement tags fields = named measurement ∷ map tagged tags ++ 
 abbrev pub events_of_line : Line → List Event
 events_of_line l = front_events l.measurement (some_tags l.tags) l.fields ++ ended l.series l.timestamp ∷ []
 
--- these fields come after spaces in a text, joined by commas; or there are none
+-- these fields, joined by commas, come after spaces at the start of a text; or there are none
 abbrev pub AreFieldsAfterSpaces : List (Pair Text (Value Text)) → List ℕ → Type 0
 AreFieldsAfterSpaces [] text = Unit {0}
 AreFieldsAfterSpaces (f ∷ fields) text =
     (gap rest : List ℕ) × (byte space text ≡ reads space gap) × SeparatedBy field (f ∷ fields) (drop (spaces text) text) rest
 
--- these read, one after another, from the start of a line: a measurement, tags, each after a comma, and fields after spaces
+-- these parts are at the start of a line, one after another: a measurement, tags, each after a comma, and fields after spaces
 pub record AreAtStart (line : List ℕ) (measurement : Text) (tags : List (Pair Text Text)) (fields : List (Pair Text (Value Text)))
     : Type 0 where
   pub after_name : List ℕ
@@ -38,19 +38,19 @@ pub record AreAtStart (line : List ℕ) (measurement : Text) (tags : List (Pair 
   pub tags_are : SeparatedAfterComma tag tags after_name after_tags
   pub fields_are : AreFieldsAfterSpaces fields after_tags
 
--- a front of the parts of a line: none, or a measurement and the tags and fields that read after it
+-- a front of the events of a line: none, or a measurement and tags and fields that are at the start of the line
 abbrev pub AreFrontEvents : List ℕ → List Event → Type 0
 AreFrontEvents line events =
     (events ≡ [])
     ⊎ ((measurement : Text) × (tags : List (Pair Text Text)) × (fields : List (Pair Text (Value Text)))
     × AreAtStart line measurement tags fields × (events ≡ front_events measurement tags fields))
 
--- the longest front of the parts of a line: all that read before the place where reading stops
+-- the longest front of the events of a line: all parts that read before the place where reading stops
 pub record AreLongestFront (line : List ℕ) (events : List Event) : Type 0 where
   pub front : AreFrontEvents line events
   pub longest : (others : List Event) → AreFrontEvents line others → length others ≤ length events
 
--- the events of a line that has this answer: those of what was read; or the longest front of its parts, and then the fault
+-- the events of a line that has this answer: those of what was read; or the longest front of its events, and then the fault
 abbrev pub AreEventsOf : List ℕ → List Event → Result Line Fault → Type 0
 AreEventsOf line events (Ok l) = events ≡ events_of_line l
 AreEventsOf line events (Err fault) = (front : List Event) × AreLongestFront line front × (events ≡ front ++ failed fault ∷ [])
@@ -129,7 +129,7 @@ AreTags (Ok rest) text parts =
 AreTags (Err e) text parts =
     (tag_set text ≡ Err (spelled_fault e)) × (rest : List ℕ) × AreMostTags text parts rest × (byte space rest ≡ miss)
 
--- these are the events of the line, whose answer is this; or the longest front of its parts, if the code returned the fault
+-- these are the events of the line, whose answer is this; or the longest front of them, if the code returned the fault
 abbrev pub AreToldBefore : {X : Type 0} → Result X SpelledFault → List ℕ → Result Line Fault → List Event → Type 0
 AreToldBefore (Ok done) line answer events = (l : Line) × (answer ≡ Ok l) × (events ≡ events_of_line l)
 AreToldBefore (Err e) line answer events = (answer ≡ Err (spelled_fault e)) × AreLongestFront line events

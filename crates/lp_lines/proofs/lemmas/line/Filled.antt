@@ -101,10 +101,10 @@ filled_line old new l (begun, first, told) not_refused no_tags no_fields =
     filled_parts old l begun front.0 parted.0 new first front.1 front.2 (rw parted.2.2 at parted.2.1) not_refused no_tags no_fields
 
 -- the events of an answer fill it
-pub filled_answer : (old new : Filling) (events : List Event) (answer : Result Line Fault) → AreEventsOf events answer
+pub filled_answer : (old new : Filling) (line : List ℕ) (events : List Event) (answer : Result Line Fault) → AreEventsOf line events answer
     → TakesAll FillsBy old events new → old.refused ≡ false → tags_so_far old ≡ [] → fields_so_far old ≡ []
     → FillsAnswer old answer new
-filled_answer old new events fault is told not_refused no_tags no_fields = grind (arith, filled_line, takes_parted)
+filled_answer old new line events fault is told not_refused no_tags no_fields = grind (arith, filled_line, takes_parted)
 
 -- the code's tag set is that of the line, if neither is an empty set
 same_tags : (tags : Option (List (Pair Text Text))) (set : Option (SmallVec (EscapedStr × EscapedStr))) → HasSome tags

@@ -7,4 +7,4 @@ use Rattle.lp_relay_core.proofs.verdict.fault_of.Goals as goal
 pub returns : goal.returns
 returns c =
     let was = c.read_line_events.ensures in
-    verdict_is _ _ was.events (answer (rules_of c.args.dialect) c.args.text.now) refl was.told was.are
+    verdict_is _ _ c.args.text.now was.events (answer (rules_of c.args.dialect) c.args.text.now) refl was.told was.are
