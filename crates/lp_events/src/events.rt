@@ -18,13 +18,15 @@ use lp_values::{ErrorKind, Spelled, SpelledFault, SpelledValue};
 /// What takes the parts of lines, as a reader tells them.
 ///
 /// Of a line that is read it is told the measurement, each tag, each field and the end, in order. Of a line at fault it is
-/// told parts, of which no clause says more than that a line may have them, and then the fault.
+/// told exactly the parts that read before the place where reading stops, and then the fault. These are the measurement, the tags
+/// up to the first that does not read, and, after a space, the fields up to the first that does not.
 ///
 /// For contracts it has the member `takes`: what the sink is after it was told of an event.
 ///
 /// ```text
 /// m,t=x a=1i  calls  measurement(m), tag(t, x), field(a, I64(1)), end("m,t=x", None)
-/// m,t=x       calls  measurement(m), tag(t, x), fault(GenericParsingError)
+/// m,t=x,u     calls  measurement(m), tag(t, x), fault(GenericParsingError)
+/// m a=1i,b=x  calls  measurement(m), field(a, I64(1)), fault(CannotParseEntireLine)
 /// ```
 pub trait EventSink<'a> {
     // Holds of the sink before a call, what it is told by that, and the sink after.
@@ -180,7 +182,7 @@ pub(crate) fn front_before<'a>(line: &'a str, rest: &str) -> &'a str
     &line[..line.len() - rest.len()]
 }
 
-// Tells what the trimmed text `line` says, but for its fault.
+// Tells what the trimmed text `line` says, but for its fault: of a line at fault the parts that read.
 #[tactic(auto, unfolding(lp_format::specs::format::Lines::answer))]
 #[inline(always)]
 fn parts<'a, S: EventSink<'a>>(
@@ -214,7 +216,7 @@ fn parts<'a, S: EventSink<'a>>(
     Ok(())
 }
 
-/// Tells what the trimmed text `line` says: its measurement, tags, fields and end; or, if it is at fault, parts, as
+/// Tells what the trimmed text `line` says: its measurement, tags, fields and end; or, if it is at fault, the parts that read, as
 /// [`EventSink`] says of such a line, and then the fault. It takes no memory.
 ///
 /// ```text

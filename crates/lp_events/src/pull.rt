@@ -22,11 +22,12 @@ use lp_values::{ErrorKind, Spelled, SpelledFault, SpelledValue};
 /// A part of a line, as a reader comes to it; where the line ends; or its fault.
 ///
 /// Of a line that is read come the measurement, each tag, each field and the end, in order. Of a line at fault come
-/// parts, of which no clause says more than that a line may have them, and then the fault.
+/// exactly the parts that read before the place where reading stops, and then the fault. These are the measurement, the tags up to
+/// the first that does not read, and, after a space, the fields up to the first that does not.
 ///
 /// ```text
 /// m,t=x a=1i  gives  Measurement(m), Tag(t, x), Field(a, I64(1)), End { series: "m,t=x", timestamp: None }
-/// m,t=x       gives  Measurement(m), Tag(t, x), Fault(GenericParsingError)
+/// m,t=x,u     gives  Measurement(m), Tag(t, x), Fault(GenericParsingError)
 /// ```
 #[derive(Clone, Copy)]
 pub enum Event<'a> {

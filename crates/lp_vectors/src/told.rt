@@ -1,9 +1,9 @@
-//! What a sink is told of a line at fault: parts of that line, from its first on, and then the fault.
+//! What a sink is told of a line at fault: all parts that read before the place where reading stops, and then the fault.
 
 ghost use Rattle.std.specs.Prelude.{⊤};
 
 use influxdb_line_protocol::{
-    Dialect, EventSink, Spelled, SpelledFault, SpelledValue, read_events_in,
+    Dialect, EventSink, Spelled, SpelledFault, SpelledValue, parse_events, read_events_in,
 };
 use lp_vectors_shared::fault::Fault;
 
@@ -47,35 +47,40 @@ impl<'a> EventSink<'a> for Told {
     }
 }
 
-// Each line at fault comes after another line. Beside it is all that can be read of it before its fault.
+// Each line at fault comes after another line. Beside it is all that can be read of it before its fault: just that is told, to a
+// sink and as events that are given one after another.
 #[test]
-fn parts_of_a_line_at_fault_are_those_of_its_front(rt: HostRuntime) -> Result<(), Fault> {
-    for (line, front) in [
+fn parts_of_a_line_at_fault_are_those_that_read(rt: HostRuntime) -> Result<(), Fault> {
+    for (line, parts) in [
         (",x", ""),
+        ("o\\\\ f=1i", ""),
         ("o", "o"),
         ("o 5", "o"),
         ("o, f=1i", "o"),
         ("o,t=x", "o,t=x"),
+        ("o,t=x,", "o,t=x"),
         ("o,t=x,u f=1i", "o,t=x"),
         ("o,t=x,u=y\\\\ f=1i", "o,t=x"),
+        ("o,t=x,f=1i\tg=2i", "o,t=x,f=1i"),
+        ("o,t=x  f", "o,t=x"),
         ("o,t=x f=1i,g", "o,t=x f"),
         ("o,t=x f=1i,g=18446744073709551616u", "o,t=x f"),
+        ("o,t=x f=1i,g=2i,", "o,t=x f g"),
         ("o,t=x f=1i,g=2i 9223372036854775808", "o,t=x f g"),
         ("o,t=x,u=y f=1i,g=2i x", "o,t=x,u=y f g"),
     ] {
         let text = format!(in rt.alloc(); "m,k=v e=1i\n{line}\n")?;
+        let wanted = format!(in rt.alloc(); "m,k=v e.{parts}!")?;
         let mut told = Told {
             text: String::new(rt.alloc()),
         };
         read_events_in(Dialect::Crate, text.as_str(), &mut told);
-        let of_both = told.text.as_str();
-        let parts = of_both
-            .strip_prefix("m,k=v e.")
-            .and_then(|of_line| of_line.strip_suffix("!"));
-        assert!(rt;
-            parts.is_some_and(|parts| front.starts_with(parts)),
-            "of {line}: {of_both}"
-        );
+        assert_eq!(rt; told.text.as_str(), wanted.as_str());
+        let mut given = Told {
+            text: String::new(rt.alloc()),
+        };
+        parse_events(text.as_str()).tell(&mut given);
+        assert_eq!(rt; given.text.as_str(), wanted.as_str());
     }
     Ok(())
 }

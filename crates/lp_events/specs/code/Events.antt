@@ -1,9 +1,8 @@
 -- What a reader of lines tells a sink.
 use Rattle.std.specs.Prelude.{◌≡◌, ◌⊎◌, ◌++◌, ◌≤◌, ℕ, ℤ, List, [], ◌∷◌, map, drop, length, Option, Some, None, Result, Ok, Err}
 use Rattle.std.specs.Borrow.{Bor}
-use Rattle.lp_format.specs.format.{space, Dialect, Line, answers_of_piece, byte, field, field_set, separated_list, some_tags, spaces, tag, tag_set}
+use Rattle.lp_format.specs.format.{space, Dialect, Line, after_comma, answers_of_piece, byte, field, field_set, separated_list, some_tags, spaces, tag, tag_set}
 use Rattle.lp_format.specs.format.{Pieces.Pieces, a_measurement, name, Pair, Fault, Reading, Text, miss, fatal, reads, trimmed, Value}
-use Rattle.lp_format.specs.laws.Meanings.{LongestList, NextHasFault, SeparatedAfterComma, SeparatedBy}
 use Rattle.lp_values.specs.declared.{spelled.Spelled.Spelled, spelled.SpelledFault.SpelledFault, spelled.SpelledValue.SpelledValue}
 use Rattle.lp_values.specs.code.SpelledParts.{spelled_fault, spelled_text, spelled_value}
 
@@ -23,11 +22,17 @@ front_events measurement tags fields = named measurement ∷ map tagged tags ++ 
 abbrev pub events_of_line : Line → List Event
 events_of_line l = front_events l.measurement (some_tags l.tags) l.fields ++ ended l.series l.timestamp ∷ []
 
+-- these parts read one after another from the start of a text, the first by one reader and the others by the next, and this is left
+abbrev pub AreRead : {A : Type 0} → (List ℕ → Reading A) → (List ℕ → Reading A) → List A → List ℕ → List ℕ → Type 0
+AreRead first next [] text rest = text ≡ rest
+AreRead first next (x ∷ xs) text rest = (after : List ℕ) × (first text ≡ reads x after) × AreRead next next xs after rest
+
 -- these fields, joined by commas, come after spaces at the start of a text; or there are none
 abbrev pub AreFieldsAfterSpaces : List (Pair Text (Value Text)) → List ℕ → Type 0
 AreFieldsAfterSpaces [] text = Unit {0}
 AreFieldsAfterSpaces (f ∷ fields) text =
-    (gap rest : List ℕ) × (byte space text ≡ reads space gap) × SeparatedBy field (f ∷ fields) (drop (spaces text) text) rest
+    (gap rest : List ℕ) × (byte space text ≡ reads space gap)
+    × AreRead field (after_comma field) (f ∷ fields) (drop (spaces text) text) rest
 
 -- these parts are at the start of a line, one after another: a measurement, tags, each after a comma, and fields after spaces
 pub record AreAtStart (line : List ℕ) (measurement : Text) (tags : List (Pair Text Text)) (fields : List (Pair Text (Value Text)))
@@ -35,7 +40,7 @@ pub record AreAtStart (line : List ℕ) (measurement : Text) (tags : List (Pair 
   pub after_name : List ℕ
   pub after_tags : List ℕ
   pub named : name a_measurement line ≡ reads measurement after_name
-  pub tags_are : SeparatedAfterComma tag tags after_name after_tags
+  pub tags_are : AreRead (after_comma tag) (after_comma tag) tags after_name after_tags
   pub fields_are : AreFieldsAfterSpaces fields after_tags
 
 -- a front of the events of a line: none, or a measurement and tags and fields that are at the start of the line
@@ -101,33 +106,46 @@ spelled_tag t = record { key = spelled_text t.0; value = spelled_text t.1 }
 abbrev pub spelled_field : Spelled × SpelledValue → Pair Text (Value Text)
 spelled_field f = record { key = spelled_text f.0; value = spelled_value f.1 }
 
--- the most tags that read after a name, each after a comma, and what is left
-pub record AreMostTags (text : List ℕ) (tags : List (Pair Text Text)) (rest : List ℕ) : Type 0 where
-  pub are : SeparatedAfterComma tag tags text rest
-  pub most : (others : List (Pair Text Text)) (after : List ℕ) → SeparatedAfterComma tag others text after → length others ≤ length tags
+-- the most parts that read from the start of a text, the first by one reader and the others by the next, and what is left
+pub record AreMost {A : Type 0} (first next : List ℕ → Reading A) (text : List ℕ) (parts : List A) (rest : List ℕ) : Type 0 where
+  pub are : AreRead first next parts text rest
+  pub most : (others : List A) (after : List ℕ) → AreRead first next others text after → length others ≤ length parts
 
--- these are the most parts that read at the start of a text, and the next one has this fault
-abbrev pub AreBeforeFault : {A : Type 0} → (List ℕ → Reading A) → List ℕ → List A → Fault → Type 0
-AreBeforeFault one text parts fault = (rest : List ℕ) × LongestList one text parts rest × NextHasFault one parts rest fault
+-- this reads the part after these
+abbrev pub reader_after : {A : Type 0} → (List ℕ → Reading A) → (List ℕ → Reading A) → List A → List ℕ → Reading A
+reader_after first next [] = first
+reader_after first next (x ∷ xs) = next
 
--- with their number and the rest that the code returned, these are what reading gives; or the next one has the fault
+-- reading parts that commas join gives this fault: these are the most that read, and the next one has it
+pub record AreBeforeFault {A : Type 0} (one : List ℕ → Reading A) (text : List ℕ) (parts : List A) (fault : Fault) : Type 0 where
+  pub rest : List ℕ
+  pub most : AreMost one (after_comma one) text parts rest
+  pub next : reader_after one (after_comma one) parts rest ≡ fatal fault
+  pub given : separated_list one text ≡ fatal fault
+
+-- with their number and the rest that the code returned, these are what reading gives, the most that read; or the next has the fault
 abbrev pub AreCounted : {A : Type 0} → Result (Option (ℕ × Bor (List ℕ))) SpelledFault → (List ℕ → Reading A) → List ℕ → List A → Type 0
 AreCounted (Ok None) one text parts = (one text ≡ miss) × (parts ≡ [])
-AreCounted (Ok (Some p)) one text parts = (p.0 ≡ length parts) × (separated_list one text ≡ reads parts p.1.now)
+AreCounted (Ok (Some p)) one text parts =
+    (p.0 ≡ length parts) × (separated_list one text ≡ reads parts p.1.now) × AreMost one (after_comma one) text parts p.1.now
 AreCounted (Err e) one text parts = AreBeforeFault one text parts (spelled_fault e)
 
--- with the rest that the code returned these are the fields to be read; or the next one has the fault
+-- with the rest that the code returned these are the fields to be read, the most that read; or the next one has the fault
 abbrev pub AreFields : Result (Option (Bor (List ℕ))) SpelledFault → Dialect → List ℕ → List (Pair Text (Value Text)) → Type 0
 AreFields (Ok None) dialect text parts = (field text ≡ miss) × (parts ≡ [])
-AreFields (Ok (Some rest)) dialect text parts = field_set dialect text ≡ reads parts rest.now
+AreFields (Ok (Some rest)) dialect text parts =
+    (field_set dialect text ≡ reads parts rest.now) × (end : List ℕ) × AreMost field (after_comma field) text parts end
 AreFields (Err e) dialect text parts = AreBeforeFault field text parts (spelled_fault e)
 
--- with the rest that the code returned these are the tags to be read; or the tag set has the fault, and no fields come after them
+-- with the rest that the code returned these are the tags to be read; or the tag set has the fault, and no space comes after them;
+-- in each case they are the most that read
 abbrev pub AreTags : Result (Bor (List ℕ)) SpelledFault → List ℕ → List (Pair Text Text) → Type 0
 AreTags (Ok rest) text parts =
     (set : Option (List (Pair Text Text))) × (tag_set text ≡ Ok (record { value = set; rest = rest.now })) × (some_tags set ≡ parts)
+    × AreMost (after_comma tag) (after_comma tag) text parts rest.now
 AreTags (Err e) text parts =
-    (tag_set text ≡ Err (spelled_fault e)) × (rest : List ℕ) × AreMostTags text parts rest × (byte space rest ≡ miss)
+    (tag_set text ≡ Err (spelled_fault e)) × (rest : List ℕ) × AreMost (after_comma tag) (after_comma tag) text parts rest
+    × (byte space rest ≡ miss)
 
 -- these are the events of the line, whose answer is this; or the longest front of them, if the code returned the fault
 abbrev pub AreToldBefore : {X : Type 0} → Result X SpelledFault → List ℕ → Result Line Fault → List Event → Type 0

@@ -4,11 +4,10 @@ use Rattle.std.specs.Prelude.{Ok, Err}
 use Rattle.lp_format.specs.format.{comma, space, after_comma, answer, byte, field, front_before, many, prepend, separated_list}
 use Rattle.lp_format.specs.format.{some_tags, spaces, tag, tag_set, a_measurement, name, Left, PiecesLeft, most_pieces, Pair, Reading, Text}
 use Rattle.lp_format.specs.format.{reads, Value}
-use Rattle.lp_format.specs.laws.Meanings.{SeparatedBy}
 use Rattle.lp_values.specs.code.SpelledParts.{spelled_fault, spelled_text}
 use Rattle.lp_values.specs.declared.spelled.SpelledFault.{SpelledFault}
-use Rattle.lp_events.specs.code.Events.{AreEventsOf, AreEventsOfAll, Event, ended, failed, front_events, named, spelled_field, spelled_tag}
-use Rattle.lp_events.specs.code.Events.{tagged, valued}
+use Rattle.lp_events.specs.code.Events.{AreEventsOf, AreEventsOfAll, AreMost, AreRead, Event, ended, failed, front_events, named}
+use Rattle.lp_events.specs.code.Events.{spelled_field, spelled_tag, tagged, valued}
 use Rattle.lp_events.specs.declared.pull.Event.TheVariants.{Measurement, Tag, Field, End, Fault}
 use Rattle.lp_events.specs.declared.{place.Place.Place, place.Place.TheVariants.Between, place.Place.TheVariants.Names}
 use Rattle.lp_events.specs.declared.{place.Place.TheVariants.Fields, pull.ParseEvents.ParseEvents}
@@ -26,7 +25,7 @@ told (Fault fault) = failed (spelled_fault fault)
 -- and as many as are at the start of the rest
 pub record SoFar {A : Type 0} (one : List ℕ → Reading A) (text : List ℕ) (done : List A) (rest : List ℕ) : Type 0 where
   pub some : 0 < length done
-  pub done_are : SeparatedBy one done text rest
+  pub done_are : AreRead one (after_comma one) done text rest
   pub fuel : ℕ
   pub enough : length rest ≤ fuel
   pub is : separated_list one text ≡ prepend done (many (after_comma one) fuel rest)
@@ -43,6 +42,7 @@ pub record SeriesRead (line : List ℕ) (measurement : Text) (tags : List (Pair 
   pub start : List ℕ
   pub set : Option (List (Pair Text Text))
   pub name_is : name a_measurement line ≡ reads measurement start
+  pub most : AreMost (after_comma tag) (after_comma tag) start tags rest
   pub set_is : tag_set start ≡ Ok (record { value = set; rest = rest })
   pub tags_are : some_tags set ≡ tags
 

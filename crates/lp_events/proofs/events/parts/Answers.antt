@@ -4,7 +4,7 @@ use Rattle.lp_split.specs.code.{rules_of}
 use Rattle.lp_values.specs.declared.error.ErrorKind.TheVariants.{TakeWhile1}
 use Rattle.lp_values.specs.declared.spelled.SpelledFault.TheVariants.{CannotParseEntireLine, FieldSetMissing, GenericParsingError}
 use Rattle.lp_events.proofs.lemmas.events.LineEvents.{complete_none, complete_some, fields_fault, line_told, tags_fault}
-use Rattle.lp_events.proofs.lemmas.fields.FrontLemmas.{fields_fatal_is, front_names, tags_told, told_front}
+use Rattle.lp_events.proofs.lemmas.fields.FrontLemmas.{fields_fatal_is, front_names, told_front}
 use Rattle.lp_events.proofs.lemmas.fields.ManyLemmas.{series_ends}
 use Rattle.lp_events.proofs.events.parts.Goals as goal
 
@@ -22,7 +22,7 @@ unfolding answer
 returns-in_default-strip_byte g c =
     let name = rw c.in-Some.is at c.in_ok-measurement.ensures.value in
     tags_fault g.S.EventSink.takes _ _ _ _ c.measurement.ensures _ c.in_ok-rest.ensures c.args.line.now _
-    (GenericParsingError TakeWhile1) (grind arith) (front_names c.args.line.now _ _ name _ _ (tags_told c.in_ok-rest.rest _ _ c.in_ok-rest.ensures.are) (grind arith))
+    (GenericParsingError TakeWhile1) (grind arith) (front_names c.args.line.now _ _ name _ _ c.in_ok-rest.ensures.are.3 (grind arith))
 
 pub front_before-series-requires-clause-ends : goal.front_before-series-requires-clause-ends
 front_before-series-requires-clause-ends g c =

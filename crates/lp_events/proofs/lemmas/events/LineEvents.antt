@@ -58,7 +58,7 @@ module _ {S A : Type 0} (takes : S → Event → S → Type 0) (event : A → Ev
         → WasToldParts takes event before after (AreCounted (Ok (Some (n, end))) one text)
     told_last end is less none =
         let all = last_read one (reached_more one end.now x so_far.are.1 is less) none in
-        record { parts = _; told = told_more; are = (one_more, all) }
+        record { parts = _; told = told_more; are = (one_more, all.0, all.1) }
 
   module _ (before after : S) (text : List ℕ) (count : ℕ) (place : List ℕ) where
     -- no part reads at the place: these were all
@@ -66,7 +66,7 @@ module _ {S A : Type 0} (takes : S → Event → S → Type 0) (event : A → Ev
         → 0 < count → WasToldParts takes event before after (AreCounted (Ok (Some (count, rest))) one text)
     told_all rest so_far none some =
         let all = reached_all one so_far.are.1 none (let count = so_far.are.0 in omega arith) in
-        record { parts = so_far.parts; told = so_far.told; are = (so_far.are.0, all) }
+        record { parts = so_far.parts; told = so_far.told; are = (so_far.are.0, all.0, all.1) }
 
     -- what is at the place is fatal
     pub told_fatal : (rest : List ℕ) (fault : SpelledFault) → ToldSoFar takes event one before after text count rest place

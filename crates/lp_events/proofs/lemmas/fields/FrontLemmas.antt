@@ -4,98 +4,84 @@ use Rattle.std.proofs.Common.{arith, inl, inr, Option, Some, None, Ok, Err, Resu
 use Rattle.std.proofs.lemmas.List.{length-map}
 use Rattle.lp_format.specs.format.{comma, space, Dialect, Fault, Text, Reading, miss, fatal, reads, name, a_measurement, Pair, Value, after_comma}
 use Rattle.lp_format.specs.format.{byte, field, field_set, separated_list, some_tags, spaces, tag, tag_set, tag_set_malformed}
-use Rattle.lp_format.specs.laws.Meanings.{LongestList, NextHasFault, SeparatedBy, SeparatedAfterComma}
-use Rattle.lp_format.proofs.lemmas.meanings.{JoinedMeaning.the_most_is_read, JoinedMeaning.the_next_has_the_fault}
-use Rattle.lp_format.proofs.lemmas.meanings.{ShorterRests.tag_no_longer, ShorterRests.field_no_longer}
+use Rattle.lp_format.proofs.lemmas.meanings.{JoinedMeaning.the_most_is_read, ShorterRests.tag_no_longer}
 use Rattle.lp_values.proofs.lemmas.fields.ReadingLemmas.{byte_parts, reads_parts}
 use Rattle.lp_values.specs.declared.spelled.SpelledFault.{SpelledFault}
-use Rattle.lp_events.specs.code.Events.{AreAtStart, AreBeforeFault, AreFields, AreFieldsAfterSpaces, AreTags, AreFrontEvents, AreLongestFront, AreMostTags, Event}
-use Rattle.lp_events.specs.code.Events.{front_events, named, tagged, valued}
-use Rattle.lp_events.proofs.lemmas.fields.ManyLemmas.{DoesNotRead, TagSetRead, fields_joined, no_set, some_set, none_most, tag_set_read}
+use Rattle.lp_events.specs.code.Events.{AreAtStart, AreBeforeFault, AreFields, AreFieldsAfterSpaces, AreTags, AreFrontEvents, AreLongestFront, AreMost, AreRead}
+use Rattle.lp_events.specs.code.Events.{Event, front_events, named, tagged, valued}
+use Rattle.lp_events.proofs.lemmas.fields.ManyLemmas.{DoesNotRead, comma_cases, none_most}
 
 -- where a comma is, no space is
 pub comma_no_space : (text place : List ℕ) → byte comma text ≡ reads comma place → byte space text ≡ miss
 comma_no_space text place mark = rw (byte_parts comma text comma place mark).1 refl
 
--- if no tag reads after a comma, none are the most
-pub no_tags : (text : List ℕ) → DoesNotRead (after_comma tag text) → AreMostTags text [] text
-no_tags text none = record { are = refl; most = most }
-  where
-    most : (others : List (Pair Text Text)) (after : List ℕ) → SeparatedAfterComma tag others text after
-        → length others ≤ 0
-    most [] after k = omega arith
-    most (y ∷ ys) after k = let e : after_comma tag text ≡ reads y k.1 = rw k.2 k.3 in absurd (rw e at none)
+-- where a space is, no tag comes after a comma
+space_no_tag : (text gap : List ℕ) → byte space text ≡ reads space gap → after_comma tag text ≡ miss
+space_no_tag text gap s = rw (byte_parts space text space gap s).1 refl
+
+-- what is fatal after a comma comes after one
+pub fatal_comma : (rest : List ℕ) (fault : Fault) → after_comma tag rest ≡ fatal fault → (place : List ℕ) × (byte comma rest ≡ reads comma place)
+fatal_comma rest fault is = grind (arith, comma_cases)
 
 -- the most tags that commas join, after a comma
 pub tags_after : (text place : List ℕ) (tags : List (Pair Text Text)) (rest : List ℕ) → byte comma text ≡ reads comma place
-    → 0 < length tags → LongestList tag place tags rest → AreMostTags text tags rest
-tags_after text place [] rest mark some longest = absurd (omega arith)
-tags_after text place (x ∷ xs) rest mark some longest =
-    record { are = (place, longest.separated.0, is, longest.separated.1, longest.separated.2); most = most }
+    → 0 < length tags → AreMost tag (after_comma tag) place tags rest → AreMost (after_comma tag) (after_comma tag) text tags rest
+tags_after text place [] rest mark some h = absurd (omega arith)
+tags_after text place (x ∷ xs) rest mark some h = record { are = (h.are.0, rw mark h.are.1, h.are.2); most = most }
   where
-    is : text ≡ comma ∷ place
-    is = (byte_parts comma text comma place mark).1
-
-    most : (others : List (Pair Text Text)) (after : List ℕ) → SeparatedAfterComma tag others text after → length others ≤ length (x ∷ xs)
+    most : (others : List (Pair Text Text)) (after : List ℕ) → AreRead (after_comma tag) (after_comma tag) others text after
+        → length others ≤ length (x ∷ xs)
     most [] after k = omega arith
-    most (y ∷ ys) after k = let same : k.0 ≡ place = cc in longest.most (y ∷ ys) after (k.1, rw same at k.3, k.4)
+    most (y ∷ ys) after k = h.most (y ∷ ys) after (k.0, rw mark at k.1, k.2)
 
--- the tags of a set are the most
-pub set_most : (text rest : List ℕ) (set : Option (List (Pair Text Text))) → tag_set text ≡ Ok (record { value = set; rest = rest })
-    → AreMostTags text (some_tags set) rest
-set_most text rest set e = by_read (tag_set_read text rest set e)
-  where
-    by_read : {set : Option (List (Pair Text Text))} {rest : List ℕ} → TagSetRead text set rest → AreMostTags text (some_tags set) rest
-    by_read (no_set none) = no_tags text (rw none (tt {0}))
-    by_read (some_set place tags rest mark read) =
-        let full = (the_most_is_read tag (λ t. (tag_no_longer t).holds) place tags rest).0 read in
-        tags_after text place tags rest mark full.some full.longest
-
--- those that the code read are the most
-pub tags_told : (rest : Bor (List ℕ)) (text : List ℕ) (tags : List (Pair Text Text)) → AreTags (Ok rest) text tags
-    → AreMostTags text tags rest.now
-tags_told rest text tags h = rw h.2 at (set_most text rest.now h.0 h.1)
+-- the tags that the code told after a comma are those of the tag set
+pub set_told : (text place : List ℕ) (tags : List (Pair Text Text)) (rest : Bor (List ℕ)) → byte comma text ≡ reads comma place
+    → separated_list tag place ≡ reads tags rest.now → AreMost tag (after_comma tag) place tags rest.now → AreTags (Ok rest) text tags
+set_told text place tags rest mark read most =
+    let some = ((the_most_is_read tag (λ t. (tag_no_longer t).holds) place tags rest.now).0 read).some in
+    (Some tags, rw (mark, read) refl, refl, tags_after text place tags rest.now mark some most)
 
 -- the fields that the code told are the most
 fields_told : (result : Result (Option (Bor (List ℕ))) SpelledFault) (dialect : Dialect) (text : List ℕ)
-    (fields : List (Pair Text (Value Text))) → AreFields result dialect text fields → (end : List ℕ) × LongestList field text fields end
-fields_told (Ok None) dialect text fields h = rw h.1 (text, none_most field text (rw h.0 (tt {0})))
-fields_told (Ok (Some rest)) dialect text fields h =
-    let joined = fields_joined dialect text rest.now fields h in
-    (joined.0, ((the_most_is_read field (λ t. (field_no_longer t).holds) text fields joined.0).0 joined.1).longest)
-fields_told (Err fault) dialect text fields h = (h.0, h.1)
+    (fields : List (Pair Text (Value Text))) → AreFields result dialect text fields
+    → (end : List ℕ) × AreMost field (after_comma field) text fields end
+fields_told (Ok None) dialect text fields h = rw h.1 (text, none_most field (after_comma field) text (rw h.0 (tt {0})))
+fields_told (Ok (Some rest)) dialect text fields h = (h.1, h.2)
+fields_told (Err fault) dialect text fields h = (h.rest, h.most)
 
 -- the fault of a tag is that of the tag set: the most tags were read before it, and no space comes after them
 pub set_fault : (text place : List ℕ) (tags : List (Pair Text Text)) (e : Fault) → byte comma text ≡ reads comma place
     → AreBeforeFault tag place tags e
-    → (tag_set text ≡ Err e) × (rest : List ℕ) × AreMostTags text tags rest × (byte space rest ≡ miss)
-set_fault text place tags e mark h =
-    let b = before tags h in (rw (mark, (the_next_has_the_fault tag (λ t. (tag_no_longer t).holds) place e).1 (tags, h.0, h.1, h.2)) refl, b.0, b.1, b.2)
-  where
-    before : (tags : List (Pair Text Text)) → AreBeforeFault tag place tags e
-        → (rest : List ℕ) × AreMostTags text tags rest × (byte space rest ≡ miss)
-    before [] h = (text, no_tags text (rw (mark, h.1.separated, h.2) (tt {0})), comma_no_space text place mark)
-    before (x ∷ xs) h = (h.0, tags_after text place (x ∷ xs) h.0 mark (omega arith) h.1, rw h.2.1 refl)
+    → (tag_set text ≡ Err e) × (rest : List ℕ) × AreMost (after_comma tag) (after_comma tag) text tags rest × (byte space rest ≡ miss)
+set_fault text place [] e mark h = (
+  rw (mark, h.given) refl,
+  text,
+  none_most (after_comma tag) (after_comma tag) text (rw (mark, h.most.are, h.next) (tt {0})),
+  comma_no_space text place mark,
+)
+set_fault text place (x ∷ xs) e mark h =
+    let next = fatal_comma h.rest e h.next in
+    (rw (mark, h.given) refl, h.rest, tags_after text place (x ∷ xs) h.rest mark (omega arith) h.most, comma_no_space h.rest next.0 next.1)
 
 -- a comma with no tag after it is malformed: no tags are read, and no space comes after them
 pub set_malformed : (text place : List ℕ) → byte comma text ≡ reads comma place → tag place ≡ miss
-    → (tag_set text ≡ Err tag_set_malformed) × (rest : List ℕ) × AreMostTags text [] rest × (byte space rest ≡ miss)
+    → (tag_set text ≡ Err tag_set_malformed) × (rest : List ℕ) × AreMost (after_comma tag) (after_comma tag) text [] rest
+    × (byte space rest ≡ miss)
 set_malformed text place mark none =
-    (rw (mark, none) refl, text, no_tags text (rw (mark, none) (tt {0})), comma_no_space text place mark)
+    (rw (mark, none) refl, text, none_most (after_comma tag) (after_comma tag) text (rw (mark, none) (tt {0})), comma_no_space text place mark)
 
 -- the fault of a field is that of the field set
 pub fields_fatal_is : (dialect : Dialect) (text : List ℕ) (fields : List (Pair Text (Value Text))) (e : Fault)
     → AreBeforeFault field text fields e → field_set dialect text ≡ fatal e
-fields_fatal_is dialect text fields e h =
-    rw ((the_next_has_the_fault field (λ t. (field_no_longer t).holds) text e).1 (fields, h.0, h.1, h.2)) refl
+fields_fatal_is dialect text fields e h = rw h.given refl
 
 -- of two fronts of tags, a space comes only after the longer one
-after_longer : (xs ys : List (Pair Text Text)) (text a b gap : List ℕ) → SeparatedAfterComma tag xs text a
-    → SeparatedAfterComma tag ys text b → length ys ≤ length xs → byte space b ≡ reads space gap → b ≡ a
+after_longer : (xs ys : List (Pair Text Text)) (text a b gap : List ℕ) → AreRead (after_comma tag) (after_comma tag) xs text a
+    → AreRead (after_comma tag) (after_comma tag) ys text b → length ys ≤ length xs → byte space b ≡ reads space gap → b ≡ a
 after_longer [] [] text a b gap h k fewer s = sym k ∙ h
 after_longer [] (y ∷ ys) text a b gap h k fewer s = absurd (omega arith)
-after_longer (x ∷ xs) [] text a b gap h k fewer s = let none : byte space b ≡ miss = rw (sym k ∙ h.2) refl in absurd (cc)
-after_longer (x ∷ xs) (y ∷ ys) text a b gap h k fewer s = grind (arith, after_longer xs ys h.1 a b gap h.4)
+after_longer (x ∷ xs) [] text a b gap h k fewer s = let none = space_no_tag b gap s in absurd (cc)
+after_longer (x ∷ xs) (y ∷ ys) text a b gap h k fewer s = grind (arith, after_longer xs ys h.0 a b gap h.2)
 
 -- so many events
 front_length : (m : Text) (tags : List (Pair Text Text)) (fields : List (Pair Text (Value Text)))
@@ -112,7 +98,7 @@ front_none line none = record { front = inl refl; longest = longest }
 
 -- the fields of a front come after the tags of a longer one
 fields_after : (tags others : List (Pair Text Text)) (start rest end : List ℕ) (fields : List (Pair Text (Value Text)))
-    → SeparatedAfterComma tag tags start rest → SeparatedAfterComma tag others start end → length others ≤ length tags
+    → AreRead (after_comma tag) (after_comma tag) tags start rest → AreRead (after_comma tag) (after_comma tag) others start end → length others ≤ length tags
     → AreFieldsAfterSpaces fields end → AreFieldsAfterSpaces fields rest
 fields_after tags others start rest end [] h k fewer are = tt {0}
 fields_after tags others start rest end (f ∷ fields) h k fewer are =
@@ -126,18 +112,18 @@ no_fields (f ∷ fields) text none are = absurd (cc)
 
 -- there are no more than the most
 most_fields : (fields others : List (Pair Text (Value Text))) (text end : List ℕ)
-    → LongestList field (drop (spaces text) text) fields end → AreFieldsAfterSpaces others text → length others ≤ length fields
+    → AreMost field (after_comma field) (drop (spaces text) text) fields end → AreFieldsAfterSpaces others text → length others ≤ length fields
 most_fields fields [] text end h are = omega arith
 most_fields fields (f ∷ others) text end h are = h.most (f ∷ others) are.1 are.3
 
 -- the most are there
 are_fields : (fields : List (Pair Text (Value Text))) (text gap end : List ℕ) → byte space text ≡ reads space gap
-    → LongestList field (drop (spaces text) text) fields end → AreFieldsAfterSpaces fields text
+    → AreMost field (after_comma field) (drop (spaces text) text) fields end → AreFieldsAfterSpaces fields text
 are_fields [] text gap end s h = tt {0}
-are_fields (f ∷ fields) text gap end s h = (gap, end, s, h.separated)
+are_fields (f ∷ fields) text gap end s h = (gap, end, s, h.are)
 
 module _ (line : List ℕ) (m : Text) (start : List ℕ) (read : name a_measurement line ≡ reads m start) (tags : List (Pair Text Text))
-    (rest : List ℕ) (most : AreMostTags start tags rest) where
+    (rest : List ℕ) (most : AreMost (after_comma tag) (after_comma tag) start tags rest) where
   -- a front is the longest if there are no more fields after its tags
   front_longest : (fields : List (Pair Text (Value Text))) → AreFieldsAfterSpaces fields rest
       → ((others : List (Pair Text (Value Text))) → AreFieldsAfterSpaces others rest → length others ≤ length fields)
@@ -151,7 +137,7 @@ module _ (line : List ℕ) (m : Text) (start : List ℕ) (read : name a_measurem
       longest others (inl is) = rw is (omega arith)
       longest others (inr (n, ts, fs, at, is)) =
           let same : at.after_name ≡ start = (reads_parts n m at.after_name start (sym at.named ∙ read)).1 in
-          let ts_are : SeparatedAfterComma tag ts start at.after_tags = rw same at at.tags_are in
+          let ts_are : AreRead (after_comma tag) (after_comma tag) ts start at.after_tags = rw same at at.tags_are in
           let fewer = most.most ts at.after_tags ts_are in
           let fs_are = fields_after tags ts start rest at.after_tags fs most.are ts_are fewer at.fields_are in
           let few = most_are fs fs_are in
@@ -163,7 +149,7 @@ module _ (line : List ℕ) (m : Text) (start : List ℕ) (read : name a_measurem
 
   -- and the most fields are, after a space
   pub front_fields : (gap end : List ℕ) (fields : List (Pair Text (Value Text))) → byte space rest ≡ reads space gap
-      → LongestList field (drop (spaces rest) rest) fields end → AreLongestFront line (front_events m tags fields)
+      → AreMost field (after_comma field) (drop (spaces rest) rest) fields end → AreLongestFront line (front_events m tags fields)
   front_fields gap end fields s h = front_longest fields (are_fields fields rest gap end s h) (λ others are. most_fields fields others rest end h are)
 
 -- what the code told before a fault, after a space, is the longest front
@@ -173,4 +159,4 @@ pub told_front : (line start : List ℕ) (m : Text) (tags : List (Pair Text Text
     → text ≡ drop (spaces rest.now) rest.now → AreFields result dialect text fields → AreLongestFront line (front_events m tags fields)
 told_front line start m tags rest gap text result dialect fields read tags_are s is are =
     let last = rw is at (fields_told result dialect text fields are) in
-    front_fields line m start read tags rest.now (tags_told rest start tags tags_are) gap last.0 fields s last.1
+    front_fields line m start read tags rest.now tags_are.3 gap last.0 fields s last.1

@@ -4,11 +4,11 @@ use Rattle.std.proofs.Common.{◌-◌, append_assoc, ◌⊎◌, Option, Some, No
 use Rattle.std.proofs.lemmas.Bool.{cases_Bool}
 use Rattle.lp_format.specs.format.{comma, Dialect, Fault, Text, Read, Reading, miss, fatal, reads, name, a_measurement, Pair, Value}
 use Rattle.lp_format.specs.format.{after_comma, byte, field, field_set, many, prepend, separated_list, some_tags, tag, tag_set}
-use Rattle.lp_format.specs.laws.Meanings.{LongestList, SeparatedBy, SeparatedAfterComma}
+use Rattle.lp_format.specs.laws.Meanings.{SeparatedBy, SeparatedAfterComma}
 use Rattle.lp_format.proofs.lemmas.meanings.{JoinedMeaning.the_most_is_read, ShorterRests.tag_no_longer}
 use Rattle.lp_values.proofs.lemmas.fields.ReadingLemmas.{EndsIn, EndsIn-end, EndsIn-self, bind_reads, byte_ends, byte_parts, name_ends}
 use Rattle.lp_values.proofs.lemmas.fields.ReadingLemmas.{tag_ends}
-use Rattle.lp_events.specs.code.{Events.AreBeforeFault, EventsLeft.SoFar}
+use Rattle.lp_events.specs.code.{Events.AreBeforeFault, Events.AreMost, Events.AreRead, Events.reader_after, EventsLeft.SoFar}
 
 -- those that are read after others
 prepend-prepend : {A : Type 0} (xs ys : List A) (r : Reading (List A)) → prepend xs (prepend ys r) ≡ prepend (xs ++ ys) r
@@ -33,54 +33,47 @@ DoesNotRead (reads x rest) = ⊥
 DoesNotRead other = Unit {0}
 
 module _ {A : Type 0} (one : List ℕ → Reading A) where
-  -- what reads after a comma comes after one
-  comma_there : (text : List ℕ) (x : A) (rest : List ℕ) → after_comma one text ≡ reads x rest
-      → (suffix : List ℕ) × (text ≡ comma ∷ suffix) × (one suffix ≡ reads x rest)
-  comma_there text x rest e = grind (arith, bind_reads, byte_parts)
+  -- one more after those that come after others
+  after_more : (done : List A) (text rest after : List ℕ) (y : A) → AreRead one one done text rest → one rest ≡ reads y after
+      → AreRead one one (done ++ y ∷ []) text after
+  after_more [] text rest after y h e = (after, rw h e, refl)
+  after_more (x ∷ done) text rest after y h e = (h.0, h.1, after_more done h.0 rest after y h.2 e)
 
-  -- and back
-  there_comma : (text suffix : List ℕ) (x : A) (rest : List ℕ) → text ≡ comma ∷ suffix → one suffix ≡ reads x rest
-      → after_comma one text ≡ reads x rest
-  there_comma text suffix x rest is e = rw is e
-
-  -- one more after those that come after commas
-  after_more : (done : List A) (text rest after : List ℕ) (y : A) → SeparatedAfterComma one done text rest
-      → after_comma one rest ≡ reads y after → SeparatedAfterComma one (done ++ y ∷ []) text after
-  after_more [] text rest after y h e = let s = comma_there rest y after e in (s.0, after, h ∙ s.1, s.2, refl)
-  after_more (x ∷ done) text rest after y h e = (h.0, h.1, h.2, h.3, after_more done h.1 rest after y h.4 e)
-
-  -- one more after those that commas join
-  joined_more : (done : List A) (text rest after : List ℕ) (y : A) → 0 < length done → SeparatedBy one done text rest
-      → after_comma one rest ≡ reads y after → SeparatedBy one (done ++ y ∷ []) text after
-  joined_more [] text rest after y some h e = absurd (omega arith)
-  joined_more (x ∷ done) text rest after y some h e = (h.0, h.1, after_more done h.0 rest after y h.2 e)
-
-  -- no more come after commas than those after which none reads
-  after_most : (xs ys : List A) (text a b : List ℕ) → SeparatedAfterComma one xs text a → SeparatedAfterComma one ys text b
-      → DoesNotRead (after_comma one a) → length ys ≤ length xs
+  -- no more come after others than those after which none reads
+  after_most : (xs ys : List A) (text a b : List ℕ) → AreRead one one xs text a → AreRead one one ys text b → DoesNotRead (one a)
+      → length ys ≤ length xs
   after_most xs [] text a b h k none = omega arith
-  after_most [] (y ∷ ys) text a b h k none = absurd (rw (there_comma a k.0 y k.1 (sym h ∙ k.2) k.3) at none)
-  after_most (x ∷ xs) (y ∷ ys) text a b h k none = grind (arith, after_most xs ys h.1 a b h.4)
+  after_most [] (y ∷ ys) text a b h k none = absurd (rw (rw h at k.1) at none)
+  after_most (x ∷ xs) (y ∷ ys) text a b h k none = grind (arith, after_most xs ys h.0 a b h.2)
 
-  -- if none reads at the start, none are the most
-  pub none_most : (text : List ℕ) → DoesNotRead (one text) → LongestList one text [] text
-  none_most text none = record { separated = refl; most = most }
-    where
-      most : (others : List A) (after : List ℕ) → SeparatedBy one others text after → length others ≤ 0
-      most [] after k = omega arith
-      most (y ∷ ys) after k = absurd (rw k.1 at none)
+-- if none reads at the start, none are the most
+pub none_most : {A : Type 0} (first next : List ℕ → Reading A) (text : List ℕ) → DoesNotRead (first text) → AreMost first next text [] text
+none_most {A} first next text none = record { are = refl; most = most }
+  where
+    most : (others : List A) (after : List ℕ) → AreRead first next others text after → length others ≤ 0
+    most [] after k = omega arith
+    most (y ∷ ys) after k = absurd (rw k.1 at none)
+
+module _ {A : Type 0} (one : List ℕ → Reading A) where
+  -- one more after those that commas join
+  joined_more : (done : List A) (text rest after : List ℕ) (y : A) → 0 < length done → AreRead one (after_comma one) done text rest
+      → after_comma one rest ≡ reads y after → AreRead one (after_comma one) (done ++ y ∷ []) text after
+  joined_more [] text rest after y some h e = absurd (omega arith)
+  joined_more (x ∷ done) text rest after y some h e = (h.0, h.1, after_more (after_comma one) done h.0 rest after y h.2 e)
 
   -- if no comma and element follow, these are the most
   pub so_far_most : (text : List ℕ) (done : List A) (rest : List ℕ) → SoFar one text done rest → DoesNotRead (after_comma one rest)
-      → LongestList one text done rest
+      → AreMost one (after_comma one) text done rest
   so_far_most text [] rest so_far none = absurd (let some = so_far.some in omega arith)
-  so_far_most text (x ∷ xs) rest so_far none = record { separated = so_far.done_are; most = most so_far.done_are }
+  so_far_most text (x ∷ xs) rest so_far none = record { are = so_far.done_are; most = most so_far.done_are }
     where
-      most : SeparatedBy one (x ∷ xs) text rest → (others : List A) (after : List ℕ) → SeparatedBy one others text after
-          → length others ≤ length (x ∷ xs)
+      most : AreRead one (after_comma one) (x ∷ xs) text rest → (others : List A) (after : List ℕ)
+          → AreRead one (after_comma one) others text after → length others ≤ length (x ∷ xs)
       most h [] after k = omega arith
       most h (y ∷ ys) after k =
-          after_most (x ∷ xs) (y ∷ ys) (comma ∷ text) rest after (text, h.0, refl, h.1, h.2) (text, k.0, refl, k.1, k.2) none
+          let same : k.0 ≡ h.0 = cc in
+          let fewer = after_most (after_comma one) xs ys h.0 rest after h.2 (rw same at k.2) none in
+          omega (arith, fewer)
 
   -- after the first element the list has it alone
   pub so_far_start : (x : A) (text rest : List ℕ) → one text ≡ reads x rest → SoFar one text (x ∷ []) rest
@@ -131,25 +124,36 @@ module _ {A : Type 0} (one : List ℕ → Reading A) where
   -- before what is fatal where the next one may be, these are the most
   pub reached_fatal : {text : List ℕ} {done : List A} {rest place : List ℕ} (e : Fault)
       → Reached one text done rest place → one place ≡ fatal e → AreBeforeFault one text done e
-  reached_fatal {text = text} {done = []} {rest = rest} {place = place} e (inl first) found = let here = rw first.1 at found in (text, none_most text (rw here (tt {0})), here)
-  reached_fatal {text = text} {done = x ∷ done} {rest = rest} {place = place} e (inl first) found = absurd (cc)
-  reached_fatal {text = text} {done = []} {rest = rest} {place = place} e (inr more) found = absurd (let some = more.so_far.some in omega arith)
-  reached_fatal {text = text} {done = x ∷ done} {rest = rest} {place = place} e (inr more) found = (
-    rest,
-    so_far_most text (x ∷ done) rest more.so_far (rw (next_is rest place more.mark ∙ found) (tt {0})),
-    (place, (byte_parts comma rest comma place more.mark).1, found),
-  )
+  reached_fatal {text} {done} {rest} {place} e (inl first) found =
+      let here = rw first.1 at found in
+      rw first.0
+      (record { rest = text; most = none_most one (after_comma one) text (rw here (tt {0})); next = here; given = rw here refl })
+  reached_fatal {text} {done} {rest} {place} e (inr more) found =
+      let next = next_is rest place more.mark ∙ found in
+      record {
+        rest = rest;
+        most = so_far_most text done rest more.so_far (rw next (tt {0}));
+        next = after_some done more.so_far.some next;
+        given = so_far_fatal text done rest e more.so_far next;
+      }
+    where
+      after_some : (done : List A) → 0 < length done → after_comma one rest ≡ fatal e → reader_after one (after_comma one) done rest ≡ fatal e
+      after_some [] some next = absurd (omega arith)
+      after_some (x ∷ xs) some next = next
 
-  -- nothing is read where the next one may be: these are all
+  -- nothing is read where the next one may be: these are all, and the most
   pub reached_all : {text : List ℕ} {done : List A} {rest place : List ℕ} → Reached one text done rest place
-      → one place ≡ miss → 0 < length done → separated_list one text ≡ reads done rest
+      → one place ≡ miss → 0 < length done → (separated_list one text ≡ reads done rest) × AreMost one (after_comma one) text done rest
   reached_all {text} {done} {rest} {place} (inl first) e some = absurd (let none = ap length first.0 in omega arith)
-  reached_all {text} {done} {rest} {place} (inr more) e some = so_far_end text done rest more.so_far (next_is rest place more.mark ∙ e)
+  reached_all {text} {done} {rest} {place} (inr more) e some =
+      let none = next_is rest place more.mark ∙ e in
+      (so_far_end text done rest more.so_far none, so_far_most text done rest more.so_far (rw none (tt {0})))
 
-  -- if no comma comes after them, these are all
+  -- if no comma comes after them, these are all, and the most
   pub last_read : {text : List ℕ} {done : List A} {rest : List ℕ} → SoFar one text done rest
-      → byte comma rest ≡ miss → separated_list one text ≡ reads done rest
-  last_read {text} {done} {rest} so_far none = so_far_end text done rest so_far (rw none refl)
+      → byte comma rest ≡ miss → (separated_list one text ≡ reads done rest) × AreMost one (after_comma one) text done rest
+  last_read {text} {done} {rest} so_far none =
+      (so_far_end text done rest so_far (rw none refl), so_far_most text done rest so_far (rw none (tt {0})))
 
 -- a text begins with a comma, or does not
 pub comma_cases : (text : List ℕ) → (byte comma text ≡ miss) ⊎ ((place : List ℕ) × (byte comma text ≡ reads comma place))

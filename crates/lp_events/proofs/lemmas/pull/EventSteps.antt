@@ -1,6 +1,6 @@
 -- What one step of a reader means for the events that are left.
 use Rattle.std.proofs.Common.{◌≡◌, ℕ, ◌-◌, ◌<◌, List, [], ◌∷◌, ◌++◌, length, drop, Bool, true, false, refl, sym, ap, subst, arith}
-use Rattle.std.proofs.Common.{append_assoc, length-append, length-drop, length-take, ◌+◌, ◌≤◌, ℤ, ◌==◌, MatchOption, Option, Some}
+use Rattle.std.proofs.Common.{append_assoc, length-append, length-drop, length-take, ◌+◌, ◌≤◌, ℤ, ◌==◌, MatchOption, Option, Some, None}
 use Rattle.std.proofs.Common.{Result, Ok, Err, is_some, IfOk, MatchResult, Bor, ne_eqb, append-nil}
 use Rattle.std.proofs.Math.Seq.{take-append_seam}
 use Rattle.std.proofs.lemmas.{Bool.cases_Bool, Bool.Decides.nat_tests, Grind.common_steps, List.map_push, Result.err_from_is_err_and}
@@ -8,15 +8,14 @@ use Rattle.lp_events.specs.declared.pull.Event as given
 use Rattle.lp_format.specs.format.{comma, space, Dialect, after_comma, answer, byte, field, field_set, front_before, spaces, tag}
 use Rattle.lp_format.specs.format.{timestamp, without_comma, NameKind, name, Left, Pair, Fault, Text, cannot_parse_entire_line}
 use Rattle.lp_format.specs.format.{fatal, miss, reads, tag_set_malformed, Value}
-use Rattle.lp_format.specs.laws.Meanings.{LongestList}
 use Rattle.lp_values.proofs.lemmas.fields.ReadingLemmas.{EndsIn, bind_reads, byte_parts, name_ends, name_parts}
 use Rattle.lp_values.specs.declared.spelled.SpelledFault.{SpelledFault}
-use Rattle.lp_events.specs.code.Events.{AreEventsOf, AreLongestFront, AreMostTags, Event, ended, failed, front_events, tagged, valued}
+use Rattle.lp_events.specs.code.Events.{AreEventsOf, AreLongestFront, AreMost, Event, ended, failed, front_events, tagged, valued}
 use Rattle.lp_events.specs.code.EventsLeft.{AreEventsLeft, Completes, FieldsRead, NamesRead, SeriesRead, Steps, most_of_line}
 use Rattle.lp_events.specs.declared.{place.Place.Place}
 use Rattle.lp_events.proofs.lemmas.fields.ManyLemmas.{DoesNotRead, comma_cases, none_most, so_far_end, so_far_fatal, so_far_more}
 use Rattle.lp_events.proofs.lemmas.fields.ManyLemmas.{so_far_most, so_far_start}
-use Rattle.lp_events.proofs.lemmas.fields.FrontLemmas.{comma_no_space, front_fields, front_names, front_none, no_tags, set_most, tags_after}
+use Rattle.lp_events.proofs.lemmas.fields.FrontLemmas.{comma_no_space, front_fields, front_names, front_none, tags_after}
 use Rattle.lp_events.proofs.lemmas.events.LineEvents.{complete_none, complete_some}
 
 -- a line that is completed after one event more is completed with that event
@@ -99,7 +98,9 @@ module _ (line : List ℕ) (m : Text) (tags : List (Pair Text Text)) (rest : Lis
   -- at a comma after which no tag reads, what was read is the longest front of the line
   pub names_front : (is_first : Bool) (place : List ℕ) → NamesRead line m tags rest is_first → byte comma rest ≡ reads comma place
       → DoesNotRead (after_comma tag rest) → AreLongestFront line (front_events m tags [])
-  names_front true place (e, none) mark no_tag = rw none (front_names line m rest e [] rest (no_tags rest no_tag) (comma_no_space rest place mark))
+  names_front true place (e, none) mark no_tag =
+      let most = none_most (after_comma tag) (after_comma tag) rest no_tag in
+      rw none (front_names line m rest e [] rest most (comma_no_space rest place mark))
   names_front false place (start, first, e, sign, so_far) mark no_tag =
       let most = tags_after start first tags rest sign so_far.some (so_far_most tag first tags rest so_far no_tag) in
       front_names line m start e tags rest most (comma_no_space rest place mark)
@@ -107,32 +108,40 @@ module _ (line : List ℕ) (m : Text) (tags : List (Pair Text Text)) (rest : Lis
   -- if no tag follows, all were read
   pub names_end : (is_first : Bool) → NamesRead line m tags rest is_first → (is_first ≡ true → byte comma rest ≡ miss)
       → after_comma tag rest ≡ miss → SeriesRead line m tags rest
-  names_end true (e, none) bare is = grind (arith)
+  names_end true (e, none) bare is =
+      rw none
+      (record {
+        start = rest;
+        set = None;
+        name_is = e;
+        most = none_most (after_comma tag) (after_comma tag) rest (rw is (tt {0}));
+        set_is = rw (bare refl) refl;
+        tags_are = refl;
+      })
   names_end false (start, place, e, mark, so_far) bare is =
-      record { start = start; set = Some tags; name_is = e; set_is = rw (mark, so_far_end tag place tags rest so_far is) refl; tags_are = refl }
-
--- what is fatal after a comma comes after one
-pub fatal_comma : (rest : List ℕ) (fault : Fault) → after_comma tag rest ≡ fatal fault → (place : List ℕ) × (byte comma rest ≡ reads comma place)
-fatal_comma rest fault is = grind (arith, comma_cases)
+      record {
+        start = start;
+        set = Some tags;
+        name_is = e;
+        most = tags_after start place tags rest mark so_far.some (so_far_most tag place tags rest so_far (rw is (tt {0})));
+        set_is = rw (mark, so_far_end tag place tags rest so_far is) refl;
+        tags_are = refl;
+      }
 
 module _ {line : List ℕ} {m : Text} {tags : List (Pair Text Text)} {rest : List ℕ} (h : SeriesRead line m tags rest) where
-  -- all tags of a series are the most
-  series_most : AreMostTags h.start tags rest
-  series_most = rw h.tags_are at (set_most h.start rest h.set h.set_is)
-
   -- without a space after it, what was read is the longest front of the line
   pub series_front : byte space rest ≡ miss → AreLongestFront line (front_events m tags [])
-  series_front none = front_names line m h.start h.name_is tags rest series_most none
+  series_front none = front_names line m h.start h.name_is tags rest h.most none
 
   -- with a space and these fields, the most that are there, too
   pub valued_front : (gap end : List ℕ) (fields : List (Pair Text (Value Text))) → byte space rest ≡ reads space gap
-      → LongestList field (drop (spaces rest) rest) fields end → AreLongestFront line (front_events m tags fields)
-  valued_front gap end fields s most = front_fields line m h.start h.name_is tags rest series_most gap end fields s most
+      → AreMost field (after_comma field) (drop (spaces rest) rest) fields end → AreLongestFront line (front_events m tags fields)
+  valued_front gap end fields s most = front_fields line m h.start h.name_is tags rest h.most gap end fields s most
 
   -- and with a space after which no field reads
   pub first_front : (gap : List ℕ) → byte space rest ≡ reads space gap → DoesNotRead (field (drop (spaces rest) rest))
       → AreLongestFront line (front_events m tags [])
-  first_front gap s none = valued_front gap _ [] s (none_most field (drop (spaces rest) rest) none)
+  first_front gap s none = valued_front gap _ [] s (none_most field (after_comma field) (drop (spaces rest) rest) none)
 
 -- the first field after the tags
 pub first_read : {line : List ℕ} {m : Text} {tags : List (Pair Text Text)} {rest : List ℕ} → SeriesRead line m tags rest
