@@ -2,7 +2,7 @@
 use Rattle.std.specs.Prelude.{◌≡◌, ◌⊎◌, ◌++◌, ◌≤◌, ℕ, ℤ, List, [], ◌∷◌, map, drop, length, Option, Some, None, Result, Ok, Err}
 use Rattle.std.specs.Borrow.{Bor}
 use Rattle.lp_format.specs.format.{space, Dialect, Line, after_comma, answers_of_piece, byte, field, field_set, separated_list, some_tags, spaces, tag, tag_set}
-use Rattle.lp_format.specs.format.{Pieces.Pieces, a_measurement, name, Pair, Fault, Reading, Text, miss, fatal, reads, trimmed, Value}
+use Rattle.lp_format.specs.format.{Pieces.Pieces, a_measurement, name, Pair, Fault, Reading, Text, miss, fatal, reads, trimmed, Value, ◌>>=◌}
 use Rattle.lp_values.specs.declared.{spelled.Spelled.Spelled, spelled.SpelledFault.SpelledFault, spelled.SpelledValue.SpelledValue}
 use Rattle.lp_values.specs.code.SpelledParts.{spelled_fault, spelled_text, spelled_value}
 
@@ -22,26 +22,25 @@ front_events measurement tags fields = named measurement ∷ map tagged tags ++ 
 abbrev pub events_of_line : Line → List Event
 events_of_line l = front_events l.measurement (some_tags l.tags) l.fields ++ ended l.series l.timestamp ∷ []
 
--- these parts read one after another from the start of a text, the first by one reader and the others by the next, and this is left
+-- spaces, one or more, and what comes after them
+abbrev pub after_spaces : {A : Type 0} → (List ℕ → Reading A) → List ℕ → Reading A
+after_spaces one text = byte space text >>= λ gap. one (drop (spaces text) text)
+
+-- these parts are at the start of a text, the first by one reader and the others by the next, and this is left
 abbrev pub AreRead : {A : Type 0} → (List ℕ → Reading A) → (List ℕ → Reading A) → List A → List ℕ → List ℕ → Type 0
 AreRead first next [] text rest = text ≡ rest
 AreRead first next (x ∷ xs) text rest = (after : List ℕ) × (first text ≡ reads x after) × AreRead next next xs after rest
 
--- these fields, joined by commas, come after spaces at the start of a text; or there are none
-abbrev pub AreFieldsAfterSpaces : List (Pair Text (Value Text)) → List ℕ → Type 0
-AreFieldsAfterSpaces [] text = Unit {0}
-AreFieldsAfterSpaces (f ∷ fields) text =
-    (gap rest : List ℕ) × (byte space text ≡ reads space gap)
-    × AreRead field (after_comma field) (f ∷ fields) (drop (spaces text) text) rest
-
--- these parts are at the start of a line, one after another: a measurement, tags, each after a comma, and fields after spaces
+-- these parts are at the start of a line: a measurement; tags, each after a comma; and fields, the first after spaces and each
+-- other after a comma
 pub record AreAtStart (line : List ℕ) (measurement : Text) (tags : List (Pair Text Text)) (fields : List (Pair Text (Value Text)))
     : Type 0 where
   pub after_name : List ℕ
   pub after_tags : List ℕ
+  pub rest : List ℕ
   pub named : name a_measurement line ≡ reads measurement after_name
   pub tags_are : AreRead (after_comma tag) (after_comma tag) tags after_name after_tags
-  pub fields_are : AreFieldsAfterSpaces fields after_tags
+  pub fields_are : AreRead (after_spaces field) (after_comma field) fields after_tags rest
 
 -- a front of the events of a line: none, or a measurement and tags and fields that are at the start of the line
 abbrev pub AreFrontEvents : List ℕ → List Event → Type 0
@@ -50,7 +49,7 @@ AreFrontEvents line events =
     ⊎ ((measurement : Text) × (tags : List (Pair Text Text)) × (fields : List (Pair Text (Value Text)))
     × AreAtStart line measurement tags fields × (events ≡ front_events measurement tags fields))
 
--- the longest front of the events of a line: all parts that read before the place where reading stops
+-- the longest front of the events of a line: all parts that read before reading stops
 pub record AreLongestFront (line : List ℕ) (events : List Event) : Type 0 where
   pub front : AreFrontEvents line events
   pub longest : (others : List Event) → AreFrontEvents line others → length others ≤ length events
@@ -106,7 +105,7 @@ spelled_tag t = record { key = spelled_text t.0; value = spelled_text t.1 }
 abbrev pub spelled_field : Spelled × SpelledValue → Pair Text (Value Text)
 spelled_field f = record { key = spelled_text f.0; value = spelled_value f.1 }
 
--- the most parts that read from the start of a text, the first by one reader and the others by the next, and what is left
+-- the most parts that are at the start of a text, the first by one reader and the others by the next, and what is left
 pub record AreMost {A : Type 0} (first next : List ℕ → Reading A) (text : List ℕ) (parts : List A) (rest : List ℕ) : Type 0 where
   pub are : AreRead first next parts text rest
   pub most : (others : List A) (after : List ℕ) → AreRead first next others text after → length others ≤ length parts

@@ -1,14 +1,14 @@
 -- What the longest front of the parts of a line is, from what was read of it.
-use Rattle.std.proofs.Common.{◌≡◌, ℕ, ◌+◌, ◌≤◌, ◌<◌, List, [], ◌∷◌, ◌++◌, length, length-append, map, drop, ◌⊎◌, refl, sym, ap, ◌∙◌}
+use Rattle.std.proofs.Common.{◌≡◌, ℕ, ◌+◌, ◌≤◌, ◌<◌, List, [], ◌∷◌, length, length-append, drop, refl, sym, ◌∙◌}
 use Rattle.std.proofs.Common.{arith, inl, inr, Option, Some, None, Ok, Err, Result, Bor}
 use Rattle.std.proofs.lemmas.List.{length-map}
 use Rattle.lp_format.specs.format.{comma, space, Dialect, Fault, Text, Reading, miss, fatal, reads, name, a_measurement, Pair, Value, after_comma}
-use Rattle.lp_format.specs.format.{byte, field, field_set, separated_list, some_tags, spaces, tag, tag_set, tag_set_malformed}
+use Rattle.lp_format.specs.format.{byte, field, field_set, separated_list, spaces, tag, tag_set, tag_set_malformed}
 use Rattle.lp_format.proofs.lemmas.meanings.{JoinedMeaning.the_most_is_read, ShorterRests.tag_no_longer}
-use Rattle.lp_values.proofs.lemmas.fields.ReadingLemmas.{byte_parts, reads_parts}
+use Rattle.lp_values.proofs.lemmas.fields.ReadingLemmas.{bind_reads, byte_parts, reads_parts}
 use Rattle.lp_values.specs.declared.spelled.SpelledFault.{SpelledFault}
-use Rattle.lp_events.specs.code.Events.{AreAtStart, AreBeforeFault, AreFields, AreFieldsAfterSpaces, AreTags, AreFrontEvents, AreLongestFront, AreMost, AreRead}
-use Rattle.lp_events.specs.code.Events.{Event, front_events, named, tagged, valued}
+use Rattle.lp_events.specs.code.Events.{AreAtStart, AreBeforeFault, AreFields, AreTags, AreFrontEvents, AreLongestFront, AreMost, AreRead}
+use Rattle.lp_events.specs.code.Events.{Event, after_spaces, front_events}
 use Rattle.lp_events.proofs.lemmas.fields.ManyLemmas.{DoesNotRead, comma_cases, none_most}
 
 -- where a comma is, no space is
@@ -23,16 +23,27 @@ space_no_tag text gap s = rw (byte_parts space text space gap s).1 refl
 pub fatal_comma : (rest : List ℕ) (fault : Fault) → after_comma tag rest ≡ fatal fault → (place : List ℕ) × (byte comma rest ≡ reads comma place)
 fatal_comma rest fault is = grind (arith, comma_cases)
 
+module _ {A : Type 0} (first one next : List ℕ → Reading A) (text place : List ℕ) (same : first text ≡ one place) where
+  -- no more are at the start of a text than at the place where its first one is
+  no_more : (xs : List A) (rest : List ℕ) → AreMost one next place xs rest → (others : List A) (after : List ℕ)
+      → AreRead first next others text after → length others ≤ length xs
+  no_more xs rest h [] after k = omega arith
+  no_more xs rest h (y ∷ ys) after k = h.most (y ∷ ys) after (k.0, rw same at k.1, k.2)
+
+  -- if some are there, they are at the start too, before the same rest
+  most_from : (xs : List A) (rest : List ℕ) → 0 < length xs → AreMost one next place xs rest → AreMost first next text xs rest
+  most_from [] rest some h = absurd (omega arith)
+  most_from (x ∷ xs) rest some h = record { are = (h.are.0, rw same h.are.1, h.are.2); most = no_more (x ∷ xs) rest h }
+
+  -- if none are, none are at the start
+  most_at : (xs : List A) (rest : List ℕ) → AreMost one next place xs rest → (end : List ℕ) × AreMost first next text xs end
+  most_at [] rest h = (text, record { are = refl; most = no_more [] rest h })
+  most_at (x ∷ xs) rest h = (rest, most_from (x ∷ xs) rest (omega arith) h)
+
 -- the most tags that commas join, after a comma
 pub tags_after : (text place : List ℕ) (tags : List (Pair Text Text)) (rest : List ℕ) → byte comma text ≡ reads comma place
     → 0 < length tags → AreMost tag (after_comma tag) place tags rest → AreMost (after_comma tag) (after_comma tag) text tags rest
-tags_after text place [] rest mark some h = absurd (omega arith)
-tags_after text place (x ∷ xs) rest mark some h = record { are = (h.are.0, rw mark h.are.1, h.are.2); most = most }
-  where
-    most : (others : List (Pair Text Text)) (after : List ℕ) → AreRead (after_comma tag) (after_comma tag) others text after
-        → length others ≤ length (x ∷ xs)
-    most [] after k = omega arith
-    most (y ∷ ys) after k = h.most (y ∷ ys) after (k.0, rw mark at k.1, k.2)
+tags_after text place tags rest mark some h = most_from (after_comma tag) tag (after_comma tag) text place (rw mark refl) tags rest some h
 
 -- the tags that the code told after a comma are those of the tag set
 pub set_told : (text place : List ℕ) (tags : List (Pair Text Text)) (rest : Bor (List ℕ)) → byte comma text ≡ reads comma place
@@ -96,61 +107,50 @@ front_none line none = record { front = inl refl; longest = longest }
     longest others (inl is) = rw is (omega arith)
     longest others (inr (m, tags, fields, at, is)) = absurd (rw at.named at none)
 
--- the fields of a front come after the tags of a longer one
-fields_after : (tags others : List (Pair Text Text)) (start rest end : List ℕ) (fields : List (Pair Text (Value Text)))
-    → AreRead (after_comma tag) (after_comma tag) tags start rest → AreRead (after_comma tag) (after_comma tag) others start end → length others ≤ length tags
-    → AreFieldsAfterSpaces fields end → AreFieldsAfterSpaces fields rest
-fields_after tags others start rest end [] h k fewer are = tt {0}
-fields_after tags others start rest end (f ∷ fields) h k fewer are =
-    rw (after_longer tags others start rest end are.0 h k fewer are.2) at are
+-- fields come after a space
+space_there : (text : List ℕ) (x : Pair Text (Value Text)) (rest : List ℕ) → after_spaces field text ≡ reads x rest
+    → (gap : List ℕ) × (byte space text ≡ reads space gap)
+space_there text x rest e = grind (arith, bind_reads, byte_parts)
 
--- without a space there are no fields
-no_fields : (fields : List (Pair Text (Value Text))) (text : List ℕ) → byte space text ≡ miss → AreFieldsAfterSpaces fields text
-    → length fields ≡ 0
-no_fields [] text none are = refl
-no_fields (f ∷ fields) text none are = absurd (cc)
-
--- there are no more than the most
-most_fields : (fields others : List (Pair Text (Value Text))) (text end : List ℕ)
-    → AreMost field (after_comma field) (drop (spaces text) text) fields end → AreFieldsAfterSpaces others text → length others ≤ length fields
-most_fields fields [] text end h are = omega arith
-most_fields fields (f ∷ others) text end h are = h.most (f ∷ others) are.1 are.3
-
--- the most are there
-are_fields : (fields : List (Pair Text (Value Text))) (text gap end : List ℕ) → byte space text ≡ reads space gap
-    → AreMost field (after_comma field) (drop (spaces text) text) fields end → AreFieldsAfterSpaces fields text
-are_fields [] text gap end s h = tt {0}
-are_fields (f ∷ fields) text gap end s h = (gap, end, s, h.are)
+-- a front that has fewer tags has no more fields
+few_fields : (tags others : List (Pair Text Text)) (fields these : List (Pair Text (Value Text))) (start rest end after last : List ℕ)
+    → AreRead (after_comma tag) (after_comma tag) tags start rest → AreRead (after_comma tag) (after_comma tag) others start after
+    → length others ≤ length tags → AreMost (after_spaces field) (after_comma field) rest fields end
+    → AreRead (after_spaces field) (after_comma field) these after last → length these ≤ length fields
+few_fields tags others fields [] start rest end after last h k fewer most are = omega arith
+few_fields tags others fields (f ∷ these) start rest end after last h k fewer most are =
+    let there = space_there after f are.0 are.1 in
+    most.most (f ∷ these) last (rw (after_longer tags others start rest after there.0 h k fewer there.1) at are)
 
 module _ (line : List ℕ) (m : Text) (start : List ℕ) (read : name a_measurement line ≡ reads m start) (tags : List (Pair Text Text))
     (rest : List ℕ) (most : AreMost (after_comma tag) (after_comma tag) start tags rest) where
-  -- a front is the longest if there are no more fields after its tags
-  front_longest : (fields : List (Pair Text (Value Text))) → AreFieldsAfterSpaces fields rest
-      → ((others : List (Pair Text (Value Text))) → AreFieldsAfterSpaces others rest → length others ≤ length fields)
+  -- the most tags, and after them the most fields, are the longest front
+  front_longest : (fields : List (Pair Text (Value Text))) (end : List ℕ) → AreMost (after_spaces field) (after_comma field) rest fields end
       → AreLongestFront line (front_events m tags fields)
-  front_longest fields are most_are = record {
-    front = inr (m, tags, fields, record { after_name = start; after_tags = rest; named = read; tags_are = most.are; fields_are = are }, refl);
-    longest = longest;
-  }
+  front_longest fields end last = record { front = inr (m, tags, fields, at_start, refl); longest = longest }
     where
+      at_start : AreAtStart line m tags fields
+      at_start = record { after_name = start; after_tags = rest; rest = end; named = read; tags_are = most.are; fields_are = last.are }
+
       longest : (others : List Event) → AreFrontEvents line others → length others ≤ length (front_events m tags fields)
       longest others (inl is) = rw is (omega arith)
       longest others (inr (n, ts, fs, at, is)) =
           let same : at.after_name ≡ start = (reads_parts n m at.after_name start (sym at.named ∙ read)).1 in
           let ts_are : AreRead (after_comma tag) (after_comma tag) ts start at.after_tags = rw same at at.tags_are in
           let fewer = most.most ts at.after_tags ts_are in
-          let fs_are = fields_after tags ts start rest at.after_tags fs most.are ts_are fewer at.fields_are in
-          let few = most_are fs fs_are in
+          let few = few_fields tags ts fields fs start rest end at.after_tags at.rest most.are ts_are fewer last at.fields_are in
           rw (is, front_length n ts fs, front_length m tags fields) (omega (arith, fewer, few))
 
-  -- the most tags are the last parts if no space comes after them
+  -- if no space comes after the tags, they are its last parts
   pub front_names : byte space rest ≡ miss → AreLongestFront line (front_events m tags [])
-  front_names none = front_longest [] (tt {0}) (λ others are. let n = no_fields others rest none are in omega arith)
+  front_names none = front_longest [] rest (none_most (after_spaces field) (after_comma field) rest (rw none (tt {0})))
 
-  -- and the most fields are, after a space
+  -- and else the most fields after the spaces are
   pub front_fields : (gap end : List ℕ) (fields : List (Pair Text (Value Text))) → byte space rest ≡ reads space gap
       → AreMost field (after_comma field) (drop (spaces rest) rest) fields end → AreLongestFront line (front_events m tags fields)
-  front_fields gap end fields s h = front_longest fields (are_fields fields rest gap end s h) (λ others are. most_fields fields others rest end h are)
+  front_fields gap end fields s h =
+      let there = most_at (after_spaces field) field (after_comma field) rest (drop (spaces rest) rest) (rw s refl) fields end h in
+      front_longest fields there.0 there.1
 
 -- what the code told before a fault, after a space, is the longest front
 pub told_front : (line start : List ℕ) (m : Text) (tags : List (Pair Text Text)) (rest : Bor (List ℕ)) (gap text : List ℕ)

@@ -1,6 +1,6 @@
 -- Values that commas join are read one after another; and what a tag set was read from.
 use Rattle.std.proofs.Common.{◌≡◌, ℕ, suc, ◌<◌, List, [], ◌∷◌, ◌++◌, length, length-append, refl, ap, ◌∙◌, arith, inl, inr}
-use Rattle.std.proofs.Common.{◌-◌, append_assoc, ◌⊎◌, Option, Some, None, Ok, append-nil, sym, ◌≤◌}
+use Rattle.std.proofs.Common.{◌-◌, append_assoc, ◌⊎◌, Option, Some, None, Ok, append-nil, ◌≤◌}
 use Rattle.std.proofs.lemmas.Bool.{cases_Bool}
 use Rattle.lp_format.specs.format.{comma, Dialect, Fault, Text, Read, Reading, miss, fatal, reads, name, a_measurement, Pair, Value}
 use Rattle.lp_format.specs.format.{after_comma, byte, field, field_set, many, prepend, separated_list, some_tags, tag, tag_set}
