@@ -103,6 +103,7 @@ front_length m tags fields = grind (arith, length-append, length-map)
 pub front_none : (line : List ℕ) → DoesNotRead (name a_measurement line) → AreLongestFront line []
 front_none line none = record { front = inl refl; longest = longest }
   where
+    -- no front has any
     longest : (others : List Event) → AreFrontEvents line others → length others ≤ 0
     longest others (inl is) = rw is (omega arith)
     longest others (inr (m, tags, fields, at, is)) = absurd (rw at.named at none)
@@ -129,9 +130,11 @@ module _ (line : List ℕ) (m : Text) (start : List ℕ) (read : name a_measurem
       → AreLongestFront line (front_events m tags fields)
   front_longest fields end last = record { front = inr (m, tags, fields, at_start, refl); longest = longest }
     where
+      -- these are at the start
       at_start : AreAtStart line m tags fields
       at_start = record { after_name = start; after_tags = rest; rest = end; named = read; tags_are = most.are; fields_are = last.are }
 
+      -- no front has more
       longest : (others : List Event) → AreFrontEvents line others → length others ≤ length (front_events m tags fields)
       longest others (inl is) = rw is (omega arith)
       longest others (inr (n, ts, fs, at, is)) =

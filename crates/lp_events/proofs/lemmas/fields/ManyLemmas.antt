@@ -50,6 +50,7 @@ module _ {A : Type 0} (one : List ℕ → Reading A) where
 pub none_most : {A : Type 0} (first next : List ℕ → Reading A) (text : List ℕ) → DoesNotRead (first text) → AreMost first next text [] text
 none_most {A} first next text none = record { are = refl; most = most }
   where
+    -- none reads
     most : (others : List A) (after : List ℕ) → AreRead first next others text after → length others ≤ 0
     most [] after k = omega arith
     most (y ∷ ys) after k = absurd (rw k.1 at none)
@@ -67,6 +68,7 @@ module _ {A : Type 0} (one : List ℕ → Reading A) where
   so_far_most text [] rest so_far none = absurd (let some = so_far.some in omega arith)
   so_far_most text (x ∷ xs) rest so_far none = record { are = so_far.done_are; most = most so_far.done_are }
     where
+      -- no more are after the first
       most : AreRead one (after_comma one) (x ∷ xs) text rest → (others : List A) (after : List ℕ)
           → AreRead one (after_comma one) others text after → length others ≤ length (x ∷ xs)
       most h [] after k = omega arith
@@ -137,6 +139,7 @@ module _ {A : Type 0} (one : List ℕ → Reading A) where
         given = so_far_fatal text done rest e more.so_far next;
       }
     where
+      -- the next one comes after a comma
       after_some : (done : List A) → 0 < length done → after_comma one rest ≡ fatal e → reader_after one (after_comma one) done rest ≡ fatal e
       after_some [] some next = absurd (omega arith)
       after_some (x ∷ xs) some next = next
