@@ -1,0 +1,335 @@
+#!/usr/bin/env python3
+"""Whether the code of lp_relay and lp_rebuild, and their definitions, know just the options of crates/lp_relay/data/options.txt, whose
+head says what its lines mean; status 1 if not.
+
+checks/blocks.py compares each text that lists the options with what `places` makes of them here.
+"""
+
+import re
+import sys
+import textwrap
+from dataclasses import dataclass
+from pathlib import Path
+from typing import NamedTuple
+
+TOP = Path(__file__).resolve().parent.parent
+DATA = "crates/lp_relay/data/options.txt"
+FIELDS = ("option", "short", "values", "not with", "unless", "place", "usage after", "does", "format", "lp_rebuild", "man")
+FIRST, ALONE = "first or after --strict", "alone"
+PLACES_TOLD = {"": "", FIRST: ", first or after `--strict`", ALONE: ", alone"}  # as docs/FORMAT.md has them
+COLUMN, HELP_WIDTH, USAGE_WIDTH, PAGE_WIDTH = 21, 81, 96, 78
+
+# The files with code and definitions of each program's words.
+CODE = {"lp_relay": ("crates/lp_relay/src/words.rt", "crates/lp_relay/specs/Words.antt"),
+        "lp_rebuild": ("crates/lp_rebuild/src/program.rt", "crates/lp_rebuild/specs/Running.antt")}
+WORD = re.compile(r'"(-[a-zA-Z]|--[a-z][a-z-]*)"')
+
+
+class Fault(Exception):
+    """What is wrong with the options, in words."""
+
+
+@dataclass
+class Option:
+    """A record of the data."""
+
+    word: str
+    argument: str
+    lines: dict  # the lines of each field that it has
+    rivals: list  # the options with which it cannot be given, also those whose record says so
+    unless: str = ""  # the words with which it can
+
+    def get(self, field):
+        return " ".join(self.lines.get(field, []))
+
+    def words(self):
+        return [self.word, *self.lines.get("short", [])]
+
+    def spelled(self):
+        """As the usage has it."""
+        argument = self.get("values").replace(" ", "|") or self.argument
+        return f"{self.word} {argument}".strip()
+
+    def of_page(self):
+        """As a man page has it."""
+        values, argument = self.get("values").replace(" ", " | "), self.argument.lower()
+        return f"Fl {self.word[1:]}" + (f" Cm {values}" if values else f" Ar {argument}" if argument else "")
+
+
+def record_of(text):
+    """The option of a record."""
+    lines, field = {}, ""
+    for line in text.splitlines():
+        if not line.startswith(" "):
+            field, colon, line = line.partition(":")
+            if not colon or field not in FIELDS or field in lines:
+                raise Fault(f"{DATA}: no record can have this line, or not twice: {field}{colon}{line}")
+            lines[field] = []
+        lines[field] += [line[1:]] if line else []
+    if not lines.get("option") or not lines.get("does"):
+        raise Fault(f"{DATA}: a record has no line `option` or `does`:\n{text}")
+    word, _, argument = lines["option"][0].partition(" ")
+    long = [line for line in lines["does"] if len(line) > HELP_WIDTH]
+    if " ".join(lines.get("place", [])) not in PLACES_TOLD:
+        raise Fault(f"{DATA}: {word}: there is no such place: {lines['place'][0]}")
+    if long:
+        raise Fault(f"{DATA}: {word}: a line of the help has more than {HELP_WIDTH} bytes: {long[0]}")
+    return Option(word, argument, lines, [])
+
+
+def options():
+    """The options of lp_relay."""
+    text = re.sub(r"^#.*\n", "", (TOP / DATA).read_text(encoding="utf-8"), flags=re.M)
+    found = [record_of(record) for record in re.split(r"\n\n+", text.strip("\n"))]
+    known = {option.word: option for option in found}
+    for option in found:
+        for other in option.get("not with").split():
+            if other not in known or option.get("place"):
+                raise Fault(f"{DATA}: {option.word} cannot be at odds with {other}, or is given alone")
+            for one, two in ((option, known[other]), (known[other], option)):
+                one.rivals.append(two.word)
+                one.unless = option.get("unless")
+    return found
+
+
+def relays(found):
+    """The options of a relay."""
+    return [option for option in found if not option.get("place")]
+
+
+def groups(found):
+    """The options of a relay in the order of the usage: groups of those at odds, each with its ways, of which one is taken."""
+    known, ordered, taken = {option.word: option for option in relays(found)}, [], set()
+    for option in known.values():
+        if option.word not in taken:
+            near = [other for other in known.values() if other is option or other.word in option.rivals]
+            hub = max(near, key=lambda other: len(other.rivals))
+            others = [other for other in known.values() if other.word in hub.rivals]
+            if any(set(other.rivals) - {hub.word} for other in others):
+                raise Fault(f"{DATA}: the usage cannot say what {hub.word} is at odds with")
+            ways = [[hub], others] if others else [[hub]]
+            taken |= {each.word for way in ways for each in way}
+            ordered.append(ways if len(others) != 1 else sorted(ways, key=lambda way: list(known).index(way[0].word)))
+    for ways in list(ordered):
+        for after in [word for way in ways for option in way for word in option.lines.get("usage after", [])]:
+            ordered.remove(ways)
+            at = [n for n, others in enumerate(ordered) if after in [option.word for way in others for option in way]]
+            if not at:
+                raise Fault(f"{DATA}: nothing comes in the usage after {after}, which is no other option of a relay")
+            ordered.insert(at[0] + 1, ways)
+    return ordered
+
+
+def usage_lines(found):
+    """Each form of the call of lp_relay, in parts that are not broken."""
+    def way(each, is_alone):
+        return each[0].spelled() if is_alone else " ".join(f"[{option.spelled()}]" for option in each)
+
+    parts = ["[" + " | ".join(way(each, len(each) == 1) for each in ways) + "]" for ways in groups(found)]
+    forms = [[*parts, "[FILE..]"]]
+    forms += [["[--strict]", option.spelled(), "[FILE..]"] for option in found if option.get("place") == FIRST]
+    return [*forms, [" | ".join(option.spelled() for option in found if option.get("place") == ALONE)]]
+
+
+def usage(found):
+    """The usage of lp_relay."""
+    lines = []
+    for parts in usage_lines(found):
+        line = ("       " if lines else "usage: ") + "lp_relay"
+        for part in parts:
+            if len(line) + 1 + len(part) > USAGE_WIDTH:
+                lines.append(line)
+                line = " " * 15
+            line += f" {part}"
+        lines.append(line)
+    return lines
+
+
+def help_lines(found):
+    """What the help of lp_relay says of the options."""
+    for option in found:
+        head = ", ".join([f"  {option.word} {option.argument}".rstrip(), *option.words()[1:]])
+        if len(head) > COLUMN - 1:
+            yield head
+            head = ""
+        for line in option.lines["does"]:
+            yield head.ljust(COLUMN) + line
+            head = ""
+
+
+def synopsis(found):
+    """The forms of the call of lp_relay, as its page has them."""
+    def way(each, is_alone):
+        return each[0].of_page() if is_alone else " ".join(f"Oo {option.of_page()} Oc" for option in each)
+
+    for ways in groups(found):
+        yield ".Op " + " | ".join(way(each, len(each) == 1) for each in ways)
+    yield ".Op Ar"
+    for option in found:
+        if option.get("place") == FIRST:
+            yield from (".Nm", ".Op Fl -strict", f".{option.of_page()}", ".Op Ar")
+    yield ".Nm"
+    yield "." + " | ".join(option.of_page() for option in found if option.get("place") == ALONE)
+
+
+def odds_of_page(option):
+    """What an option cannot be given with, as a man page says it."""
+    others = [f".Fl {word[1:]}" for word in option.get("not with").split()]
+    if not others:
+        return []
+    lines = ["It cannot be given with", *"\nor\n".join(others).split("\n")]
+    if option.unless:
+        word, _, value = option.unless.partition(" ")
+        lines[-1] += " ,"
+        lines += ["but with", f".Fl {word[1:]}" + (f" Cm {value}" if value else "")]
+    return [*lines[:-1], lines[-1] + " ."]
+
+
+def page_lines(found):
+    """What a man page says of options."""
+    for option in found:
+        yield ".It " + " , ".join([option.of_page(), *(option.of_page().replace(option.word[1:], word[1:], 1) for word in option.words()[1:])])
+        said = option.get("does").replace("\\", "\\e")
+        yield from option.lines.get("man") or textwrap.wrap(said[0].upper() + said[1:] + ".", PAGE_WIDTH, break_on_hyphens=False)
+        yield from odds_of_page(option)
+
+
+def rows(found):
+    """The rows of the options in docs/FORMAT.md."""
+    for option in found:
+        head = " or ".join(f"`{word} {option.argument}".rstrip() + "`" for word in option.words())
+        if option.lines.get("not with"):
+            head += ", not with " + " or ".join(f"`{word}`" for word in option.get("not with").split())
+            head += f", but with `{option.unless}`" if option.unless else ""
+        yield f"| {head}{PLACES_TOLD[option.get('place')]} | {option.get('lp_rebuild') or 'wrong'} | {option.get('format') or option.get('does')} |"
+
+
+def after_words(found):
+    """What bash completes after a word, as cases of the words before."""
+    def case(options_, more=""):
+        return " | ".join(f'*" {word} "{more}' for option in options_ for word in option.words())
+
+    plain = [option for option in found if option.argument not in ("", "FILE") and not option.lines.get("values")]
+    alone = [option for option in found if option.get("place") == ALONE]
+    yield f"    {case(plain)} | {case(alone, '*')}) return ;;"
+    for option in found:
+        if option.lines.get("values"):
+            yield f'    {case([option])}) mapfile -t COMPREPLY < <(compgen -W "{option.get("values")}" -- "$word"); return ;;'
+    files = [option for option in found if option.argument == "FILE"]
+    firsts = [option for option in found if option.get("place") == FIRST]
+    yield f"    {case(files)} | {case(firsts, '*')}) ;;"
+
+
+def offers(found):
+    """What bash completes of the options."""
+    known = {option.word: option for option in found}
+    for option in relays(found):
+        offer = " ".join(["_lp_relay_offer", *option.words()])
+        others = " ".join([offer, *(word for other in option.rivals for word in known[other].words())])
+        yield f"    {others}" if not option.unless else \
+            f'    if [[ $given = *" {option.unless} "* ]]; then {offer}; else {others}; fi'
+    firsts, alone = ([option.word for option in found if option.get("place") == place] for place in (FIRST, ALONE))
+    yield "    case $given in"
+    yield f'    "  ") options+=({" ".join(firsts + alone)}) ;;'
+    yield f'    " --strict ") options+=({" ".join(firsts)}) ;;'
+    yield "    esac"
+
+
+def constant(name, lines):
+    """A text as a constant of the code."""
+    text = "\n".join(lines).replace("\\", "\\\\").replace('"', '\\"')
+    return f'pub const {name}: &str ={" " if len(lines) == 1 else chr(10) + "    "}"{text}";'.split("\n")
+
+
+class Place(NamedTuple):
+    """A stretch of a file: it begins after the last of some lines that come one after another, and ends before a line. A line is told
+    by how it begins, or is empty."""
+
+    path: str
+    before: tuple
+    after: str
+    lines: list
+
+    def filled(self, text):
+        """The text of the file with this stretch."""
+        lines, at = text.split("\n"), 0
+        for mark in (*self.before, self.after):
+            start = at
+            while at < len(lines) and not (lines[at].startswith(mark) if mark else not lines[at]):
+                at += 1
+            if at == len(lines):
+                raise Fault(f"{self.path}: after line {start} no line begins so: {mark}")
+            at += 1
+        return "\n".join([*lines[:start], *self.lines, *lines[at - 1:]])
+
+
+def places():
+    """Each stretch that lists options."""
+    found = options()
+    rebuilds = [option for option in found if option.lines.get("lp_rebuild")]
+    others = [option for option in found if option.get("place")]
+    usage_of_rebuild = "usage: lp_rebuild " + " ".join(f"[{option.spelled()}]" for option in rebuilds)
+    begin, end = '.\\" [options]', '.\\" [end]'
+    relay, rebuild = "packaging/completion/lp_relay", "packaging/completion/lp_rebuild"
+    page, page_of_rebuild = "man/lp_relay.1", "man/lp_rebuild.1"
+    return [
+        Place(CODE["lp_relay"][0], ("/// How the program is called",), "", constant("USAGE", usage(found))),
+        Place(CODE["lp_relay"][0], ("pub const HELP", ""), "", "\n".join(help_lines(found)).replace("\\", "\\\\").split("\n")),
+        Place(CODE["lp_rebuild"][0], ("/// How the program is called",), "", constant("USAGE", [usage_of_rebuild])),
+        Place(page, (begin,), end, list(synopsis(found))),
+        Place(page, (begin, begin), end, list(page_lines(relays(found)))),
+        Place(page, (begin, begin, begin), end, list(page_lines(others))),
+        Place(page_of_rebuild, (begin,), end, [f".Op {option.of_page()}" for option in rebuilds]),
+        Place(page_of_rebuild, (begin, begin), end, list(page_lines(rebuilds))),
+        Place(relay, ("    # [options]",), "    # [end]", list(offers(found))),
+        Place(relay, ("    # [options]", "    # [options]"), "    # [end]", list(after_words(found))),
+        Place(rebuild, ("    # [options]",), "    # [end]", [f'    local options="{" ".join(option.word for option in rebuilds)}"']),
+        Place("docs/FORMAT.md", ("| arguments of a program", "| none |"), "| after these, files", list(rows(found))),
+        Place("README.md", ("<!-- the usage of lp_relay -->", "```text"), "```", usage(found)),
+    ]
+
+
+def told(path, text):
+    """The words of options that a file of code or definitions has between quotes, without its comments."""
+    comment = r"^ *//.*\n" if path.endswith(".rt") else r"^ *--.*\n"
+    text = re.sub(r"^pub const (USAGE|HELP): &str =\s.*?\";\n", "", text, flags=re.M | re.S)
+    return set(WORD.findall(re.sub(comment, "", text, flags=re.M)))
+
+
+def at_odds(text):
+    """The fields that the definition of options at odds names, also by the definition of what fault lines name."""
+    bodies = re.findall(r"^(?:are_at_odds|names_lines) given =(.*?)\n\n", text, re.M | re.S)
+    return set(re.findall(r"given\.(\w+)", "".join(bodies)))
+
+
+def differences(found):
+    """Where the code or the definitions and the data have other options."""
+    for program, paths in CODE.items():
+        wanted = {word for option in found if program == "lp_relay" or option.lines.get(program) for word in option.words()}
+        for path in paths:
+            has = told(path, (TOP / path).read_text(encoding="utf-8"))
+            yield from (f"{path} has no {word}" for word in sorted(wanted - has))
+            yield from (f"{path} has {word}, and {DATA} does not" for word in sorted(has - wanted))
+    code, definitions = ((TOP / path).read_text(encoding="utf-8") for path in CODE["lp_relay"])
+    odds = {word for option in found if option.rivals for word in (option.word, *option.unless.split()[:1])}
+    fields = {word.strip("-").replace("-", "_") for word in odds}
+    yield from (f"{CODE['lp_relay'][1]}: are_at_odds and {DATA} differ in {name}" for name in sorted(fields ^ at_odds(definitions)))
+    last = code.partition("The options of a relay come in any order")[2].partition('";')[0]
+    yield from (f"{CODE['lp_relay'][0]}: the help does not say with what {word} is at odds" for word in sorted(odds) if word not in last)
+
+
+def main(words):
+    if words:
+        print(__doc__, file=sys.stderr)
+        return 2
+    try:
+        found = options()
+        said = [f"options: {line}" for line in differences(found)]
+    except Fault as fault:
+        said = [f"options: {fault}"]
+    print("\n".join(said) or f"options: code and definitions have the {len(found)} options of {DATA}")
+    return 1 if said else 0
+
+
+if __name__ == "__main__":
+    sys.exit(main(sys.argv[1:]))
