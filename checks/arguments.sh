@@ -281,7 +281,7 @@ cp "$work/out" "$work/help"
 wanted 0 "$(cat "$work/help")$newline" "" -h
 # Each option begins a line of its own.
 for option in $(options); do
-    if ! grep -qE "^  $option( [A-Z]+)?(, -[a-z])?  " "$work/help"; then
+    if ! grep -qE "^  $option( [A-Z]+)?(, -[a-z])?(  |$)" "$work/help"; then
         echo "arguments: --help does not say what $option does"
         exit 1
     fi

@@ -22,6 +22,7 @@ COLUMN, HELP_WIDTH, USAGE_WIDTH, PAGE_WIDTH = 21, 81, 96, 78
 # The files with code and definitions of each program's words.
 CODE = {"lp_relay": ("crates/lp_relay/src/words.rt", "crates/lp_relay/specs/Words.antt"),
         "lp_rebuild": ("crates/lp_rebuild/src/program.rt", "crates/lp_rebuild/specs/Running.antt")}
+OPTION = re.compile(r"(--[a-z][a-z-]*)(?: ([A-Z]+))?")
 WORD = re.compile(r'"(-[a-zA-Z]|--[a-z][a-z-]*)"')
 
 
@@ -36,8 +37,7 @@ class Option:
     word: str
     argument: str
     lines: dict  # the lines of each field that it has
-    rivals: list  # the options with which it cannot be given, also those whose record says so
-    unless: str = ""  # the words with which it can
+    rivals: dict  # the options with which it cannot be given, also by their records, each with the words with which it can
 
     def get(self, field):
         return " ".join(self.lines.get(field, []))
@@ -50,10 +50,10 @@ class Option:
         argument = self.get("values").replace(" ", "|") or self.argument
         return f"{self.word} {argument}".strip()
 
-    def of_page(self):
-        """As a man page has it."""
+    def of_page(self, word=""):
+        """As a man page has it, by its word or its short one."""
         values, argument = self.get("values").replace(" ", " | "), self.argument.lower()
-        return f"Fl {self.word[1:]}" + (f" Cm {values}" if values else f" Ar {argument}" if argument else "")
+        return f"Fl {(word or self.word)[1:]}" + (f" Cm {values}" if values else f" Ar {argument}" if argument else "")
 
 
 def record_of(text):
@@ -68,27 +68,29 @@ def record_of(text):
         lines[field] += [line[1:]] if line else []
     if not lines.get("option") or not lines.get("does"):
         raise Fault(f"{DATA}: a record has no line `option` or `does`:\n{text}")
-    word, _, argument = lines["option"][0].partition(" ")
-    long = [line for line in lines["does"] if len(line) > HELP_WIDTH]
+    head = OPTION.fullmatch(" ".join(lines["option"]))
+    if not head:
+        raise Fault(f"{DATA}: this is no option: {' '.join(lines['option'])}")
     if " ".join(lines.get("place", [])) not in PLACES_TOLD:
-        raise Fault(f"{DATA}: {word}: there is no such place: {lines['place'][0]}")
-    if long:
-        raise Fault(f"{DATA}: {word}: a line of the help has more than {HELP_WIDTH} bytes: {long[0]}")
-    return Option(word, argument, lines, [])
+        raise Fault(f"{DATA}: {head[1]}: there is no such place: {lines['place'][0]}")
+    if long := [line for line in lines["does"] if len(line) > HELP_WIDTH]:
+        raise Fault(f"{DATA}: {head[1]}: a line of the help has more than {HELP_WIDTH} bytes: {long[0]}")
+    return Option(head[1], head[2] or "", lines, {})
 
 
 def options():
     """The options of lp_relay."""
     text = re.sub(r"^#.*\n", "", (TOP / DATA).read_text(encoding="utf-8"), flags=re.M)
     found = [record_of(record) for record in re.split(r"\n\n+", text.strip("\n"))]
-    known = {option.word: option for option in found}
+    words = [word for option in found for word in option.words()]
+    if twice := [word for word in words if words.count(word) > 1]:
+        raise Fault(f"{DATA}: {twice[0]} is there twice")
+    known = {option.word: option for option in relays(found)}
     for option in found:
         for other in option.get("not with").split():
-            if other not in known or option.get("place"):
-                raise Fault(f"{DATA}: {option.word} cannot be at odds with {other}, or is given alone")
-            for one, two in ((option, known[other]), (known[other], option)):
-                one.rivals.append(two.word)
-                one.unless = option.get("unless")
+            if option.word not in known or other not in known:
+                raise Fault(f"{DATA}: {option.word} is not with {other}: not both are options of a relay")
+            option.rivals[other] = known[other].rivals[option.word] = option.get("unless")
     return found
 
 
@@ -97,26 +99,29 @@ def relays(found):
     return [option for option in found if not option.get("place")]
 
 
+def group_of(option, known):
+    """The ways of which one is taken, each of options, if this one is given or not: it alone; or one, or those at odds with it."""
+    hub = max((known[word] for word in (option.word, *option.rivals)), key=lambda other: len(other.rivals))
+    others = [other for other in known.values() if other.word in hub.rivals]
+    if not others or any(len(other.rivals) > 1 for other in others):
+        return [[option]]  # Brackets cannot say more.
+    ways = [[hub], others]
+    return ways if len(others) > 1 else sorted(ways, key=lambda way: list(known).index(way[0].word))
+
+
 def groups(found):
-    """The options of a relay in the order of the usage: groups of those at odds, each with its ways, of which one is taken."""
-    known, ordered, taken = {option.word: option for option in relays(found)}, [], set()
+    """The options of a relay in the order of the usage, in groups of which each has its ways."""
+    known, ordered = {option.word: option for option in relays(found)}, []
     for option in known.values():
-        if option.word not in taken:
-            near = [other for other in known.values() if other is option or other.word in option.rivals]
-            hub = max(near, key=lambda other: len(other.rivals))
-            others = [other for other in known.values() if other.word in hub.rivals]
-            if any(set(other.rivals) - {hub.word} for other in others):
-                raise Fault(f"{DATA}: the usage cannot say what {hub.word} is at odds with")
-            ways = [[hub], others] if others else [[hub]]
-            taken |= {each.word for way in ways for each in way}
-            ordered.append(ways if len(others) != 1 else sorted(ways, key=lambda way: list(known).index(way[0].word)))
-    for ways in list(ordered):
-        for after in [word for way in ways for option in way for word in option.lines.get("usage after", [])]:
-            ordered.remove(ways)
-            at = [n for n, others in enumerate(ordered) if after in [option.word for way in others for option in way]]
-            if not at:
-                raise Fault(f"{DATA}: nothing comes in the usage after {after}, which is no other option of a relay")
-            ordered.insert(at[0] + 1, ways)
+        if not any(option in way for ways in ordered for way in ways):
+            ordered.append(group_of(option, known))
+    for option in [option for option in known.values() if option.lines.get("usage after")]:
+        ways = next(ways for ways in ordered if any(option in way for way in ways))
+        ordered.remove(ways)
+        before = [ways for ways in ordered if any(known.get(option.get("usage after")) in way for way in ways)]
+        if not before:
+            raise Fault(f"{DATA}: {option.word} cannot come in the usage after {option.get('usage after')}")
+        ordered.insert(ordered.index(before[0]) + 1, ways)
     return ordered
 
 
@@ -172,24 +177,30 @@ def synopsis(found):
     yield "." + " | ".join(option.of_page() for option in found if option.get("place") == ALONE)
 
 
+def of_words(text):
+    """An option and what comes after it, as a man page has them."""
+    word, _, value = text.partition(" ")
+    return f".Fl {word[1:]}" + (f" Cm {value}" if value else "")
+
+
 def odds_of_page(option):
     """What an option cannot be given with, as a man page says it."""
-    others = [f".Fl {word[1:]}" for word in option.get("not with").split()]
+    others = [of_words(word) for word in option.get("not with").split()]
     if not others:
         return []
     lines = ["It cannot be given with", *"\nor\n".join(others).split("\n")]
-    if option.unless:
-        word, _, value = option.unless.partition(" ")
+    if option.get("unless"):
         lines[-1] += " ,"
-        lines += ["but with", f".Fl {word[1:]}" + (f" Cm {value}" if value else "")]
+        lines += ["but with", of_words(option.get("unless"))]
     return [*lines[:-1], lines[-1] + " ."]
 
 
 def page_lines(found):
     """What a man page says of options."""
     for option in found:
-        yield ".It " + " , ".join([option.of_page(), *(option.of_page().replace(option.word[1:], word[1:], 1) for word in option.words()[1:])])
-        said = option.get("does").replace("\\", "\\e")
+        words = [option.of_page(word) for word in option.words()]
+        yield ".It " + " , ".join(words)
+        said = option.get("does").replace("\\", "\\e").replace("`", "")
         yield from option.lines.get("man") or textwrap.wrap(said[0].upper() + said[1:] + ".", PAGE_WIDTH, break_on_hyphens=False)
         yield from odds_of_page(option)
 
@@ -200,14 +211,15 @@ def rows(found):
         head = " or ".join(f"`{word} {option.argument}".rstrip() + "`" for word in option.words())
         if option.lines.get("not with"):
             head += ", not with " + " or ".join(f"`{word}`" for word in option.get("not with").split())
-            head += f", but with `{option.unless}`" if option.unless else ""
-        yield f"| {head}{PLACES_TOLD[option.get('place')]} | {option.get('lp_rebuild') or 'wrong'} | {option.get('format') or option.get('does')} |"
+            head += f", but with `{option.get('unless')}`" if option.get("unless") else ""
+        cells = head + PLACES_TOLD[option.get("place")], option.get("lp_rebuild") or "wrong", option.get("format") or option.get("does")
+        yield f"| {' | '.join(cells)} |"
 
 
 def after_words(found):
     """What bash completes after a word, as cases of the words before."""
-    def case(options_, more=""):
-        return " | ".join(f'*" {word} "{more}' for option in options_ for word in option.words())
+    def case(those, more=""):
+        return " | ".join(f'*" {word} "{more}' for option in those for word in option.words())
 
     plain = [option for option in found if option.argument not in ("", "FILE") and not option.lines.get("values")]
     alone = [option for option in found if option.get("place") == ALONE]
@@ -224,10 +236,9 @@ def offers(found):
     """What bash completes of the options."""
     known = {option.word: option for option in found}
     for option in relays(found):
-        offer = " ".join(["_lp_relay_offer", *option.words()])
-        others = " ".join([offer, *(word for other in option.rivals for word in known[other].words())])
-        yield f"    {others}" if not option.unless else \
-            f'    if [[ $given = *" {option.unless} "* ]]; then {offer}; else {others}; fi'
+        rivals = [(word, unless) for other, unless in option.rivals.items() for word in known[other].words()]
+        others = [f'"{word} unless {unless}"' if unless else word for word, unless in rivals]
+        yield "    " + " ".join(["_lp_relay_offer", *option.words(), *others])
     firsts, alone = ([option.word for option in found if option.get("place") == place] for place in (FIRST, ALONE))
     yield "    case $given in"
     yield f'    "  ") options+=({" ".join(firsts + alone)}) ;;'
@@ -269,9 +280,8 @@ def places():
     rebuilds = [option for option in found if option.lines.get("lp_rebuild")]
     others = [option for option in found if option.get("place")]
     usage_of_rebuild = "usage: lp_rebuild " + " ".join(f"[{option.spelled()}]" for option in rebuilds)
-    begin, end = '.\\" [options]', '.\\" [end]'
-    relay, rebuild = "packaging/completion/lp_relay", "packaging/completion/lp_rebuild"
-    page, page_of_rebuild = "man/lp_relay.1", "man/lp_rebuild.1"
+    page, page_of_rebuild, begin, end = "man/lp_relay.1", "man/lp_rebuild.1", '.\\" [options]', '.\\" [end]'
+    relay, rebuild, mark, last = "packaging/completion/lp_relay", "packaging/completion/lp_rebuild", "    # [options]", "    # [end]"
     return [
         Place(CODE["lp_relay"][0], ("/// How the program is called",), "", constant("USAGE", usage(found))),
         Place(CODE["lp_relay"][0], ("pub const HELP", ""), "", "\n".join(help_lines(found)).replace("\\", "\\\\").split("\n")),
@@ -281,9 +291,9 @@ def places():
         Place(page, (begin, begin, begin), end, list(page_lines(others))),
         Place(page_of_rebuild, (begin,), end, [f".Op {option.of_page()}" for option in rebuilds]),
         Place(page_of_rebuild, (begin, begin), end, list(page_lines(rebuilds))),
-        Place(relay, ("    # [options]",), "    # [end]", list(offers(found))),
-        Place(relay, ("    # [options]", "    # [options]"), "    # [end]", list(after_words(found))),
-        Place(rebuild, ("    # [options]",), "    # [end]", [f'    local options="{" ".join(option.word for option in rebuilds)}"']),
+        Place(relay, (mark,), last, list(offers(found))),
+        Place(relay, (mark, mark), last, list(after_words(found))),
+        Place(rebuild, (mark,), last, [f'    local options="{" ".join(option.word for option in rebuilds)}"']),
         Place("docs/FORMAT.md", ("| arguments of a program", "| none |"), "| after these, files", list(rows(found))),
         Place("README.md", ("<!-- the usage of lp_relay -->", "```text"), "```", usage(found)),
     ]
@@ -311,7 +321,7 @@ def differences(found):
             yield from (f"{path} has no {word}" for word in sorted(wanted - has))
             yield from (f"{path} has {word}, and {DATA} does not" for word in sorted(has - wanted))
     code, definitions = ((TOP / path).read_text(encoding="utf-8") for path in CODE["lp_relay"])
-    odds = {word for option in found if option.rivals for word in (option.word, *option.unless.split()[:1])}
+    odds = {word for option in found for other, unless in option.rivals.items() for word in (other, *unless.split()[:1])}
     fields = {word.strip("-").replace("-", "_") for word in odds}
     yield from (f"{CODE['lp_relay'][1]}: are_at_odds and {DATA} differ in {name}" for name in sorted(fields ^ at_odds(definitions)))
     last = code.partition("The options of a relay come in any order")[2].partition('";')[0]
