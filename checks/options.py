@@ -246,10 +246,15 @@ def offers(found):
     yield "    esac"
 
 
-def constant(name, lines):
-    """A text as a constant of the code."""
-    text = "\n".join(lines).replace("\\", "\\\\").replace('"', '\\"')
-    return f'pub const {name}: &str ={" " if len(lines) == 1 else chr(10) + "    "}"{text}";'.split("\n")
+def as_code(lines):
+    """Lines as a constant of the code has them."""
+    return "\n".join(lines).replace("\\", "\\\\").replace('"', '\\"').split("\n")
+
+
+def usage_constant(lines):
+    """A usage as a constant of the code."""
+    text = '"' + "\n".join(as_code(lines)) + '";'
+    return ["pub const USAGE: &str =", *f"    {text}".split("\n")] if len(lines) > 1 else [f"pub const USAGE: &str = {text}"]
 
 
 class Place(NamedTuple):
@@ -283,9 +288,9 @@ def places():
     page, page_of_rebuild, begin, end = "man/lp_relay.1", "man/lp_rebuild.1", '.\\" [options]', '.\\" [end]'
     relay, rebuild, mark, last = "packaging/completion/lp_relay", "packaging/completion/lp_rebuild", "    # [options]", "    # [end]"
     return [
-        Place(CODE["lp_relay"][0], ("/// How the program is called",), "", constant("USAGE", usage(found))),
-        Place(CODE["lp_relay"][0], ("pub const HELP", ""), "", "\n".join(help_lines(found)).replace("\\", "\\\\").split("\n")),
-        Place(CODE["lp_rebuild"][0], ("/// How the program is called",), "", constant("USAGE", [usage_of_rebuild])),
+        Place(CODE["lp_relay"][0], ("/// How the program is called",), "", usage_constant(usage(found))),
+        Place(CODE["lp_relay"][0], ("pub const HELP", ""), "", as_code(help_lines(found))),
+        Place(CODE["lp_rebuild"][0], ("/// How the program is called",), "", usage_constant([usage_of_rebuild])),
         Place(page, (begin,), end, list(synopsis(found))),
         Place(page, (begin, begin), end, list(page_lines(relays(found)))),
         Place(page, (begin, begin, begin), end, list(page_lines(others))),
