@@ -75,7 +75,7 @@ wanted_of_both "usage: lp_rebuild$(options '\nlp_rebuild:' | sed 's/.*/ [&]/' | 
 
 crate=lp_relay
 program=$relay
-# README.md has the usage as checks/blocks.py makes it of the data.
+# As checks/blocks.py makes it of packaging/options.txt.
 usage=$(sed -n '/^usage: lp_relay /,/^```$/p' "$top/README.md" | sed '$d')$newline
 wanted_of_both "$usage"
 wanted 0 "" "" --check

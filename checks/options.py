@@ -1,6 +1,6 @@
 #!/usr/bin/env python3
-"""Whether the code of lp_relay and lp_rebuild, and their definitions, know just the options of crates/lp_relay/data/options.txt, whose
-head says what its lines mean; status 1 if not.
+"""Whether the code of lp_relay and lp_rebuild, and their definitions, know just the options of packaging/options.txt, whose head says
+what its lines mean; status 1 if not.
 
 checks/blocks.py compares each text that lists the options with what `places` makes of them here.
 """
@@ -13,7 +13,7 @@ from pathlib import Path
 from typing import NamedTuple
 
 TOP = Path(__file__).resolve().parent.parent
-DATA = "crates/lp_relay/data/options.txt"
+DATA = "packaging/options.txt"
 FIELDS = ("option", "short", "values", "not with", "unless", "place", "usage after", "does", "format", "lp_rebuild", "man")
 FIRST, ALONE = "first or after --strict", "alone"
 PLACES_TOLD = {"": "", FIRST: ", first or after `--strict`", ALONE: ", alone"}  # as docs/FORMAT.md has them
@@ -32,7 +32,7 @@ class Fault(Exception):
 
 @dataclass
 class Option:
-    """A record of the data."""
+    """A record of the file."""
 
     word: str
     argument: str
@@ -318,7 +318,7 @@ def at_odds(text):
 
 
 def differences(found):
-    """Where the code or the definitions and the data have other options."""
+    """Where the code or the definitions and the records have other options."""
     for program, paths in CODE.items():
         wanted = {word for option in found if program == "lp_relay" or option.lines.get(program) for word in option.words()}
         for path in paths:
