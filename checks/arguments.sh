@@ -11,6 +11,7 @@ set -eu
 top=$(cd "$(dirname "$0")/.." && pwd)
 . "$top/checks/left_out.sh"
 . "$top/checks/given.sh"
+. "$top/checks/options.sh"
 . "$top/launch.sh"
 PATH=$PATH:/opt/rattle/bin
 rebuild=${1:+$(readlink -f "$1")}
@@ -70,15 +71,12 @@ wanted_of_both() {
 
 crate=lp_rebuild_program
 program=$rebuild
-wanted_of_both "usage: lp_rebuild [--strict]$newline"
+wanted_of_both "usage: lp_rebuild$(options '\nlp_rebuild:' | sed 's/.*/ [&]/' | tr -d '\n')$newline"
 
 crate=lp_relay
 program=$relay
-usage="usage: lp_relay [--strict] [--verbatim | --canonical] [--faults line|raw|json]
-                [--max-line BYTES] [--first-item N | [--lines] [--first-line N]] [--progress]
-                [--summary] [--check | --output FILE] [--refused FILE] [FILE..]
-       lp_relay [--strict] --cut PARTS [FILE..]
-       lp_relay --help | --version$newline"
+# As checks/blocks.py makes it of packaging/options.txt.
+usage=$(sed -n '/^usage: lp_relay /,/^```$/p' "$top/README.md" | sed '$d')$newline
 wanted_of_both "$usage"
 wanted 0 "" "" --check
 wanted 1 "" "$strict_fault" --check --strict
@@ -108,24 +106,35 @@ wanted 1 "$string" "item 2: $missing" --max-line 9
 text='m a=1i,\n'
 # `rt try` compiles the program anew for each list, so these are for a built one.
 if [ -n "$program" ]; then
+    # An option is not given twice, in another spelling, or with one of another task; and what it takes is a word of its own.
+    for option in $(options '^option: --[a-z-]*\n'); do
+        wanted 2 "" "$usage" "$option" "$option"
+        name=${option#--}
+        wanted 2 "" "$usage" "--${name^}"
+        wanted 2 "" "$usage" "$option" --help
+        wanted 2 "" "$usage" --cut 2 "$option"
+        [ "$option" = --strict ] || wanted 2 "" "$usage" "$option" --cut 2
+    done
+    for option in $(options '^option: --[a-z-]* '); do
+        wanted 2 "" "$usage" "$option"
+    done
+    for option in $(options); do
+        wanted 2 "" "$usage" "$option=1"
+    done
     wanted 1 "" "$strict_fault" --progress --strict
     wanted 2 "" "$usage" --progress --strict --progress
     wanted 2 "" "$usage" --strict --progress --strict
     wanted 2 "" "$usage" --progress --loose
-    wanted 2 "" "$usage" --Progress
-    wanted 2 "" "$usage" --progress=1
     wanted 2 "" "${unread}progress: $none$newline" progress
     wanted 1 "" "item 7: ${strict_fault#item 1: }" --strict --first-item 7
     wanted 1 "" "line 18446744073709551613: ${strict_fault#item 1: }" --first-line 18446744073709551613 --strict --check
     wanted 0 "$loose" "" --first-item 1
     for option in --first-item --first-line; do
-        wanted 2 "" "$usage" "$option"
         wanted 2 "" "$usage" "$option" 0
         wanted 2 "" "$usage" "$option" -1
         wanted 2 "" "$usage" "$option" +1
         wanted 2 "" "$usage" "$option" 18446744073709551616
         wanted 2 "" "$usage" "$option" 1 "$option" 1
-        wanted 2 "" "$usage" "$option=1"
         wanted 2 "" "$usage" "$option" 1 --cut 2
     done
     wanted 2 "" "$usage" --first-item 1 --lines
@@ -134,8 +143,6 @@ if [ -n "$program" ]; then
     for form in "" lines Line raw=1; do
         wanted 2 "" "$usage" --faults "$form"
     done
-    wanted 2 "" "$usage" --faults
-    wanted 2 "" "$usage" --faults=raw
     wanted 2 "" "$usage" --faults raw --faults line
     wanted 2 "" "$usage" --faults raw --cut 2
     # A fault line whose text has a newline, a tab and a backslash, a byte that is not ASCII, and more than 200 bytes.
@@ -164,49 +171,21 @@ if [ -n "$program" ]; then
     wanted 1 "" "${told}x$long'$newline" --faults raw
     wanted 1 "" "${told}x$long.. [201 bytes]$newline"
     text='m a=1i,\n'
-    wanted 2 "" "$usage" --verbatim --verbatim
-    wanted 2 "" "$usage" --verbatim=1
-    wanted 2 "" "$usage" --verbatim --cut 2
-    wanted 2 "" "$usage" --verbatim --help
-    wanted 2 "" "$usage" --canonical --canonical
-    wanted 2 "" "$usage" --canonical=1
     wanted 2 "" "$usage" --canonical --verbatim
     wanted 2 "" "$usage" --verbatim --strict --canonical
-    wanted 2 "" "$usage" --canonical --cut 2
-    wanted 2 "" "$usage" --canonical --help
-    wanted 2 "" "$usage" --check --check
-    wanted 2 "" "$usage" --summary --summary
-    wanted 2 "" "$usage" --summary=1
-    wanted 2 "" "$usage" --Summary
-    wanted 2 "" "$usage" --summary --help
-    wanted 2 "" "$usage" --summary --cut 2
-    wanted 2 "" "$usage" --cut 2 --summary
     wanted 2 "" "${unread}summary: $none$newline" --summary summary
     wanted 1 "" "${strict_fault}8 bytes, 1 lines, 1 items: 0 carried, 1 refused: 1 cannot_parse_entire_line$newline" --check --progress --summary --strict
-    wanted 2 "" "$usage" --check=1
-    wanted 2 "" "$usage" --Check
-    wanted 2 "" "$usage" --check --help
-    wanted 2 "" "$usage" --check --cut 2
-    wanted 2 "" "$usage" --cut 2 --check
     wanted 2 "" "${unread}check: $none$newline" --strict --check check
     wanted 1 "" "item 1: the line is too long$newline" --max-line 6 --check --progress
-    wanted 2 "" "$usage" --strict --help
-    wanted 2 "" "$usage" --progress --help
-    wanted 2 "" "$usage" --help --help
     wanted 2 "" "$usage" -h -h
     wanted 2 "" "$usage" -h --help
     wanted 2 "" "$usage" -h --strict
     wanted 2 "" "$usage" --strict -h
     wanted 2 "" "$usage" -H
     wanted 2 "" "$usage" --h
-    wanted 2 "" "$usage" --version --version
-    wanted 2 "" "$usage" --version --help
     wanted 2 "" "$usage" --help --version
     wanted 2 "" "$usage" --strict --version
-    wanted 2 "" "$usage" --cut 2 --version
-    wanted 2 "" "$usage" --version=1
     wanted 2 "" "$usage" -version
-    wanted 2 "" "$usage" --Version
     wanted 0 "$loose" "" --max-line 0000000000000000000000000007
     wanted 0 "$loose" "" --max-line 18446744073709551615
     wanted 0 "$loose" "" --progress --max-line 7
@@ -223,23 +202,15 @@ if [ -n "$program" ]; then
     wanted 2 "" "$usage" --max-line 7.0
     wanted 2 "" "$usage" --max-line 1_000
     wanted 2 "" "$usage" --max-line --strict
-    wanted 2 "" "$usage" --max-line=7
     wanted 2 "" "${unread}7: $none$newline" --max-line 7 7
     wanted 2 "" "$usage" --max-line 7 --max-line 7
     wanted 2 "" "$usage" --max-line 16777216 --strict --max-line 16777216
     wanted 2 "" "$usage" --max-line 7 --help
     wanted 2 "" "$usage" 7 --max-line
-    wanted 2 "" "$usage" --lines --lines
     wanted 2 "" "$usage" --lines --strict --lines
-    wanted 2 "" "$usage" --lines=1
-    wanted 2 "" "$usage" --Lines
-    wanted 2 "" "$usage" --lines --help
     wanted 2 "" "$usage" --lines --strict --progress --max-line 7 --help
     wanted 2 "" "${unread}7: $none$newline" --lines --strict --progress --max-line 7 7
     wanted 0 "8${newline}8${newline}8$newline" "" --cut 3
-    wanted 2 "" "$usage" --lines --cut 2
-    wanted 2 "" "$usage" --cut 2 --strict
-    wanted 2 "" "$usage" --cut 2 --lines
     wanted 2 "" "$usage" --cut -- 2
     for file in "" -- -x --strict; do
         wanted 2 "" "$usage" - "$file"
@@ -248,7 +219,6 @@ if [ -n "$program" ]; then
         wanted 2 "" "$usage" --strict --cut 2 x "$file"
     done
     for option in -o --output; do
-        wanted 2 "" "$usage" "$option"
         wanted 2 "" "$usage" x "$option" y
         wanted 2 "" "$usage" "$option" x -o y
         wanted 2 "" "$usage" --output x --lines "$option" x
@@ -261,15 +231,12 @@ if [ -n "$program" ]; then
         wanted 2 "" "$usage" --lines --check --strict "$option" x
         wanted 2 "" "$usage" --cut 2 "$option" x
     done
-    wanted 2 "" "$usage" --refused
     wanted 2 "" "$usage" x --refused y
     wanted 2 "" "$usage" --refused x --refused y
     wanted 2 "" "$usage" --refused --lines
     wanted 2 "" "$usage" --refused -
     wanted 2 "" "$usage" --refused ""
-    wanted 2 "" "$usage" --refused=x
     wanted 2 "" "$usage" --refused x --cut 2
-    wanted 2 "" "$usage" --output=x
     wanted 2 "" "$usage" -ox
     wanted 2 "" "$usage" --out x
     text='# c\n\nm s="a\nb"\nx\n'
@@ -302,7 +269,7 @@ if [ -n "$program" ]; then
     text='m a=1i,\n'
 fi
 run --help
-if [ "$status" != 0 ] || [ -s "$work/err" ] || ! printf '%s' "$usage" | cmp -s - <(head -n 5 "$work/out"); then
+if [ "$status" != 0 ] || [ -s "$work/err" ] || ! printf '%s' "$usage" | cmp -s - <(head -n "$(wc -l <<<"${usage%?}")" "$work/out"); then
     echo "arguments: --help does not begin with the usage, or its status is $status"
     exit 1
 fi
@@ -312,9 +279,9 @@ if [ "$(tail -n 1 "$work/out")" != "nothing reads the output, which is said by n
 fi
 cp "$work/out" "$work/help"
 wanted 0 "$(cat "$work/help")$newline" "" -h
-# Each option of the usage begins a line of its own.
-for option in $(printf '%s' "$usage" | grep -o -e '--[a-z-]*'); do
-    if ! grep -qE "^  $option( [A-Z]+)?(, -[a-z])?  " "$work/help"; then
+# Each option begins a line of its own.
+for option in $(options); do
+    if ! grep -qE "^  $option( [A-Z]+)?(, -[a-z])?(  |$)" "$work/help"; then
         echo "arguments: --help does not say what $option does"
         exit 1
     fi

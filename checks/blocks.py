@@ -1,9 +1,9 @@
 #!/usr/bin/env python3
 """The blocks of code in the documents, from examples that are proved or tested: the callers in crates/lp_examples, and the
-examples of the packages in bindings/.
+examples of the packages in bindings/. And each text that lists the options of the programs, as checks/options.py makes it.
 
-    checks/blocks.py            whether each block is a copy of its stretch; status 1 where one is not
-    checks/blocks.py --write    writes the stretches into the documents
+    checks/blocks.py            whether each block is a copy of its stretch, and each list is as it is made; status 1 if one is not
+    checks/blocks.py --write    writes the stretches and the lists into the files
 
 In a document the line `<!-- block NAME -->` comes before a block. A stretch of an example goes from the line `// [NAME]` to
 `// [end]`, or with `#` in the place of `//`; the spaces that begin all its lines are left out. A NAME with a `/` is a whole file
@@ -14,6 +14,8 @@ import re
 import sys
 import textwrap
 from pathlib import Path
+
+import options
 
 TOP = Path(__file__).resolve().parent.parent
 EXAMPLES = TOP / "crates" / "lp_examples"
@@ -74,9 +76,13 @@ def wanted(name, known, where):
     return known[name]
 
 
+def read(path):
+    return (TOP / path).read_text(encoding="utf-8")
+
+
 def filled(document, known, quoted):
     """The text of a document with each block as its stretch has it."""
-    lines = (TOP / document).read_text(encoding="utf-8").splitlines()
+    lines = read(document).splitlines()
     out, name, at = [], None, 0
     while at < len(lines):
         line, where = lines[at], f"{document}:{at + 1}"
@@ -98,27 +104,32 @@ def filled(document, known, quoted):
     return "\n".join(out) + "\n"
 
 
-def first_difference(document, text):
+def first_difference(path, old, new):
     """The place of the first line that differs, in words."""
-    old, new = (TOP / document).read_text(encoding="utf-8").splitlines(), text.splitlines()
-    for number, (a, b) in enumerate(zip(old, new), 1):
-        if a != b:
-            return f"{document}:{number} is\n    {a}\nand the example has\n    {b}"
-    return f"{document} has {len(old)} lines, and with the blocks of the examples {len(new)}"
+    old, new = old.split("\n"), new.split("\n")
+    number = next((n for n, (a, b) in enumerate(zip(old, new)) if a != b), min(len(old), len(new)) - 1)
+    return f"{path}:{number + 1} is\n    {old[number]}\nand should be\n    {new[number]}"
 
 
 def run(words):
-    known, quoted = stretches(), set()
+    known, quoted, stale = stretches(), set(), []
     texts = {document: filled(document, known, quoted) for document in DOCUMENTS}
     unquoted = sorted(set(known) - quoted)
     if unquoted:
         raise Fault(f"no document has the stretch `{unquoted[0]}`")
-    for document, text in texts.items():
-        if words == ["--write"]:
-            (TOP / document).write_text(text, encoding="utf-8")
-        elif text != (TOP / document).read_text(encoding="utf-8"):
-            raise Fault(first_difference(document, text) + "\nrun checks/blocks.py --write")
-    print(f"blocks: {len(quoted - {None})} are as the examples have them")
+    stale += [first_difference(document, read(document), text) for document, text in texts.items() if text != read(document)]
+    lists = options.places()
+    for place in lists:
+        old = texts.get(place.path) or read(place.path)
+        texts[place.path] = place.filled(old)
+        if texts[place.path] != old:
+            stale.append(first_difference(place.path, old, texts[place.path]))
+    if stale and words != ["--write"]:
+        raise Fault("\nblocks: ".join(stale) + "\nrun checks/blocks.py --write")
+    for path, text in texts.items():
+        if text != read(path):
+            (TOP / path).write_text(text, encoding="utf-8")
+    print(f"blocks: {len(quoted - {None})} are as the examples have them, and {len(lists)} lists of options as {options.DATA} has them")
 
 
 def main(words):
@@ -127,7 +138,7 @@ def main(words):
         return 2
     try:
         run(words)
-    except Fault as fault:
+    except (Fault, options.Fault) as fault:
         print(f"blocks: {fault}", file=sys.stderr)
         return 1
     return 0

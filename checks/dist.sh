@@ -10,6 +10,7 @@
 set -euo pipefail
 top=$(cd "$(dirname "$0")/.." && pwd)
 . "$top/checks/left_out.sh"
+. "$top/checks/options.sh"
 . "$top/launch.sh"
 if ! command -v "${CC:-cc}" >/dev/null || ! command -v ar >/dev/null || ! command -v dpkg-deb >/dev/null; then
     left_out checks/dist.sh "there is no ${CC:-cc}, no ar or no dpkg-deb"
@@ -272,10 +273,10 @@ run_programs() {
     done
 }
 
-# Each option of the usage is told by the page, and completed.
+# Each option is told by the page, and completed.
 read_page() {
     local option
-    for option in $("$prefix/bin/lp_relay" --help | sed -n '1,5p' | grep -o -e '--[a-z-]*'); do
+    for option in $(options); do
         grep -qF -e ".It Fl -${option#--}" "$prefix/share/man/man1/lp_relay.1" || fail "the page of lp_relay does not tell of $option"
         complete_words lp_relay "${option%?}" | grep -qxF -e "$option" || fail "lp_relay's completion does not know $option"
     done
@@ -300,26 +301,37 @@ completed() {
     equal "the completion of ($*)" "$wanted" "$(complete_words "$@" | paste -sd ' ')"
     completions=$((completions + 1))
 }
+# offered WORDS WORD..: the last word is completed by each option but these.
+offered() {
+    local option wanted=() without=" $1 "
+    shift
+    for option in $(options); do
+        [[ $without = *" $option "* ]] || wanted+=("$option")
+    done
+    completed "${wanted[*]}" "$@"
+}
 complete_all() {
-    completed "--strict" lp_rebuild ""
+    local others
+    others=$(options '\nplace:' | paste -sd ' ')
+    completed "$(options '\nlp_rebuild:' | paste -sd ' ')" lp_rebuild ""
     completed "line raw json" lp_relay --strict --faults ""
     completed "raw" lp_relay --faults r
     completed "json" lp_relay --faults j
     completed "--strict" lp_rebuild --s
     completed "" lp_rebuild --strict ""
-    completed "--strict --faults --max-line --progress --summary --refused --verbatim --canonical --lines --first-line --first-item --check --output --cut --help --version" lp_relay ""
-    completed "--faults --max-line --progress --summary --refused --verbatim --canonical --lines --first-line --first-item --check --output --cut" lp_relay --strict --
-    completed "--strict --faults --max-line --progress --summary --refused --verbatim --canonical --first-line --check --output" lp_relay --lines ""
-    completed "--strict --faults --max-line --progress --summary --refused --verbatim --canonical --lines --first-line --first-item" lp_relay --check --
-    completed "--strict --faults --max-line --progress --summary --refused --verbatim --canonical --lines --check --output" lp_relay --first-line 7 --
-    completed "--strict --faults --max-line --progress --summary --refused --verbatim --canonical --check --output" lp_relay --first-item 7 --
-    completed "--strict --faults --max-line --progress --summary --refused --verbatim --canonical --lines --first-line --first-item" lp_relay -o x --
-    completed "--strict --faults --max-line --progress --summary --refused --lines --first-line --first-item --check --output" lp_relay --canonical --
-    completed "--strict --max-line --progress --summary --refused --verbatim --canonical --lines --first-line --check --output" lp_relay --faults json --first-item 7 --
+    offered "" lp_relay ""
+    offered "--strict --help --version" lp_relay --strict --
+    offered "--lines --first-item $others" lp_relay --lines ""
+    offered "--check --output $others" lp_relay --check --
+    offered "--first-line --first-item $others" lp_relay --first-line 7 --
+    offered "--first-item --lines --first-line $others" lp_relay --first-item 7 --
+    offered "--check --output $others" lp_relay -o x --
+    offered "--canonical --verbatim $others" lp_relay --canonical --
+    offered "--faults --first-item $others" lp_relay --faults json --first-item 7 --
+    offered "--max-line $others" lp_relay --max-line 7 ""
     completed "" lp_relay --first-item ""
     completed "--max-line" lp_relay --m
     completed "" lp_relay --max-line ""
-    completed "--strict --faults --progress --summary --refused --verbatim --canonical --lines --first-line --first-item --check --output" lp_relay --max-line 7 ""
     completed "" lp_relay --cut ""
     completed "$top/launch.sh" lp_relay --strict --cut 4 "$top/lau"
     completed "$top/launch.sh" lp_relay "$top/lau"

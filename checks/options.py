@@ -1,0 +1,350 @@
+#!/usr/bin/env python3
+"""Whether the code of lp_relay and lp_rebuild, and their definitions, know just the options of packaging/options.txt, whose head says
+what its lines mean; status 1 if not.
+
+checks/blocks.py compares each text that lists the options with what `places` makes of them here.
+"""
+
+import re
+import sys
+import textwrap
+from dataclasses import dataclass
+from pathlib import Path
+from typing import NamedTuple
+
+TOP = Path(__file__).resolve().parent.parent
+DATA = "packaging/options.txt"
+FIELDS = ("option", "short", "values", "not with", "unless", "place", "usage after", "does", "format", "lp_rebuild", "man")
+FIRST, ALONE = "first or after --strict", "alone"
+PLACES_TOLD = {"": "", FIRST: ", first or after `--strict`", ALONE: ", alone"}  # as docs/FORMAT.md has them
+COLUMN, HELP_WIDTH, USAGE_WIDTH, PAGE_WIDTH = 21, 81, 96, 78
+
+# The files with code and definitions of each program's words.
+CODE = {"lp_relay": ("crates/lp_relay/src/words.rt", "crates/lp_relay/specs/Words.antt"),
+        "lp_rebuild": ("crates/lp_rebuild/src/program.rt", "crates/lp_rebuild/specs/Running.antt")}
+OPTION = re.compile(r"(--[a-z][a-z-]*)(?: ([A-Z]+))?")
+WORD = re.compile(r'"(-[a-zA-Z]|--[a-z][a-z-]*)"')
+
+
+class Fault(Exception):
+    """What is wrong with the options, in words."""
+
+
+@dataclass
+class Option:
+    """A record of the file."""
+
+    word: str
+    argument: str
+    lines: dict  # the lines of each field that it has
+    rivals: dict  # the options with which it cannot be given, also by their records, each with the words with which it can
+
+    def get(self, field):
+        return " ".join(self.lines.get(field, []))
+
+    def words(self):
+        return [self.word, *self.lines.get("short", [])]
+
+    def spelled(self):
+        """As the usage has it."""
+        argument = self.get("values").replace(" ", "|") or self.argument
+        return f"{self.word} {argument}".strip()
+
+    def of_page(self, word=""):
+        """As a man page has it, by its word or its short one."""
+        values, argument = self.get("values").replace(" ", " | "), self.argument.lower()
+        return f"Fl {(word or self.word)[1:]}" + (f" Cm {values}" if values else f" Ar {argument}" if argument else "")
+
+
+def record_of(text):
+    """The option of a record."""
+    lines, field = {}, ""
+    for line in text.splitlines():
+        if not line.startswith(" "):
+            field, colon, line = line.partition(":")
+            if not colon or field not in FIELDS or field in lines:
+                raise Fault(f"{DATA}: no record can have this line, or not twice: {field}{colon}{line}")
+            lines[field] = []
+        lines[field] += [line[1:]] if line else []
+    if not lines.get("option") or not lines.get("does"):
+        raise Fault(f"{DATA}: a record has no line `option` or `does`:\n{text}")
+    head = OPTION.fullmatch(" ".join(lines["option"]))
+    if not head:
+        raise Fault(f"{DATA}: this is no option: {' '.join(lines['option'])}")
+    if " ".join(lines.get("place", [])) not in PLACES_TOLD:
+        raise Fault(f"{DATA}: {head[1]}: there is no such place: {lines['place'][0]}")
+    if long := [line for line in lines["does"] if len(line) > HELP_WIDTH]:
+        raise Fault(f"{DATA}: {head[1]}: a line of the help has more than {HELP_WIDTH} bytes: {long[0]}")
+    return Option(head[1], head[2] or "", lines, {})
+
+
+def options():
+    """The options of lp_relay."""
+    text = re.sub(r"^#.*\n", "", (TOP / DATA).read_text(encoding="utf-8"), flags=re.M)
+    found = [record_of(record) for record in re.split(r"\n\n+", text.strip("\n"))]
+    words = [word for option in found for word in option.words()]
+    if twice := [word for word in words if words.count(word) > 1]:
+        raise Fault(f"{DATA}: {twice[0]} is there twice")
+    known = {option.word: option for option in relays(found)}
+    for option in found:
+        for other in option.get("not with").split():
+            if option.word not in known or other not in known:
+                raise Fault(f"{DATA}: {option.word} is not with {other}: not both are options of a relay")
+            option.rivals[other] = known[other].rivals[option.word] = option.get("unless")
+    return found
+
+
+def relays(found):
+    """The options of a relay."""
+    return [option for option in found if not option.get("place")]
+
+
+def group_of(option, known):
+    """The ways of which one is taken, each of options, if this one is given or not: it alone; or one, or those at odds with it."""
+    hub = max((known[word] for word in (option.word, *option.rivals)), key=lambda other: len(other.rivals))
+    others = [other for other in known.values() if other.word in hub.rivals]
+    if not others or any(len(other.rivals) > 1 for other in others):
+        return [[option]]  # Brackets cannot say more.
+    ways = [[hub], others]
+    return ways if len(others) > 1 else sorted(ways, key=lambda way: list(known).index(way[0].word))
+
+
+def groups(found):
+    """The options of a relay in the order of the usage, in groups of which each has its ways."""
+    known, ordered = {option.word: option for option in relays(found)}, []
+    for option in known.values():
+        if not any(option in way for ways in ordered for way in ways):
+            ordered.append(group_of(option, known))
+    for option in [option for option in known.values() if option.lines.get("usage after")]:
+        ways = next(ways for ways in ordered if any(option in way for way in ways))
+        ordered.remove(ways)
+        before = [ways for ways in ordered if any(known.get(option.get("usage after")) in way for way in ways)]
+        if not before:
+            raise Fault(f"{DATA}: {option.word} cannot come in the usage after {option.get('usage after')}")
+        ordered.insert(ordered.index(before[0]) + 1, ways)
+    return ordered
+
+
+def usage_lines(found):
+    """Each form of the call of lp_relay, in parts that are not broken."""
+    def way(each, is_alone):
+        return each[0].spelled() if is_alone else " ".join(f"[{option.spelled()}]" for option in each)
+
+    parts = ["[" + " | ".join(way(each, len(each) == 1) for each in ways) + "]" for ways in groups(found)]
+    forms = [[*parts, "[FILE..]"]]
+    forms += [["[--strict]", option.spelled(), "[FILE..]"] for option in found if option.get("place") == FIRST]
+    return [*forms, [" | ".join(option.spelled() for option in found if option.get("place") == ALONE)]]
+
+
+def usage(found):
+    """The usage of lp_relay."""
+    lines = []
+    for parts in usage_lines(found):
+        line = ("       " if lines else "usage: ") + "lp_relay"
+        for part in parts:
+            if len(line) + 1 + len(part) > USAGE_WIDTH:
+                lines.append(line)
+                line = " " * 15
+            line += f" {part}"
+        lines.append(line)
+    return lines
+
+
+def help_lines(found):
+    """What the help of lp_relay says of the options."""
+    for option in found:
+        head = ", ".join([f"  {option.word} {option.argument}".rstrip(), *option.words()[1:]])
+        if len(head) > COLUMN - 1:
+            yield head
+            head = ""
+        for line in option.lines["does"]:
+            yield head.ljust(COLUMN) + line
+            head = ""
+
+
+def synopsis(found):
+    """The forms of the call of lp_relay, as its page has them."""
+    def way(each, is_alone):
+        return each[0].of_page() if is_alone else " ".join(f"Oo {option.of_page()} Oc" for option in each)
+
+    for ways in groups(found):
+        yield ".Op " + " | ".join(way(each, len(each) == 1) for each in ways)
+    yield ".Op Ar"
+    for option in found:
+        if option.get("place") == FIRST:
+            yield from (".Nm", ".Op Fl -strict", f".{option.of_page()}", ".Op Ar")
+    yield ".Nm"
+    yield "." + " | ".join(option.of_page() for option in found if option.get("place") == ALONE)
+
+
+def of_words(text):
+    """An option and what comes after it, as a man page has them."""
+    word, _, value = text.partition(" ")
+    return f".Fl {word[1:]}" + (f" Cm {value}" if value else "")
+
+
+def odds_of_page(option):
+    """What an option cannot be given with, as a man page says it."""
+    others = [of_words(word) for word in option.get("not with").split()]
+    if not others:
+        return []
+    lines = ["It cannot be given with", *"\nor\n".join(others).split("\n")]
+    if option.get("unless"):
+        lines[-1] += " ,"
+        lines += ["but with", of_words(option.get("unless"))]
+    return [*lines[:-1], lines[-1] + " ."]
+
+
+def page_lines(found):
+    """What a man page says of options."""
+    for option in found:
+        words = [option.of_page(word) for word in option.words()]
+        yield ".It " + " , ".join(words)
+        said = option.get("does").replace("\\", "\\e").replace("`", "")
+        yield from option.lines.get("man") or textwrap.wrap(said[0].upper() + said[1:] + ".", PAGE_WIDTH, break_on_hyphens=False)
+        yield from odds_of_page(option)
+
+
+def rows(found):
+    """The rows of the options in docs/FORMAT.md."""
+    for option in found:
+        head = " or ".join(f"`{word} {option.argument}".rstrip() + "`" for word in option.words())
+        if option.lines.get("not with"):
+            head += ", not with " + " or ".join(f"`{word}`" for word in option.get("not with").split())
+            head += f", but with `{option.get('unless')}`" if option.get("unless") else ""
+        cells = head + PLACES_TOLD[option.get("place")], option.get("lp_rebuild") or "wrong", option.get("format") or option.get("does")
+        yield f"| {' | '.join(cells)} |"
+
+
+def after_words(found):
+    """What bash completes after a word, as cases of the words before."""
+    def case(those, more=""):
+        return " | ".join(f'*" {word} "{more}' for option in those for word in option.words())
+
+    plain = [option for option in found if option.argument not in ("", "FILE") and not option.lines.get("values")]
+    alone = [option for option in found if option.get("place") == ALONE]
+    yield f"    {case(plain)} | {case(alone, '*')}) return ;;"
+    for option in found:
+        if option.lines.get("values"):
+            yield f'    {case([option])}) mapfile -t COMPREPLY < <(compgen -W "{option.get("values")}" -- "$word"); return ;;'
+    files = [option for option in found if option.argument == "FILE"]
+    firsts = [option for option in found if option.get("place") == FIRST]
+    yield f"    {case(files)} | {case(firsts, '*')}) ;;"
+
+
+def offers(found):
+    """What bash completes of the options."""
+    known = {option.word: option for option in found}
+    for option in relays(found):
+        rivals = [(word, unless) for other, unless in option.rivals.items() for word in known[other].words()]
+        others = [f'"{word} unless {unless}"' if unless else word for word, unless in rivals]
+        yield "    " + " ".join(["_lp_relay_offer", *option.words(), *others])
+    firsts, alone = ([option.word for option in found if option.get("place") == place] for place in (FIRST, ALONE))
+    yield "    case $given in"
+    yield f'    "  ") options+=({" ".join(firsts + alone)}) ;;'
+    yield f'    " --strict ") options+=({" ".join(firsts)}) ;;'
+    yield "    esac"
+
+
+def as_code(lines):
+    """Lines as a constant of the code has them."""
+    return "\n".join(lines).replace("\\", "\\\\").replace('"', '\\"').split("\n")
+
+
+def usage_constant(lines):
+    """A usage as a constant of the code."""
+    text = '"' + "\n".join(as_code(lines)) + '";'
+    return ["pub const USAGE: &str =", *f"    {text}".split("\n")] if len(lines) > 1 else [f"pub const USAGE: &str = {text}"]
+
+
+class Place(NamedTuple):
+    """A stretch of a file: it begins after the last of some lines that come one after another, and ends before a line. A line is told
+    by how it begins, or is empty."""
+
+    path: str
+    before: tuple
+    after: str
+    lines: list
+
+    def filled(self, text):
+        """The text of the file with this stretch."""
+        lines, at = text.split("\n"), 0
+        for mark in (*self.before, self.after):
+            start = at
+            while at < len(lines) and not (lines[at].startswith(mark) if mark else not lines[at]):
+                at += 1
+            if at == len(lines):
+                raise Fault(f"{self.path}: after line {start} no line begins so: {mark}")
+            at += 1
+        return "\n".join([*lines[:start], *self.lines, *lines[at - 1:]])
+
+
+def places():
+    """Each stretch that lists options."""
+    found = options()
+    rebuilds = [option for option in found if option.lines.get("lp_rebuild")]
+    others = [option for option in found if option.get("place")]
+    usage_of_rebuild = "usage: lp_rebuild " + " ".join(f"[{option.spelled()}]" for option in rebuilds)
+    page, page_of_rebuild, begin, end = "man/lp_relay.1", "man/lp_rebuild.1", '.\\" [options]', '.\\" [end]'
+    relay, rebuild, mark, last = "packaging/completion/lp_relay", "packaging/completion/lp_rebuild", "    # [options]", "    # [end]"
+    return [
+        Place(CODE["lp_relay"][0], ("/// How the program is called",), "", usage_constant(usage(found))),
+        Place(CODE["lp_relay"][0], ("pub const HELP", ""), "", as_code(help_lines(found))),
+        Place(CODE["lp_rebuild"][0], ("/// How the program is called",), "", usage_constant([usage_of_rebuild])),
+        Place(page, (begin,), end, list(synopsis(found))),
+        Place(page, (begin, begin), end, list(page_lines(relays(found)))),
+        Place(page, (begin, begin, begin), end, list(page_lines(others))),
+        Place(page_of_rebuild, (begin,), end, [f".Op {option.of_page()}" for option in rebuilds]),
+        Place(page_of_rebuild, (begin, begin), end, list(page_lines(rebuilds))),
+        Place(relay, (mark,), last, list(offers(found))),
+        Place(relay, (mark, mark), last, list(after_words(found))),
+        Place(rebuild, (mark,), last, [f'    local options="{" ".join(option.word for option in rebuilds)}"']),
+        Place("docs/FORMAT.md", ("| arguments of a program", "| none |"), "| after these, files", list(rows(found))),
+        Place("README.md", ("<!-- the usage of lp_relay -->", "```text"), "```", usage(found)),
+    ]
+
+
+def told(path, text):
+    """The words of options that a file of code or definitions has between quotes, without its comments."""
+    comment = r"^ *//.*\n" if path.endswith(".rt") else r"^ *--.*\n"
+    text = re.sub(r"^pub const (USAGE|HELP): &str =\s.*?\";\n", "", text, flags=re.M | re.S)
+    return set(WORD.findall(re.sub(comment, "", text, flags=re.M)))
+
+
+def at_odds(text):
+    """The fields that the definition of options at odds names, also by the definition of what fault lines name."""
+    bodies = re.findall(r"^(?:are_at_odds|names_lines) given =(.*?)\n\n", text, re.M | re.S)
+    return set(re.findall(r"given\.(\w+)", "".join(bodies)))
+
+
+def differences(found):
+    """Where the code or the definitions and the records have other options."""
+    for program, paths in CODE.items():
+        wanted = {word for option in found if program == "lp_relay" or option.lines.get(program) for word in option.words()}
+        for path in paths:
+            has = told(path, (TOP / path).read_text(encoding="utf-8"))
+            yield from (f"{path} has no {word}" for word in sorted(wanted - has))
+            yield from (f"{path} has {word}, and {DATA} does not" for word in sorted(has - wanted))
+    code, definitions = ((TOP / path).read_text(encoding="utf-8") for path in CODE["lp_relay"])
+    odds = {word for option in found for other, unless in option.rivals.items() for word in (other, *unless.split()[:1])}
+    fields = {word.strip("-").replace("-", "_") for word in odds}
+    yield from (f"{CODE['lp_relay'][1]}: are_at_odds and {DATA} differ in {name}" for name in sorted(fields ^ at_odds(definitions)))
+    last = code.partition("The options of a relay come in any order")[2].partition('";')[0]
+    yield from (f"{CODE['lp_relay'][0]}: the help does not say with what {word} is at odds" for word in sorted(odds) if word not in last)
+
+
+def main(words):
+    if words:
+        print(__doc__, file=sys.stderr)
+        return 2
+    try:
+        found = options()
+        said = [f"options: {line}" for line in differences(found)]
+    except Fault as fault:
+        said = [f"options: {fault}"]
+    print("\n".join(said) or f"options: code and definitions have the {len(found)} options of {DATA}")
+    return 1 if said else 0
+
+
+if __name__ == "__main__":
+    sys.exit(main(sys.argv[1:]))
