@@ -21,7 +21,7 @@ mod texts;
 mod verdict;
 
 pub use cuts::part_ends;
-pub use kinds::{KINDS, KindCounts};
+pub use kinds::{KINDS, Kind, KindCounts};
 pub use nowhere::Nowhere;
 pub use objects::put_json_text;
 pub use relaying::{Relayed, relay};
