@@ -1,6 +1,6 @@
 -- Refused items, counted by kinds.
 use Rattle.std.proofs.Common.{◌≡◌, ℕ, ◌+◌, ◌<◌, ◌==◌, true, false, cond, not, List, [], ◌∷◌, ◌++◌, get_or, length, map, sum}
-use Rattle.std.proofs.Common.{Option, None, Some, option_map, Ok, Err, refl, sym, ap, subst, ◌∙◌, arith, inl, inr, IfSome}
+use Rattle.std.proofs.Common.{Option, None, Some, option_map, Ok, Err, refl, sym, ap, subst, ◌∙◌, arith, rules, inl, inr, IfSome}
 use Rattle.std.specs.List.{count_by, sum_by}
 use Rattle.std.specs.Option.{is_none, option_map_or}
 use Rattle.std.proofs.lemmas.Bool.{cases_Bool, Decides.nat_tests}
@@ -104,12 +104,12 @@ total_first (kind ∷ kinds) x xs =
     )
 
 -- each kind is listed once
-listed_once : (k : Kind) → sum_by (λ (kind : Kind). cond (is_kind kind k) 1 0 + 0) KINDS.now ≡ 1
+listed_once : (k : Kind) → sum_by (λ (kind : Kind). 0 + cond (is_kind kind k) 1 0) KINDS.now ≡ 1
 listed_once k = search rules
 
 -- so what is refused for a fault counts for one kind
-total_of_kind : (o : Option Kind) → sum_by (λ (kind : Kind). cond (option_map_or (is_kind kind) o false) 1 0 + 0) KINDS.now
-    ≡ cond (not (is_none o)) 1 0 + 0
+total_of_kind : (o : Option Kind) → sum_by (λ (kind : Kind). 0 + cond (option_map_or (is_kind kind) o false) 1 0) KINDS.now
+    ≡ 0 + cond (not (is_none o)) 1 0
 total_of_kind None = refl
 total_of_kind (Some kind) = listed_once kind
 
@@ -118,7 +118,7 @@ kinds_add_up : (items : List Item) → total KINDS.now items ≡ refused_items i
 kinds_add_up [] = total_of_none KINDS.now
 kinds_add_up (item ∷ items) =
     let one : total KINDS.now (item ∷ []) ≡ refused_items (item ∷ []) =
-    total_of_kind (item_kind item) ∙ ap (λ b. cond (not b) 1 0 + 0) (sym (carried_kind item)) in
+    total_of_kind (item_kind item) ∙ ap (λ b. 0 + cond (not b) 1 0) (sym (carried_kind item)) in
     omega (arith, total_first KINDS.now item items, one, refused_append (item ∷ []) items, kinds_add_up items)
 
 -- so it is of what is counted, if it is

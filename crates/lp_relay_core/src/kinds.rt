@@ -124,13 +124,15 @@ impl KindCounts {
         self.counts[kind.place()]
     }
 
-    /// Adds the counts of more items, as of another input. A sum that no `usize` holds becomes `usize::MAX`.
-    pub fn add(&mut self, more: &KindCounts)
-        ensures { (kind : Kind) → counts_of self.new kind ≡ min usize.MAX (counts_of self.old kind + counts_of more.now kind) }
+    /// The counts of these items and of more, as of another input. A sum that no `usize` holds is `usize::MAX`.
+    pub fn saturating_add(self, more: KindCounts) -> KindCounts
+        ensures { (kind : Kind) → counts_of result kind ≡ min usize.MAX (counts_of self kind + counts_of more kind) }
     {
+        let mut sum = self;
         for at in 0..KINDS.len() {
-            self.counts[at] = self.counts[at].saturating_add(more.counts[at]);
+            sum.counts[at] = sum.counts[at].saturating_add(more.counts[at]);
         }
+        sum
     }
 
     // Counts a fault of this kind. It is refused if its count would not fit.
