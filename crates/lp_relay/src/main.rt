@@ -51,7 +51,10 @@ fn settings_after(settings: Settings, so_far: Relayed) -> Settings {
 // The counts of what came before, and after it of an input.
 fn sum_of(so_far: Relayed, counts: Relayed) -> Relayed {
     let kinds = match (so_far.kinds, counts.kinds) {
-        (Some(kinds), Some(more)) => Some(kinds.saturating_add(more)),
+        (Some(mut kinds), Some(more)) => {
+            kinds.add(&more);
+            Some(kinds)
+        }
         (_, more) => more,
     };
     Relayed {

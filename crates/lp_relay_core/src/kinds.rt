@@ -3,47 +3,42 @@
 //! A kind is a value, and its name is told in one place. A count is found at the place of its kind, so to count takes one step, and no
 //! text is compared. A new kind is a variant with a name, which is listed in [`KINDS`]: a clause of [`relay`](crate::relay) says that
 //! the counts of these add up to all items that are refused.
-ghost use Rattle.std.specs.Prelude.{◌≡◌, ◌+◌, ◌<◌, ◌≤◌, List, ℕ, drop, length, min, option_map, string_bytes, take, IsUtf8, OnOk};
-ghost use Rattle.influxdb_line_protocol.specs.code.Rules.{rules_of};
-ghost use Rattle.lp_rebuild.specs.RebuildSteps.{fault_line_at};
-ghost use Rattle.lp_relay_core.specs.Kinds.{counts_if, counts_of, place, with_fault};
-ghost use Rattle.lp_relay_core.specs.Objects.{kind_given, kind_name};
+ghost use Rattle.std.specs.Prelude.{◌≡◌, ◌+◌, ◌<◌, length, min, OnOk};
+ghost use Rattle.lp_relay_core.specs.Kinds.{counts_of, place, with_fault};
+ghost use Rattle.lp_relay_core.specs.Objects.{kind_name};
 ghost use Rattle.lp_relay_core.specs.declared.kinds.{Kind.Kind, TheConstants.KINDS};
 
-use crate::objects::kind_told;
-use influxdb_line_protocol::{Dialect, PieceTooLong};
-use lp_rebuild::batch::Progress;
-use std::alloc::{AllocError, Global};
+use std::alloc::AllocError;
 
 /// For what an item is refused: a kind of fault, as objects name it.
 #[derive(Clone, Copy, Debug, PartialEq, Eq)]
 #[non_exhaustive]
 pub enum Kind {
-    /// `cannot_parse_entire_line`
+    /// Something is left after the last part that could be read.
     CannotParseEntireLine,
-    /// `ends_with_backslash`
+    /// A name ends in a backslash.
     EndsWithBackslash,
-    /// `field_set_missing`
+    /// The line has no field.
     FieldSetMissing,
-    /// `generic_parsing_error`
+    /// No space comes after the measurement.
     GenericParsingError,
-    /// `integer_value_invalid`
+    /// An integer is out of the range of `i64`.
     IntegerValueInvalid,
-    /// `measurement_value_invalid`
+    /// The line does not begin with a measurement.
     MeasurementValueInvalid,
-    /// `name_not_admitted`
+    /// A name of the line cannot be written again.
     NameNotAdmitted,
-    /// `not_as_written`
+    /// The line is not as it would be written.
     NotAsWritten,
-    /// `not_utf8`
+    /// The piece is not UTF-8.
     NotUtf8,
-    /// `tag_set_malformed`
+    /// A comma comes after the measurement, and no tag after it.
     TagSetMalformed,
-    /// `timestamp_value_invalid`
+    /// A timestamp is out of the range of `i64`.
     TimestampValueInvalid,
-    /// `too_long`
+    /// The piece has more bytes than the limit.
     TooLong,
-    /// `uinteger_value_invalid`
+    /// An unsigned integer is out of the range of `u64`.
     UintegerValueInvalid,
 }
 
@@ -124,50 +119,21 @@ impl KindCounts {
         self.counts[kind.place()]
     }
 
-    /// The counts of these items and of more, as of another input. A sum that no `usize` holds is `usize::MAX`.
-    pub fn saturating_add(self, more: KindCounts) -> KindCounts
-        ensures { (kind : Kind) → counts_of result kind ≡ min usize.MAX (counts_of self kind + counts_of more kind) }
+    /// Adds the counts of more items, as of another input. A sum that no `usize` holds becomes `usize::MAX`.
+    pub fn add(&mut self, more: &KindCounts)
+        ensures { (kind : Kind) → counts_of self.new kind ≡ min usize.MAX (counts_of self.old kind + counts_of more.now kind) }
     {
-        let mut sum = self;
         for at in 0..KINDS.len() {
-            sum.counts[at] = sum.counts[at].saturating_add(more.counts[at]);
+            self.counts[at] = self.counts[at].saturating_add(more.counts[at]);
         }
-        sum
     }
 
     // Counts a fault of this kind. It is refused if its count would not fit.
-    fn count(&mut self, kind: Kind) -> Result<(), AllocError>
+    pub(crate) fn count(&mut self, kind: Kind) -> Result<(), AllocError>
         ensures { OnOk result (counts_of self.new ≡ with_fault kind (counts_of self.old)) }
     {
         let place = kind.place();
         self.counts[place] = self.counts[place].checked_add(1).ok_or(AllocError)?;
         Ok(())
     }
-}
-
-// Counts the kind of the fault of a piece whose fault line follows these first bytes, if kinds are counted.
-#[cold]
-#[inline(never)]
-pub(crate) fn count_refused(
-    alloc: Global,
-    dialect: Dialect,
-    kinds: &mut Option<KindCounts>,
-    so_far: &Progress,
-    from: usize,
-    piece: Result<&[u8], PieceTooLong<'_>>,
-) -> Result<(), AllocError>
-    requires front { IsUtf8 (take from (string_bytes so_far.now.faults)) }
-    requires within { from ≤ length (string_bytes so_far.now.faults) }
-    requires fits { so_far.now.carried + so_far.now.refused ≤ usize.MAX }
-    requires line { (text : List ℕ) × (drop from (string_bytes so_far.now.faults)
-        ≡ fault_line_at so_far.now.line (so_far.now.carried + so_far.now.refused) text) }
-    ensures { OnOk result ((text : List ℕ) → drop from (string_bytes so_far.now.faults)
-        ≡ fault_line_at so_far.now.line (so_far.now.carried + so_far.now.refused) text
-        → counts_if kinds.new ≡ option_map (with_fault (kind_given (rules_of dialect) piece.entry text)) (counts_if kinds.old)) }
-{
-    let Some(counts) = kinds else {
-        return Ok(());
-    };
-    let kind = kind_told(alloc, dialect, so_far, from, piece)?;
-    counts.count(kind)
 }

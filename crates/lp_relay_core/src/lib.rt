@@ -8,6 +8,7 @@
 //! It takes each item as `lp_rebuild` does. It is a crate of its own, since the program `lp_rebuild` needs none of it.
 #![tactic(auto)]
 
+mod counting;
 mod cuts;
 mod differing;
 mod kinds;

@@ -10,7 +10,8 @@ ghost use Rattle.lp_relay_core.specs.RelaySteps.{newlines_given, start_after, st
 ghost use Rattle.lp_relay_core.specs.TakenBack.{TakesBack};
 
 use crate::differing::{Part, differing_part, part_text};
-use crate::kinds::{KindCounts, count_refused};
+use crate::counting::count_refused;
+use crate::kinds::KindCounts;
 use crate::objects::tell_as_object;
 use crate::telling::{Faults, tell_on_one_line};
 use crate::texts::{newlines_in, text_of};
