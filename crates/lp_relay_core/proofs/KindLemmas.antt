@@ -1,5 +1,5 @@
 -- Refused items, counted by kinds.
-use Rattle.std.proofs.Common.{◌≡◌, ℕ, ◌+◌, ◌<◌, ◌==◌, true, false, cond, not, List, [], ◌∷◌, ◌++◌, get_or, length, map, sum}
+use Rattle.std.proofs.Common.{◌≡◌, ℕ, ◌+◌, ◌<◌, ◌==◌, true, false, cond, not, List, [], ◌∷◌, ◌++◌, get_or, length}
 use Rattle.std.proofs.Common.{Option, None, Some, option_map, Ok, Err, refl, sym, ap, subst, ◌∙◌, arith, rules, inl, inr, IfSome}
 use Rattle.std.specs.List.{count_by, sum_by}
 use Rattle.std.specs.Option.{is_none, option_map_or}
@@ -9,9 +9,8 @@ use Rattle.std.proofs.lemmas.List.{Sums.sum-map, Sums.sum_by-append, Sums.sum_by
 use Rattle.std.proofs.Math.{ListN.set, Path.fun_ext}
 use Rattle.lp_rebuild.specs.Rebuilding.{is_carried_answer}
 use Rattle.lp_relay_core.specs.declared.kinds.{Kind.Kind, KindCounts.KindCounts, TheConstants.KINDS}
-use Rattle.lp_relay_core.specs.declared.kinds.Kind.TheVariants as kind
 use Rattle.lp_relay_core.specs.declared.taking.Settings.{Settings}
-use Rattle.lp_relay_core.specs.Kinds.{Counts, counts_after, counts_if, counts_of, is_kind, is_refused_for, kinds_after, kinds_of_none, place, refused_kinds, sum_of, with_fault}
+use Rattle.lp_relay_core.specs.Kinds.{Counts, counts_if, counts_of, is_kind, is_refused_for, kinds_after, kinds_of_none, place, refused_kinds, sum_of, with_fault}
 use Rattle.lp_relay_core.specs.Objects.{item_kind}
 use Rattle.lp_relay_core.specs.Relaying.{Item, answered, as_it_came, not_as_written, not_utf8, too_long, is_carried_item, refused_items}
 use Rattle.lp_relay_core.proofs.ItemLemmas.{refused_append}

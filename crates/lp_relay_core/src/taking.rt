@@ -9,8 +9,8 @@ ghost use Rattle.lp_relay_core.specs.RelaySteps.{first_line, form_given, items_b
 ghost use Rattle.lp_relay_core.specs.RelaySteps.{newlines_given, start_after, start_of, unwritten_of, unwritten_of_none};
 ghost use Rattle.lp_relay_core.specs.TakenBack.{TakesBack};
 
-use crate::differing::{Part, differing_part, part_text};
 use crate::counting::count_refused;
+use crate::differing::{Part, differing_part, part_text};
 use crate::kinds::KindCounts;
 use crate::objects::tell_as_object;
 use crate::telling::{Faults, tell_on_one_line};
