@@ -509,8 +509,8 @@ pub extern "C" fn lp_checks_relay(
         Err(fault) => return told_end(Some(fault)),
     };
     if let Some(counts) = relayed.kinds {
-        for (kind, count) in kinds.iter_mut().zip(counts.iter()) {
-            *kind = *count as u64;
+        for (count, kind) in kinds.iter_mut().zip(KINDS.iter()) {
+            *count = counts.of(*kind) as u64;
         }
     }
     0

@@ -2,22 +2,23 @@
 use Rattle.std.specs.Prelude.{ℕ, ◌+◌, ◌==◌, List, [], ◌∷◌, ◌++◌, codes, decimal, Option, Some, None, Result, Ok, Err, if◌then◌else◌}
 use Rattle.lp_rebuild.specs.declared.program.RunFault.{RunFault}
 use Rattle.lp_relay_core.specs.declared.relaying.Relayed.{Relayed}
-use Rattle.lp_relay_core.specs.Kinds.{kind_names}
+use Rattle.lp_relay_core.specs.declared.kinds.{Kind.Kind, KindCounts.KindCounts, TheConstants.KINDS}
+use Rattle.lp_relay_core.specs.Kinds.{Counts, counts_of}
+use Rattle.lp_relay_core.specs.Objects.{kind_name}
 use Rattle.lp_relay.specs.declared.summary.{Summary.Summary, Totals.Totals}
 use Rattle.lp_relay.specs.declared.words.Settings.{Settings}
 
 -- the kinds of these of which some are counted, each with its count, and before the first of them a mark
-abbrev pub kinds_from : (mark : List ℕ) → (kinds : List (List ℕ)) → List ℕ → List ℕ
+abbrev pub kinds_from : (mark : List ℕ) → (kinds : List Kind) → Counts → List ℕ
 kinds_from mark [] counts = []
-kinds_from mark (kind ∷ kinds) [] = []
-kinds_from mark (kind ∷ kinds) (n ∷ counts) =
-    if n == 0 then kinds_from mark kinds counts
-    else mark ++ decimal n ++ codes " " ++ kind ++ kinds_from (codes ", ") kinds counts
+kinds_from mark (kind ∷ kinds) counts =
+    if counts kind == 0 then kinds_from mark kinds counts
+    else mark ++ decimal (counts kind) ++ codes " " ++ kind_name kind ++ kinds_from (codes ", ") kinds counts
 
 -- how many items were refused for each kind of fault, if that was counted
-abbrev pub kinds_text : Option (List ℕ) → List ℕ
+abbrev pub kinds_text : Option KindCounts → List ℕ
 kinds_text None = []
-kinds_text (Some counts) = kinds_from (codes ": ") kind_names counts
+kinds_text (Some counts) = kinds_from (codes ": ") KINDS.now (counts_of counts)
 
 -- how many items there were, of which so many were carried and so many refused
 abbrev pub items_text : Relayed → List ℕ

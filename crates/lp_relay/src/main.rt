@@ -25,7 +25,7 @@ use noted::{Noted, Notes};
 use std::alloc::Global;
 use std::io::{self, ErrorKind, IsTerminal};
 use std::process::ExitCode;
-use std::{array, env};
+use std::env;
 use summary::{Totals, summary_of};
 use tally::Tally;
 use words::{
@@ -51,7 +51,10 @@ fn settings_after(settings: Settings, so_far: Relayed) -> Settings {
 // The counts of what came before, and after it of an input.
 fn sum_of(so_far: Relayed, counts: Relayed) -> Relayed {
     let kinds = match (so_far.kinds, counts.kinds) {
-        (Some(kinds), Some(more)) => Some(array::from_fn(|at| kinds[at].saturating_add(more[at]))),
+        (Some(mut kinds), Some(more)) => {
+            kinds.add(&more);
+            Some(kinds)
+        }
         (_, more) => more,
     };
     Relayed {

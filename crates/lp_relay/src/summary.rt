@@ -1,11 +1,12 @@
 //! What a relay tells at its end.
-ghost use Rattle.std.specs.Prelude.{◌≡◌, Some, map};
+ghost use Rattle.std.specs.Prelude.{◌≡◌, Some};
 ghost use Rattle.std.specs.Fmt.{DisplaysOnOk};
 ghost use Rattle.lp_relay.specs.Summaries.{asked_summary, kinds_from};
+ghost use Rattle.lp_relay_core.specs.Kinds.{counts_of};
 
 use crate::words::Settings;
 use lp_rebuild::RunFault;
-use lp_relay_core::{KINDS, KindCounts, Relayed};
+use lp_relay_core::{KINDS, Kind, KindCounts, Relayed};
 use std::fmt;
 
 /// What a relay read, and what came of it.
@@ -19,23 +20,24 @@ pub struct Totals {
     pub counts: Relayed,
 }
 
-// Writes these kinds, of which some are counted, each with its count, and before the first of them a mark.
+// Writes these kinds, each with its count if it has one, and before the first of them a mark.
 fn show_kinds<W: fmt::Write>(
     mark: &str,
-    kinds: &[&str],
-    counts: &[usize],
+    kinds: &[Kind],
+    counts: &KindCounts,
     f: &mut fmt::Formatter<W>,
 ) -> fmt::Result
-    ensures { DisplaysOnOk W.write_str_gives f.old result (Some (kinds_from mark.now (map (λ kind. kind.now) kinds.now) counts.now)) f.new }
+    ensures { DisplaysOnOk W.write_str_gives f.old result (Some (kinds_from mark.now kinds.now (counts_of counts.now))) f.new }
 {
-    let (Some((kind, kinds)), Some((count, counts))) = (kinds.split_first(), counts.split_first())
-    else {
+    let Some((kind, kinds)) = kinds.split_first() else {
         return Ok(());
     };
-    if *count == 0 {
+    let count = counts.of(*kind);
+    if count == 0 {
         return show_kinds(mark, kinds, counts, f);
     }
-    write!(f, "{mark}{count} {kind}")?;
+    let name = kind.name();
+    write!(f, "{mark}{count} {name}")?;
     show_kinds(", ", kinds, counts, f)
 }
 
@@ -51,10 +53,9 @@ impl fmt::Display for Kinds {
 
     ghost output = { λ kinds. Some (kinds_text kinds.counts) };
 
-    #[tactic(auto, unfolding(lp_relay_core::specs::Kinds::kind_names))]
     fn fmt<W: fmt::Write>(&self, f: &mut fmt::Formatter<W>) -> fmt::Result {
         match &self.counts {
-            Some(counts) => show_kinds(": ", &KINDS, counts, f),
+            Some(counts) => show_kinds(": ", KINDS, counts, f),
             None => Ok(()),
         }
     }

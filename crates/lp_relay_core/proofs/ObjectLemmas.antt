@@ -1,7 +1,8 @@
 -- Faults that are told as objects.
-use Rattle.std.proofs.Common.{◌≡◌, ℕ, ◌+◌, ◌-◌, ◌<◌, Bool, false, true, cond, List, [], ◌∷◌, ◌++◌, codes, length, take, drop, Option, None, Some}
+use Rattle.std.proofs.Common.{◌≡◌, ℕ, ◌+◌, ◌-◌, ◌<◌, Bool, false, true, List, [], ◌∷◌, ◌++◌, length, take, drop, Option, None, Some}
 use Rattle.std.proofs.Common.{option_map, Result, Ok, Err, is_err, is_ok, not, refl, sym, ap, subst, ◌∙◌, append-nil, inl, inr}
 use Rattle.std.specs.Borrow.{Bor}
+use Rattle.std.specs.Option.{option_map_or}
 use Rattle.std.specs.Str.{IsUtf8, bytes_eq, is_utf8}
 use Rattle.std.proofs.lemmas.Bool.{cases_Bool}
 use Rattle.std.proofs.lemmas.Str.{IsUtf8-from_is_utf8, is_utf8-from_IsUtf8}
@@ -16,6 +17,7 @@ use Rattle.influxdb_line_protocol.specs.format.Trimming.{trimmed}
 use Rattle.influxdb_line_protocol.specs.types.PieceTooLong.{PieceTooLong}
 use Rattle.influxdb_line_protocol.specs.code.Rules.{rules_of}
 use Rattle.lp_rebuild.specs.RebuildSteps.{fault_line_at}
+use Rattle.lp_relay_core.specs.declared.kinds.Kind.{Kind, TheVariants.NotAsWritten, TheVariants.NotUtf8, TheVariants.TooLong}
 use Rattle.lp_relay_core.specs.declared.differing.Part.{Part}
 use Rattle.lp_relay_core.specs.declared.differing.Part.TheVariants as part
 use Rattle.lp_relay_core.specs.declared.telling.Faults.TheVariants.{Json}
@@ -23,7 +25,7 @@ use Rattle.lp_relay_core.specs.declared.taking.Lines.{Lines}
 use Rattle.lp_relay_core.specs.declared.taking.Lines.TheVariants.{Rebuilt, Verbatim, Canonical}
 use Rattle.lp_relay_core.specs.declared.taking.Settings.{Settings}
 use Rattle.lp_relay_core.specs.Differing.{at_start, differing_part, part_text}
-use Rattle.lp_relay_core.specs.Kinds.{counts_with, kind_names, kinds_after}
+use Rattle.lp_relay_core.specs.Kinds.{Counts, kinds_after, with_fault}
 use Rattle.lp_relay_core.specs.LineFaults.{item_text}
 use Rattle.lp_relay_core.specs.Objects.{answer_kind, fault_kind, front_given, item_front, item_kind, item_object, kind_given, line_kind, object, stop_given, stop_members}
 use Rattle.lp_relay_core.specs.Relaying.{Item, canonical_item, front_of, is_carried_item, item_of, items_of_bytes, kept_of, not_utf8, too_long}
@@ -39,7 +41,7 @@ use Rattle.lp_relay_core.proofs.RelayLemmas.{blank_items, text_item}
 use Rattle.lp_relay_core.proofs.ToldLemmas.{refused_one}
 
 -- the kind of a line that is refused for a part
-part_kind : (p : Part) → line_kind (part_text p) ≡ codes "not_as_written"
+part_kind : (p : Part) → line_kind (part_text p) ≡ NotAsWritten
 part_kind part.Measurement = refl
 part_kind (part.TagKey n) = refl
 part_kind (part.TagValue n) = refl
@@ -51,8 +53,8 @@ part_kind part.Spaces = refl
 part_kind part.Comma = refl
 
 -- an item has this front, and this kind if it is refused for its text
-abbrev IsDescribed : (front : List ℕ) → (List ℕ → List ℕ) → Item → Type 0
-IsDescribed front kind item = (front ≡ item_front item) × (kind (item_text item) ≡ item_kind item)
+abbrev IsDescribed : (front : List ℕ) → (List ℕ → Kind) → Item → Type 0
+IsDescribed front kind item = (front ≡ item_front item) × (Some (kind (item_text item)) ≡ item_kind item)
 
 -- what is told of a line that is refused since it is not as it would be written, or for a name
 canonical_described : (front text : List ℕ) (line : Line) → is_carried_item (canonical_item front text line) ≡ false
@@ -64,15 +66,15 @@ canonical_described front text line refused =
             | inl same ↦ let carried = rw (good, same) at refused in absurd (cc)
             | inr other ↦
                 subst (IsDescribed front line_kind) (sym (otherwise front text line good other))
-                (refl, part_kind (differing_part at_start text (built (point_of line))))
+                (refl, ap Some (part_kind (differing_part at_start text (built (point_of line)))))
           ]
-      | inr bad ↦ subst (IsDescribed front line_kind) (sym (not_admitted front text line bad)) (refl, refl)
+      | inr bad ↦ subst (IsDescribed front line_kind) (sym (not_admitted front text line bad)) (refl, rw bad refl)
     ]
 
 -- what is told of an answer that is refused
 answer_described : (lines : Lines) (piece : List ℕ) (a : Result Line Fault) → is_carried_item (item_of lines piece a) ≡ false
     → IsDescribed (front_of piece) (answer_kind a) (item_of lines piece a)
-answer_described Rebuilt piece (Ok line) refused = (refl, refl)
+answer_described Rebuilt piece (Ok line) refused = (refl, rw refused refl)
 answer_described Rebuilt piece (Err fault) refused = (refl, refl)
 answer_described Verbatim piece (Ok line) refused = absurd (cc)
 answer_described Verbatim piece (Err fault) refused = (refl, refl)
@@ -107,7 +109,7 @@ piece_described lines dialect piece item is refused =
       | inr bad ↦
           let its = item_of_no_text lines dialect piece.now (λ u. let e : is_utf8 piece.now ≡ true = is_utf8-from_IsUtf8 piece.now u in absurd (cc)) in
           let one : not_utf8 ≡ item = cc in
-          rw bad (subst (IsDescribed [] (λ text. codes "not_utf8")) one (refl, refl))
+          rw bad (subst (IsDescribed [] (λ text. NotUtf8)) one (refl, refl))
     ]
 
 -- what is told of what a call gave, whose item is refused
@@ -116,10 +118,10 @@ described : (s : Settings) (given : Result (Bor (List ℕ)) PieceTooLong) (item 
     → IsDescribed (front_given given) (kind_given (rules_of s.dialect) given) item
 described s (Ok piece) item is refused = piece_described s.lines (rules_of s.dialect) piece item is refused
 described s (Err fault) item is refused =
-    let one : too_long (kept_of s) ≡ item = cc in subst (IsDescribed [] (λ text. codes "too_long")) one (refl, refl)
+    let one : too_long (kept_of s) ≡ item = cc in subst (IsDescribed [] (λ text. TooLong)) one (refl, refl)
 
 -- objects of the same members
-pub object_same : (number offset : ℕ) {line l : ℕ} {front f kind k text t stop s : List ℕ} → line ≡ l → front ≡ f → kind ≡ k → text ≡ t
+pub object_same : (number offset : ℕ) {line l : ℕ} {front f text t stop s : List ℕ} {kind k : Kind} → line ≡ l → front ≡ f → kind ≡ k → text ≡ t
     → stop ≡ s → object number line offset front kind text stop ≡ object number l offset f k t s
 object_same number offset lines fronts kinds texts stops = rw (lines, fronts, kinds, texts, stops) refl
 
@@ -133,9 +135,9 @@ object_is s line offset number given item is refused =
     let (front, kind) = described s given item is refused in
     let text = item_text item in
     let stop = stop_given d (line_or_none line) given in
-    let told = object number (line_or_none line) offset (item_front item) (item_kind item) text stop in
-    object_same number offset {text = text} {stop = stop} refl front kind refl refl
-    ∙ sym (append-nil told) ∙ ap (λ (b : Bool). cond b [] told ++ []) (sym refused)
+    let told = λ (k : Kind). object number (line_or_none line) offset (item_front item) k text stop in
+    object_same number offset {text = text} {stop = stop} refl front refl refl refl
+    ∙ sym (append-nil (told (kind_given d given text))) ∙ ap (λ o. option_map_or told o [] ++ []) kind
 
 -- what a call gave was taken, and then its object was told in place of its fault line
 pub takes_object : (first : ℕ) (s : Settings) (given : Result (Bor (List ℕ)) PieceTooLong) (from offset : ℕ) (old mid new : Made)
@@ -227,10 +229,10 @@ kind_of_text dialect given bytes piece text is same u =
 
 -- the kind of what is not UTF-8
 pub kind_of_no_text : (dialect : Dialect) (given : Result (Bor (List ℕ)) PieceTooLong) (bytes : Bor (List ℕ)) (text : List ℕ)
-    → given ≡ Ok bytes → (¬ IsUtf8 bytes.now) → codes "not_utf8" ≡ kind_given dialect given text
+    → given ≡ Ok bytes → (¬ IsUtf8 bytes.now) → NotUtf8 ≡ kind_given dialect given text
 kind_of_no_text dialect given bytes text is bad =
     let utf8 : is_utf8 bytes.now ≡ false = not_utf8_test bytes.now bad in
-    let kind : codes "not_utf8" ≡ kind_given dialect (Ok bytes) text = rw utf8 refl in
+    let kind : NotUtf8 ≡ kind_given dialect (Ok bytes) text = rw utf8 refl in
     kind ∙ ap (λ g. kind_given dialect g text) (sym is)
 
 -- the kind of an answer, by the fault that was found
@@ -246,12 +248,12 @@ kind_if_line (Err fault) text is = absurd (cc)
 
 -- what a call gave was refused, and the kind of its fault was counted
 pub kind_counted : (s : Settings) (given : Result (Bor (List ℕ)) PieceTooLong) (from : ℕ) (old mid : Made)
-    (before after : Option (List ℕ)) → TakesRaw s given from old mid → from < length mid.faults
+    (before after : Option Counts) → TakesRaw s given from old mid → from < length mid.faults
     → ((text : List ℕ) → drop from mid.faults ≡ fault_line_at mid.line (mid.carried + mid.refused) text
-    → after ≡ option_map (counts_with kind_names (kind_given (rules_of s.dialect) given text)) before)
+    → after ≡ option_map (with_fault (kind_given (rules_of s.dialect) given text)) before)
     → after ≡ kinds_after (items_given s given) before
 kind_counted s given from old mid before after t some counts =
     let one = refused_one s given from old mid t some in
     let kind = (described s given one.item one.is one.refused).1 in
-    counts (item_text one.item) one.line ∙ kinds_of_refused one.item _ before one.refused kind
+    counts (item_text one.item) one.line ∙ kinds_of_refused one.item _ before kind
     ∙ sym (ap (λ (l : List Item). kinds_after l before) one.is)

@@ -17,6 +17,7 @@ use Rattle.lp_relay_core.specs.Relaying.{items_of_piece, items_of, items_batch, 
 use Rattle.lp_relay_core.specs.Writers.{Known}
 use Rattle.lp_relay_core.specs.RelaySteps.{RelaysAllPieces, RelaysItems, RelaysLast, RelaysLastPart, RelaysPart, RelaysSome, Unwritten}
 use Rattle.lp_relay_core.specs.RelaySteps.{faults_from, faults_past, items_before, start_of, start_past, unwritten_of_none}
+use Rattle.lp_relay_core.specs.Kinds.{counts_if}
 use Rattle.lp_relay_core.proofs.KindLemmas.{counts_add_up, kinds_of_all}
 use Rattle.lp_relay_core.proofs.PassLemmas.{passes_all, passes_some}
 use Rattle.lp_relay_core.proofs.ItemLemmas.{batch_append, items_push}
@@ -168,7 +169,7 @@ pub so_far_all : RunsEnd → (s : Settings) (r m t : Option (List ℕ)) (stream 
     → ((text : List ℕ) → Holds stream text → IsLastPiece (rules_of s.dialect) text → RelaysLast s text now end b c)
     → end.made.batch ≡ [] → end.made.faults ≡ [] → end.pieces ≡ []
     → counts.carried + items_before s.numbering s.first ≡ end.made.carried → counts.refused ≡ end.made.refused
-    → counts.kinds ≡ end.kinds → IfSome r (λ bs. (t ≡ Some []) × RelaysAll s bs counts a c)
+    → counts_if counts.kinds ≡ end.kinds → IfSome r (λ bs. (t ≡ Some []) × RelaysAll s bs counts a c)
 so_far_all ends s r m t stream now end counts a b c h read at_end p no_batch no_faults no_pieces carried refused kinds =
     let old = unwritten_of_none s in
     let pieces = h.pieces ++ h.held ∷ [] in

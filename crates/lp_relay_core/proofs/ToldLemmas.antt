@@ -18,14 +18,14 @@ use Rattle.lp_relay_core.specs.declared.telling.Faults.TheVariants.{OneLine}
 use Rattle.lp_relay_core.specs.declared.taking.Lines.{Lines}
 use Rattle.lp_relay_core.specs.declared.taking.Pending.{Pending}
 use Rattle.lp_relay_core.specs.declared.taking.Settings.{Settings}
-use Rattle.lp_relay_core.specs.Kinds.{kinds_after}
+use Rattle.lp_relay_core.specs.Kinds.{Counts, counts_if, kinds_after}
 use Rattle.lp_relay_core.specs.LineFaults.{item_text}
 use Rattle.lp_relay_core.specs.Objects.{stop_of_bytes}
 use Rattle.lp_relay_core.specs.Relaying.{Item, is_carried_item, items_of_bytes, refused_lines}
 use Rattle.lp_relay_core.specs.RelaySteps.{EndsPiece, Made, TakesItems, TakesGiven, TakesRaw, Unwritten, faults_at, faults_next}
 use Rattle.lp_relay_core.specs.RelaySteps.{Form, bytes_given, as_raw, as_object, as_one_line, form_given, form_of, items_given, line_or_none, made, raw_fault, refused_given, told_item, unwritten_of}
 use Rattle.lp_relay_core.specs.Told.{told}
-use Rattle.lp_relay_core.proofs.KindLemmas.{kinds_of_carried, kinds_of_nothing}
+use Rattle.lp_relay_core.proofs.KindLemmas.{kinds_of_carried, kinds_of_nothing, no_kind}
 use Rattle.lp_relay_core.proofs.RelayLemmas.{blank_items, text_item}
 use Rattle.lp_relay_core.proofs.ItemLemmas.{item_of_no_text, items_add_up}
 
@@ -48,7 +48,7 @@ carried_told : (form : Form) (line : Option ℕ) (number : ℕ) (item : Item) �
     → told_item form line number item ++ [] ≡ []
 carried_told as_raw line number item carried = rw carried refl
 carried_told as_one_line line number item carried = rw carried refl
-carried_told (as_object offset stop) line number item carried = rw carried refl
+carried_told (as_object offset stop) line number item carried = rw (no_kind item carried) refl
 
 -- if one item at most has no fault line, nothing is told of it
 none_told : (form : Form) (line : Option ℕ) (number : ℕ) (items : List Item) → length items ≤ 1
@@ -220,7 +220,7 @@ put_none true piece items (no_item none) = rw none refl
 put_none true piece items (one_item item one carried) = rw (one, carried) refl
 
 -- and nothing is counted
-count_none : (items : List Item) (counts : Option (List ℕ)) → Carried items → kinds_after items counts ≡ counts
+count_none : (items : List Item) (counts : Option Counts) → Carried items → kinds_after items counts ≡ counts
 count_none items counts (no_item none) = ap (λ (l : List Item). kinds_after l counts) none ∙ kinds_of_nothing counts
 count_none items counts (one_item item one carried) = ap (λ (l : List Item). kinds_after l counts) one ∙ kinds_of_carried item counts carried
 
@@ -250,7 +250,7 @@ ends_same s given from mid same old t =
       items = takes_same (form_given s (record { line = old.line; offset = mid.offset }) given) s given from old now t same;
       pieces = sym (ap (λ (l : List ℕ). mid.pieces.items ++ l) (put_none s.puts_refused (bytes_given given) items carried)
           ∙ append-nil mid.pieces.items);
-      kinds = sym (count_none items mid.kinds carried);
+      kinds = sym (count_none items (counts_if mid.kinds) carried);
     }
 
 -- a piece that has a fault line ends once that is told, its kind is counted, and the piece is put out
@@ -259,7 +259,7 @@ pub ends_told : (s : Settings) (given : Result (Bor (List ℕ)) PieceTooLong) (f
     → ((old : Made) → TakesRaw s given from old (made mid.so_far)
     → TakesItems (form_given s (record { line = old.line; offset = mid.offset }) given) old
     (items_given s given) (made new.so_far))
-    → ((old : Made) → TakesRaw s given from old (made mid.so_far) → new.kinds ≡ kinds_after (items_given s given) mid.kinds)
+    → ((old : Made) → TakesRaw s given from old (made mid.so_far) → counts_if new.kinds ≡ kinds_after (items_given s given) (counts_if mid.kinds))
     → new.pieces.items ≡ mid.pieces.items ++ put_of s.puts_refused given → EndsPiece s from given mid new
 ends_told s given from mid new some told counted put old t =
     let one = refused_one s given from old (made mid.so_far) t some in
@@ -273,7 +273,7 @@ ends_told s given from mid new some told counted put old t =
 pub takes_on : (s : Settings) (old : Unwritten) (result : Result (Bor (List ℕ)) PieceTooLong) (new : Pending)
     (line : Option ℕ) (offset : ℕ) → TakesGiven s old result (unwritten_of new)
     → TakesGiven s old result
-    (record { made = record (made new.so_far) { line = line }; pieces = new.pieces.items; offset = offset; kinds = new.kinds })
+    (record { made = record (made new.so_far) { line = line }; pieces = new.pieces.items; offset = offset; kinds = counts_if new.kinds })
 takes_on s old result new line offset t =
     record {
       items = record { batch = t.items.batch; faults = t.items.faults; carried = t.items.carried; refused = t.items.refused };

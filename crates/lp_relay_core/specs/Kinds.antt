@@ -1,43 +1,57 @@
 -- How many items of a relay are refused for each kind of fault.
-use Rattle.std.specs.Prelude.{ℕ, ◌+◌, ◌&&◌, Bool, not, List, [], ◌∷◌, codes, map, Option, Some, None, option_map, if◌then◌else◌}
-use Rattle.std.specs.List.{count_by}
-use Rattle.std.specs.Str.{bytes_eq}
+use Rattle.std.specs.Prelude.{ℕ, ◌+◌, Bool, false, List, get_or, map, sum, Option, Some, None, option_map, if◌then◌else◌}
+use Rattle.std.specs.{List.count_by, Option.option_map_or}
+use denote.Enum.{Bare.sameb, Declared.tag_of}
+use Rattle.lp_relay_core.specs.contracts.kinds.Kind.{the_type}
+use Rattle.lp_relay_core.specs.declared.kinds.{Kind.Kind, KindCounts.KindCounts, TheConstants.KINDS}
 use Rattle.lp_relay_core.specs.declared.taking.Settings.{Settings}
 use Rattle.lp_relay_core.specs.Objects.{item_kind}
-use Rattle.lp_relay_core.specs.Relaying.{Item, is_carried_item}
+use Rattle.lp_relay_core.specs.Relaying.{Item}
 
--- the kinds of faults, in alphabetical order
-unfoldable pub kind_names : List (List ℕ)
-kind_names =
-    codes "cannot_parse_entire_line" ∷ codes "ends_with_backslash" ∷ codes "field_set_missing" ∷ codes "generic_parsing_error"
-    ∷ codes "integer_value_invalid" ∷ codes "measurement_value_invalid" ∷ codes "name_not_admitted" ∷ codes "not_as_written"
-    ∷ codes "not_utf8" ∷ codes "tag_set_malformed" ∷ codes "timestamp_value_invalid" ∷ codes "too_long"
-    ∷ codes "uinteger_value_invalid" ∷ []
+-- how many are counted for each kind
+abbrev pub Counts : Type 0
+Counts = Kind → ℕ
+
+-- the place of the count of a kind
+abbrev pub place : Kind → ℕ
+place kind = tag_of the_type kind
+
+-- what is counted for each kind
+abbrev pub counts_of : KindCounts → Counts
+counts_of counts kind = get_or counts.counts (place kind) 0
+
+-- the same, if kinds are counted
+abbrev pub counts_if : Option KindCounts → Option Counts
+counts_if counts = option_map counts_of counts
+
+-- all that is counted
+abbrev pub sum_of : Counts → ℕ
+sum_of counts = sum (map counts KINDS.now)
+
+-- whether a kind is this one
+abbrev pub is_kind : Kind → Kind → Bool
+is_kind kind other = sameb the_type kind other
 
 -- whether an item is refused for a fault of this kind
-abbrev pub is_refused_for : (kind : List ℕ) → Item → Bool
-is_refused_for kind item = not (is_carried_item item) && bytes_eq (item_kind item) kind
+abbrev pub is_refused_for : Kind → Item → Bool
+is_refused_for kind item = option_map_or (is_kind kind) (item_kind item) false
 
--- how many of these items are refused for each kind of fault, in the order of the kinds, if the settings ask for that
-abbrev pub refused_kinds : Settings → List Item → Option (List ℕ)
-refused_kinds s items = if s.counts_kinds then Some (map (λ kind. count_by (is_refused_for kind) items) kind_names) else None
+-- how many of these items are refused for each kind of fault, if the settings ask for that
+abbrev pub refused_kinds : Settings → List Item → Option Counts
+refused_kinds s items = if s.counts_kinds then Some (λ kind. count_by (is_refused_for kind) items) else None
 
--- the counts of these kinds, with the items counted too
-abbrev pub counts_after : (kinds : List (List ℕ)) → List Item → List ℕ → List ℕ
-counts_after [] items counts = counts
-counts_after (kind ∷ kinds) items [] = []
-counts_after (kind ∷ kinds) items (n ∷ counts) = (n + count_by (is_refused_for kind) items) ∷ counts_after kinds items counts
+-- counts, with these items counted too
+abbrev pub counts_after : List Item → Counts → Counts
+counts_after items counts kind = counts kind + count_by (is_refused_for kind) items
 
--- the counts of these kinds, with one fault of this kind counted too
-abbrev pub counts_with : (kinds : List (List ℕ)) → List ℕ → List ℕ → List ℕ
-counts_with [] kind counts = counts
-counts_with (name ∷ kinds) kind [] = []
-counts_with (name ∷ kinds) kind (n ∷ counts) = (n + (if bytes_eq kind name then 1 else 0)) ∷ counts_with kinds kind counts
+-- counts, with one fault of this kind counted too
+abbrev pub with_fault : Kind → Counts → Counts
+with_fault kind counts other = counts other + (if is_kind other kind then 1 else 0)
 
--- the counts of all kinds, if kinds are counted, with these items counted too
-abbrev pub kinds_after : List Item → Option (List ℕ) → Option (List ℕ)
-kinds_after items counts = option_map (counts_after kind_names items) counts
+-- the counts, if kinds are counted, with these items counted too
+abbrev pub kinds_after : List Item → Option Counts → Option Counts
+kinds_after items counts = option_map (counts_after items) counts
 
 -- before the first item
-abbrev pub kinds_of_none : Settings → Option (List ℕ)
-kinds_of_none s = if s.counts_kinds then Some (map (λ kind. 0) kind_names) else None
+abbrev pub kinds_of_none : Settings → Option Counts
+kinds_of_none s = if s.counts_kinds then Some (λ kind. 0) else None

@@ -3,6 +3,7 @@ use Rattle.std.specs.Prelude.{ℕ, ◌+◌, ◌/◌, ◌%◌, ◌==◌, ◌||◌
 use Rattle.std.specs.Prelude.{Option, Some, None, Result, Ok, Err, is_err}
 use Rattle.std.specs.Borrow.{Bor}
 use Rattle.std.specs.List.{flat_map, starts_with}
+use Rattle.std.specs.Option.{option_map_or}
 use Rattle.std.specs.Str.{is_utf8}
 use Rattle.influxdb_line_protocol.specs.format.Bytes.{newline, newlines_in, backslash}
 use Rattle.influxdb_line_protocol.specs.format.Dialects.{Dialect}
@@ -10,10 +11,15 @@ use Rattle.influxdb_line_protocol.specs.format.Lines.{Line, answer, front_before
 use Rattle.influxdb_line_protocol.specs.format.Readings as fault
 use Rattle.influxdb_line_protocol.specs.format.Trimming.{trimmed}
 use Rattle.influxdb_line_protocol.specs.types.PieceTooLong.{PieceTooLong}
+use Rattle.lp_rebuild.specs.Rebuilding.{is_carried_answer}
+use Rattle.lp_relay_core.specs.declared.kinds.Kind.{Kind}
+use Rattle.lp_relay_core.specs.declared.kinds.Kind.TheVariants.{CannotParseEntireLine, EndsWithBackslash, FieldSetMissing, GenericParsingError, IntegerValueInvalid}
+use Rattle.lp_relay_core.specs.declared.kinds.Kind.TheVariants.{MeasurementValueInvalid, NameNotAdmitted, NotAsWritten, NotUtf8}
+use Rattle.lp_relay_core.specs.declared.kinds.Kind.TheVariants.{TagSetMalformed, TimestampValueInvalid, TooLong, UintegerValueInvalid}
 use Rattle.lp_relay_core.specs.declared.taking.Settings.{Settings}
 use Rattle.lp_relay_core.specs.LineFaults.{item_text}
 use Rattle.influxdb_line_protocol.specs.code.Rules.{rules_of}
-use Rattle.lp_relay_core.specs.Relaying.{Item, answered, as_it_came, not_as_written, not_utf8, too_long, front_of, is_carried_item, items_of_piece}
+use Rattle.lp_relay_core.specs.Relaying.{Item, answered, as_it_came, not_as_written, not_utf8, too_long, front_of, items_of_piece}
 use Rattle.lp_relay_core.specs.Relaying.{is_too_long, limit_of}
 use Rattle.lp_relay_core.specs.ReadingStops.{stop_text}
 use Rattle.lp_relay_core.specs.Told.{hex_digit}
@@ -36,26 +42,42 @@ json_byte b = if is_escaped b then escape_of b else b ∷ []
 abbrev pub json_text : List ℕ → List ℕ
 json_text text = flat_map json_byte text
 
--- the kind of the fault of a text
-abbrev pub fault_kind : fault.Fault → List ℕ
-fault_kind fault.measurement_value_invalid = codes "measurement_value_invalid"
-fault_kind fault.field_set_missing = codes "field_set_missing"
-fault_kind (fault.integer_value_invalid side value) = codes "integer_value_invalid"
-fault_kind (fault.uinteger_value_invalid side value) = codes "uinteger_value_invalid"
-fault_kind (fault.timestamp_value_invalid side value) = codes "timestamp_value_invalid"
-fault_kind fault.ends_with_backslash = codes "ends_with_backslash"
-fault_kind (fault.cannot_parse_entire_line rest) = codes "cannot_parse_entire_line"
-fault_kind fault.tag_set_malformed = codes "tag_set_malformed"
-fault_kind fault.take_while1 = codes "generic_parsing_error"
+-- the name of a kind of fault, as objects tell it
+abbrev pub kind_name : Kind → List ℕ
+kind_name CannotParseEntireLine = codes "cannot_parse_entire_line"
+kind_name EndsWithBackslash = codes "ends_with_backslash"
+kind_name FieldSetMissing = codes "field_set_missing"
+kind_name GenericParsingError = codes "generic_parsing_error"
+kind_name IntegerValueInvalid = codes "integer_value_invalid"
+kind_name MeasurementValueInvalid = codes "measurement_value_invalid"
+kind_name NameNotAdmitted = codes "name_not_admitted"
+kind_name NotAsWritten = codes "not_as_written"
+kind_name NotUtf8 = codes "not_utf8"
+kind_name TagSetMalformed = codes "tag_set_malformed"
+kind_name TimestampValueInvalid = codes "timestamp_value_invalid"
+kind_name TooLong = codes "too_long"
+kind_name UintegerValueInvalid = codes "uinteger_value_invalid"
 
--- the kind of an item that is not carried
-abbrev pub item_kind : Item → List ℕ
-item_kind (answered front (Ok line)) = codes "name_not_admitted"
-item_kind (answered front (Err fault)) = fault_kind fault
-item_kind (as_it_came piece) = []
-item_kind (not_as_written front wrong) = codes "not_as_written"
-item_kind not_utf8 = codes "not_utf8"
-item_kind (too_long kept) = codes "too_long"
+-- the kind of the fault of a text
+abbrev pub fault_kind : fault.Fault → Kind
+fault_kind fault.measurement_value_invalid = MeasurementValueInvalid
+fault_kind fault.field_set_missing = FieldSetMissing
+fault_kind (fault.integer_value_invalid side value) = IntegerValueInvalid
+fault_kind (fault.uinteger_value_invalid side value) = UintegerValueInvalid
+fault_kind (fault.timestamp_value_invalid side value) = TimestampValueInvalid
+fault_kind fault.ends_with_backslash = EndsWithBackslash
+fault_kind (fault.cannot_parse_entire_line rest) = CannotParseEntireLine
+fault_kind fault.tag_set_malformed = TagSetMalformed
+fault_kind fault.take_while1 = GenericParsingError
+
+-- the kind of fault for which an item is refused, if it is
+abbrev pub item_kind : Item → Option Kind
+item_kind (answered front (Ok line)) = if is_carried_answer (Ok line) then None else Some NameNotAdmitted
+item_kind (answered front (Err fault)) = Some (fault_kind fault)
+item_kind (as_it_came piece) = None
+item_kind (not_as_written front wrong) = Some NotAsWritten
+item_kind not_utf8 = Some NotUtf8
+item_kind (too_long kept) = Some TooLong
 
 -- what comes before the text of an item in its piece: nothing if the piece has no text
 abbrev pub item_front : Item → List ℕ
@@ -101,15 +123,15 @@ object_start number line offset front =
     ++ member (codes "piece_line") line ++ member (codes "piece_offset") offset
 
 -- the object of a fault that has these members on where reading stops, and a newline
-abbrev pub object : (number line offset : ℕ) → (front kind text stop : List ℕ) → List ℕ
+abbrev pub object : (number line offset : ℕ) → (front : List ℕ) → Kind → (text stop : List ℕ) → List ℕ
 object number line offset front kind text stop =
-    object_start number line offset front ++ codes ",\"kind\":\"" ++ kind ++ codes "\",\"text\":\"" ++ json_text text ++ codes "\""
+    object_start number line offset front ++ codes ",\"kind\":\"" ++ kind_name kind ++ codes "\",\"text\":\"" ++ json_text text ++ codes "\""
     ++ stop ++ codes "}" ++ newline ∷ []
 
 -- the object of an item that is not carried, which has this number, and whose piece begins on this line and after so many bytes
 abbrev pub item_object : (number line offset : ℕ) → (stop : List ℕ) → Item → List ℕ
 item_object number line offset stop item =
-    if is_carried_item item then [] else object number line offset (item_front item) (item_kind item) (item_text item) stop
+    option_map_or (λ kind. object number line offset (item_front item) kind (item_text item) stop) (item_kind item) []
 
 -- the objects of the items of one piece, where the first item has this number, and the piece begins on this line and after so many
 -- bytes
@@ -138,19 +160,19 @@ front_given (Ok piece) = if is_utf8 piece.now then front_of piece.now else []
 front_given (Err _) = []
 
 -- the kind of a line that is refused for this text: the first byte of `not as written: ..`, or of `a name cannot be written again`
-abbrev pub line_kind : List ℕ → List ℕ
-line_kind text = if starts_with nat_eq text (codes "n") then codes "not_as_written" else codes "name_not_admitted"
+abbrev pub line_kind : List ℕ → Kind
+line_kind text = if starts_with nat_eq text (codes "n") then NotAsWritten else NameNotAdmitted
 
 -- the kind of an answer that is refused for this text
-abbrev pub answer_kind : Result Line fault.Fault → List ℕ → List ℕ
+abbrev pub answer_kind : Result Line fault.Fault → List ℕ → Kind
 answer_kind (Ok line) text = line_kind text
 answer_kind (Err fault) text = fault_kind fault
 
 -- the kind of what a call gave, which is refused for this text
-abbrev pub kind_given : Dialect → Result (Bor (List ℕ)) PieceTooLong → List ℕ → List ℕ
+abbrev pub kind_given : Dialect → Result (Bor (List ℕ)) PieceTooLong → List ℕ → Kind
 kind_given dialect (Ok piece) text =
-    if is_utf8 piece.now then answer_kind (answer dialect (trimmed piece.now)) text else codes "not_utf8"
-kind_given dialect (Err _) text = codes "too_long"
+    if is_utf8 piece.now then answer_kind (answer dialect (trimmed piece.now)) text else NotUtf8
+kind_given dialect (Err _) text = TooLong
 
 -- the members that tell where reading stops in what a call gave, which begins on this line
 abbrev pub stop_given : Dialect → (line : ℕ) → Result (Bor (List ℕ)) PieceTooLong → List ℕ

@@ -22,7 +22,7 @@ use Rattle.lp_relay_core.specs.Told.{told}
 use Rattle.lp_rebuild.specs.declared.program.RunFault.{RunFault}
 use Rattle.lp_rebuild.specs.declared.program.RunFault.TheVariants.{Read, NotUtf8, OutOfMemory, Write}
 use Rattle.lp_rebuild.specs.RebuildSteps.{fault_line_at}
-use Rattle.lp_relay_core.specs.Kinds.{kinds_after, kinds_of_none}
+use Rattle.lp_relay_core.specs.Kinds.{Counts, counts_if, kinds_after, kinds_of_none}
 use Rattle.lp_relay_core.specs.LineFaults.{item_text}
 use Rattle.lp_relay_core.specs.Objects.{front_given, item_object, kind_given, object, stop_given, stop_of_piece}
 use Rattle.lp_relay_core.specs.Relaying.{Item, first_of, kept_of, too_long, is_carried_item, items_of_bytes, items_of_piece, items_of, items_batch, carried_items}
@@ -109,7 +109,7 @@ pub record Unwritten : Type 0 where
   pub made : Made
   pub pieces : List ℕ
   pub offset : ℕ
-  pub kinds : Option (List ℕ)
+  pub kinds : Option Counts
 
 -- before the first item
 abbrev pub unwritten_of_none : Settings → Unwritten
@@ -118,7 +118,7 @@ unwritten_of_none s = record { made = made_of_none s; pieces = []; offset = 0; k
 -- what a relay has not written yet
 abbrev pub unwritten_of : Pending → Unwritten
 unwritten_of pending =
-    record { made = made pending.so_far; pieces = pending.pieces.items; offset = pending.offset; kinds = pending.kinds }
+    record { made = made pending.so_far; pieces = pending.pieces.items; offset = pending.offset; kinds = counts_if pending.kinds }
 
 -- where a piece starts: on which line, if fault lines name lines, and after how many bytes
 pub record Start : Type 0 where
@@ -234,7 +234,7 @@ pub record TakesRaw (s : Settings) (given : Result (Bor (List ℕ)) PieceTooLong
 abbrev pub EndsPiece : Settings → (from : ℕ) → Result (Bor (List ℕ)) PieceTooLong → (mid new : Pending) → Type 0
 EndsPiece s from given mid new =
     (old : Made) → TakesRaw s given from old (made mid.so_far)
-    → TakesGiven s (record { made = old; pieces = mid.pieces.items; offset = mid.offset; kinds = mid.kinds }) given (unwritten_of new)
+    → TakesGiven s (record { made = old; pieces = mid.pieces.items; offset = mid.offset; kinds = counts_if mid.kinds }) given (unwritten_of new)
 
 -- the object of what a call gave, which is refused for this text
 abbrev pub object_given : Dialect → Option ℕ → (offset number : ℕ) → Result (Bor (List ℕ)) PieceTooLong → List ℕ → List ℕ

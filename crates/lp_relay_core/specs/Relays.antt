@@ -1,6 +1,6 @@
 -- What a relay answers, and what it leaves in its reader and in its three writers.
 use Rattle.std.specs.Prelude.{◌≡◌, ◌≢◌, ◌⊎◌, ◌↔◌, ℕ, ◌<◌, ◌≤◌, List, [], length, Option, Some, None, Result, Err, IfOk, IfSome, true}
-use Rattle.std.specs.Prelude.{OnOk, OnErr, sum}
+use Rattle.std.specs.Prelude.{OnOk, OnErr}
 use Rattle.std.specs.List.{All}
 use Rattle.std.specs.Str.{IsUtf8}
 use Rattle.std.specs.Io.KnownBytes.{Appends}
@@ -15,7 +15,7 @@ use Rattle.lp_rebuild.specs.Rebuilding.{RebuildsIn}
 use Rattle.lp_rebuild.specs.Running.{AppendsFront, ReaderTold, WriterTold}
 use Rattle.lp_relay_core.specs.Relaying.{first_of, limit_of, items_of, items_batch, item_faults, carried_items, refused_items}
 use Rattle.lp_relay_core.specs.Relaying.{refused_pieces}
-use Rattle.lp_relay_core.specs.Kinds.{refused_kinds}
+use Rattle.lp_relay_core.specs.Kinds.{counts_if, counts_of, refused_kinds, sum_of}
 use Rattle.lp_relay_core.specs.Writers.{Known, Writers, bytes_of}
 use Rattle.lp_relay_core.specs.LineFaults.{line_faults}
 use Rattle.lp_relay_core.specs.declared.taking.Lines.TheVariants as going
@@ -52,8 +52,8 @@ pub record RelaysAll (s : Settings) (bytes : List ℕ) (counts : Relayed) (befor
   pub put : Appends before.refused after.refused (refused_pieces s pieces)
   pub carried : counts.carried ≡ carried_items (items_of s pieces)
   pub refused : counts.refused ≡ refused_items (items_of s pieces)
-  pub kinds : counts.kinds ≡ refused_kinds s (items_of s pieces)
-  pub kinds_add_up : IfSome counts.kinds (λ kinds. sum kinds ≡ counts.refused)
+  pub kinds : counts_if counts.kinds ≡ refused_kinds s (items_of s pieces)
+  pub kinds_add_up : IfSome counts.kinds (λ kinds. sum_of (counts_of kinds) ≡ counts.refused)
 
 -- the first writer gained a front of the batch of the items of these bytes, the second one a front of their faults, and the third
 -- one a front of the refused pieces

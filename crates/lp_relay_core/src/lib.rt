@@ -8,6 +8,7 @@
 //! It takes each item as `lp_rebuild` does. It is a crate of its own, since the program `lp_rebuild` needs none of it.
 #![tactic(auto)]
 
+mod counting;
 mod cuts;
 mod differing;
 mod kinds;
@@ -21,7 +22,7 @@ mod texts;
 mod verdict;
 
 pub use cuts::part_ends;
-pub use kinds::{KINDS, KindCounts};
+pub use kinds::{KINDS, Kind, KindCounts};
 pub use nowhere::Nowhere;
 pub use objects::put_json_text;
 pub use relaying::{Relayed, relay};

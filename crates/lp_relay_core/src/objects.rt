@@ -8,6 +8,7 @@ ghost use Rattle.lp_relay_core.specs.Objects.{line_mark, member, object, object_
 ghost use Rattle.lp_relay_core.specs.RelaySteps.{line_or_none, object_given};
 ghost use Rattle.lp_values.specs.code.SpelledParts.{spelled_fault};
 
+use crate::kinds::Kind;
 use crate::stops::stop_text;
 use crate::telling::hex_digit;
 use crate::texts::{newlines_in, text_of};
@@ -87,14 +88,15 @@ fn put_object(
     line: usize,
     offset: usize,
     front: &[u8],
-    kind: &str,
+    kind: Kind,
     text: &str,
     stop: &str,
 ) -> Result<(), AllocError>
     ensures { OnOk result (string_bytes faults.new
-        ≡ string_bytes faults.old ++ object number line offset front.now kind.now text.now stop.now) }
+        ≡ string_bytes faults.old ++ object number line offset front.now kind text.now stop.now) }
 {
     put_start(faults, number, line, offset, front)?;
+    let kind = kind.name();
     write!(faults, ",\"kind\":\"{kind}\",\"text\":\"")?;
     put_json_text(faults, text)?;
     write!(faults, "\"{stop}}}\n")
@@ -108,42 +110,42 @@ fn put_member(members: &mut String, name: &str, value: usize) -> Result<(), Allo
 }
 
 // The kind of the fault of a text.
-fn kind_of(fault: SpelledFault<'_>) -> &'static str
-    ensures { result.now ≡ fault_kind (spelled_fault fault.entry) }
+fn kind_of(fault: SpelledFault<'_>) -> Kind
+    ensures { result ≡ fault_kind (spelled_fault fault.entry) }
 {
     match fault {
-        SpelledFault::MeasurementValueInvalid => "measurement_value_invalid",
-        SpelledFault::FieldSetMissing => "field_set_missing",
-        SpelledFault::IntegerValueInvalid { .. } => "integer_value_invalid",
-        SpelledFault::UIntegerValueInvalid { .. } => "uinteger_value_invalid",
-        SpelledFault::TimestampValueInvalid { .. } => "timestamp_value_invalid",
-        SpelledFault::EndsWithBackslash => "ends_with_backslash",
-        SpelledFault::CannotParseEntireLine { .. } => "cannot_parse_entire_line",
-        SpelledFault::TagSetMalformed => "tag_set_malformed",
-        SpelledFault::GenericParsingError { .. } => "generic_parsing_error",
+        SpelledFault::MeasurementValueInvalid => Kind::MeasurementValueInvalid,
+        SpelledFault::FieldSetMissing => Kind::FieldSetMissing,
+        SpelledFault::IntegerValueInvalid { .. } => Kind::IntegerValueInvalid,
+        SpelledFault::UIntegerValueInvalid { .. } => Kind::UintegerValueInvalid,
+        SpelledFault::TimestampValueInvalid { .. } => Kind::TimestampValueInvalid,
+        SpelledFault::EndsWithBackslash => Kind::EndsWithBackslash,
+        SpelledFault::CannotParseEntireLine { .. } => Kind::CannotParseEntireLine,
+        SpelledFault::TagSetMalformed => Kind::TagSetMalformed,
+        SpelledFault::GenericParsingError { .. } => Kind::GenericParsingError,
     }
 }
 
 // The kind of a line that is refused for this text: it is not as it would be written, or has a name that is not admitted.
-fn line_kind(text: &str) -> &'static str
-    ensures { result.now ≡ line_kind text.now }
+fn line_kind(text: &str) -> Kind
+    ensures { result ≡ line_kind text.now }
 {
     if text.as_bytes().starts_with(b"n") {
-        "not_as_written"
+        Kind::NotAsWritten
     } else {
-        "name_not_admitted"
+        Kind::NameNotAdmitted
     }
 }
 
 // The kind of a piece that is refused for this text.
-fn kind_given(dialect: Dialect, piece: Result<&[u8], PieceTooLong<'_>>, text: &str) -> &'static str
-    ensures { result.now ≡ kind_given (rules_of dialect) piece.entry text.now }
+fn kind_given(dialect: Dialect, piece: Result<&[u8], PieceTooLong<'_>>, text: &str) -> Kind
+    ensures { result ≡ kind_given (rules_of dialect) piece.entry text.now }
 {
     let Ok(bytes) = piece else {
-        return "too_long";
+        return Kind::TooLong;
     };
     let Ok(piece) = text_of(bytes) else {
-        return "not_utf8";
+        return Kind::NotUtf8;
     };
     match fault_of(dialect, trimmed(piece)) {
         Some(fault) => kind_of(fault),
@@ -252,7 +254,7 @@ pub(crate) fn kind_told(
     so_far: &Progress,
     from: usize,
     piece: Result<&[u8], PieceTooLong<'_>>,
-) -> Result<&'static str, AllocError>
+) -> Result<Kind, AllocError>
     requires front { IsUtf8 (take from (string_bytes so_far.now.faults)) }
     requires within { from ≤ length (string_bytes so_far.now.faults) }
     requires fits { so_far.now.carried + so_far.now.refused ≤ usize.MAX }
@@ -260,7 +262,7 @@ pub(crate) fn kind_told(
         ≡ fault_line_at so_far.now.line (so_far.now.carried + so_far.now.refused) text) }
     ensures { IfOk result (λ kind. (text : List ℕ) → drop from (string_bytes so_far.now.faults)
         ≡ fault_line_at so_far.now.line (so_far.now.carried + so_far.now.refused) text
-        → kind.now ≡ kind_given (rules_of dialect) piece.entry text) }
+        → kind ≡ kind_given (rules_of dialect) piece.entry text) }
 {
     let mark = line_mark(alloc, so_far.line, so_far.carried + so_far.refused)?;
     let text = text_in(mark.as_str(), &so_far.faults.as_str()[from..]);

@@ -9,8 +9,9 @@ ghost use Rattle.lp_relay_core.specs.RelaySteps.{first_line, form_given, items_b
 ghost use Rattle.lp_relay_core.specs.RelaySteps.{newlines_given, start_after, start_of, unwritten_of, unwritten_of_none};
 ghost use Rattle.lp_relay_core.specs.TakenBack.{TakesBack};
 
+use crate::counting::count_refused;
 use crate::differing::{Part, differing_part, part_text};
-use crate::kinds::{KINDS, KindCounts, count_refused};
+use crate::kinds::KindCounts;
 use crate::objects::tell_as_object;
 use crate::telling::{Faults, tell_on_one_line};
 use crate::texts::{newlines_in, text_of};
@@ -136,7 +137,6 @@ fn first_line(settings: Settings) -> Option<usize>
 }
 
 // Before the first item. It takes no memory.
-#[tactic(auto, unfolding(crate::specs::Kinds::kind_names))]
 pub(crate) fn nothing_made(alloc: Global, settings: Settings) -> Pending
     ensures made { unwritten_of result ≡ unwritten_of_none settings }
     ensures fits { result.so_far.carried + result.so_far.refused ≤ usize.MAX }
@@ -154,7 +154,7 @@ pub(crate) fn nothing_made(alloc: Global, settings: Settings) -> Pending
         pieces,
         offset: 0,
         kinds: if settings.counts_kinds {
-            Some([0; KINDS.len()])
+            Some(KindCounts::none())
         } else {
             None
         },

@@ -4,7 +4,7 @@ use crate::asked::Asked;
 use crate::unlike::{Unlike, same};
 use crate::ways::{Blocks, Wrote, relayed, ways};
 use lp_rebuild::{Kept, Rebuilt, RunFault, rebuild_in, run_in, status};
-use lp_relay_core::Relayed;
+use lp_relay_core::{KINDS, Relayed};
 use lp_vectors_shared::rows::text_of;
 use std::alloc::{AllocError, Global};
 
@@ -32,10 +32,10 @@ fn answer_text(alloc: Global, answer: &Result<Relayed, RunFault>) -> Result<Stri
         Err(fault) => return format!(in alloc; "{fault}"),
     };
     let mut text = format!(in alloc; "{carried} carried, {refused} refused")?;
-    if let Some(kinds) = kinds {
+    if let Some(counts) = kinds {
         text.push_str(":")?;
-        for count in kinds {
-            write!(text, " {count}")?;
+        for kind in KINDS {
+            write!(text, " {}", counts.of(*kind))?;
         }
     }
     Ok(text)

@@ -1,6 +1,7 @@
 use Rattle.std.proofs.Common.{◌≡◌, ◌<◌, ◌∙◌, length, string_bytes, arith, false, true}
 use Rattle.std.proofs.lemmas.Bool.Decides.{nat_tests}
 use Rattle.std.proofs.lemmas.Result.{on_ok_weaker}
+use Rattle.lp_relay_core.specs.Kinds.{counts_if}
 use Rattle.lp_relay_core.specs.LineFaults.{item_text}
 use Rattle.lp_relay_core.specs.RelaySteps.{made}
 use Rattle.lp_relay_core.proofs.ObjectLemmas.{kind_counted}
@@ -38,7 +39,7 @@ returns-then-not-settings-clause-ends c =
     ends_told c.args.settings c.args.piece c.args.from now
     (record { so_far = c.tell.new.so_far; pieces = now.pieces; offset = now.offset; kinds = c.count_refused.new.kinds }) some
     c.in_ok-tell.ensures.told
-    (λ old taken. kind_counted c.args.settings c.args.piece c.args.from old (made now.so_far) now.kinds c.count_refused.new.kinds taken some
+    (λ old taken. kind_counted c.args.settings c.args.piece c.args.from old (made now.so_far) (counts_if now.kinds) (counts_if c.count_refused.new.kinds) taken some
     c.in_ok-count_refused.ensures)
     (put_unasked now.pieces.items c.args.settings.puts_refused c.args.piece unasked)
 
@@ -54,7 +55,7 @@ returns-clause-ends c =
     ends_told c.args.settings c.args.piece c.args.from now
     (record { so_far = c.tell.new.so_far; pieces = c.put_refused.new.pieces; offset = now.offset; kinds = c.count_refused.new.kinds }) some
     c.in_ok-tell.ensures.told
-    (λ old taken. kind_counted c.args.settings c.args.piece c.args.from old (made now.so_far) now.kinds c.count_refused.new.kinds taken some
+    (λ old taken. kind_counted c.args.settings c.args.piece c.args.from old (made now.so_far) (counts_if now.kinds) (counts_if c.count_refused.new.kinds) taken some
     c.in_ok-count_refused.ensures)
     (put ∙ put_asked now.pieces.items c.bytes_given.result.now c.args.settings.puts_refused c.args.piece c.bytes_given.ensures asked))
     c.put_refused.ensures
