@@ -45,7 +45,11 @@ pub fn relay_as_asked<R: Source, L: Sink, F: Sink, P: Sink>(
             refused,
         };
         let answer = relay(alloc, settings.relay, reader, &mut others);
-        let Outputs { faults, refused, .. } = others;
+        let Outputs {
+            faults,
+            refused,
+            ..
+        } = others;
         let outputs = Outputs {
             lines,
             faults,

@@ -1,6 +1,6 @@
 -- How a relay ends.
 use Rattle.std.proofs.Common.{◌≡◌, ℕ, ◌<◌, ◌⊎◌, ◌≤◌, List, [], Option, Some, None, IfSome, Result, Ok, Err, IsErrAnd}
-use Rattle.std.proofs.Common.{true, arith, ◌∙◌}
+use Rattle.std.proofs.Common.{arith, ◌∙◌}
 use Rattle.lp_rebuild.specs.declared.program.RunFault.{RunFault}
 use Rattle.lp_relay_core.specs.declared.taking.Settings.{Settings}
 use Rattle.influxdb_line_protocol.specs.code.Rules.{rules_of}

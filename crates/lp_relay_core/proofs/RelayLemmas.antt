@@ -1,6 +1,6 @@
 -- The steps of a relay, one after another.
 use Rattle.std.proofs.Common.{◌≡◌, ◌+◌, ◌<◌, ◌==◌, ℕ, Bool, false, true, List, [], ◌∷◌, ◌++◌, length, map, string_bytes, codes, is_ok, Ok, Err}
-use Rattle.std.proofs.Common.{Option, Result, refl, sym, ap, subst, ◌∙◌, arith, append-nil}
+use Rattle.std.proofs.Common.{Result, refl, sym, ap, subst, ◌∙◌, arith, append-nil}
 use Rattle.std.proofs.Common.{OnErr, inl, inr, append_assoc}
 use Rattle.std.proofs.lemmas.Bool.{eqb-false, eqb-true}
 use Rattle.std.proofs.Math.Nat.{eq-zero-or-pos}
@@ -27,7 +27,7 @@ use Rattle.lp_relay_core.specs.declared.taking.Pending.{Pending}
 use Rattle.lp_relay_core.specs.declared.taking.Settings.{Settings}
 use Rattle.lp_relay_core.specs.RelaySteps.{Form, as_raw, form_given, start_of, Made, made, Passes, RelaysItems, RelaysPart, TakesItems, TakesGiven, Unwritten, faults_next}
 use Rattle.lp_relay_core.specs.RelaySteps.{items_given, refused_given, unwritten_of}
-use Rattle.lp_relay_core.specs.Writers.{GainFronts, Told}
+use Rattle.lp_relay_core.specs.Writers.{GainsFronts, Told}
 use Rattle.lp_rebuild.proofs.RebuildLemmas.{add_where, add_elsewhere, blank_answers, piece_answers}
 use Rattle.lp_relay_core.proofs.PassLemmas.{passes_more, passes_front}
 use Rattle.lp_relay_core.proofs.ItemLemmas.{batch_append, carried_append, refused_append}
@@ -233,13 +233,13 @@ part_so_far old new a b xs fs ps p = grind (arith)
 
 -- a front of all that is held was written
 pub part_of_fronts : (old : Pending) (a b : Told) (lines faults refused : List ℕ) → lines ≡ old.so_far.batch.items
-    → faults ≡ string_bytes old.so_far.faults → refused ≡ old.pieces.items → GainFronts a b lines faults refused
+    → faults ≡ string_bytes old.so_far.faults → refused ≡ old.pieces.items → GainsFronts a b lines faults refused
     → RelaysPart (unwritten_of old) a b [] [] []
 part_of_fronts old a b lines faults refused lines_are faults_are refused_are p =
     let batch = passes_front a.lines.bytes b.lines.bytes _ (subst (AppendsFront a.lines.bytes b.lines.bytes) lines_are p.lines) in
     let told = passes_front a.faults.bytes b.faults.bytes _ (subst (AppendsFront a.faults.bytes b.faults.bytes) faults_are p.faults) in
     let put = passes_front a.refused.bytes b.refused.bytes _
-        (subst (AppendsFront a.refused.bytes b.refused.bytes) refused_are p.refused) in
+    (subst (AppendsFront a.refused.bytes b.refused.bytes) refused_are p.refused) in
     record {
       batch_left = batch.0;
       faults_left = told.0;

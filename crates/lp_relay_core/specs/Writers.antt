@@ -28,19 +28,19 @@ abbrev pub bytes_of : Told → Known
 bytes_of told = of_writers told.lines.bytes told.faults.bytes told.refused.bytes
 
 -- each writer gained these bytes
-abbrev pub Gain : (before after : Told) → (lines faults refused : List ℕ) → Type 0
-Gain before after lines faults refused = Appends before.lines.bytes after.lines.bytes lines
+abbrev pub Gains : (before after : Told) → (lines faults refused : List ℕ) → Type 0
+Gains before after lines faults refused = Appends before.lines.bytes after.lines.bytes lines
     × Appends before.faults.bytes after.faults.bytes faults × Appends before.refused.bytes after.refused.bytes refused
 
 -- each writer gained a front of these bytes
-abbrev pub GainFronts : (before after : Told) → (lines faults refused : List ℕ) → Type 0
-GainFronts before after lines faults refused = AppendsFront before.lines.bytes after.lines.bytes lines
+abbrev pub GainsFronts : (before after : Told) → (lines faults refused : List ℕ) → Type 0
+GainsFronts before after lines faults refused = AppendsFront before.lines.bytes after.lines.bytes lines
     × AppendsFront before.faults.bytes after.faults.bytes faults
     × AppendsFront before.refused.bytes after.refused.bytes refused
 
 -- each writer has the same bytes
-abbrev pub KeepBytes : (before after : Told) → Type 0
-KeepBytes before after = Keeps before.lines.bytes after.lines.bytes
+abbrev pub KeepsBytes : (before after : Told) → Type 0
+KeepsBytes before after = Keeps before.lines.bytes after.lines.bytes
     × Keeps before.faults.bytes after.faults.bytes × Keeps before.refused.bytes after.refused.bytes
 
 -- all that was written to each writer was flushed

@@ -5,7 +5,7 @@
 //! A relay is compiled for each kind of its writers, and a call of `put` or `flush` is one of each of them.
 ghost use Rattle.std.specs.Prelude.{OnErr, OnOk};
 ghost use Rattle.lp_rebuild.specs.Running.{WriterTold, writer_told};
-ghost use Rattle.lp_relay_core.specs.Writers.{AreFlushed, CountsWriteFault, Gain, GainFronts, KeepBytes, Writers, of_writers};
+ghost use Rattle.lp_relay_core.specs.Writers.{AreFlushed, CountsWriteFault, Gains, GainsFronts, KeepsBytes, Writers, of_writers};
 
 use lp_rebuild::program::write_bytes;
 use lp_rebuild::{RunFault, Sink};
@@ -22,8 +22,8 @@ pub trait ThreeWriters {
     ///
     /// `Write` if a writer failed; then each has a beginning of its bytes.
     fn put(&mut self, lines: &[u8], faults: &[u8], refused: &[u8]) -> Result<(), RunFault>
-        ensures ok { OnOk result (Gain (told self.old) (told self.new) lines.now faults.now refused.now) }
-        ensures part { OnErr result (GainFronts (told self.old) (told self.new) lines.now faults.now refused.now) }
+        ensures ok { OnOk result (Gains (told self.old) (told self.new) lines.now faults.now refused.now) }
+        ensures part { OnErr result (GainsFronts (told self.old) (told self.new) lines.now faults.now refused.now) }
         ensures counts { CountsWriteFault result (told self.old) (told self.new) };
 
     /// Flushes each writer. Its bytes stay as they are.
@@ -32,7 +32,7 @@ pub trait ThreeWriters {
     ///
     /// `Write` if a writer failed.
     fn flush(&mut self) -> Result<(), RunFault>
-        ensures bytes { KeepBytes (told self.old) (told self.new) }
+        ensures bytes { KeepsBytes (told self.old) (told self.new) }
         ensures counts { CountsWriteFault result (told self.old) (told self.new) }
         ensures flushed { OnOk result (AreFlushed (told self.new)) };
 }

@@ -34,16 +34,12 @@ pub struct Relayed {
 
 // Writes all that is held.
 #[tactic(auto, using(crate::proofs::KindLemmas::kinds_of_nothing))]
-fn pour<O: ThreeWriters>(
-    pending: &mut Pending,
-    outputs: &mut O,
-) -> Result<(), RunFault>
+fn pour<O: ThreeWriters>(pending: &mut Pending, outputs: &mut O) -> Result<(), RunFault>
     ensures start { start_of (unwritten_of pending.new) ≡ start_of (unwritten_of pending.old) }
     ensures ok { OnOk result (RelaysItems (unwritten_of pending.old) (unwritten_of pending.new)
         (O.told outputs.old) (O.told outputs.new) [] [] []) }
     ensures none { OnOk result (HoldsNone pending.new) }
-    ensures part { OnErr result (RelaysPart (unwritten_of pending.old)
-        (O.told outputs.old) (O.told outputs.new) [] [] []) }
+    ensures part { OnErr result (RelaysPart (unwritten_of pending.old) (O.told outputs.old) (O.told outputs.new) [] [] []) }
     ensures counts { CountsWriteFault result (O.told outputs.old) (O.told outputs.new) }
 {
     let so_far = &pending.so_far;
@@ -59,16 +55,12 @@ fn pour<O: ThreeWriters>(
 }
 
 // Writes all that is held, if it fills a block.
-fn pour_full<O: ThreeWriters>(
-    pending: &mut Pending,
-    outputs: &mut O,
-) -> Result<(), RunFault>
+fn pour_full<O: ThreeWriters>(pending: &mut Pending, outputs: &mut O) -> Result<(), RunFault>
     ensures start { start_of (unwritten_of pending.new) ≡ start_of (unwritten_of pending.old) }
     ensures ok { OnOk result (RelaysItems (unwritten_of pending.old) (unwritten_of pending.new)
         (O.told outputs.old) (O.told outputs.new) [] [] []) }
     ensures held { OnOk result (HoldsLess BLOCK pending.new) }
-    ensures part { OnErr result (RelaysPart (unwritten_of pending.old)
-        (O.told outputs.old) (O.told outputs.new) [] [] []) }
+    ensures part { OnErr result (RelaysPart (unwritten_of pending.old) (O.told outputs.old) (O.told outputs.new) [] [] []) }
     ensures counts { CountsWriteFault result (O.told outputs.old) (O.told outputs.new) }
 {
     if pending.so_far.batch.len() < BLOCK
@@ -81,16 +73,12 @@ fn pour_full<O: ThreeWriters>(
 }
 
 // Writes all that is held, and flushes.
-fn pour_and_flush<O: ThreeWriters>(
-    pending: &mut Pending,
-    outputs: &mut O,
-) -> Result<(), RunFault>
+fn pour_and_flush<O: ThreeWriters>(pending: &mut Pending, outputs: &mut O) -> Result<(), RunFault>
     ensures start { start_of (unwritten_of pending.new) ≡ start_of (unwritten_of pending.old) }
     ensures ok { OnOk result (RelaysItems (unwritten_of pending.old) (unwritten_of pending.new)
         (O.told outputs.old) (O.told outputs.new) [] [] []) }
     ensures none { OnOk result (HoldsNone pending.new) }
-    ensures part { OnErr result (RelaysPart (unwritten_of pending.old)
-        (O.told outputs.old) (O.told outputs.new) [] [] []) }
+    ensures part { OnErr result (RelaysPart (unwritten_of pending.old) (O.told outputs.old) (O.told outputs.new) [] [] []) }
     ensures counts { CountsWriteFault result (O.told outputs.old) (O.told outputs.new) }
     ensures flushed { OnOk result (AreFlushed (O.told outputs.new)) }
 {
@@ -113,13 +101,11 @@ fn relay_pieces<O: ThreeWriters>(
     ensures rules { OnOk result (KeepsRules stream.old stream.new) }
     ensures ok { OnOk result ((text : List ℕ) → Holds stream.old text
         → RelaysAllPieces settings text stream.new
-        (unwritten_of pending.old) (unwritten_of pending.new)
-        (O.told outputs.old) (O.told outputs.new)) }
+        (unwritten_of pending.old) (unwritten_of pending.new) (O.told outputs.old) (O.told outputs.new)) }
     ensures held { OnOk result (HoldsLess BLOCK pending.new) }
     ensures fits { OnOk result (pending.new.so_far.carried + pending.new.so_far.refused ≤ usize.MAX) }
     ensures part { OnErr result ((text : List ℕ) → Holds stream.old text
-        → RelaysSome settings text (unwritten_of pending.old)
-        (O.told outputs.old) (O.told outputs.new)) }
+        → RelaysSome settings text (unwritten_of pending.old) (O.told outputs.old) (O.told outputs.new)) }
     ensures counts { CountsWriteFault result (O.told outputs.old) (O.told outputs.new) }
 {
     while let Some(piece) = stream.next() {
@@ -152,8 +138,7 @@ fn relay_lines<O: ThreeWriters>(
     requires few { HoldsLess BLOCK pending.old }
     ensures within { IfOk result (λ taken. taken ≤ length bytes.now) }
     ensures ok { IfOk result (λ taken. RelaysTo settings bytes.now (drop taken bytes.now)
-        (unwritten_of pending.old) (unwritten_of pending.new)
-        (O.told outputs.old) (O.told outputs.new)) }
+        (unwritten_of pending.old) (unwritten_of pending.new) (O.told outputs.old) (O.told outputs.new)) }
     ensures held { OnOk result (HoldsLess BLOCK pending.new) }
     ensures fits { OnOk result (pending.new.so_far.carried + pending.new.so_far.refused ≤ usize.MAX) }
     ensures part { OnErr result (RelaysSome settings bytes.now (unwritten_of pending.old)
@@ -204,13 +189,11 @@ fn relay_begun<O: ThreeWriters>(
     ensures rules { OnOk result (KeepsRules stream.old stream.new) }
     ensures ok { IfOk result (λ given. (text : List ℕ) → Holds stream.old text → IsLastPiece (rules_of settings.dialect) text
         → RelaysBegun settings text part.now given stream.new
-        (unwritten_of pending.old) (unwritten_of pending.new)
-        (O.told outputs.old) (O.told outputs.new)) }
+        (unwritten_of pending.old) (unwritten_of pending.new) (O.told outputs.old) (O.told outputs.new)) }
     ensures held { OnOk result (HoldsLess BLOCK pending.new) }
     ensures fits { OnOk result (pending.new.so_far.carried + pending.new.so_far.refused ≤ usize.MAX) }
     ensures part { OnErr result ((text : List ℕ) → Holds stream.old text → IsLastPiece (rules_of settings.dialect) text
-        → RelaysSome settings (text ++ part.now) (unwritten_of pending.old)
-        (O.told outputs.old) (O.told outputs.new)) }
+        → RelaysSome settings (text ++ part.now) (unwritten_of pending.old) (O.told outputs.old) (O.told outputs.new)) }
     ensures counts { CountsWriteFault result (O.told outputs.old) (O.told outputs.new) }
 {
     laws::pieces_join();
@@ -249,13 +232,11 @@ fn relay_part<O: ThreeWriters>(
     ensures rules { OnOk result (KeepsRules stream.old stream.new) }
     ensures ok { OnOk result ((text : List ℕ) → Holds stream.old text → IsLastPiece (rules_of settings.dialect) text
         → RelaysAllPieces settings (text ++ part.now) stream.new
-        (unwritten_of pending.old) (unwritten_of pending.new)
-        (O.told outputs.old) (O.told outputs.new)) }
+        (unwritten_of pending.old) (unwritten_of pending.new) (O.told outputs.old) (O.told outputs.new)) }
     ensures none { OnOk result (HoldsNone pending.new) }
     ensures fits { OnOk result (pending.new.so_far.carried + pending.new.so_far.refused ≤ usize.MAX) }
     ensures part { OnErr result ((text : List ℕ) → Holds stream.old text → IsLastPiece (rules_of settings.dialect) text
-        → RelaysSome settings (text ++ part.now) (unwritten_of pending.old)
-        (O.told outputs.old) (O.told outputs.new)) }
+        → RelaysSome settings (text ++ part.now) (unwritten_of pending.old) (O.told outputs.old) (O.told outputs.new)) }
     ensures counts { CountsWriteFault result (O.told outputs.old) (O.told outputs.new) }
     ensures flushed { OnOk result (AreFlushed (O.told outputs.new)) }
 {
@@ -280,12 +261,11 @@ fn finish<O: ThreeWriters>(
     requires fits { pending.old.so_far.carried + pending.old.so_far.refused ≤ usize.MAX }
     requires empty { HoldsNone pending.old }
     ensures ok { OnOk result ((text : List ℕ) → Holds stream.old text → IsLastPiece (rules_of settings.dialect) text
-        → RelaysLast settings text (unwritten_of pending.old) (unwritten_of pending.new)
-        (O.told outputs.old) (O.told outputs.new)) }
+        → RelaysLast settings text
+        (unwritten_of pending.old) (unwritten_of pending.new) (O.told outputs.old) (O.told outputs.new)) }
     ensures none { OnOk result (HoldsNone pending.new) }
     ensures part { OnErr result ((text : List ℕ) → Holds stream.old text → IsLastPiece (rules_of settings.dialect) text
-        → RelaysLastPart settings text (unwritten_of pending.old)
-        (O.told outputs.old) (O.told outputs.new)) }
+        → RelaysLastPart settings text (unwritten_of pending.old) (O.told outputs.old) (O.told outputs.new)) }
     ensures counts { CountsWriteFault result (O.told outputs.old) (O.told outputs.new) }
     ensures flushed { OnOk result (AreFlushed (O.told outputs.new)) }
 {
@@ -345,12 +325,7 @@ pub fn relay<R: Source, O: ThreeWriters>(
     for _ in 0..u64::MAX {
         let n = read_block(reader, &mut block, 0)?;
         if n == 0 {
-            finish(
-                settings,
-                &mut stream,
-                &mut pending,
-                outputs,
-            )?;
+            finish(settings, &mut stream, &mut pending, outputs)?;
             return Ok(Relayed {
                 carried: pending
                     .so_far
@@ -360,13 +335,7 @@ pub fn relay<R: Source, O: ThreeWriters>(
                 kinds: pending.kinds,
             });
         }
-        relay_part(
-            settings,
-            &mut stream,
-            &mut pending,
-            &block[..n],
-            outputs,
-        )?;
+        relay_part(settings, &mut stream, &mut pending, &block[..n], outputs)?;
     }
     Err(RunFault::OutOfMemory)
 }
