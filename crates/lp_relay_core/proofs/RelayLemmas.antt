@@ -7,7 +7,6 @@ use Rattle.std.proofs.Math.Nat.{eq-zero-or-pos}
 use Rattle.std.specs.Borrow.{Bor}
 use Rattle.std.specs.Str.{IsUtf8}
 use Rattle.std.proofs.lemmas.Str.{IsUtf8-nil}
-use Rattle.std.specs.Io.KnownBytes.{Appends}
 use Rattle.std.proofs.KnownBytes.{Appends-nil}
 use Rattle.influxdb_line_protocol.specs.format.Bytes.{newline}
 use Rattle.influxdb_line_protocol.specs.format.Dialects.{Dialect}
@@ -236,10 +235,10 @@ pub part_of_fronts : (old : Pending) (a b : Told) (lines faults refused : List �
     → faults ≡ string_bytes old.so_far.faults → refused ≡ old.pieces.items → GainsFronts a b lines faults refused
     → RelaysPart (unwritten_of old) a b [] [] []
 part_of_fronts old a b lines faults refused lines_are faults_are refused_are p =
-    let batch = passes_front a.lines.bytes b.lines.bytes _ (subst (AppendsFront a.lines.bytes b.lines.bytes) lines_are p.lines) in
-    let told = passes_front a.faults.bytes b.faults.bytes _ (subst (AppendsFront a.faults.bytes b.faults.bytes) faults_are p.faults) in
+    let batch = passes_front a.lines.bytes b.lines.bytes _ (subst (AppendsFront a.lines.bytes b.lines.bytes) lines_are p.0) in
+    let told = passes_front a.faults.bytes b.faults.bytes _ (subst (AppendsFront a.faults.bytes b.faults.bytes) faults_are p.1) in
     let put = passes_front a.refused.bytes b.refused.bytes _
-    (subst (AppendsFront a.refused.bytes b.refused.bytes) refused_are p.refused) in
+    (subst (AppendsFront a.refused.bytes b.refused.bytes) refused_are p.2) in
     record {
       batch_left = batch.0;
       faults_left = told.0;
