@@ -6,7 +6,7 @@ ghost use Rattle.influxdb_line_protocol.specs.format.Pieces.{IsLastPiece};
 use influxdb_line_protocol::LineStream;
 use lp_rebuild::program::BLOCK;
 use lp_rebuild::{DeviceFault, Sink, Source};
-use lp_relay_core::{Nowhere, Settings, relay};
+use lp_relay_core::{Nowhere, Outputs, Settings, relay};
 use std::alloc::Global;
 
 // Takes the pieces that a stream can give, and counts them.
@@ -93,22 +93,18 @@ impl Sink for Room {
 #[unsafe(no_mangle)]
 pub extern "C" fn lp_bench_relay(alloc: Global, text: &[u8], len: usize) -> u64 {
     let mut reader = InParts { left: text, len };
-    let mut out = Room {
+    let lines = Room {
         bytes: [0; BLOCK],
         written: 0,
         is_flushed: true,
     };
-    let mut err = Nowhere::new();
-    let mut refused = Nowhere::new();
-    match relay(
-        alloc,
-        Settings::default(),
-        &mut reader,
-        &mut out,
-        &mut err,
-        &mut refused,
-    ) {
-        Ok(_) => out.written,
+    let mut outputs = Outputs {
+        lines,
+        faults: Nowhere::new(),
+        refused: Nowhere::new(),
+    };
+    match relay(alloc, Settings::default(), &mut reader, &mut outputs) {
+        Ok(_) => outputs.lines.written,
         Err(_) => 0,
     }
 }

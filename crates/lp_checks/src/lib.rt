@@ -24,7 +24,7 @@ use influxdb_line_protocol::{
     parse_lines_in, read_events_in, split_lines_in, write_line,
 };
 use lp_rebuild::{RunFault, rebuild_in, run_in};
-use lp_relay_core::{KINDS, relay};
+use lp_relay_core::{KINDS, Outputs, relay};
 use report::Report;
 use std::alloc::Global;
 use std::fmt::Write;
@@ -492,18 +492,17 @@ pub extern "C" fn lp_checks_relay(
 ) -> u8 {
     let settings = settings::spelled(letters, limit);
     let mut reader = InParts::new(input, part);
-    let mut out = Room::new(out);
-    let mut err = Room::new(err);
-    let mut refused = Room::new(refused);
-    let relayed = relay(
-        alloc,
-        settings,
-        &mut reader,
-        &mut out,
-        &mut err,
-        &mut refused,
-    );
-    *lens = [out.len() as u64, err.len() as u64, refused.len() as u64];
+    let mut outputs = Outputs {
+        lines: Room::new(out),
+        faults: Room::new(err),
+        refused: Room::new(refused),
+    };
+    let relayed = relay(alloc, settings, &mut reader, &mut outputs);
+    *lens = [
+        outputs.lines.len() as u64,
+        outputs.faults.len() as u64,
+        outputs.refused.len() as u64,
+    ];
     let relayed = match relayed {
         Ok(relayed) => relayed,
         Err(fault) => return told_end(Some(fault)),

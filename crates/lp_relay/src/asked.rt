@@ -4,53 +4,62 @@ ghost use Rattle.std.specs.Bool.{OnFalse, OnTrue};
 ghost use Rattle.influxdb_line_protocol.specs.code.Rules.{rules_of};
 ghost use Rattle.lp_relay_core.specs.Cuts.{ArePartEnds};
 ghost use Rattle.lp_relay_core.specs.Relays.{Relays};
-ghost use Rattle.lp_relay_core.specs.Writers.{of_writers};
-ghost use Rattle.lp_rebuild.specs.Running.{CountsReadFault, reader_told, writer_told};
+ghost use Rattle.lp_rebuild.specs.Running.{CountsReadFault, reader_told};
 ghost use Rattle.lp_relay.specs.Asked.{ChecksBy};
 
 use crate::words::Settings;
 use influxdb_line_protocol::Dialect;
 use lp_rebuild::{RunFault, Sink, Source, read_all};
-use lp_relay_core::{Nowhere, Relayed, part_ends, relay};
+use lp_relay_core::{Nowhere, Outputs, Relayed, ThreeWriters, part_ends, relay};
 use std::alloc::Global;
 
-/// Relays the lines that `reader` gives, as [`relay`] does, by these settings. If they ask for a check, the lines go nowhere:
-/// `out` stays as it is, and a fault `Write` is one of `err` or of `refused`.
+/// Relays the lines that `reader` gives, as [`relay`] does, by these settings, and gives the outputs back. If they ask for a check,
+/// the lines go nowhere: those of `outputs` stay as they are, and a fault `Write` is one of its other two writers.
 ///
 /// # Errors
 ///
 /// Those of [`relay`].
-pub fn relay_as_asked<R: Source, W: Sink, E: Sink, P: Sink>(
+pub fn relay_as_asked<R: Source, L: Sink, F: Sink, P: Sink>(
     alloc: Global,
     settings: Settings,
     reader: &mut R,
-    out: &mut W,
-    err: &mut E,
-    refused: &mut P,
-) -> Result<Relayed, RunFault>
-    ensures relays { OnFalse settings.check (Relays settings.relay result
+    outputs: Outputs<L, F, P>,
+) -> (Outputs<L, F, P>, Result<Relayed, RunFault>)
+    ensures relays { OnFalse settings.check (Relays settings.relay result.1
         (reader_told R.bytes R.failures reader.old) (reader_told R.bytes R.failures reader.new)
-        (of_writers (writer_told W.bytes W.failures W.is_flushed out.old) (writer_told E.bytes E.failures E.is_flushed err.old)
-        (writer_told P.bytes P.failures P.is_flushed refused.old))
-        (of_writers (writer_told W.bytes W.failures W.is_flushed out.new) (writer_told E.bytes E.failures E.is_flushed err.new)
-        (writer_told P.bytes P.failures P.is_flushed refused.new))) }
-    ensures checks { OnTrue settings.check (ChecksBy settings.relay result
+        (⟦<Outputs<L, F, P> as ThreeWriters>⟧.told outputs) (⟦<Outputs<L, F, P> as ThreeWriters>⟧.told result.0)) }
+    ensures checks { OnTrue settings.check (ChecksBy settings.relay result.1
         (reader_told R.bytes R.failures reader.old) (reader_told R.bytes R.failures reader.new)
-        (writer_told E.bytes E.failures E.is_flushed err.old) (writer_told E.bytes E.failures E.is_flushed err.new)
-        (writer_told P.bytes P.failures P.is_flushed refused.old) (writer_told P.bytes P.failures P.is_flushed refused.new)) }
-    ensures unwritten { OnTrue settings.check (out.new ≡ out.old) }
+        (⟦<Outputs<L, F, P> as ThreeWriters>⟧.told outputs) (⟦<Outputs<L, F, P> as ThreeWriters>⟧.told result.0)) }
+    ensures unwritten { OnTrue settings.check (result.0.lines ≡ outputs.lines) }
 {
     if settings.check {
-        return relay(
-            alloc,
-            settings.relay,
-            reader,
-            &mut Nowhere::new(),
-            err,
+        let Outputs {
+            lines,
+            faults,
             refused,
-        );
+        } = outputs;
+        let mut others = Outputs {
+            lines: Nowhere::new(),
+            faults,
+            refused,
+        };
+        let answer = relay(alloc, settings.relay, reader, &mut others);
+        let Outputs {
+            faults,
+            refused,
+            ..
+        } = others;
+        let outputs = Outputs {
+            lines,
+            faults,
+            refused,
+        };
+        return (outputs, answer);
     }
-    relay(alloc, settings.relay, reader, out, err, refused)
+    let mut outputs = outputs;
+    let answer = relay(alloc, settings.relay, reader, &mut outputs);
+    (outputs, answer)
 }
 
 /// If all that `reader` has left can be cut into so many parts, as [`part_ends`] says. All of it is held.

@@ -8,7 +8,7 @@ use std::io::{self, ErrorKind};
 
 /// Where the lines go, and where the refused pieces do.
 #[derive(Drop)]
-pub(crate) struct Outputs<'a> {
+pub(crate) struct OutputFiles<'a> {
     pub(crate) lines: Lines<'a>,
     pub(crate) refused: Lines<'a>,
 }
@@ -106,8 +106,8 @@ impl<'a> Files<'a> {
     }
 
     /// Where lines and refused pieces are written.
-    pub(crate) fn outputs(&self, rt: &HostRuntime) -> Outputs<'_> {
-        Outputs {
+    pub(crate) fn outputs(&self, rt: &HostRuntime) -> OutputFiles<'_> {
+        OutputFiles {
             lines: match &self.lines {
                 Some(file) => file.lines(),
                 None => Lines::Standard(rt.stdout()),

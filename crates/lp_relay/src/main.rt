@@ -14,11 +14,11 @@ mod tally;
 mod words;
 
 use asked::{part_ends_of, relay_as_asked};
-use files::{Files, Outputs};
+use files::{Files, OutputFiles};
 use influxdb_line_protocol::Dialect;
 use inputs::{Closed, Inputs, STANDARD_INPUT, STDOUT, are_one_file, input_written_to, total_len};
 use lp_rebuild::{Reading, RunFault, Sink, Source, Writing};
-use lp_relay_core::{Faults, Numbering, Relayed};
+use lp_relay_core::{Faults, Numbering, Outputs, Relayed};
 use meter::{Counted, Meter, MeteredSink, MeteredSource};
 use named::Named;
 use noted::{Noted, Notes};
@@ -65,15 +65,14 @@ fn sum_of(so_far: Relayed, counts: Relayed) -> Relayed {
 }
 
 // Relays each input by itself, and adds up the counts.
-fn relay_each<R: Source + Drop, W: Sink, E: Sink, P: Sink>(
+fn relay_each<R: Source + Drop, L: Sink + Drop, F: Sink + Drop, P: Sink + Drop>(
     alloc: Global,
     settings: Settings,
     names: &[&str],
     reader: R,
-    out: &mut W,
-    err: &mut Named<E>,
-    refused: &mut P,
+    outputs: Outputs<L, Named<F>, P>,
 ) -> Result<Totals, RunFault> {
+    let mut outputs = outputs;
     let mut reader = Tally::new(settings.summary, reader);
     let mut total = Relayed {
         carried: 0,
@@ -82,11 +81,17 @@ fn relay_each<R: Source + Drop, W: Sink, E: Sink, P: Sink>(
     };
     let mut asked = settings;
     for name in names {
-        if names.len() > 1 && err.set_name(alloc, settings.relay.faults, name).is_err() {
+        if names.len() > 1
+            && outputs
+                .faults
+                .set_name(alloc, settings.relay.faults, name)
+                .is_err()
+        {
             return Err(RunFault::OutOfMemory);
         }
-        let counts = relay_as_asked(alloc, asked, &mut reader, out, err, refused)?;
-        total = sum_of(total, counts);
+        let (back, answer) = relay_as_asked(alloc, asked, &mut reader, outputs);
+        outputs = back;
+        total = sum_of(total, answer?);
         asked = settings_after(settings, total);
     }
     let (bytes, lines) = reader.counts();
@@ -102,7 +107,7 @@ fn relay_inputs<'n>(
     rt: &HostRuntime,
     settings: Settings,
     names: &'n [&'n str],
-    outputs: Outputs<'_>,
+    files: OutputFiles<'_>,
     notes: &Notes<'n>,
 ) -> Result<Totals, RunFault> {
     let meter = if settings.progress && rt.stderr().is_terminal() {
@@ -114,22 +119,16 @@ fn relay_inputs<'n>(
     let is_out_shown = notes.output_name.is_none() && rt.stdout().is_terminal();
     let inputs = Inputs::new(rt, names, &notes.input_name, true);
     let reader = Reading::new(Noted::new(&notes.input, inputs));
-    let out = Writing::new(Noted::new(&notes.output, outputs.lines));
-    let err = Writing::new(Noted::new(&notes.faults, rt.stderr()));
+    let lines = Writing::new(Noted::new(&notes.output, files.lines));
+    let faults = Writing::new(Noted::new(&notes.faults, rt.stderr()));
     let reader = MeteredSource::new(shown, reader);
-    let mut out = MeteredSink::new(shown, Counted::Lines, is_out_shown, out);
-    let err = MeteredSink::new(shown, Counted::Faults, true, err);
-    let mut err = Named::new(rt.alloc(), err);
-    let mut refused = Writing::new(Noted::new(&notes.refused, outputs.refused));
-    let answer = relay_each(
-        rt.alloc(),
-        settings,
-        names,
-        reader,
-        &mut out,
-        &mut err,
-        &mut refused,
-    );
+    let faults = MeteredSink::new(shown, Counted::Faults, true, faults);
+    let outputs = Outputs {
+        lines: MeteredSink::new(shown, Counted::Lines, is_out_shown, lines),
+        faults: Named::new(rt.alloc(), faults),
+        refused: Writing::new(Noted::new(&notes.refused, files.refused)),
+    };
+    let answer = relay_each(rt.alloc(), settings, names, reader, outputs);
     if let Some(meter) = shown {
         meter.finish();
     }

@@ -1,6 +1,6 @@
 -- What writers gain of what is made, step after step.
 use Rattle.std.proofs.Common.{◌≡◌, ℕ, List, [], ◌++◌, length, take, drop, Option, sym, ap, subst, ◌∙◌, append_assoc, append-nil}
-use Rattle.std.proofs.Common.{take-append-drop}
+use Rattle.std.proofs.Common.{take-append-drop, take_all, le_refl}
 use lib.Seq.{take-append_seam}
 use Rattle.std.specs.Io.KnownBytes.{Appends}
 use Rattle.std.proofs.KnownBytes.{Appends-nil, Appends-trans}
@@ -8,9 +8,13 @@ use Rattle.lp_rebuild.specs.Running.{AppendsFront}
 use Rattle.lp_relay_core.specs.RelaySteps.{Passes}
 use Rattle.std.proofs.Common.{arith}
 
--- nothing was made or written
-pub passes_none : (a : Option (List ℕ)) (xs : List ℕ) → Passes a a xs [] xs
-passes_none a xs = ([], Appends-nil a, sym (append-nil xs))
+-- no bytes are a front of all
+pub front_none : (a : Option (List ℕ)) (bytes : List ℕ) → AppendsFront a a bytes
+front_none a bytes = (0, Appends-nil a)
+
+-- all bytes are one too
+pub front_all : (a b : Option (List ℕ)) (bytes : List ℕ) → Appends a b bytes → AppendsFront a b bytes
+front_all a b bytes whole = (length bytes, subst (Appends a b) (sym (take_all (length bytes) bytes (le_refl _))) whole)
 
 -- one step, and then another
 pub passes_more : (a b c : Option (List ℕ)) (held added left more rest : List ℕ) → Passes a b held added left

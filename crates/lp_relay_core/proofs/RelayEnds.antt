@@ -1,14 +1,13 @@
 -- How a relay ends.
 use Rattle.std.proofs.Common.{◌≡◌, ℕ, ◌<◌, ◌⊎◌, ◌≤◌, List, [], Option, Some, None, IfSome, Result, Ok, Err, IsErrAnd}
-use Rattle.std.proofs.Common.{true, arith, ◌∙◌}
+use Rattle.std.proofs.Common.{arith, ◌∙◌}
 use Rattle.lp_rebuild.specs.declared.program.RunFault.{RunFault}
 use Rattle.lp_relay_core.specs.declared.taking.Settings.{Settings}
 use Rattle.influxdb_line_protocol.specs.code.Rules.{rules_of}
 use Rattle.lp_relay_core.specs.Relaying.{limit_of}
 use Rattle.lp_relay_core.specs.declared.relaying.Relayed.{Relayed}
-use Rattle.lp_rebuild.specs.Running.{CountsReadFault, ReaderTold, WriterTold}
-use Rattle.lp_relay_core.specs.RelaySteps.{CountsNone, CountsOne, CountsWriteFault}
-use Rattle.lp_relay_core.specs.Writers.{Known, Writers, bytes_of, of_writers}
+use Rattle.lp_rebuild.specs.Running.{CountsReadFault, ReaderTold}
+use Rattle.lp_relay_core.specs.Writers.{AreFlushed, CountsNone, CountsOne, CountsWriteFault, Known, Told, Writers, bytes_of, failures_of}
 use Rattle.lp_relay_core.specs.declared.taking.Lines.TheVariants as going
 use Rattle.lp_relay_core.specs.Relays.{IfRebuilt, Relays, RelaysAll, RelaysFronts, RelaysRebuilt, RelaysRebuiltFronts}
 use Rattle.influxdb_line_protocol.specs.laws.Laws.{PiecesAreUnique}
@@ -31,15 +30,15 @@ all_known law unique s counts (Some bs) left before after again all = all_rebuil
 
 -- counts that are the same have not risen
 none_rose : (old new : Writers ℕ) → CountsNone old new
-    → (old.out < new.out) ⊎ ((old.err < new.err) ⊎ (old.refused < new.refused)) → ⊥
+    → (old.lines < new.lines) ⊎ ((old.faults < new.faults) ⊎ (old.refused < new.refused)) → ⊥
 none_rose old new n h = grind (arith)
 
 -- one of these counts has risen
-one_rose : (old new : Writers ℕ) → CountsOne old new → (old.out < new.out) ⊎ ((old.err < new.err) ⊎ (old.refused < new.refused))
+one_rose : (old new : Writers ℕ) → CountsOne old new → (old.lines < new.lines) ⊎ ((old.faults < new.faults) ⊎ (old.refused < new.refused))
 one_rose old new h = grind (arith)
 
 -- and none has fallen
-none_fell : (old new : Writers ℕ) → CountsOne old new → (old.out ≤ new.out) × (old.err ≤ new.err) × (old.refused ≤ new.refused)
+none_fell : (old new : Writers ℕ) → CountsOne old new → (old.lines ≤ new.lines) × (old.faults ≤ new.faults) × (old.refused ≤ new.refused)
 none_fell old new h = grind (arith)
 
 -- counts that have not changed, and then one failure more
@@ -48,15 +47,11 @@ one_more old mid new n h = grind (arith)
 
 -- counts that have not changed twice
 pub none_twice : (old mid new : Writers ℕ) → CountsNone old mid → CountsNone mid new → CountsNone old new
-none_twice old mid new n h = record { out = h.out ∙ n.out; err = h.err ∙ n.err; refused = h.refused ∙ n.refused }
-
--- the counts of writers that are told
-abbrev pub failures_of : Writers WriterTold → Writers ℕ
-failures_of writers = of_writers writers.out.failures writers.err.failures writers.refused.failures
+none_twice old mid new n h = record { lines = h.lines ∙ n.lines; faults = h.faults ∙ n.faults; refused = h.refused ∙ n.refused }
 
 -- a fault of the reader, or memory that was refused
 pub read_fault : Utf8ByPieces → PiecesAreUnique → (s : Settings)
-    (fault : RunFault) (count : ℕ) (reader reader_after : ReaderTold) (before after : Writers WriterTold)
+    (fault : RunFault) (count : ℕ) (reader reader_after : ReaderTold) (before after : Told)
     → IfSome reader.bytes (λ bs. RelaysFronts s bs (bytes_of before) (bytes_of after))
     → CountsReadFault {T = ℕ} (Err fault) count reader_after.failures → count ≡ reader.failures
     → CountsNone (failures_of before) (failures_of after) → Relays s (Err fault) reader reader_after before after
@@ -74,12 +69,12 @@ read_fault law unique s fault count reader reader_after before after fronts c e 
     }
 
 -- a fault of a writer, or memory that was refused
-pub write_fault : Utf8ByPieces → PiecesAreUnique → (s : Settings) (fault : RunFault) (counts : Writers ℕ)
-    (reader reader_after : ReaderTold) (before after : Writers WriterTold)
+pub write_fault : Utf8ByPieces → PiecesAreUnique → (s : Settings) (fault : RunFault) (reader reader_after : ReaderTold)
+    (before mid after : Told)
     → IfSome reader.bytes (λ bs. RelaysFronts s bs (bytes_of before) (bytes_of after))
-    → CountsWriteFault {T = Unit {0}} (Err fault) counts (failures_of after) → CountsNone (failures_of before) counts
+    → CountsWriteFault {T = Unit {0}} (Err fault) mid after → CountsNone (failures_of before) (failures_of mid)
     → reader_after.failures ≡ reader.failures → Relays s (Err fault) reader reader_after before after
-write_fault law unique s fault counts reader reader_after before after fronts c n r =
+write_fault law unique s fault reader reader_after before mid after fronts c n r =
     record {
       all = tt;
       flushed = tt;
@@ -94,9 +89,9 @@ write_fault law unique s fault counts reader reader_after before after fronts c 
 
 -- all was written
 pub ended : Utf8ByPieces → PiecesAreUnique → (s : Settings)
-    (counts : Relayed) (reader reader_after : ReaderTold) (before after : Writers WriterTold)
+    (counts : Relayed) (reader reader_after : ReaderTold) (before after : Told)
     → IfSome reader.bytes (λ bs. (reader_after.bytes ≡ Some []) × RelaysAll s bs counts (bytes_of before) (bytes_of after))
-    → (after.out.is_flushed ≡ true) × (after.err.is_flushed ≡ true) × (after.refused.is_flushed ≡ true)
+    → AreFlushed after
     → reader_after.failures ≡ reader.failures → CountsNone (failures_of before) (failures_of after)
     → Relays s (Ok counts) reader reader_after before after
 ended law unique s counts reader reader_after before after all flushed r n =
@@ -114,6 +109,6 @@ ended law unique s counts reader reader_after before after all flushed r n =
 
 -- a fault that was handed on
 pub handed_on : (s : Settings) (result : Result Relayed RunFault) (fault : RunFault)
-    (reader reader_after : ReaderTold) (before after : Writers WriterTold) → IsErrAnd result (λ e. e ≡ fault)
+    (reader reader_after : ReaderTold) (before after : Told) → IsErrAnd result (λ e. e ≡ fault)
     → Relays s (Err fault) reader reader_after before after → Relays s result reader reader_after before after
 handed_on s e fault reader reader_after before after is h = grind (arith)

@@ -17,7 +17,7 @@ use Rattle.lp_relay_core.specs.RelaySteps.{Form, Start, Unwritten, faults_next, 
 use Rattle.lp_relay_core.specs.RelaySteps.{line_or_none, newlines_given, start_after, start_of, start_past}
 use Rattle.lp_relay_core.specs.Objects.{stop_given, stop_of_piece}
 use Rattle.lp_relay_core.specs.RelaySteps.{TakesGiven, TakesPieces, refused_given}
-use Rattle.lp_relay_core.specs.Writers.{Known}
+use Rattle.lp_relay_core.specs.Writers.{Told}
 use Rattle.lp_relay_core.proofs.ItemLemmas.{item_of_long, items_add_up, items_of_short, items_push, refused_long, refused_short, stop_long, stop_short}
 use Rattle.lp_relay_core.proofs.FaultLines.{faults_from_append, faults_from_push, start_append}
 use Rattle.lp_relay_core.proofs.RelayLemmas.{part_of_none, part_poured, part_so_far, part_then, relays_none, relays_poured, relays_same}
@@ -121,14 +121,14 @@ pub next_items : (s : Settings) (ps : List (List ℕ)) (p : List ℕ) (items : L
 next_items s ps p items is = ap (λ l. items_of s ps ++ l) is ∙ sym (items_push s ps p)
 
 -- if pieces were taken, the fault lines of one more name what comes then
-pub next_faults : (s : Settings) (old now : Unwritten) (a b : Known) (ps : List (List ℕ)) (p : List ℕ) (items : List Item)
+pub next_faults : (s : Settings) (old now : Unwritten) (a b : Told) (ps : List (List ℕ)) (p : List ℕ) (items : List Item)
     (form : Form) (fs put : List ℕ) → RelaysItems old now a b (items_of s ps) fs put → start_of now ≡ start_past (start_of old) ps
     → items ≡ items_of_piece s p → form ≡ form_at s (start_of now) p
     → faults_past s old ps ++ faults_next form now.made items ≡ faults_past s old (ps ++ p ∷ [])
 next_faults s old now a b ps p items form fs put relays start is told = grind (arith, items_add_up, faults_from_push)
 
 -- and so do those of others
-pub faults_then : (s : Settings) (old now : Unwritten) (a b : Known) (ps qs : List (List ℕ)) (fs put : List ℕ)
+pub faults_then : (s : Settings) (old now : Unwritten) (a b : Told) (ps qs : List (List ℕ)) (fs put : List ℕ)
     → RelaysItems old now a b (items_of s ps) fs put → start_of now ≡ start_past (start_of old) ps
     → faults_past s old ps ++ faults_past s now qs ≡ faults_past s old (ps ++ qs)
 faults_then s old now a b ps qs fs put relays start = grind (arith, items_add_up, faults_from_append)
@@ -143,7 +143,7 @@ pub put_append : (s : Settings) (ps qs : List (List ℕ)) → refused_pieces s p
 put_append s ps qs = sym (flat_map-append (refused_piece s) ps qs)
 
 -- the last piece was taken, and then what is held was written
-pub last_relayed : (s : Settings) (old next poured : Unwritten) (a b : Known) (text : List ℕ)
+pub last_relayed : (s : Settings) (old next poured : Unwritten) (a b : Told) (text : List ℕ)
     (result : Result (Bor (List ℕ)) PieceTooLong) → IsLastOf s.limit text result → TakesGiven s old result next
     → RelaysItems next poured a b [] [] [] → RelaysLast s text old poured a b
 last_relayed s old next poured a b text result last t q =
@@ -151,7 +151,7 @@ last_relayed s old next poured a b text result last t q =
     (relays_poured s old old next poured a a b [] [] [] result (relays_none old a) t q)
 
 -- the same, if a beginning of it was written
-pub last_part : (s : Settings) (old next : Unwritten) (a b : Known) (text : List ℕ)
+pub last_part : (s : Settings) (old next : Unwritten) (a b : Told) (text : List ℕ)
     (result : Result (Bor (List ℕ)) PieceTooLong) → IsLastOf s.limit text result → TakesGiven s old result next
     → RelaysPart next a b [] [] [] → RelaysLastPart s text old a b
 last_part s old next a b text result last t q =
@@ -169,17 +169,17 @@ form_is : (s : Settings) (text : List ℕ) (result : Result (Bor (List ℕ)) Pie
 form_is s text result rest start one = ap (form_of s.faults start.offset) (one.stop (line_or_none start.line))
 
 -- no piece was taken so far
-pub to_none : (s : Settings) (text : List ℕ) (old : Unwritten) (a : Known) → RelaysTo s text text old old a a
+pub to_none : (s : Settings) (text : List ℕ) (old : Unwritten) (a : Told) → RelaysTo s text text old old a a
 to_none s text old a =
     record { pieces = []; taken = takes_none (rules_of s.dialect) text; start = refl; relays = relays_none old a }
 
 -- nor was any line written
-pub some_none : (s : Settings) (text : List ℕ) (old : Unwritten) (a : Known) → RelaysSome s text old a a
+pub some_none : (s : Settings) (text : List ℕ) (old : Unwritten) (a : Told) → RelaysSome s text old a a
 some_none s text old a =
     record { pieces = []; rest = text; taken = takes_none (rules_of s.dialect) text; part = part_of_none old a [] [] [] }
 
 -- a piece more was taken, and what is held was written
-pub to_more : (s : Settings) (text mid rest : List ℕ) (old now next poured : Unwritten) (a b c : Known)
+pub to_more : (s : Settings) (text mid rest : List ℕ) (old now next poured : Unwritten) (a b c : Told)
     (result : Result (Bor (List ℕ)) PieceTooLong) → RelaysTo s text mid old now a b → Given s mid result rest
     → TakesGiven s now result next → start_of poured ≡ start_after (start_of now) (newlines_given result) (len_given result)
     → RelaysItems next poured b c [] [] [] → RelaysTo s text rest old poured a c
@@ -196,7 +196,7 @@ to_more s text mid rest old now next poured a b c result p one takes start q =
     }
 
 -- the same, if a beginning of it was written
-pub to_part : (s : Settings) (text mid rest : List ℕ) (old now next : Unwritten) (a b c : Known)
+pub to_part : (s : Settings) (text mid rest : List ℕ) (old now next : Unwritten) (a b c : Told)
     (result : Result (Bor (List ℕ)) PieceTooLong) → RelaysTo s text mid old now a b → Given s mid result rest
     → TakesGiven s now result next → RelaysPart next b c [] [] [] → RelaysSome s text old a c
 to_part s text mid rest old now next a b c result p one takes q =
@@ -216,7 +216,7 @@ items_append : (s : Settings) (ps qs : List (List ℕ)) → items_of s ps ++ ite
 items_append s ps qs = sym (flat_map-append (items_of_piece s) ps qs)
 
 -- pieces were taken, and then pieces of the rest
-pub to_then : (s : Settings) (text mid rest : List ℕ) (old now new : Unwritten) (a b c : Known)
+pub to_then : (s : Settings) (text mid rest : List ℕ) (old now new : Unwritten) (a b c : Told)
     → RelaysTo s text mid old now a b → RelaysTo s mid rest now new b c → RelaysTo s text rest old new a c
 to_then s text mid rest old now new a b c p q =
     record {
@@ -229,7 +229,7 @@ to_then s text mid rest old now new a b c p q =
     }
 
 -- the same, if a beginning of these was written
-pub some_then : (s : Settings) (text mid : List ℕ) (old now : Unwritten) (a b c : Known)
+pub some_then : (s : Settings) (text mid : List ℕ) (old now : Unwritten) (a b c : Told)
     → RelaysTo s text mid old now a b → RelaysSome s mid now b c → RelaysSome s text old a c
 some_then s text mid old now a b c p q =
     record {
@@ -242,13 +242,13 @@ some_then s text mid old now a b c p q =
     }
 
 -- the pieces that were taken so far
-pub to_so_far : (s : Settings) (text rest : List ℕ) (old now : Unwritten) (a b : Known) → RelaysTo s text rest old now a b
+pub to_so_far : (s : Settings) (text rest : List ℕ) (old now : Unwritten) (a b : Told) → RelaysTo s text rest old now a b
     → RelaysSome s text old a b
 to_so_far s text rest old now a b p =
     record { pieces = p.pieces; rest = rest; taken = p.taken; part = part_so_far old now a b _ _ _ p.relays }
 
 -- pieces were taken up to a rest, then all of that, and then what is held was written
-pub to_all : (s : Settings) (text mid : List ℕ) (stream : HeldWithin) (old now new poured : Unwritten) (a b c d : Known)
+pub to_all : (s : Settings) (text mid : List ℕ) (stream : HeldWithin) (old now new poured : Unwritten) (a b c d : Told)
     → RelaysTo s text mid old now a b → RelaysAllPieces s mid stream now new b c → start_of poured ≡ start_of new
     → RelaysItems new poured c d [] [] [] → RelaysAllPieces s text stream old poured a d
 to_all s text mid stream old now new poured a b c d first rest start q =
@@ -267,7 +267,7 @@ to_all s text mid stream old now new poured a b c d first rest start q =
     )
 
 -- the same, if a beginning of it was written
-pub to_all_part : (s : Settings) (text mid : List ℕ) (stream : HeldWithin) (old now new : Unwritten) (a b c d : Known)
+pub to_all_part : (s : Settings) (text mid : List ℕ) (stream : HeldWithin) (old now new : Unwritten) (a b c d : Told)
     → RelaysTo s text mid old now a b → RelaysAllPieces s mid stream now new b c → RelaysPart new c d [] [] []
     → RelaysSome s text old a d
 to_all_part s text mid stream old now new a b c d first rest q =

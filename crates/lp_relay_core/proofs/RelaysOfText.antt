@@ -154,8 +154,8 @@ all_rebuilt law unique s text counts before after again all =
     (λ fit u r h.
     let same = items_of_rebuilt law unique s text all.pieces again all.are fit u r h in
     record {
-      batch = subst (Appends before.out after.out) (lines_of_answers (items_of s all.pieces) h.answers same ∙ sym h.batch) all.batch;
-      faults = λ named one raw. subst (Appends before.err after.err)
+      batch = subst (Appends before.lines after.lines) (lines_of_answers (items_of s all.pieces) h.answers same ∙ sym h.batch) all.batch;
+      faults = λ named one raw. subst (Appends before.faults after.faults)
           (faults_of_rebuilt s all.pieces h.answers same named one raw ∙ sym h.faults) all.faults;
       carried = all.carried ∙ carried_of_answers (items_of s all.pieces) h.answers same ∙ sym h.carried;
       refused = all.refused ∙ refused_of_answers (items_of s all.pieces) h.answers same ∙ sym h.refused;
@@ -169,7 +169,7 @@ fronts_rebuilt law unique s text before after again some =
     if_rebuilt unique (rules_of s.dialect) (limit_of s.limit) text some.pieces (λ r. RelaysRebuiltFronts s r before after) some.are
     (λ fit u r h.
     let same = items_of_rebuilt law unique s text some.pieces again some.are fit u r h in (
-      subst (AppendsFront before.out after.out) (lines_of_answers (items_of s some.pieces) h.answers same ∙ sym h.batch) some.batch,
-      λ named one raw. subst (AppendsFront before.err after.err)
+      subst (AppendsFront before.lines after.lines) (lines_of_answers (items_of s some.pieces) h.answers same ∙ sym h.batch) some.batch,
+      λ named one raw. subst (AppendsFront before.faults after.faults)
           (faults_of_rebuilt s some.pieces h.answers same named one raw ∙ sym h.faults) some.faults,
     ))

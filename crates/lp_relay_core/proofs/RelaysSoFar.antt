@@ -14,7 +14,7 @@ use Rattle.influxdb_line_protocol.specs.code.Rules.{rules_of}
 use Rattle.lp_relay_core.specs.declared.relaying.Relayed.{Relayed}
 use Rattle.lp_relay_core.specs.Relays.{RelaysAll, RelaysFronts}
 use Rattle.lp_relay_core.specs.Relaying.{items_of_piece, items_of, items_batch, refused_pieces}
-use Rattle.lp_relay_core.specs.Writers.{Known}
+use Rattle.lp_relay_core.specs.Writers.{Told, bytes_of}
 use Rattle.lp_relay_core.specs.RelaySteps.{RelaysAllPieces, RelaysItems, RelaysLast, RelaysLastPart, RelaysPart, RelaysSome, Unwritten}
 use Rattle.lp_relay_core.specs.RelaySteps.{faults_from, faults_past, items_before, start_of, start_past, unwritten_of_none}
 use Rattle.lp_relay_core.specs.Kinds.{counts_if}
@@ -29,7 +29,7 @@ use Rattle.influxdb_line_protocol.specs.format.Bytes.{newline}
 -- these bytes were read, these of their pieces were taken, what was made of them is written or held, and the stream holds the
 -- rest, which is one piece
 pub record RelaysSoFar (s : Settings) (reader reader_after : Option (List ℕ)) (stream : HeldWithin) (now : Unwritten)
-    (before after : Known) : Type 0 where
+    (before after : Told) : Type 0 where
   pub given : List ℕ
   pub pieces : List (List ℕ)
   pub held : List ℕ
@@ -56,7 +56,7 @@ none_is_last : PiecesExist → (dialect : Dialect) → IsLastPiece dialect []
 none_is_last exist dialect = let p = exist dialect [] in nothing_is_last dialect [] p.0 refl p.1
 
 -- before the first read
-pub so_far_none : PiecesExist → (s : Settings) (r : Option (List ℕ)) (a : Known) (stream : HeldWithin) (now : Unwritten)
+pub so_far_none : PiecesExist → (s : Settings) (r : Option (List ℕ)) (a : Told) (stream : HeldWithin) (now : Unwritten)
     → Holds stream [] → now ≡ unwritten_of_none s → RelaysSoFar s r r stream now a a
 so_far_none exist s r a stream now none is =
     subst (λ m. RelaysSoFar s r r stream m a a) (sym is)
@@ -78,7 +78,7 @@ items_append s ps qs = flat_map-append (items_of_piece s) ps qs
 
 -- a part more was read, and its pieces taken
 pub so_far_more : (s : Settings) (r m t : Option (List ℕ)) (part : List ℕ) (stream after : HeldWithin) (now new : Unwritten)
-    (a b c : Known) → RelaysSoFar s r m stream now a b → Consumes m t part
+    (a b c : Told) → RelaysSoFar s r m stream now a b → Consumes m t part
     → ((text : List ℕ) → Holds stream text → IsLastPiece (rules_of s.dialect) text
     → RelaysAllPieces s (text ++ part) after now new b c) → RelaysSoFar s r t after new a c
 so_far_more s r m t part stream after now new a b c h read q =
@@ -104,10 +104,10 @@ so_far_more s r m t part stream after now new a b c h read q =
 
 -- a beginning of what the items of all bytes are was written, since that of the items so far was
 fronts_of : PiecesExist → RunsGivePieces → (s : Settings) (r m : Option (List ℕ))
-    (given : List ℕ) (pieces : List (List ℕ)) (held : List ℕ) (a c : Known) → Consumes r m given
+    (given : List ℕ) (pieces : List (List ℕ)) (held : List ℕ) (a c : Told) → Consumes r m given
     → Run (rules_of s.dialect) given pieces held
     → RelaysPart (unwritten_of_none s) a c (items_of s pieces) (faults_past s (unwritten_of_none s) pieces) (refused_pieces s pieces)
-    → IfSome r (λ bs. RelaysFronts s bs a c)
+    → IfSome r (λ bs. RelaysFronts s bs (bytes_of a) (bytes_of c))
 fronts_of exist give s None m given pieces held a c read run p = tt
 fronts_of exist give s (Some x) None given pieces held a c read run p = absurd read
 fronts_of exist give s (Some x) (Some y) given pieces held a c read run p =
@@ -118,27 +118,27 @@ fronts_of exist give s (Some x) (Some y) given pieces held a c read run p =
       pieces = pieces ++ others.0;
       are = subst (λ (l : List ℕ). Pieces (rules_of s.dialect) l (pieces ++ others.0)) (sym read)
           (give (rules_of s.dialect) given pieces held y others.0 run others.1);
-      batch = passes_some a.out c.out (items_batch xs) p.batch_left (items_batch ys) _ p.batch
+      batch = passes_some a.lines.bytes c.lines.bytes (items_batch xs) p.batch_left (items_batch ys) _ p.batch
           (ap items_batch (items_append s pieces others.0) ∙ batch_append xs ys);
-      faults = passes_some a.err c.err (faults_past s (unwritten_of_none s) pieces) p.faults_left
+      faults = passes_some a.faults.bytes c.faults.bytes (faults_past s (unwritten_of_none s) pieces) p.faults_left
           (faults_from s (start_past (start_of (unwritten_of_none s)) pieces)
           (items_before s.numbering s.first + 0 + 1 + length xs) others.0) _ p.faults
           (sym (faults_named s (pieces ++ others.0))
           ∙ faults_from_append s (start_of (unwritten_of_none s)) (items_before s.numbering s.first + 0 + 1) pieces others.0);
-      put = passes_some a.refused c.refused (refused_pieces s pieces) p.pieces_left (refused_pieces s others.0) _ p.pieces
+      put = passes_some a.refused.bytes c.refused.bytes (refused_pieces s pieces) p.pieces_left (refused_pieces s others.0) _ p.pieces
           (sym (put_append s pieces others.0));
     }
 
 -- so it is between two steps
 pub so_far_fronts : PiecesExist → RunsGivePieces → (s : Settings) (r m : Option (List ℕ)) (stream : HeldWithin) (now : Unwritten)
-    (a c : Known) → RelaysSoFar s r m stream now a c → IfSome r (λ bs. RelaysFronts s bs a c)
+    (a c : Told) → RelaysSoFar s r m stream now a c → IfSome r (λ bs. RelaysFronts s bs (bytes_of a) (bytes_of c))
 so_far_fronts exist give s r m stream now a c h = grind (arith, fronts_of, part_so_far)
 
 -- and if a step had a fault
 pub some_fronts : PiecesExist → RunsGivePieces → (s : Settings) (r m t : Option (List ℕ)) (part : List ℕ) (stream : HeldWithin)
-    (now : Unwritten) (a b c : Known) → RelaysSoFar s r m stream now a b → Consumes m t part
+    (now : Unwritten) (a b c : Told) → RelaysSoFar s r m stream now a b → Consumes m t part
     → ((text : List ℕ) → Holds stream text → IsLastPiece (rules_of s.dialect) text → RelaysSome s (text ++ part) now b c)
-    → IfSome r (λ bs. RelaysFronts s bs a c)
+    → IfSome r (λ bs. RelaysFronts s bs (bytes_of a) (bytes_of c))
 some_fronts exist give s r m t part stream now a b c h read q =
     let p = q h.held h.holds h.last in
     fronts_of exist give s r t (h.given ++ part) (h.pieces ++ p.pieces) p.rest a c
@@ -165,11 +165,11 @@ read_none r m t bs h k = subst (Consumes r t) (append-nil bs) (Consumes-trans r 
 
 -- at the end, if the last piece was taken and nothing is held, all was written
 pub so_far_all : RunsEnd → (s : Settings) (r m t : Option (List ℕ)) (stream : HeldWithin) (now end : Unwritten) (counts : Relayed)
-    (a b c : Known) → RelaysSoFar s r m stream now a b → Consumes m t [] → IsAtEnd t
+    (a b c : Told) → RelaysSoFar s r m stream now a b → Consumes m t [] → IsAtEnd t
     → ((text : List ℕ) → Holds stream text → IsLastPiece (rules_of s.dialect) text → RelaysLast s text now end b c)
     → end.made.batch ≡ [] → end.made.faults ≡ [] → end.pieces ≡ []
     → counts.carried + items_before s.numbering s.first ≡ end.made.carried → counts.refused ≡ end.made.refused
-    → counts_if counts.kinds ≡ end.kinds → IfSome r (λ bs. (t ≡ Some []) × RelaysAll s bs counts a c)
+    → counts_if counts.kinds ≡ end.kinds → IfSome r (λ bs. (t ≡ Some []) × RelaysAll s bs counts (bytes_of a) (bytes_of c))
 so_far_all ends s r m t stream now end counts a b c h read at_end p no_batch no_faults no_pieces carried refused kinds =
     let old = unwritten_of_none s in
     let pieces = h.pieces ++ h.held ∷ [] in
@@ -182,13 +182,13 @@ so_far_all ends s r m t stream now end counts a b c h read at_end p no_batch no_
     (next_faults s old now a b h.pieces h.held (items_of_piece s h.held) _ _ _ h.relays h.start_is refl refl)
     (next_put s h.pieces h.held _ refl)
     (relays_more old now end a b c _ _ _ _ _ _ h.relays last) in
-    all_read r t h.given (λ bs. RelaysAll s bs counts a c) (read_none r m t h.given h.consumed read) at_end
+    all_read r t h.given (λ bs. RelaysAll s bs counts (bytes_of a) (bytes_of c)) (read_none r m t h.given h.consumed read) at_end
     (record {
       pieces = pieces;
       are = ends (rules_of s.dialect) h.given h.pieces h.held h.run h.last;
-      batch = passes_all a.out c.out (items_batch items) end.made.batch all.batch no_batch;
-      faults = subst (Appends a.err c.err) (faults_named s _) (passes_all a.err c.err told end.made.faults all.faults no_faults);
-      put = passes_all a.refused c.refused put end.pieces all.pieces no_pieces;
+      batch = passes_all a.lines.bytes c.lines.bytes (items_batch items) end.made.batch all.batch no_batch;
+      faults = subst (Appends a.faults.bytes c.faults.bytes) (faults_named s _) (passes_all a.faults.bytes c.faults.bytes told end.made.faults all.faults no_faults);
+      put = passes_all a.refused.bytes c.refused.bytes put end.pieces all.pieces no_pieces;
       carried = omega (arith, carried, all.carried);
       refused = omega (arith, refused, all.refused);
       kinds = kinds ∙ all.kinds ∙ kinds_of_all s items;
@@ -197,10 +197,10 @@ so_far_all ends s r m t stream now end counts a b c h read at_end p no_batch no_
     })
 
 -- there, if a writer had a fault
-pub end_fronts : RunsEnd → (s : Settings) (r m t : Option (List ℕ)) (stream : HeldWithin) (now : Unwritten) (a b c : Known)
+pub end_fronts : RunsEnd → (s : Settings) (r m t : Option (List ℕ)) (stream : HeldWithin) (now : Unwritten) (a b c : Told)
     → RelaysSoFar s r m stream now a b → Consumes m t [] → IsAtEnd t
     → ((text : List ℕ) → Holds stream text → IsLastPiece (rules_of s.dialect) text → RelaysLastPart s text now b c)
-    → IfSome r (λ bs. RelaysFronts s bs a c)
+    → IfSome r (λ bs. RelaysFronts s bs (bytes_of a) (bytes_of c))
 end_fronts ends s r m t stream now a b c h read at_end p =
     let old = unwritten_of_none s in
     let pieces = h.pieces ++ h.held ∷ [] in
@@ -213,12 +213,12 @@ end_fronts ends s r m t stream now a b c h read at_end p =
     (next_faults s old now a b h.pieces h.held (items_of_piece s h.held) _ _ _ h.relays h.start_is refl refl)
     (next_put s h.pieces h.held _ refl)
     (part_more old now a b c _ _ _ _ _ _ h.relays last) in
-    Consumes-whole r t h.given (λ bs. RelaysFronts s bs a c) (read_none r m t h.given h.consumed read) at_end
+    Consumes-whole r t h.given (λ bs. RelaysFronts s bs (bytes_of a) (bytes_of c)) (read_none r m t h.given h.consumed read) at_end
     (record {
       pieces = pieces;
       are = ends (rules_of s.dialect) h.given h.pieces h.held h.run h.last;
-      batch = passes_some a.out c.out (items_batch items) part.batch_left [] _ part.batch (sym (append-nil _));
-      faults = passes_some a.err c.err told part.faults_left [] _ part.faults
+      batch = passes_some a.lines.bytes c.lines.bytes (items_batch items) part.batch_left [] _ part.batch (sym (append-nil _));
+      faults = passes_some a.faults.bytes c.faults.bytes told part.faults_left [] _ part.faults
           (sym (faults_named s _) ∙ sym (append-nil _));
-      put = passes_some a.refused c.refused put part.pieces_left [] _ part.pieces (sym (append-nil _));
+      put = passes_some a.refused.bytes c.refused.bytes put part.pieces_left [] _ part.pieces (sym (append-nil _));
     })

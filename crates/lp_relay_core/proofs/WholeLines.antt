@@ -15,7 +15,7 @@ use Rattle.influxdb_line_protocol.specs.types.PieceTooLong.{PieceTooLong}
 use Rattle.lp_relay_core.specs.declared.taking.Settings.{Settings}
 use Rattle.influxdb_line_protocol.specs.code.Rules.{rules_of}
 use Rattle.lp_relay_core.specs.RelaySteps.{RelaysBegun, RelaysTo, Unwritten}
-use Rattle.lp_relay_core.specs.Writers.{Known}
+use Rattle.lp_relay_core.specs.Writers.{Told}
 use Rattle.lp_relay_core.proofs.RelayPieces.{Given, given_on, given_piece, given_short, to_none, to_then}
 use Rattle.influxdb_line_protocol.specs.laws.Laws.{PiecesAreTheText, PiecesAreUnique, PiecesExist}
 
@@ -88,13 +88,13 @@ first_given exist unique s text part at stream after result rest same bound is_l
     )
 
 -- no piece was taken of a text and of a part, of which the stream was given a front
-pub begun_none : (s : Settings) (text part : List ℕ) (given : ℕ) (stream : HeldWithin) (old : Unwritten) (a : Known)
+pub begun_none : (s : Settings) (text part : List ℕ) (given : ℕ) (stream : HeldWithin) (old : Unwritten) (a : Told)
     → Holds stream (text ++ take given part) → RelaysBegun s text part given stream old old a a
 begun_none s text part given stream old a holds = grind (arith, take-append-drop, append_assoc, to_none)
 
 -- the line that the stream began was taken, and then lines of the rest of the part
 pub begun_then : (s : Settings) (text part rest : List ℕ) (end taken : ℕ) (stream : HeldWithin)
-    (old now new : Unwritten) (a b c : Known) → rest ≡ drop end part → Holds stream []
+    (old now new : Unwritten) (a b c : Told) → rest ≡ drop end part → Holds stream []
     → RelaysTo s (text ++ part) rest old now a b → RelaysTo s rest (drop taken rest) now new b c
     → RelaysBegun s text part (end + taken) stream old new a c
 begun_then s text part rest end taken stream old now new a b c others holds first next = grind (arith, drop-drop, to_then)

@@ -1,5 +1,5 @@
 -- What each step of a relay takes of the stream, and what it writes or holds of it.
-use Rattle.std.specs.Prelude.{◌≡◌, ◌⊎◌, ◌<◌, ℕ, ◌+◌, ◌-◌, ◌++◌, List, [], ◌∷◌, length, drop, string_bytes, Option, Some, None}
+use Rattle.std.specs.Prelude.{◌≡◌, ◌<◌, ℕ, ◌+◌, ◌-◌, ◌++◌, List, [], ◌∷◌, length, drop, string_bytes, Option, Some, None}
 use Rattle.std.specs.Prelude.{Result, Ok, Err, unwrap_or, if◌then◌else◌}
 use Rattle.std.specs.Borrow.{Bor}
 use Rattle.std.specs.Io.KnownBytes.{Appends}
@@ -19,15 +19,13 @@ use Rattle.lp_relay_core.specs.declared.taking.Settings.{Settings}
 use Rattle.lp_relay_core.specs.declared.telling.Faults.{Faults}
 use Rattle.lp_relay_core.specs.declared.telling.Faults.TheVariants.{Raw, OneLine, Json}
 use Rattle.lp_relay_core.specs.Told.{told}
-use Rattle.lp_rebuild.specs.declared.program.RunFault.{RunFault}
-use Rattle.lp_rebuild.specs.declared.program.RunFault.TheVariants.{Read, NotUtf8, OutOfMemory, Write}
 use Rattle.lp_rebuild.specs.RebuildSteps.{fault_line_at}
 use Rattle.lp_relay_core.specs.Kinds.{Counts, counts_if, kinds_after, kinds_of_none}
 use Rattle.lp_relay_core.specs.LineFaults.{item_text}
 use Rattle.lp_relay_core.specs.Objects.{front_given, item_object, kind_given, object, stop_given, stop_of_piece}
 use Rattle.lp_relay_core.specs.Relaying.{Item, first_of, kept_of, too_long, is_carried_item, items_of_bytes, items_of_piece, items_of, items_batch, carried_items}
 use Rattle.lp_relay_core.specs.Relaying.{refused_items, refused_lines, refused_piece, refused_pieces}
-use Rattle.lp_relay_core.specs.Writers.{Known, Writers}
+use Rattle.lp_relay_core.specs.Writers.{Told}
 
 -- the items of what a call gave: those of a piece, or that of one that is too long
 abbrev pub items_given : Settings → Result (Bor (List ℕ)) PieceTooLong → List Item
@@ -248,39 +246,39 @@ Passes old new held added left = (written : List ℕ) × Appends old new written
 
 -- the lines of these items were written, or are held, and so were these fault lines of theirs and these refused pieces; and the items
 -- were counted
-pub record RelaysItems (old new : Unwritten) (before after : Known) (items : List Item) (fault_lines put : List ℕ) : Type 0 where
-  pub batch : Passes before.out after.out old.made.batch (items_batch items) new.made.batch
-  pub faults : Passes before.err after.err old.made.faults fault_lines new.made.faults
-  pub pieces : Passes before.refused after.refused old.pieces put new.pieces
+pub record RelaysItems (old new : Unwritten) (before after : Told) (items : List Item) (fault_lines put : List ℕ) : Type 0 where
+  pub batch : Passes before.lines.bytes after.lines.bytes old.made.batch (items_batch items) new.made.batch
+  pub faults : Passes before.faults.bytes after.faults.bytes old.made.faults fault_lines new.made.faults
+  pub pieces : Passes before.refused.bytes after.refused.bytes old.pieces put new.pieces
   pub carried : new.made.carried ≡ old.made.carried + carried_items items
   pub refused : new.made.refused ≡ old.made.refused + refused_items items
   pub kinds : new.kinds ≡ kinds_after items old.kinds
 
 -- a beginning of the lines of these items was written, one of these fault lines, and one of these refused pieces
-pub record RelaysPart (old : Unwritten) (before after : Known) (items : List Item) (fault_lines put : List ℕ) : Type 0 where
+pub record RelaysPart (old : Unwritten) (before after : Told) (items : List Item) (fault_lines put : List ℕ) : Type 0 where
   pub batch_left : List ℕ
   pub faults_left : List ℕ
   pub pieces_left : List ℕ
-  pub batch : Passes before.out after.out old.made.batch (items_batch items) batch_left
-  pub faults : Passes before.err after.err old.made.faults fault_lines faults_left
-  pub pieces : Passes before.refused after.refused old.pieces put pieces_left
+  pub batch : Passes before.lines.bytes after.lines.bytes old.made.batch (items_batch items) batch_left
+  pub faults : Passes before.faults.bytes after.faults.bytes old.made.faults fault_lines faults_left
+  pub pieces : Passes before.refused.bytes after.refused.bytes old.pieces put pieces_left
 
 -- pieces of a text were taken up to this rest, and their lines were written, or are held
-pub record RelaysTo (s : Settings) (text rest : List ℕ) (old new : Unwritten) (before after : Known) : Type 0 where
+pub record RelaysTo (s : Settings) (text rest : List ℕ) (old new : Unwritten) (before after : Told) : Type 0 where
   pub pieces : List (List ℕ)
   pub taken : TakesPieces (rules_of s.dialect) text pieces rest
   pub start : start_of new ≡ start_past (start_of old) pieces
   pub relays : RelaysItems old new before after (items_of s pieces) (faults_past s old pieces) (refused_pieces s pieces)
 
 -- so they were up to a rest that the stream holds
-pub record RelaysPieces (s : Settings) (text : List ℕ) (stream : HeldWithin) (old new : Unwritten) (before after : Known)
+pub record RelaysPieces (s : Settings) (text : List ℕ) (stream : HeldWithin) (old new : Unwritten) (before after : Told)
     : Type 0 where
   pub rest : List ℕ
   pub holds : Holds stream rest
   pub to : RelaysTo s text rest old new before after
 
 -- so were all that a newline ends
-abbrev pub RelaysAllPieces : Settings → (text : List ℕ) → (stream : HeldWithin) → (old new : Unwritten) → (before after : Known)
+abbrev pub RelaysAllPieces : Settings → (text : List ℕ) → (stream : HeldWithin) → (old new : Unwritten) → (before after : Told)
     → Type 0
 RelaysAllPieces s text stream old new before after =
     (relays : RelaysPieces s text stream old new before after) × IsLastPiece (rules_of s.dialect) relays.rest
@@ -288,43 +286,24 @@ RelaysAllPieces s text stream old new before after =
 -- pieces of a text and of a part after it were taken up to a rest: the stream holds the start of it, and so many bytes of the
 -- part come before the end
 pub record RelaysBegun (s : Settings) (text part : List ℕ) (given : ℕ) (stream : HeldWithin) (old new : Unwritten)
-    (before after : Known) : Type 0 where
+    (before after : Told) : Type 0 where
   pub held : List ℕ
   pub holds : Holds stream held
   pub to : RelaysTo s (text ++ part) (held ++ drop given part) old new before after
 
 -- pieces of a text were taken, and a beginning of their lines was written
-pub record RelaysSome (s : Settings) (text : List ℕ) (old : Unwritten) (before after : Known) : Type 0 where
+pub record RelaysSome (s : Settings) (text : List ℕ) (old : Unwritten) (before after : Told) : Type 0 where
   pub pieces : List (List ℕ)
   pub rest : List ℕ
   pub taken : TakesPieces (rules_of s.dialect) text pieces rest
   pub part : RelaysPart old before after (items_of s pieces) (faults_past s old pieces) (refused_pieces s pieces)
 
 -- the last piece was taken, which is all of this text, and its line was written, or is held
-abbrev pub RelaysLast : Settings → (text : List ℕ) → (old new : Unwritten) → (before after : Known) → Type 0
+abbrev pub RelaysLast : Settings → (text : List ℕ) → (old new : Unwritten) → (before after : Told) → Type 0
 RelaysLast s text old new before after = RelaysItems old new before after (items_of_piece s text)
     (faults_next (form_at s (start_of old) text) old.made (items_of_piece s text)) (refused_piece s text)
 
 -- the same, if a beginning of it was written
-abbrev pub RelaysLastPart : Settings → (text : List ℕ) → (old : Unwritten) → (before after : Known) → Type 0
+abbrev pub RelaysLastPart : Settings → (text : List ℕ) → (old : Unwritten) → (before after : Told) → Type 0
 RelaysLastPart s text old before after = RelaysPart old before after (items_of_piece s text)
     (faults_next (form_at s (start_of old) text) old.made (items_of_piece s text)) (refused_piece s text)
-
--- no count of failures has changed
-pub record CountsNone (old new : Writers ℕ) : Type 0 where
-  pub out : new.out ≡ old.out
-  pub err : new.err ≡ old.err
-  pub refused : new.refused ≡ old.refused
-
--- one failure was added to one count
-abbrev pub CountsOne : (old new : Writers ℕ) → Type 0
-CountsOne old new = CountsNone (record old { out = old.out + 1 }) new
-    ⊎ (CountsNone (record old { err = old.err + 1 }) new ⊎ CountsNone (record old { refused = old.refused + 1 }) new)
-
--- `Write` adds one failure to the count of one writer, and nothing else changes a count; no other fault but `OutOfMemory` comes
-abbrev pub CountsWriteFault : {T : Type 0} → Result T RunFault → (old new : Writers ℕ) → Type 0
-CountsWriteFault (Ok x) old new = CountsNone old new
-CountsWriteFault (Err Write) old new = CountsOne old new
-CountsWriteFault (Err OutOfMemory) old new = CountsNone old new
-CountsWriteFault (Err Read) old new = ⊥
-CountsWriteFault (Err NotUtf8) old new = ⊥

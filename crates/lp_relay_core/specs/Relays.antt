@@ -47,8 +47,8 @@ told_faults (Json first_line) s pieces = fault_objects s (first_item s.numbering
 pub record RelaysAll (s : Settings) (bytes : List ℕ) (counts : Relayed) (before after : Known) : Type 0 where
   pub pieces : List (List ℕ)
   pub are : Pieces (rules_of s.dialect) bytes pieces
-  pub batch : Appends before.out after.out (items_batch (items_of s pieces))
-  pub faults : Appends before.err after.err (told_faults s.faults s pieces)
+  pub batch : Appends before.lines after.lines (items_batch (items_of s pieces))
+  pub faults : Appends before.faults after.faults (told_faults s.faults s pieces)
   pub put : Appends before.refused after.refused (refused_pieces s pieces)
   pub carried : counts.carried ≡ carried_items (items_of s pieces)
   pub refused : counts.refused ≡ refused_items (items_of s pieces)
@@ -60,23 +60,23 @@ pub record RelaysAll (s : Settings) (bytes : List ℕ) (counts : Relayed) (befor
 pub record RelaysFronts (s : Settings) (bytes : List ℕ) (before after : Known) : Type 0 where
   pub pieces : List (List ℕ)
   pub are : Pieces (rules_of s.dialect) bytes pieces
-  pub batch : AppendsFront before.out after.out (items_batch (items_of s pieces))
-  pub faults : AppendsFront before.err after.err (told_faults s.faults s pieces)
+  pub batch : AppendsFront before.lines after.lines (items_batch (items_of s pieces))
+  pub faults : AppendsFront before.faults after.faults (told_faults s.faults s pieces)
   pub put : AppendsFront before.refused after.refused (refused_pieces s pieces)
 
 -- the first writer gained the batch of a rebuild, and these are its counts; if fault lines name items from 1 on, and are told as
 -- they are, the second writer gained its faults
 pub record RelaysRebuilt (s : Settings) (r : Rebuilt) (counts : Relayed) (before after : Known) : Type 0 where
-  pub batch : Appends before.out after.out r.batch.items
-  pub faults : s.numbering ≡ named.Items → first_of s.first ≡ 1 → s.faults ≡ Raw → Appends before.err after.err r.faults.items
+  pub batch : Appends before.lines after.lines r.batch.items
+  pub faults : s.numbering ≡ named.Items → first_of s.first ≡ 1 → s.faults ≡ Raw → Appends before.faults after.faults r.faults.items
   pub carried : counts.carried ≡ r.carried
   pub refused : counts.refused ≡ r.refused
 
 -- the first writer gained a front of the batch of a rebuild, and if fault lines name items from 1 on, and are told as they are, the
 -- second one a front of its faults
 abbrev pub RelaysRebuiltFronts : Settings → Rebuilt → (before after : Known) → Type 0
-RelaysRebuiltFronts s r before after = AppendsFront before.out after.out r.batch.items
-    × (s.numbering ≡ named.Items → first_of s.first ≡ 1 → s.faults ≡ Raw → AppendsFront before.err after.err r.faults.items)
+RelaysRebuiltFronts s r before after = AppendsFront before.lines after.lines r.batch.items
+    × (s.numbering ≡ named.Items → first_of s.first ≡ 1 → s.faults ≡ Raw → AppendsFront before.faults after.faults r.faults.items)
 
 -- no piece of a text has more bytes than this
 abbrev pub HasShortPieces : Dialect → ℕ → List ℕ → Type 0
@@ -96,7 +96,7 @@ pub record Relays (s : Settings) (result : Result Relayed RunFault) (reader read
       (reader_after.bytes ≡ Some []) × RelaysAll s bs counts (bytes_of before) (bytes_of after)))
   -- all that was written to each writer was flushed
   pub flushed : OnOk result
-      ((after.out.is_flushed ≡ true) × (after.err.is_flushed ≡ true) × (after.refused.is_flushed ≡ true))
+      ((after.lines.is_flushed ≡ true) × (after.faults.is_flushed ≡ true) × (after.refused.is_flushed ≡ true))
   -- after a fault, each writer has a front of what was meant for it
   pub part : OnErr result (IfSome reader.bytes (λ bs. RelaysFronts s bs (bytes_of before) (bytes_of after)))
   -- if lines are written again, all that was read is UTF-8, and none of it too long, that is what a rebuild of it gives, but for
@@ -109,10 +109,10 @@ pub record Relays (s : Settings) (result : Result Relayed RunFault) (reader read
   -- `Read` is answered exactly if the reader failed
   pub read : (result ≡ Err Read) ↔ (reader.failures < reader_after.failures)
   -- `Write` is answered exactly if a writer failed
-  pub write : (result ≡ Err Write) ↔ ((before.out.failures < after.out.failures)
-      ⊎ ((before.err.failures < after.err.failures) ⊎ (before.refused.failures < after.refused.failures)))
+  pub write : (result ≡ Err Write) ↔ ((before.lines.failures < after.lines.failures)
+      ⊎ ((before.faults.failures < after.faults.failures) ⊎ (before.refused.failures < after.refused.failures)))
   -- `NotUtf8` is never answered
   pub utf8 : result ≢ Err NotUtf8
   -- no count of failures falls, so one that has not risen is as before
-  pub counts : (before.out.failures ≤ after.out.failures) × (before.err.failures ≤ after.err.failures)
+  pub counts : (before.lines.failures ≤ after.lines.failures) × (before.faults.failures ≤ after.faults.failures)
       × (before.refused.failures ≤ after.refused.failures)

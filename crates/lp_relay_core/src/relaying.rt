@@ -5,18 +5,19 @@ ghost use Rattle.influxdb_line_protocol.specs.format.Bytes.{newline};
 ghost use Rattle.influxdb_line_protocol.specs.code.Bounded.{Holds, KeepsRules};
 ghost use Rattle.influxdb_line_protocol.specs.code.Rules.{rules_of};
 ghost use Rattle.influxdb_line_protocol.specs.format.Pieces.{IsLastPiece};
-ghost use Rattle.lp_relay_core.specs.RelaySteps.{CountsWriteFault, HoldsLess, HoldsNone, RelaysAllPieces, RelaysBegun, RelaysItems};
+ghost use Rattle.lp_relay_core.specs.RelaySteps.{HoldsLess, HoldsNone, RelaysAllPieces, RelaysBegun, RelaysItems};
 ghost use Rattle.lp_relay_core.specs.RelaySteps.{RelaysLast, RelaysLastPart, RelaysPart, RelaysSome, RelaysTo, start_of, unwritten_of};
 ghost use Rattle.lp_relay_core.specs.Relays.{Relays};
-ghost use Rattle.lp_relay_core.specs.Writers.{of_writers};
-ghost use Rattle.lp_rebuild.specs.Running.{reader_told, writer_told};
+ghost use Rattle.lp_relay_core.specs.Writers.{AreFlushed, CountsWriteFault};
+ghost use Rattle.lp_rebuild.specs.Running.{reader_told};
 
 use crate::kinds::KindCounts;
+use crate::outputs::ThreeWriters;
 use crate::taking::{Pending, Settings, items_before, nothing_made, take_piece, take_text_piece};
 use crate::texts::text_of;
 use influxdb_line_protocol::{BoundedLineStream, ParsedLine, laws, split_lines_in};
-use lp_rebuild::program::{BLOCK, read_block, write_bytes};
-use lp_rebuild::{RunFault, Sink, Source};
+use lp_rebuild::program::{BLOCK, read_block};
+use lp_rebuild::{RunFault, Source};
 use memchr::{memchr, memrchr};
 use std::alloc::Global;
 
@@ -33,57 +34,34 @@ pub struct Relayed {
 
 // Writes all that is held.
 #[tactic(auto, using(crate::proofs::KindLemmas::kinds_of_nothing))]
-fn pour<W: Sink, E: Sink, P: Sink>(
-    pending: &mut Pending,
-    out: &mut W,
-    err: &mut E,
-    refused: &mut P,
-) -> Result<(), RunFault>
+fn pour<O: ThreeWriters>(pending: &mut Pending, outputs: &mut O) -> Result<(), RunFault>
     ensures start { start_of (unwritten_of pending.new) ≡ start_of (unwritten_of pending.old) }
     ensures ok { OnOk result (RelaysItems (unwritten_of pending.old) (unwritten_of pending.new)
-        (of_writers (W.bytes out.old) (E.bytes err.old) (P.bytes refused.old))
-        (of_writers (W.bytes out.new) (E.bytes err.new) (P.bytes refused.new)) [] [] []) }
+        (O.told outputs.old) (O.told outputs.new) [] [] []) }
     ensures none { OnOk result (HoldsNone pending.new) }
-    ensures part { OnErr result (RelaysPart (unwritten_of pending.old)
-        (of_writers (W.bytes out.old) (E.bytes err.old) (P.bytes refused.old))
-        (of_writers (W.bytes out.new) (E.bytes err.new) (P.bytes refused.new)) [] [] []) }
-    ensures counts { CountsWriteFault result
-        (of_writers (W.failures out.old) (E.failures err.old) (P.failures refused.old))
-        (of_writers (W.failures out.new) (E.failures err.new) (P.failures refused.new)) }
+    ensures part { OnErr result (RelaysPart (unwritten_of pending.old) (O.told outputs.old) (O.told outputs.new) [] [] []) }
+    ensures counts { CountsWriteFault result (O.told outputs.old) (O.told outputs.new) }
 {
-    if write_bytes(out, pending.so_far.batch.as_slice()).is_err() {
-        return Err(RunFault::Write);
-    }
+    let so_far = &pending.so_far;
+    outputs.put(
+        so_far.batch.as_slice(),
+        so_far.faults.as_bytes(),
+        pending.pieces.as_slice(),
+    )?;
     pending.so_far.batch.clear();
-    if write_bytes(err, pending.so_far.faults.as_bytes()).is_err() {
-        return Err(RunFault::Write);
-    }
     pending.so_far.faults.clear();
-    if write_bytes(refused, pending.pieces.as_slice()).is_err() {
-        return Err(RunFault::Write);
-    }
     pending.pieces.clear();
     Ok(())
 }
 
 // Writes all that is held, if it fills a block.
-fn pour_full<W: Sink, E: Sink, P: Sink>(
-    pending: &mut Pending,
-    out: &mut W,
-    err: &mut E,
-    refused: &mut P,
-) -> Result<(), RunFault>
+fn pour_full<O: ThreeWriters>(pending: &mut Pending, outputs: &mut O) -> Result<(), RunFault>
     ensures start { start_of (unwritten_of pending.new) ≡ start_of (unwritten_of pending.old) }
     ensures ok { OnOk result (RelaysItems (unwritten_of pending.old) (unwritten_of pending.new)
-        (of_writers (W.bytes out.old) (E.bytes err.old) (P.bytes refused.old))
-        (of_writers (W.bytes out.new) (E.bytes err.new) (P.bytes refused.new)) [] [] []) }
+        (O.told outputs.old) (O.told outputs.new) [] [] []) }
     ensures held { OnOk result (HoldsLess BLOCK pending.new) }
-    ensures part { OnErr result (RelaysPart (unwritten_of pending.old)
-        (of_writers (W.bytes out.old) (E.bytes err.old) (P.bytes refused.old))
-        (of_writers (W.bytes out.new) (E.bytes err.new) (P.bytes refused.new)) [] [] []) }
-    ensures counts { CountsWriteFault result
-        (of_writers (W.failures out.old) (E.failures err.old) (P.failures refused.old))
-        (of_writers (W.failures out.new) (E.failures err.new) (P.failures refused.new)) }
+    ensures part { OnErr result (RelaysPart (unwritten_of pending.old) (O.told outputs.old) (O.told outputs.new) [] [] []) }
+    ensures counts { CountsWriteFault result (O.told outputs.old) (O.told outputs.new) }
 {
     if pending.so_far.batch.len() < BLOCK
         && pending.so_far.faults.len() < BLOCK
@@ -91,51 +69,29 @@ fn pour_full<W: Sink, E: Sink, P: Sink>(
     {
         return Ok(());
     }
-    pour(pending, out, err, refused)
+    pour(pending, outputs)
 }
 
 // Writes all that is held, and flushes.
-fn pour_and_flush<W: Sink, E: Sink, P: Sink>(
-    pending: &mut Pending,
-    out: &mut W,
-    err: &mut E,
-    refused: &mut P,
-) -> Result<(), RunFault>
+fn pour_and_flush<O: ThreeWriters>(pending: &mut Pending, outputs: &mut O) -> Result<(), RunFault>
     ensures start { start_of (unwritten_of pending.new) ≡ start_of (unwritten_of pending.old) }
     ensures ok { OnOk result (RelaysItems (unwritten_of pending.old) (unwritten_of pending.new)
-        (of_writers (W.bytes out.old) (E.bytes err.old) (P.bytes refused.old))
-        (of_writers (W.bytes out.new) (E.bytes err.new) (P.bytes refused.new)) [] [] []) }
+        (O.told outputs.old) (O.told outputs.new) [] [] []) }
     ensures none { OnOk result (HoldsNone pending.new) }
-    ensures part { OnErr result (RelaysPart (unwritten_of pending.old)
-        (of_writers (W.bytes out.old) (E.bytes err.old) (P.bytes refused.old))
-        (of_writers (W.bytes out.new) (E.bytes err.new) (P.bytes refused.new)) [] [] []) }
-    ensures counts { CountsWriteFault result
-        (of_writers (W.failures out.old) (E.failures err.old) (P.failures refused.old))
-        (of_writers (W.failures out.new) (E.failures err.new) (P.failures refused.new)) }
-    ensures flushed { OnOk result ((W.is_flushed out.new ≡ true) × (E.is_flushed err.new ≡ true) × (P.is_flushed refused.new ≡ true)) }
+    ensures part { OnErr result (RelaysPart (unwritten_of pending.old) (O.told outputs.old) (O.told outputs.new) [] [] []) }
+    ensures counts { CountsWriteFault result (O.told outputs.old) (O.told outputs.new) }
+    ensures flushed { OnOk result (AreFlushed (O.told outputs.new)) }
 {
-    pour(pending, out, err, refused)?;
-    if out.flush().is_err() {
-        return Err(RunFault::Write);
-    }
-    if err.flush().is_err() {
-        return Err(RunFault::Write);
-    }
-    if refused.flush().is_err() {
-        return Err(RunFault::Write);
-    }
-    Ok(())
+    pour(pending, outputs)?;
+    outputs.flush()
 }
 
 // Takes each piece that the stream can give.
-fn relay_pieces<W: Sink, E: Sink, P: Sink>(
-    alloc: Global,
+fn relay_pieces<O: ThreeWriters>(
     settings: Settings,
     stream: &mut BoundedLineStream,
     pending: &mut Pending,
-    out: &mut W,
-    err: &mut E,
-    refused: &mut P,
+    outputs: &mut O,
 ) -> Result<(), RunFault>
     requires dialect { stream.old.held.dialect ≡ rules_of settings.dialect }
     requires limit { stream.old.limit ≡ settings.limit }
@@ -145,24 +101,18 @@ fn relay_pieces<W: Sink, E: Sink, P: Sink>(
     ensures rules { OnOk result (KeepsRules stream.old stream.new) }
     ensures ok { OnOk result ((text : List ℕ) → Holds stream.old text
         → RelaysAllPieces settings text stream.new
-        (unwritten_of pending.old) (unwritten_of pending.new)
-        (of_writers (W.bytes out.old) (E.bytes err.old) (P.bytes refused.old))
-        (of_writers (W.bytes out.new) (E.bytes err.new) (P.bytes refused.new))) }
+        (unwritten_of pending.old) (unwritten_of pending.new) (O.told outputs.old) (O.told outputs.new)) }
     ensures held { OnOk result (HoldsLess BLOCK pending.new) }
     ensures fits { OnOk result (pending.new.so_far.carried + pending.new.so_far.refused ≤ usize.MAX) }
     ensures part { OnErr result ((text : List ℕ) → Holds stream.old text
-        → RelaysSome settings text (unwritten_of pending.old)
-        (of_writers (W.bytes out.old) (E.bytes err.old) (P.bytes refused.old))
-        (of_writers (W.bytes out.new) (E.bytes err.new) (P.bytes refused.new))) }
-    ensures counts { CountsWriteFault result
-        (of_writers (W.failures out.old) (E.failures err.old) (P.failures refused.old))
-        (of_writers (W.failures out.new) (E.failures err.new) (P.failures refused.new)) }
+        → RelaysSome settings text (unwritten_of pending.old) (O.told outputs.old) (O.told outputs.new)) }
+    ensures counts { CountsWriteFault result (O.told outputs.old) (O.told outputs.new) }
 {
     while let Some(piece) = stream.next() {
-        if take_piece(alloc, settings, pending, piece).is_err() {
+        if take_piece(settings, pending, piece).is_err() {
             return Err(RunFault::OutOfMemory);
         }
-        pour_full(pending, out, err, refused)?;
+        pour_full(pending, outputs)?;
     }
     Ok(())
 }
@@ -178,34 +128,26 @@ fn whole_lines(bytes: &[u8]) -> &str
 }
 
 // Takes the whole lines at the start of bytes as a rebuild does, up to one that is too long. Gives how many bytes were taken.
-fn relay_lines<W: Sink, E: Sink, P: Sink>(
-    alloc: Global,
+fn relay_lines<O: ThreeWriters>(
     settings: Settings,
-    progress: &mut Pending,
+    pending: &mut Pending,
     bytes: &[u8],
-    out: &mut W,
-    err: &mut E,
-    refused: &mut P,
+    outputs: &mut O,
 ) -> Result<usize, RunFault>
-    requires fits { progress.old.so_far.carried + progress.old.so_far.refused ≤ usize.MAX }
-    requires few { HoldsLess BLOCK progress.old }
+    requires fits { pending.old.so_far.carried + pending.old.so_far.refused ≤ usize.MAX }
+    requires few { HoldsLess BLOCK pending.old }
     ensures within { IfOk result (λ taken. taken ≤ length bytes.now) }
     ensures ok { IfOk result (λ taken. RelaysTo settings bytes.now (drop taken bytes.now)
-        (unwritten_of progress.old) (unwritten_of progress.new)
-        (of_writers (W.bytes out.old) (E.bytes err.old) (P.bytes refused.old))
-        (of_writers (W.bytes out.new) (E.bytes err.new) (P.bytes refused.new))) }
-    ensures held { OnOk result (HoldsLess BLOCK progress.new) }
-    ensures fits { OnOk result (progress.new.so_far.carried + progress.new.so_far.refused ≤ usize.MAX) }
-    ensures part { OnErr result (RelaysSome settings bytes.now (unwritten_of progress.old)
-        (of_writers (W.bytes out.old) (E.bytes err.old) (P.bytes refused.old))
-        (of_writers (W.bytes out.new) (E.bytes err.new) (P.bytes refused.new))) }
-    ensures counts { CountsWriteFault result
-        (of_writers (W.failures out.old) (E.failures err.old) (P.failures refused.old))
-        (of_writers (W.failures out.new) (E.failures err.new) (P.failures refused.new)) }
+        (unwritten_of pending.old) (unwritten_of pending.new) (O.told outputs.old) (O.told outputs.new)) }
+    ensures held { OnOk result (HoldsLess BLOCK pending.new) }
+    ensures fits { OnOk result (pending.new.so_far.carried + pending.new.so_far.refused ≤ usize.MAX) }
+    ensures part { OnErr result (RelaysSome settings bytes.now (unwritten_of pending.old)
+        (O.told outputs.old) (O.told outputs.new)) }
+    ensures counts { CountsWriteFault result (O.told outputs.old) (O.told outputs.new) }
 {
     laws::pieces_join();
     let mut lines = split_lines_in(settings.dialect, whole_lines(bytes));
-    let mut line = ParsedLine::new(alloc);
+    let mut line = ParsedLine::new(pending.alloc);
     let mut spare = None;
     let mut taken = 0;
     while let Some(piece) = lines.next() {
@@ -213,10 +155,10 @@ fn relay_lines<W: Sink, E: Sink, P: Sink>(
         if lines.remainder().is_none() || piece.len() > settings.limit {
             return Ok(taken);
         }
-        if take_text_piece(alloc, settings, progress, piece, &mut line, &mut spare).is_err() {
+        if take_text_piece(settings, pending, piece, &mut line, &mut spare).is_err() {
             return Err(RunFault::OutOfMemory);
         }
-        pour_full(progress, out, err, refused)?;
+        pour_full(pending, outputs)?;
         taken += piece.len() + 1;
     }
     Ok(taken)
@@ -232,15 +174,12 @@ fn first_newline(bytes: &[u8]) -> Option<usize>
 
 // Takes the line that ends in a part, if its first newline ends it, and the whole lines after it, which the stream is not
 // given. Gives how many bytes of the part were taken, or given to the stream.
-fn relay_begun<W: Sink, E: Sink, P: Sink>(
-    alloc: Global,
+fn relay_begun<O: ThreeWriters>(
     settings: Settings,
     stream: &mut BoundedLineStream,
     pending: &mut Pending,
     part: &[u8],
-    out: &mut W,
-    err: &mut E,
-    refused: &mut P,
+    outputs: &mut O,
 ) -> Result<usize, RunFault>
     requires dialect { stream.old.held.dialect ≡ rules_of settings.dialect }
     requires limit { stream.old.limit ≡ settings.limit }
@@ -250,18 +189,12 @@ fn relay_begun<W: Sink, E: Sink, P: Sink>(
     ensures rules { OnOk result (KeepsRules stream.old stream.new) }
     ensures ok { IfOk result (λ given. (text : List ℕ) → Holds stream.old text → IsLastPiece (rules_of settings.dialect) text
         → RelaysBegun settings text part.now given stream.new
-        (unwritten_of pending.old) (unwritten_of pending.new)
-        (of_writers (W.bytes out.old) (E.bytes err.old) (P.bytes refused.old))
-        (of_writers (W.bytes out.new) (E.bytes err.new) (P.bytes refused.new))) }
+        (unwritten_of pending.old) (unwritten_of pending.new) (O.told outputs.old) (O.told outputs.new)) }
     ensures held { OnOk result (HoldsLess BLOCK pending.new) }
     ensures fits { OnOk result (pending.new.so_far.carried + pending.new.so_far.refused ≤ usize.MAX) }
     ensures part { OnErr result ((text : List ℕ) → Holds stream.old text → IsLastPiece (rules_of settings.dialect) text
-        → RelaysSome settings (text ++ part.now) (unwritten_of pending.old)
-        (of_writers (W.bytes out.old) (E.bytes err.old) (P.bytes refused.old))
-        (of_writers (W.bytes out.new) (E.bytes err.new) (P.bytes refused.new))) }
-    ensures counts { CountsWriteFault result
-        (of_writers (W.failures out.old) (E.failures err.old) (P.failures refused.old))
-        (of_writers (W.failures out.new) (E.failures err.new) (P.failures refused.new)) }
+        → RelaysSome settings (text ++ part.now) (unwritten_of pending.old) (O.told outputs.old) (O.told outputs.new)) }
+    ensures counts { CountsWriteFault result (O.told outputs.old) (O.told outputs.new) }
 {
     laws::pieces_join();
     let Some(at) = first_newline(part) else {
@@ -274,24 +207,21 @@ fn relay_begun<W: Sink, E: Sink, P: Sink>(
     let Some(piece) = stream.next() else {
         return Ok(end);
     };
-    if take_piece(alloc, settings, pending, piece).is_err() {
+    if take_piece(settings, pending, piece).is_err() {
         return Err(RunFault::OutOfMemory);
     }
-    pour_full(pending, out, err, refused)?;
-    let taken = relay_lines(alloc, settings, pending, &part[end..], out, err, refused)?;
+    pour_full(pending, outputs)?;
+    let taken = relay_lines(settings, pending, &part[end..], outputs)?;
     Ok(end + taken)
 }
 
 // Takes a part of the text, and each piece that is there then. All that these make is written and flushed.
-fn relay_part<W: Sink, E: Sink, P: Sink>(
-    alloc: Global,
+fn relay_part<O: ThreeWriters>(
     settings: Settings,
     stream: &mut BoundedLineStream,
     pending: &mut Pending,
     part: &[u8],
-    out: &mut W,
-    err: &mut E,
-    refused: &mut P,
+    outputs: &mut O,
 ) -> Result<(), RunFault>
     requires dialect { stream.old.held.dialect ≡ rules_of settings.dialect }
     requires limit { stream.old.limit ≡ settings.limit }
@@ -302,37 +232,28 @@ fn relay_part<W: Sink, E: Sink, P: Sink>(
     ensures rules { OnOk result (KeepsRules stream.old stream.new) }
     ensures ok { OnOk result ((text : List ℕ) → Holds stream.old text → IsLastPiece (rules_of settings.dialect) text
         → RelaysAllPieces settings (text ++ part.now) stream.new
-        (unwritten_of pending.old) (unwritten_of pending.new)
-        (of_writers (W.bytes out.old) (E.bytes err.old) (P.bytes refused.old))
-        (of_writers (W.bytes out.new) (E.bytes err.new) (P.bytes refused.new))) }
+        (unwritten_of pending.old) (unwritten_of pending.new) (O.told outputs.old) (O.told outputs.new)) }
     ensures none { OnOk result (HoldsNone pending.new) }
     ensures fits { OnOk result (pending.new.so_far.carried + pending.new.so_far.refused ≤ usize.MAX) }
     ensures part { OnErr result ((text : List ℕ) → Holds stream.old text → IsLastPiece (rules_of settings.dialect) text
-        → RelaysSome settings (text ++ part.now) (unwritten_of pending.old)
-        (of_writers (W.bytes out.old) (E.bytes err.old) (P.bytes refused.old))
-        (of_writers (W.bytes out.new) (E.bytes err.new) (P.bytes refused.new))) }
-    ensures counts { CountsWriteFault result
-        (of_writers (W.failures out.old) (E.failures err.old) (P.failures refused.old))
-        (of_writers (W.failures out.new) (E.failures err.new) (P.failures refused.new)) }
-    ensures flushed { OnOk result ((W.is_flushed out.new ≡ true) × (E.is_flushed err.new ≡ true) × (P.is_flushed refused.new ≡ true)) }
+        → RelaysSome settings (text ++ part.now) (unwritten_of pending.old) (O.told outputs.old) (O.told outputs.new)) }
+    ensures counts { CountsWriteFault result (O.told outputs.old) (O.told outputs.new) }
+    ensures flushed { OnOk result (AreFlushed (O.told outputs.new)) }
 {
-    let given = relay_begun(alloc, settings, stream, pending, part, out, err, refused)?;
+    let given = relay_begun(settings, stream, pending, part, outputs)?;
     if stream.push(&part[given..]).is_err() {
         return Err(RunFault::OutOfMemory);
     }
-    relay_pieces(alloc, settings, stream, pending, out, err, refused)?;
-    pour_and_flush(pending, out, err, refused)
+    relay_pieces(settings, stream, pending, outputs)?;
+    pour_and_flush(pending, outputs)
 }
 
 // Takes the last piece, writes all that is held, and flushes.
-fn finish<W: Sink, E: Sink, P: Sink>(
-    alloc: Global,
+fn finish<O: ThreeWriters>(
     settings: Settings,
     stream: &mut BoundedLineStream,
     pending: &mut Pending,
-    out: &mut W,
-    err: &mut E,
-    refused: &mut P,
+    outputs: &mut O,
 ) -> Result<(), RunFault>
     requires dialect { stream.old.held.dialect ≡ rules_of settings.dialect }
     requires limit { stream.old.limit ≡ settings.limit }
@@ -340,39 +261,34 @@ fn finish<W: Sink, E: Sink, P: Sink>(
     requires fits { pending.old.so_far.carried + pending.old.so_far.refused ≤ usize.MAX }
     requires empty { HoldsNone pending.old }
     ensures ok { OnOk result ((text : List ℕ) → Holds stream.old text → IsLastPiece (rules_of settings.dialect) text
-        → RelaysLast settings text (unwritten_of pending.old) (unwritten_of pending.new)
-        (of_writers (W.bytes out.old) (E.bytes err.old) (P.bytes refused.old))
-        (of_writers (W.bytes out.new) (E.bytes err.new) (P.bytes refused.new))) }
+        → RelaysLast settings text
+        (unwritten_of pending.old) (unwritten_of pending.new) (O.told outputs.old) (O.told outputs.new)) }
     ensures none { OnOk result (HoldsNone pending.new) }
     ensures part { OnErr result ((text : List ℕ) → Holds stream.old text → IsLastPiece (rules_of settings.dialect) text
-        → RelaysLastPart settings text (unwritten_of pending.old)
-        (of_writers (W.bytes out.old) (E.bytes err.old) (P.bytes refused.old))
-        (of_writers (W.bytes out.new) (E.bytes err.new) (P.bytes refused.new))) }
-    ensures counts { CountsWriteFault result
-        (of_writers (W.failures out.old) (E.failures err.old) (P.failures refused.old))
-        (of_writers (W.failures out.new) (E.failures err.new) (P.failures refused.new)) }
-    ensures flushed { OnOk result ((W.is_flushed out.new ≡ true) × (E.is_flushed err.new ≡ true) × (P.is_flushed refused.new ≡ true)) }
+        → RelaysLastPart settings text (unwritten_of pending.old) (O.told outputs.old) (O.told outputs.new)) }
+    ensures counts { CountsWriteFault result (O.told outputs.old) (O.told outputs.new) }
+    ensures flushed { OnOk result (AreFlushed (O.told outputs.new)) }
 {
-    if take_piece(alloc, settings, pending, stream.finish()).is_err() {
+    if take_piece(settings, pending, stream.finish()).is_err() {
         return Err(RunFault::OutOfMemory);
     }
-    pour_and_flush(pending, out, err, refused)
+    pour_and_flush(pending, outputs)
 }
 
-/// Relays the lines that `reader` gives, as they come: each that [`rebuild`](lp_rebuild::rebuild) would write again goes to
-/// `out`, and the fault of every other item to `err`, with what `settings.numbering` says. By `Lines::Verbatim` each line that
-/// can be read goes to `out` as it came, also one that a rebuild would refuse for a name.
+/// Relays the lines that `reader` gives, as they come: each that [`rebuild`](lp_rebuild::rebuild) would write again goes to the
+/// lines of `outputs`, and the fault of every other item to its faults, with what `settings.numbering` says. By `Lines::Verbatim`
+/// each line that can be read goes out as it came, also one that a rebuild would refuse for a name.
 ///
-/// If `settings.puts_refused` says so, `refused` gains the piece of each item that has a fault line, byte for byte as it came,
-/// and a newline; of a piece that is too long its first bytes, as many as the limit. Else it gains nothing.
+/// If `settings.puts_refused` says so, the refused pieces of `outputs` gain the piece of each item that has a fault line, byte for
+/// byte as it came, and a newline; of a piece that is too long its first bytes, as many as the limit. Else they gain nothing.
 ///
 /// If `settings.counts_kinds` says so, the answer tells how many items were refused for each kind of fault; they add up to all that
 /// were. The text of a refused piece is read once more for that.
 ///
 /// What each read completes is written and flushed before the next read is asked for, and the rest at the end. What is held of
 /// the input is the line that has not ended yet and two blocks at most, and of each output less than a block and what one line
-/// makes, since it is written too if it fills a block. So by `Lines::Rebuilt` `out` gains what [`run`](lp_rebuild::run) writes, and by
-/// `Faults::Raw`, if items are named from 1 on, `err` does too, but not in its order.
+/// makes, since it is written too if it fills a block. So by `Lines::Rebuilt` the lines are what [`run`](lp_rebuild::run) writes, and
+/// by `Faults::Raw`, if items are named from 1 on, the faults are too, but not in its order.
 ///
 /// Input that is not UTF-8 does not end it: each piece that is not is one item, whose fault line is `item N: the line is not
 /// UTF-8`, and the pieces before and after it are read as ever. So is a piece that is longer than `settings.limit`, whose
@@ -384,26 +300,21 @@ fn finish<W: Sink, E: Sink, P: Sink>(
 ///
 /// # Errors
 ///
-/// After each of them, `out` has a beginning of the batch, `err` one of the fault lines, and `refused` one of the refused pieces.
+/// After each of them, each writer of `outputs` has a beginning of what was meant for it.
 ///
 /// * `Read` if `reader` failed, and only there.
 /// * `OutOfMemory` if memory was refused, or if no `usize` holds the number of the next item, how many bytes come before the next
 ///   piece, or, if faults name lines, the line on which that would begin.
-/// * `Write` if `out`, `err` or `refused` failed, and only there.
-pub fn relay<R: Source, W: Sink, E: Sink, P: Sink>(
+/// * `Write` if a writer of `outputs` failed, and only there.
+pub fn relay<R: Source, O: ThreeWriters>(
     alloc: Global,
     settings: Settings,
     reader: &mut R,
-    out: &mut W,
-    err: &mut E,
-    refused: &mut P,
+    outputs: &mut O,
 ) -> Result<Relayed, RunFault>
     ensures { Relays settings result
         (reader_told R.bytes R.failures reader.old) (reader_told R.bytes R.failures reader.new)
-        (of_writers (writer_told W.bytes W.failures W.is_flushed out.old) (writer_told E.bytes E.failures E.is_flushed err.old)
-        (writer_told P.bytes P.failures P.is_flushed refused.old))
-        (of_writers (writer_told W.bytes W.failures W.is_flushed out.new) (writer_told E.bytes E.failures E.is_flushed err.new)
-        (writer_told P.bytes P.failures P.is_flushed refused.new)) }
+        (O.told outputs.old) (O.told outputs.new) }
 {
     laws::pieces_join();
     laws::runs_give_pieces();
@@ -414,15 +325,7 @@ pub fn relay<R: Source, W: Sink, E: Sink, P: Sink>(
     for _ in 0..u64::MAX {
         let n = read_block(reader, &mut block, 0)?;
         if n == 0 {
-            finish(
-                alloc,
-                settings,
-                &mut stream,
-                &mut pending,
-                out,
-                err,
-                refused,
-            )?;
+            finish(settings, &mut stream, &mut pending, outputs)?;
             return Ok(Relayed {
                 carried: pending
                     .so_far
@@ -432,16 +335,7 @@ pub fn relay<R: Source, W: Sink, E: Sink, P: Sink>(
                 kinds: pending.kinds,
             });
         }
-        relay_part(
-            alloc,
-            settings,
-            &mut stream,
-            &mut pending,
-            &block[..n],
-            out,
-            err,
-            refused,
-        )?;
+        relay_part(settings, &mut stream, &mut pending, &block[..n], outputs)?;
     }
     Err(RunFault::OutOfMemory)
 }

@@ -102,6 +102,8 @@ impl Default for Settings {
 /// What a relay made and has not written yet.
 #[derive(Drop)]
 pub(crate) struct Pending {
+    /// Where memory for what is taken comes from.
+    pub(crate) alloc: Global,
     /// The lines and the fault lines, with the counts of all items so far.
     pub(crate) so_far: Progress,
     /// The refused pieces that go out, each with a newline.
@@ -150,6 +152,7 @@ pub(crate) fn nothing_made(alloc: Global, settings: Settings) -> Pending
     };
     let pieces = Vec::new(alloc);
     Pending {
+        alloc,
         so_far,
         pieces,
         offset: 0,
@@ -444,7 +447,6 @@ fn put_refused(pieces: &mut Vec<u8>, piece: &[u8]) -> Result<(), AllocError>
 // kinds are, and the piece, or its first bytes if it is too long, goes out, if refused pieces do.
 #[inline(always)]
 fn end_piece(
-    alloc: Global,
     settings: Settings,
     pending: &mut Pending,
     from: usize,
@@ -460,7 +462,7 @@ fn end_piece(
         return Ok(());
     }
     count_refused(
-        alloc,
+        pending.alloc,
         settings.dialect,
         &mut pending.kinds,
         &pending.so_far,
@@ -468,7 +470,7 @@ fn end_piece(
         piece,
     )?;
     tell(
-        alloc,
+        pending.alloc,
         settings,
         &mut pending.so_far,
         pending.offset,
@@ -483,7 +485,6 @@ fn end_piece(
 
 // Takes a piece. It is refused if its number, or the line after it, would not fit.
 pub(crate) fn take_piece(
-    alloc: Global,
     settings: Settings,
     pending: &mut Pending,
     piece: Result<&[u8], PieceTooLong<'_>>,
@@ -498,8 +499,8 @@ pub(crate) fn take_piece(
     let next = line_after(&pending.so_far, piece)?;
     let end = offset_after(pending.offset, piece)?;
     let from = pending.so_far.faults.len();
-    take_given(alloc, settings, &mut pending.so_far, piece)?;
-    end_piece(alloc, settings, pending, from, piece)?;
+    take_given(pending.alloc, settings, &mut pending.so_far, piece)?;
+    end_piece(settings, pending, from, piece)?;
     pending.so_far.line = next;
     pending.offset = end;
     Ok(())
@@ -508,7 +509,6 @@ pub(crate) fn take_piece(
 // Takes a piece that is text, as [`take_piece`] does, by way of a line that is used again.
 #[inline(always)]
 pub(crate) fn take_text_piece<'a>(
-    alloc: Global,
     settings: Settings,
     pending: &mut Pending,
     piece: &'a str,
@@ -522,12 +522,13 @@ pub(crate) fn take_text_piece<'a>(
         ≡ start_after (start_of (unwritten_of pending.old)) (newlines_in piece.now) (length piece.now)) }
     ensures fits { OnOk result (pending.new.so_far.carried + pending.new.so_far.refused ≤ usize.MAX) }
 {
+    let alloc = pending.alloc;
     let given = Ok(piece.as_bytes());
     let next = line_after(&pending.so_far, given)?;
     let end = offset_after(pending.offset, given)?;
     let from = pending.so_far.faults.len();
     take_text(alloc, settings, &mut pending.so_far, piece, line, spare)?;
-    end_piece(alloc, settings, pending, from, given)?;
+    end_piece(settings, pending, from, given)?;
     pending.so_far.line = next;
     pending.offset = end;
     Ok(())

@@ -25,8 +25,8 @@ fn relay_agrees(
     if let Ok(counts) = wrote.answer
         && counts.carried == rebuilt.carried
         && counts.refused == rebuilt.refused
-        && wrote.lines.as_slice() == rebuilt.batch.as_slice()
-        && wrote.faults.as_slice() == rebuilt.faults.as_slice()
+        && wrote.outputs.lines.as_slice() == rebuilt.batch.as_slice()
+        && wrote.outputs.faults.as_slice() == rebuilt.faults.as_slice()
     {
         return Ok(());
     }

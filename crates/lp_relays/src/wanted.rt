@@ -74,14 +74,13 @@ pub fn relay_gives(
     cells: &[Vec<u8>],
 ) -> Result<(), Unlike> {
     for way in ways(alloc, asked.reads, text.len())?.iter() {
-        let Wrote {
-            answer,
-            lines,
-            faults,
-            refused,
-        } = relayed(alloc, asked.settings, *way, text);
+        let Wrote { answer, outputs } = relayed(alloc, asked.settings, *way, text);
         let by = format!(in alloc; "relayed by {way:?} in {:?}", asked.settings.dialect)?;
-        let written = [lines.as_slice(), faults.as_slice(), refused.as_slice()];
+        let written = [
+            outputs.lines.as_slice(),
+            outputs.faults.as_slice(),
+            outputs.refused.as_slice(),
+        ];
         compare(alloc, by.as_str(), &answer, written, cells)?;
     }
     Ok(())

@@ -1,7 +1,7 @@
 //! The ways by which a text comes to a relay, and what the relay gives.
 
 use lp_rebuild::{DeviceFault, Kept, RunFault, Source};
-use lp_relay_core::{Relayed, Settings, relay};
+use lp_relay_core::{Outputs, Relayed, Settings, relay};
 use lp_vectors_shared::cuts::CutSource;
 use std::alloc::{AllocError, Global};
 
@@ -43,30 +43,18 @@ impl<'a> Source for Blocks<'a> {
 #[derive(Drop)]
 pub struct Wrote {
     pub answer: Result<Relayed, RunFault>,
-    pub lines: Kept,
-    pub faults: Kept,
-    pub refused: Kept,
+    pub outputs: Outputs<Kept, Kept, Kept>,
 }
 
 // Relays what a source gives.
 fn relayed_from<R: Source>(alloc: Global, settings: Settings, reader: &mut R) -> Wrote {
-    let mut lines = Kept::new(alloc);
-    let mut faults = Kept::new(alloc);
-    let mut refused = Kept::new(alloc);
-    let answer = relay(
-        alloc,
-        settings,
-        reader,
-        &mut lines,
-        &mut faults,
-        &mut refused,
-    );
-    Wrote {
-        answer,
-        lines,
-        faults,
-        refused,
-    }
+    let mut outputs = Outputs {
+        lines: Kept::new(alloc),
+        faults: Kept::new(alloc),
+        refused: Kept::new(alloc),
+    };
+    let answer = relay(alloc, settings, reader, &mut outputs);
+    Wrote { answer, outputs }
 }
 
 /// Relays a text that comes so.

@@ -1,8 +1,9 @@
 //! Runs and relays over devices that fail, at each call in turn. The answers come from the format's rules.
 
-use crate::programs::{ERR, Ended, OUT, Program, TEXT, end_of, fault_of};
+use crate::programs::{ERR, Ended, OUT, Program, TEXT, end_of, fault_of, outputs_of};
 use influxdb_line_protocol::Dialect;
 use lp_rebuild::{Kept, Reading, RunFault, Writing};
+use lp_relay_core::Outputs;
 use lp_vectors_shared::drops::{Basin, Trickle};
 use std::alloc::{AllocError, Global};
 use std::cell::Cell;
@@ -136,15 +137,15 @@ type Calls = (Option<RunFault>, (usize, usize), (usize, usize));
 
 fn calls_of(alloc: Global, takes_out: bool, takes_err: bool) -> Calls {
     let (out_calls, err_calls) = (Cell::new((0, 0)), Cell::new((0, 0)));
-    let mut out = Writing::new(Counted {
+    let out = Writing::new(Counted {
         takes: takes_out,
         calls: &out_calls,
     });
-    let mut err = Writing::new(Counted {
+    let err = Writing::new(Counted {
         takes: takes_err,
         calls: &err_calls,
     });
-    let fault = fault_of(alloc, RUN, &mut TEXT.as_bytes(), &mut out, &mut err);
+    let fault = fault_of(alloc, RUN, &mut TEXT.as_bytes(), &mut outputs_of(out, err));
     (fault, out_calls.get(), err_calls.get())
 }
 
@@ -173,16 +174,16 @@ impl Write for Stuck {
 
 // Whether a run over the text whose output is stuck fails, and writes no fault line.
 fn fails_with_stuck_output(alloc: Global) -> bool {
-    let (mut stuck, mut err) = (Writing::new(Stuck), Basin::new(0));
-    let fault = fault_of(alloc, RUN, &mut TEXT.as_bytes(), &mut stuck, &mut err);
-    fault == WRITE && err.as_slice().is_empty()
+    let mut outputs = outputs_of(Writing::new(Stuck), Basin::new(0));
+    let fault = fault_of(alloc, RUN, &mut TEXT.as_bytes(), &mut outputs);
+    fault == WRITE && outputs.faults.as_slice().is_empty()
 }
 
 // Whether a program over the text whose fault lines are stuck fails, and writes its output.
 fn fails_with_stuck_faults(alloc: Global, program: Program) -> bool {
-    let (mut out, mut stuck) = (Basin::new(0), Writing::new(Stuck));
-    let fault = fault_of(alloc, program, &mut TEXT.as_bytes(), &mut out, &mut stuck);
-    fault == WRITE && out.as_slice() == OUT
+    let mut outputs = outputs_of(Basin::new(0), Writing::new(Stuck));
+    let fault = fault_of(alloc, program, &mut TEXT.as_bytes(), &mut outputs);
+    fault == WRITE && outputs.lines.as_slice() == OUT
 }
 
 #[test]
@@ -224,9 +225,10 @@ fn written(
     steps: &[Option<usize>],
 ) -> (Option<RunFault>, Kept) {
     let mut reader = Reading::new(Stepped { left, steps });
-    let (mut out, mut err) = (Kept::new(alloc), Kept::new(alloc));
-    let fault = fault_of(alloc, program, &mut reader, &mut out, &mut err);
-    (fault, out)
+    let mut outputs = outputs_of(Kept::new(alloc), Kept::new(alloc));
+    let fault = fault_of(alloc, program, &mut reader, &mut outputs);
+    let Outputs { lines, .. } = outputs;
+    (fault, lines)
 }
 
 // Whole lines of so many bytes, at least 7.

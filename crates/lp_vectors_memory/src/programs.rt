@@ -3,7 +3,7 @@
 
 use influxdb_line_protocol::Dialect;
 use lp_rebuild::{RunFault, Sink, Source, run};
-use lp_relay_core::{Nowhere, Settings, relay};
+use lp_relay_core::{Nowhere, Outputs, Settings, relay};
 use lp_vectors_shared::drops::Basin;
 use std::alloc::Global;
 
@@ -24,14 +24,22 @@ pub enum Program {
     Relay(Dialect),
 }
 
+/// These sinks for lines and for faults, and none for refused pieces.
+pub fn outputs_of<O: Sink, E: Sink>(lines: O, faults: E) -> Outputs<O, E, Nowhere> {
+    Outputs {
+        lines,
+        faults,
+        refused: Nowhere::new(),
+    }
+}
+
 /// Runs over what a source gives: the fault, if it fails.
 fn run_fault<R: Source, O: Sink, E: Sink>(
     alloc: Global,
     reader: &mut R,
-    out: &mut O,
-    err: &mut E,
+    outputs: &mut Outputs<O, E, Nowhere>,
 ) -> Option<RunFault> {
-    run(alloc, reader, out, err).err()
+    run(alloc, reader, &mut outputs.lines, &mut outputs.faults).err()
 }
 
 /// Relays what a source gives: the fault, if it fails.
@@ -39,14 +47,13 @@ fn relay_fault<R: Source, O: Sink, E: Sink>(
     alloc: Global,
     dialect: Dialect,
     reader: &mut R,
-    out: &mut O,
-    err: &mut E,
+    outputs: &mut Outputs<O, E, Nowhere>,
 ) -> Option<RunFault> {
     let settings = Settings {
         dialect,
         ..Settings::default()
     };
-    relay(alloc, settings, reader, out, err, &mut Nowhere::new()).err()
+    relay(alloc, settings, reader, outputs).err()
 }
 
 /// The fault of a program over these devices, if it fails.
@@ -54,12 +61,11 @@ pub fn fault_of<R: Source, O: Sink, E: Sink>(
     alloc: Global,
     program: Program,
     reader: &mut R,
-    out: &mut O,
-    err: &mut E,
+    outputs: &mut Outputs<O, E, Nowhere>,
 ) -> Option<RunFault> {
     match program {
-        Program::Run => run_fault(alloc, reader, out, err),
-        Program::Relay(dialect) => relay_fault(alloc, dialect, reader, out, err),
+        Program::Run => run_fault(alloc, reader, outputs),
+        Program::Relay(dialect) => relay_fault(alloc, dialect, reader, outputs),
     }
 }
 
@@ -93,7 +99,12 @@ pub fn end_of<R: Source>(
     out_at: usize,
     err_at: usize,
 ) -> Ended {
-    let (mut out, mut err) = (Basin::new(out_at), Basin::new(err_at));
-    let fault = fault_of(alloc, program, reader, &mut out, &mut err);
-    Ended { fault, out, err }
+    let mut outputs = outputs_of(Basin::new(out_at), Basin::new(err_at));
+    let fault = fault_of(alloc, program, reader, &mut outputs);
+    let Outputs { lines, faults, .. } = outputs;
+    Ended {
+        fault,
+        out: lines,
+        err: faults,
+    }
 }

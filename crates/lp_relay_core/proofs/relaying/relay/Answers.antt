@@ -17,7 +17,7 @@ loop-init g c =
       block = omega (arith);
       so_far = so_far_none c.pieces_join.ensures.some c.args.settings _ _ _ _ c.new_in-stream.ensures.holds made;
       reader_unfailed = refl;
-      unfailed = record { out = refl; err = refl; refused = refl };
+      unfailed = record { lines = refl; faults = refl; refused = refl };
     }
 
 pub returns-in_err-n : goal.returns-in_err-n

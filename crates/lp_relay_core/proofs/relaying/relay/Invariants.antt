@@ -1,7 +1,7 @@
 use Rattle.influxdb_line_protocol.specs.code.Rules.{rules_of}
 use Rattle.std.proofs.Common.{◌≡◌, ◌+◌, ◌<◌, ◌≤◌, ◌^◌, length}
-use Rattle.lp_relay_core.specs.RelaySteps.{CountsNone, HoldsNone, unwritten_of}
-use Rattle.lp_relay_core.specs.Writers.{of_writers}
+use Rattle.lp_relay_core.specs.RelaySteps.{HoldsNone, unwritten_of}
+use Rattle.lp_relay_core.specs.Writers.{CountsNone, failures_of}
 use Rattle.lp_relay_core.proofs.RelaysSoFar.{RelaysSoFar}
 use Rattle.lp_relay_core.proofs.relaying.relay.Given as goal
 
@@ -14,10 +14,7 @@ invariant-loop g l = record {
   block : length l.block.items ≤ 65536;
   so_far : RelaysSoFar l.fn.settings
       (g.R.Source.bytes l.initial.reader) (g.R.Source.bytes l.reader) l.stream (unwritten_of l.pending)
-      (of_writers (g.W.Sink.bytes l.initial.out) (g.E.Sink.bytes l.initial.err) (g.P.Sink.bytes l.initial.refused))
-      (of_writers (g.W.Sink.bytes l.out) (g.E.Sink.bytes l.err) (g.P.Sink.bytes l.refused));
+      (g.O.ThreeWriters.told l.initial.outputs) (g.O.ThreeWriters.told l.outputs);
   reader_unfailed : g.R.Source.failures l.reader ≡ g.R.Source.failures l.initial.reader;
-  unfailed : CountsNone
-      (of_writers (g.W.Sink.failures l.initial.out) (g.E.Sink.failures l.initial.err) (g.P.Sink.failures l.initial.refused))
-      (of_writers (g.W.Sink.failures l.out) (g.E.Sink.failures l.err) (g.P.Sink.failures l.refused));
+  unfailed : CountsNone (failures_of (g.O.ThreeWriters.told l.initial.outputs)) (failures_of (g.O.ThreeWriters.told l.outputs));
 }

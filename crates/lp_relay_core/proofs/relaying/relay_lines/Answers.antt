@@ -20,7 +20,7 @@ loop-piece-init g c =
       fits = omega (arith, c.requires.fits);
       held = c.requires.few;
       relays = to_none c.args.settings c.args.bytes.now _ _;
-      unfailed = record { out = refl; err = refl; refused = refl };
+      unfailed = record { lines = refl; faults = refl; refused = refl };
     }
 
 pub loop-piece-preserved : goal.loop-piece-preserved
@@ -40,7 +40,7 @@ loop-piece-preserved g c =
       fits = omega (arith, fits, poured.ok.carried, poured.ok.refused);
       held = poured.held;
       relays = to_more c.args.settings c.args.bytes.now (drop c.loop-piece.taken c.args.bytes.now) _
-          (unwritten_of c.args.progress.now) (unwritten_of c.loop-piece.progress) (unwritten_of c.take_text_piece.new.pending) (unwritten_of c.pour_full.new.pending)
+          (unwritten_of c.args.pending.now) (unwritten_of c.loop-piece.pending) (unwritten_of c.take_text_piece.new.pending) (unwritten_of c.pour_full.new.pending)
           _ _ _ (Ok c.in-Some.piece) h.relays line.given
           (at_no_fault c.take_text_piece.result c.if-is_err.ensures.value taken.taken)
           (poured.start ∙ at_no_fault c.take_text_piece.result c.if-is_err.ensures.value taken.start) poured.ok;
@@ -56,6 +56,6 @@ returns-in_err-pour_full-clause-part g c =
     c.if-is_none.ensures c.remainder.ensures c.if-piece-settings.false in
     on_err c.from_residual.result
     (to_part c.args.settings c.args.bytes.now (drop c.loop-piece.taken c.args.bytes.now) _
-    (unwritten_of c.args.progress.now) (unwritten_of c.loop-piece.progress) (unwritten_of c.take_text_piece.new.pending)
+    (unwritten_of c.args.pending.now) (unwritten_of c.loop-piece.pending) (unwritten_of c.take_text_piece.new.pending)
     _ _ _ (Ok c.in-Some.piece) h.relays line.given
     (at_no_fault c.take_text_piece.result c.if-is_err.ensures.value c.take_text_piece.ensures.taken) c.in_err-pour_full.ensures.part)

@@ -20,7 +20,7 @@ loop-piece-init g c =
             holds = holds;
             to = to_none c.args.settings text _ _;
           };
-      unfailed = record { out = refl; err = refl; refused = refl };
+      unfailed = record { lines = refl; faults = refl; refused = refl };
     }
 
 pub returns-then-is_err-clause-part : goal.returns-then-is_err-clause-part

@@ -1,7 +1,7 @@
 use Rattle.std.proofs.Common.{◌+◌, ◌<◌, ◌^◌, List, ℕ}
 use Rattle.influxdb_line_protocol.specs.code.Bounded.{Holds, KeepsRules, most_given}
-use Rattle.lp_relay_core.specs.RelaySteps.{CountsNone, HoldsLess, RelaysPieces, unwritten_of}
-use Rattle.lp_relay_core.specs.Writers.{of_writers}
+use Rattle.lp_relay_core.specs.RelaySteps.{HoldsLess, RelaysPieces, unwritten_of}
+use Rattle.lp_relay_core.specs.Writers.{CountsNone, failures_of}
 use Rattle.lp_relay_core.proofs.relaying.relay_pieces.Given as goal
 
 abbrev pub invariant-loop-piece : goal.invariant-loop-piece
@@ -11,11 +11,8 @@ invariant-loop-piece g l = record {
   held : HoldsLess 65536 l.pending;
   relays : (text : List ℕ) → Holds l.initial.stream text
       → RelaysPieces l.fn.settings text l.stream (unwritten_of l.initial.pending) (unwritten_of l.pending)
-      (of_writers (g.W.Sink.bytes l.initial.out) (g.E.Sink.bytes l.initial.err) (g.P.Sink.bytes l.initial.refused))
-      (of_writers (g.W.Sink.bytes l.out) (g.E.Sink.bytes l.err) (g.P.Sink.bytes l.refused));
-  unfailed : CountsNone
-      (of_writers (g.W.Sink.failures l.initial.out) (g.E.Sink.failures l.initial.err) (g.P.Sink.failures l.initial.refused))
-      (of_writers (g.W.Sink.failures l.out) (g.E.Sink.failures l.err) (g.P.Sink.failures l.refused));
+      (g.O.ThreeWriters.told l.initial.outputs) (g.O.ThreeWriters.told l.outputs);
+  unfailed : CountsNone (failures_of (g.O.ThreeWriters.told l.initial.outputs)) (failures_of (g.O.ThreeWriters.told l.outputs));
 }
 
 abbrev pub decreases-loop-piece : goal.decreases-loop-piece

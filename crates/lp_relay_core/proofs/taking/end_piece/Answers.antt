@@ -37,7 +37,7 @@ returns-then-not-settings-clause-ends c =
     omega (arith, within c.args.settings c.args.piece c.args.from before (made now.so_far) t) in
     let unasked : c.args.settings.puts_refused ≡ false = grind (arith, nat_tests) in
     ends_told c.args.settings c.args.piece c.args.from now
-    (record { so_far = c.tell.new.so_far; pieces = now.pieces; offset = now.offset; kinds = c.count_refused.new.kinds }) some
+    (record now { so_far = c.tell.new.so_far; kinds = c.count_refused.new.kinds }) some
     c.in_ok-tell.ensures.told
     (λ old taken. kind_counted c.args.settings c.args.piece c.args.from old (made now.so_far) (counts_if now.kinds) (counts_if c.count_refused.new.kinds) taken some
     c.in_ok-count_refused.ensures)
@@ -53,7 +53,7 @@ returns-clause-ends c =
     on_ok_weaker c.put_refused.result
     (λ put.
     ends_told c.args.settings c.args.piece c.args.from now
-    (record { so_far = c.tell.new.so_far; pieces = c.put_refused.new.pieces; offset = now.offset; kinds = c.count_refused.new.kinds }) some
+    (record now { so_far = c.tell.new.so_far; pieces = c.put_refused.new.pieces; kinds = c.count_refused.new.kinds }) some
     c.in_ok-tell.ensures.told
     (λ old taken. kind_counted c.args.settings c.args.piece c.args.from old (made now.so_far) (counts_if now.kinds) (counts_if c.count_refused.new.kinds) taken some
     c.in_ok-count_refused.ensures)
