@@ -2,7 +2,7 @@
 //!
 //! A fault line is made as a rebuild makes it, and only then told: so the calls of `lp_rebuild` that refuse items serve for both
 //! forms, and a relay that refuses nothing pays one comparison for each line.
-ghost use Rattle.std.specs.Prelude.{◌≡◌, ◌<◌, ◌++◌, drop, length, string_bytes, take, IsUtf8, OnOk};
+ghost use Rattle.std.specs.Prelude.{◌≡◌, ◌<◌, ◌++◌, ◌∷◌, [], drop, length, string_bytes, take, true, IsUtf8, OnOk};
 ghost use Rattle.std.specs.List.{flat_map};
 ghost use Rattle.lp_relay_core.specs.Told.{hex_digit, on_one_line, told, told_byte};
 
@@ -87,6 +87,35 @@ fn tell_text(faults: &mut String, text: &[u8]) -> Result<(), AllocError>
     Ok(())
 }
 
+// Whether a byte is told as it is.
+fn is_plain(byte: u8) -> bool
+    ensures { result ≡ true → told_byte byte ≡ byte ∷ [] }
+{
+    b' ' <= byte && byte <= b'~' && byte != b'\\'
+}
+
+// Whether bytes are told as they are.
+#[tactic(auto, using(crate::proofs::OneLine::one_more_plain))]
+fn are_plain(bytes: &[u8]) -> bool
+    ensures { result ≡ true → flat_map told_byte bytes.now ≡ bytes.now }
+{
+    let mut at = 0;
+    while at < bytes.len() && is_plain(bytes[at]) {
+        at += 1;
+    }
+    at == bytes.len()
+}
+
+// Whether a fault line is on one line, as it is told: most are.
+fn is_on_one_line(line: &[u8]) -> bool
+    ensures { result ≡ true → told Faults.OneLine line.now ≡ line.now }
+{
+    match line.split_last() {
+        Some((b'\n', text)) => text.len() <= MOST_TOLD && are_plain(text),
+        _ => false,
+    }
+}
+
 // Tells on one line the fault line that follows the first bytes of these.
 #[cold]
 #[inline(never)]
@@ -96,6 +125,9 @@ pub(crate) fn tell_on_one_line(faults: &mut String, from: usize) -> Result<(), A
     ensures { OnOk result (string_bytes faults.new
         ≡ take from (string_bytes faults.old) ++ told Faults.OneLine (drop from (string_bytes faults.old))) }
 {
+    if is_on_one_line(&faults.as_bytes()[from..]) {
+        return Ok(());
+    }
     let line = faults.split_off(from)?;
     let bytes = line.as_bytes();
     let text = &bytes[..bytes.len() - 1];
