@@ -1,7 +1,7 @@
 #!/usr/bin/env python3
 """The files that name a fault of a line, in any of its spellings.
 
-    checks/fault_files.py NAME    prints them, for the name that the definitions or the objects of lp_relay give the fault
+    checks/fault_files.py NAME    prints them, for the name that the definitions give the fault, or its kind
     checks/fault_files.py         prints each such file, of any fault, for which the table `A new fault` of CONTRIBUTING.md has no row,
                                   and each pattern there that is for none; status 1 if there is anything to print
 
@@ -18,7 +18,7 @@ from pathlib import Path
 from promises import MADE, TOP
 
 TEXTS = "crates/lp_values/specs/code/Faults.antt", re.compile(r'^fault_text \(?format\.(\w+)[^=]*= codes "(.*?)"', re.M)
-KINDS = "crates/lp_relay_core/specs/Objects.antt", re.compile(r'^fault_kind \(?fault\.(\w+)[^=]*= codes "(\w+)"', re.M)
+KINDS = "crates/lp_relay_core/specs/Objects.antt", re.compile(r"^fault_kind \(?fault\.(\w+)[^=]*= (\w+)$", re.M)
 PAGE, HEAD = "CONTRIBUTING.md", "**A new fault**"
 
 
@@ -64,8 +64,8 @@ def differences(found):
 
 def main(words):
     told, kinds = pairs(*TEXTS), pairs(*KINDS)
-    faults = {name: [name.replace("_", ""), kinds[name].replace("_", ""), text] for name, text in told.items()}
-    asked = [name for name in faults if words in ([], [name], [kinds[name]])]
+    faults = {name: [name.replace("_", ""), kinds[name].lower(), text] for name, text in told.items()}
+    asked = [name for name in faults if not words or words[0].replace("_", "").lower() in faults[name][:2]]
     if not asked:
         print(f"{__doc__}\nThe faults: {', '.join(sorted(kinds.values()))}", file=sys.stderr)
         return 2
