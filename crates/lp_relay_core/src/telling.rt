@@ -91,19 +91,19 @@ fn tell_text(faults: &mut String, text: &[u8]) -> Result<(), AllocError>
 fn is_plain(byte: u8) -> bool
     ensures { result ≡ true → told_byte byte ≡ byte ∷ [] }
 {
-    b' ' <= byte && byte <= b'~' && byte != b'\\'
+    (b' ' <= byte) & (byte <= b'~') & (byte != b'\\')
 }
 
-// Whether bytes are told as they are.
+// Whether bytes are told as they are. No byte ends the loop, so that the compiler tests 16 at a time.
 #[tactic(auto, using(crate::proofs::OneLine::one_more_plain))]
 fn are_plain(bytes: &[u8]) -> bool
     ensures { result ≡ true → flat_map told_byte bytes.now ≡ bytes.now }
 {
-    let mut at = 0;
-    while at < bytes.len() && is_plain(bytes[at]) {
-        at += 1;
+    let mut are = true;
+    for at in 0..bytes.len() {
+        are = are & is_plain(bytes[at]);
     }
-    at == bytes.len()
+    are
 }
 
 // Whether a fault line is on one line, as it is told: most are.
