@@ -219,6 +219,7 @@ if [ -n "$program" ]; then
         wanted 2 "" "$usage" --strict --cut 2 x "$file"
     done
     for option in -o --output; do
+        wanted 2 "" "$usage" "$option"
         wanted 2 "" "$usage" x "$option" y
         wanted 2 "" "$usage" "$option" x -o y
         wanted 2 "" "$usage" --output x --lines "$option" x
