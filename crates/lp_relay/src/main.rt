@@ -23,9 +23,9 @@ use meter::{Counted, Meter, MeteredSink, MeteredSource};
 use named::Named;
 use noted::{Noted, Notes};
 use std::alloc::Global;
+use std::env;
 use std::io::{self, ErrorKind, IsTerminal};
 use std::process::ExitCode;
-use std::env;
 use summary::{Totals, summary_of};
 use tally::Tally;
 use words::{
