@@ -97,15 +97,13 @@ install_here() {
     told+=("five installs of the same files")
 }
 install_from_sources() {
-    local crate copy="$work/a copy"
+    local copy="$work/a copy"
     mkdir -p "$copy" "$work/stub"
     (cd "$top" && cp -R bin include man packaging launch.sh CHANGELOG.md LICENSE-* "$copy")
     mkdir -p "$copy/bindings"
     cp -R "$top/bindings/build.sh" "$top/bindings/c" "$copy/bindings"
-    for crate in lp_rebuild_program lp_relay lp_c; do
-        mkdir -p "$copy/crates/$crate/src"
-        touch "$copy/crates/$crate/src/lib.rt"
-    done
+    mkdir -p "$copy"/crates/{lp_rebuild_program,lp_relay,lp_c}/src
+    touch "$copy"/crates/{lp_rebuild_program,lp_relay}/src/main.rt "$copy/crates/lp_c/src/lib.rt"
     printf 'lp_rebuild_program:\nlp_relay:\nlp_c staticlib:\n' >"$copy/crates.txt"
     cat >"$work/stub/rt" <<'STUB'
 #!/bin/sh
@@ -118,11 +116,11 @@ STUB
     chmod +x "$work/stub/rt"
     export BUILT=$work/built CALLS=$work/calls FAILS=none
     # The second finds all built.
-    for crate in 1 2; do
+    for _ in 1 2; do
         PATH=$work/stub:$PATH "$copy/bin/install" "$work/from sources" >"$work/said"
         diff -r --no-dereference "$prefix" "$work/from sources" || fail "bin/install gives other files from sources"
     done
-    equal "what rt was called for" $'lp_rebuild_program run\nlp_relay run\nlp_c lib' "$(cat "$CALLS")"
+    equal "what rt was called for" $'lp_c lib\nlp_rebuild_program run\nlp_relay run' "$(sort "$CALLS")"
     touch "$copy/crates/lp_relay/src/more.rt"
     echo "// more" >"$copy/crates/lp_relay/src/more.rt"
     PATH=$work/stub:$PATH FAILS=lp_relay refused "install: lp_relay was not built" 1 "$copy/bin/install" "$work/nowhere"
