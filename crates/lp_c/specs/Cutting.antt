@@ -1,20 +1,20 @@
 -- What a search for cuts knows, and what a call of it finds.
 use Rattle.std.specs.Prelude.{◌≡◌, ◌≢◌, ◌+◌, ◌<◌, ◌≤◌, ◌==◌, ◌||◌, ℕ, Bool, List, [], ◌++◌, length, min, if◌then◌else◌, Some, Result, Ok, Err}
 use Rattle.lp_format.specs.format.{Dialect, IsFirstCut, IsLastPiece}
-use Rattle.lp_split.specs.code.{Part, Head, Plain, Quoted, Place, Track, Comment, Blanks, Line, IsTrackOf, most_counted}
+use Rattle.lp_split.specs.code.{Region, Head, Plain, Quoted, Place, Track, Comment, Blanks, Line, IsTrackOf, most_counted}
 use Rattle.lp_c.specs.Crossing.{dialect_of}
 use Rattle.lp_c.specs.Numbers.{answer_number}
 use Rattle.lp_c.specs.declared.cuts.Cuts.{Cuts}
 use Rattle.lp_c.specs.declared.views.Answer.{Answer}
 
--- the part of a piece that a number names
-abbrev pub part_in : ℕ → Part
-part_in number = if number == 1 then Plain else if number == 2 then Quoted else Head
+-- the region of a piece that a number names
+abbrev pub region_in : ℕ → Region
+region_in number = if number == 1 then Plain else if number == 2 then Quoted else Head
 
 -- the place that a search names; no more is counted than bytes came
 abbrev pub place_in : Cuts → Place
 place_in cuts = record {
-  part = part_in cuts.part;
+  region = region_in cuts.part;
   is_escaped = cuts.escaped;
   equals = min cuts.equals cuts.len;
   commas = min cuts.commas cuts.len;

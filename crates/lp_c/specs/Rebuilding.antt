@@ -1,16 +1,11 @@
 -- What callers in C get of a text that is rebuilt.
-use Rattle.std.specs.Prelude.{◌≡◌, ◌⊎◌, ℕ, ◌<◌, ◌≤◌, Bool, true, false, List, ◌++◌, length, drop}
-use Rattle.influxdb_line_protocol.specs.format.Dialects.{Dialect, Crate, Strict}
+use Rattle.std.specs.Prelude.{◌≡◌, ◌⊎◌, ℕ, ◌<◌, ◌≤◌, List, ◌++◌, length, drop}
+use Rattle.influxdb_line_protocol.specs.format.Dialects.{Dialect}
 use Rattle.lp_rebuild.specs.declared.batch.Rebuilt.{Rebuilt}
 use Rattle.lp_rebuild.specs.Rebuilding.{RebuildsIn}
 use Rattle.lp_c.specs.declared.views.Answer.TheVariants.{MoreRoom, Written}
 use Rattle.lp_c.specs.declared.rebuilding.Counts.{Counts}
 use Rattle.lp_c.specs.Numbers.{answer_number}
-
--- the dialect that is asked for
-abbrev pub dialect_of : Bool → Dialect
-dialect_of true = Strict
-dialect_of false = Crate
 
 -- both texts of what was rebuilt have room in these buffers
 pub record HaveRoom (r : Rebuilt) (batch faults : List ℕ) : Type 0 where

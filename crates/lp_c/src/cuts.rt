@@ -4,12 +4,12 @@ ghost use Rattle.std.specs.Prelude.{◌≡◌, ◌≢◌, ◌↔◌, ◌≤◌, 
 ghost use Rattle.lp_split.specs.code.{most_counted};
 ghost use Rattle.lp_c.specs.declared.views.Answer.TheVariants.{MoreText, OutOfMemory, Piece, TooLong};
 ghost use Rattle.lp_c.specs.Crossing.{dialect_of};
-ghost use Rattle.lp_c.specs.Cutting.{CutsOn, FindsOn, HasCome, IsWithin, KeepsRules, is_cut_answer, part_in, place_in, track_in};
+ghost use Rattle.lp_c.specs.Cutting.{CutsOn, FindsOn, HasCome, IsWithin, KeepsRules, is_cut_answer, place_in, region_in, track_in};
 ghost use Rattle.lp_c.specs.Numbers.{answer_number};
 
 use crate::reading::dialect_of;
 use crate::views::Answer;
-use lp_split::split::{Part, Place, Track, cut_or_track, track_on};
+use lp_split::split::{Place, Region, Track, cut_or_track, track_on};
 
 /// A search for cuts: what is known of the bytes of the piece that came so far.
 #[repr(C)]
@@ -33,25 +33,25 @@ pub struct Cuts {
     pub strict: bool,
 }
 
-// The part of a piece that a number names.
-fn part_of(number: u32) -> Part
-    ensures { result ≡ part_in number }
+// The region of a piece that a number names.
+fn region_of(number: u32) -> Region
+    ensures { result ≡ region_in number }
 {
     match number {
-        1 => Part::Plain,
-        2 => Part::Quoted,
-        _ => Part::Head,
+        1 => Region::Plain,
+        2 => Region::Quoted,
+        _ => Region::Head,
     }
 }
 
-// The number of a part of a piece.
-fn part_number(part: Part) -> u32
-    ensures { part_in result ≡ part }
+// The number of a region of a piece.
+fn region_number(region: Region) -> u32
+    ensures { region_in result ≡ region }
 {
-    match part {
-        Part::Head => 0,
-        Part::Plain => 1,
-        Part::Quoted => 2,
+    match region {
+        Region::Head => 0,
+        Region::Plain => 1,
+        Region::Quoted => 2,
     }
 }
 
@@ -60,7 +60,7 @@ fn track_of(cuts: &Cuts) -> Track
     ensures { result ≡ track_in cuts.now }
 {
     let place = Place {
-        part: part_of(cuts.part),
+        region: region_of(cuts.part),
         is_escaped: cuts.escaped,
         equals: cuts.equals.min(cuts.len),
         commas: cuts.commas.min(cuts.len),
@@ -84,7 +84,7 @@ fn at_place(cuts: &Cuts, len: usize, begins: u32, place: Place) -> Cuts
         equals: place.equals,
         commas: place.commas,
         begins,
-        part: part_number(place.part),
+        part: region_number(place.region),
         escaped: place.is_escaped,
         strict: cuts.strict,
     }

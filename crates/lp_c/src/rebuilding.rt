@@ -1,14 +1,14 @@
 //! A text that is rebuilt: its lines are written again into a buffer that the caller lends, and its faults into another.
 
 ghost use Rattle.std.specs.Prelude.{◌≡◌, ◌≢◌, ◌⊎◌, IsUtf8};
-ghost use Rattle.influxdb_line_protocol.specs.code.Rules.{rules_of};
 ghost use Rattle.lp_c.specs.declared.views.Answer.TheVariants.{NotUtf8, OutOfMemory};
 ghost use Rattle.lp_c.specs.Numbers.{answer_number};
-ghost use Rattle.lp_c.specs.Rebuilding.{Counted, PutsBoth, RebuildsInto, dialect_of};
+ghost use Rattle.lp_c.specs.Crossing.{dialect_of};
+ghost use Rattle.lp_c.specs.Rebuilding.{Counted, PutsBoth, RebuildsInto};
 
+use crate::reading::dialect_of;
 use crate::views::Answer;
 use crate::writing::put_front;
-use influxdb_line_protocol::Dialect;
 use lp_rebuild::{Rebuilt, rebuild_in};
 use std::alloc::Global;
 
@@ -51,17 +51,6 @@ fn put_both(rebuilt: &Rebuilt, batch: &mut [u8], faults: &mut [u8]) -> u32
     put_front(rebuilt.batch.as_slice(), batch);
     put_front(rebuilt.faults.as_slice(), faults);
     Answer::Written.number()
-}
-
-// The dialect that is asked for.
-fn dialect_of(strict: bool) -> Dialect
-    ensures { rules_of result ≡ dialect_of strict }
-{
-    if strict {
-        Dialect::Strict
-    } else {
-        Dialect::Crate
-    }
 }
 
 /// Writes again each line of a text whose names are all admitted, and refuses every other item, by the rules of a dialect.

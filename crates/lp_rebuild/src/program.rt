@@ -231,11 +231,11 @@ pub const USAGE: &str = "usage: lp_rebuild [--strict]";
 /// It takes no memory.
 ///
 /// ```text
-/// dialect_of(&[])                        gives  Some(Dialect::Crate)
-/// dialect_of(&["--strict"])              gives  Some(Dialect::Strict)
-/// dialect_of(&["--strict", "--strict"])  gives  None
+/// asked_dialect(&[])                        gives  Some(Dialect::Crate)
+/// asked_dialect(&["--strict"])              gives  Some(Dialect::Strict)
+/// asked_dialect(&["--strict", "--strict"])  gives  None
 /// ```
-pub fn dialect_of(words: &[&str]) -> Option<Dialect>
+pub fn asked_dialect(words: &[&str]) -> Option<Dialect>
     ensures { option_map rules_of result ≡ asked_dialect words.now }
 {
     match words {

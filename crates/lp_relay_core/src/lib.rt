@@ -30,4 +30,4 @@ pub use outputs::{Outputs, ThreeWriters};
 pub use relaying::{Relayed, relay};
 pub use taking::{Lines, Numbering, Settings};
 pub use telling::{Faults, tell_bytes};
-pub use texts::newlines_in;
+pub use lp_scan::newlines::newlines_in;

@@ -11,10 +11,11 @@ ghost use Rattle.lp_values.specs.code.SpelledParts.{spelled_fault};
 use crate::kinds::Kind;
 use crate::stops::stop_text;
 use crate::telling::hex_digit;
-use crate::texts::{newlines_in, text_of};
+use crate::texts::text_of;
 use crate::verdict::{fault_of, is_line};
 use influxdb_line_protocol::{Dialect, PieceTooLong, SpelledFault};
 use lp_rebuild::batch::Progress;
+use lp_scan::newlines::newlines_in;
 use lp_scan::trim::trimmed;
 use std::alloc::{AllocError, Global};
 

@@ -14,7 +14,7 @@ use crate::differing::{Part, differing_part, part_text};
 use crate::kinds::KindCounts;
 use crate::objects::tell_as_object;
 use crate::telling::{Faults, tell_on_one_line};
-use crate::texts::{newlines_in, text_of};
+use crate::texts::text_of;
 use crate::verdict::is_line;
 use influxdb_line_protocol::{
     Dialect, EscapedStr, FieldSet, ParsedLine, PieceTooLong, Series, TagSet, is_as_written, laws,
@@ -22,6 +22,7 @@ use influxdb_line_protocol::{
 use lp_lines::freeing::{forget_line, free_line};
 use lp_rebuild::batch::{self, Progress, refuse};
 use lp_rebuild::program::BLOCK;
+use lp_scan::newlines::newlines_in;
 use lp_scan::trim::trimmed;
 use std::alloc::{AllocError, Global};
 

@@ -46,20 +46,16 @@ pub fn end_mask(kind: TokenKind, bytes: &[u8], at: usize) -> u64
     let v = u8x16::from_slice(&bytes[at..]);
     let backslashes = v.simd_eq(u8x16::splat(b'\\'));
     match kind {
-        TokenKind::Measurement => {
-            let blanks = v.simd_eq(u8x16::splat(b' ')) | v.simd_eq(u8x16::splat(b'\t'));
-            let stops = blanks | v.simd_eq(u8x16::splat(b'\n')) | backslashes;
-            let own = v.simd_eq(u8x16::splat(b',')) | v.simd_eq(u8x16::splat(0));
-            (stops | own).to_bitmask()
-        }
         TokenKind::TagKey | TokenKind::FieldKey => by_low_half(KEY_ENDS, v).simd_eq(v).to_bitmask(),
         TokenKind::TagValue => {
             let stops = by_low_half(TAG_VALUE_ENDS, v).simd_eq(v);
             (stops | backslashes).to_bitmask()
         }
-        TokenKind::String => {
-            let quotes = v.simd_eq(u8x16::splat(b'"'));
-            (backslashes | quotes).to_bitmask()
+        TokenKind::Measurement | TokenKind::String => {
+            let [first, b, c, d, e] = kind.stops();
+            let second = v.simd_eq(u8x16::splat(b)) | v.simd_eq(u8x16::splat(c));
+            let others = second | (v.simd_eq(u8x16::splat(d)) | v.simd_eq(u8x16::splat(e)));
+            (v.simd_eq(u8x16::splat(first)) | others | backslashes).to_bitmask()
         }
     }
 }
@@ -97,37 +93,23 @@ pub fn stops_in(kind: TokenKind, bytes: &[u8], at: usize) -> u64
     ensures { result ≡ mask_of (stops_of kind) bytes.now at WIDE }
 {
     let v = u8x64::from_slice(&bytes[at..]);
-    let blanks = v.simd_eq(u8x64::splat(b' ')) | v.simd_eq(u8x64::splat(b'\t'));
-    let stops = blanks | v.simd_eq(u8x64::splat(b'\n'));
-    match kind {
-        TokenKind::Measurement => {
-            let own = v.simd_eq(u8x64::splat(b',')) | v.simd_eq(u8x64::splat(0));
-            (stops | own).to_bitmask()
-        }
-        TokenKind::TagKey | TokenKind::FieldKey => (stops
-            | v.simd_eq(u8x64::splat(b'='))).to_bitmask(),
-        TokenKind::TagValue => (stops | v.simd_eq(u8x64::splat(b','))).to_bitmask(),
-        TokenKind::String => v.simd_eq(u8x64::splat(b'"')).to_bitmask(),
-    }
+    let [first, b, c, d, e] = kind.stops();
+    let second = v.simd_eq(u8x64::splat(b)) | v.simd_eq(u8x64::splat(c));
+    let others = second | (v.simd_eq(u8x64::splat(d)) | v.simd_eq(u8x64::splat(e)));
+    (v.simd_eq(u8x64::splat(first)) | others).to_bitmask()
 }
 
-/// The mask of those of the 64 bytes from `at` on that a backslash escapes in it.
+/// The mask of those of the 64 bytes from `at` on that a backslash escapes in a token of this kind.
 #[inline(always)]
 pub fn known_in(kind: TokenKind, bytes: &[u8], at: usize) -> u64
     requires { at + WIDE ≤ length bytes.now }
     ensures { result ≡ mask_of (λ b. is_one_of (known_of kind) b) bytes.now at WIDE }
 {
     let v = u8x64::from_slice(&bytes[at..]);
-    let backslashes = v.simd_eq(u8x64::splat(b'\\'));
-    let name = v.simd_eq(u8x64::splat(b',')) | v.simd_eq(u8x64::splat(b' '));
-    match kind {
-        TokenKind::Measurement => (name | backslashes).to_bitmask(),
-        TokenKind::TagKey | TokenKind::TagValue | TokenKind::FieldKey => {
-            let own = v.simd_eq(u8x64::splat(b'=')) | backslashes;
-            (name | own).to_bitmask()
-        }
-        TokenKind::String => (v.simd_eq(u8x64::splat(b'"')) | backslashes).to_bitmask(),
-    }
+    let [a, b, c, d] = kind.known();
+    let first = v.simd_eq(u8x64::splat(a)) | v.simd_eq(u8x64::splat(b));
+    let others = v.simd_eq(u8x64::splat(c)) | v.simd_eq(u8x64::splat(d));
+    (first | others).to_bitmask()
 }
 
 /// How many of the 16 bytes from `at` on come before the first that ends a token of this kind or is a backslash.

@@ -1,6 +1,9 @@
-//! The bytes that end a name or a string, and those that a backslash escapes in it.
+//! The bytes that end a name or a string, and those that a backslash escapes in it: one table of both, by kind.
+//!
+//! Each test of a byte and each mask of a load is made from it. An array has a place for the most bytes that a kind has; a kind with
+//! fewer has a byte twice, which the compiler compares once.
 
-ghost use Rattle.std.specs.Prelude.{◌≡◌};
+ghost use Rattle.std.specs.Prelude.{◌≡◌, ℕ, length};
 ghost use Rattle.lp_format.specs.format.Bytes.{is_one_of};
 ghost use Rattle.lp_scan.specs.code.Tokens.{stops_of, known_of};
 
@@ -15,19 +18,39 @@ pub enum TokenKind {
 }
 
 impl TokenKind {
+    /// The bytes that end a token of this kind if they are bare.
+    #[inline(always)]
+    pub fn stops(self) -> [u8; 5]
+        ensures bytes { (b : ℕ) → is_one_of result b ≡ stops_of self b }
+        ensures len { length result ≡ 5 }
+    {
+        match self {
+            TokenKind::Measurement => *b" \t\n,\0",
+            TokenKind::TagKey | TokenKind::FieldKey => *b" \t\n==",
+            TokenKind::TagValue => *b" \t\n,,",
+            TokenKind::String => *b"\"\"\"\"\"",
+        }
+    }
+
+    /// The bytes that a backslash escapes in a token of this kind.
+    #[inline(always)]
+    pub fn known(self) -> [u8; 4]
+        ensures bytes { (b : ℕ) → is_one_of result b ≡ is_one_of (known_of self) b }
+        ensures len { length result ≡ 4 }
+    {
+        match self {
+            TokenKind::Measurement => *b", \\\\",
+            TokenKind::TagKey | TokenKind::TagValue | TokenKind::FieldKey => *b",= \\",
+            TokenKind::String => *b"\"\\\\\\",
+        }
+    }
+
     /// Whether a bare byte ends a token of this kind.
     #[inline(always)]
     pub fn is_stop(self, byte: u8) -> bool
         ensures { result ≡ stops_of self byte }
     {
-        match self {
-            TokenKind::Measurement => matches!(byte, b' ' | b'\t' | b'\n' | 0 | b','),
-            TokenKind::TagKey | TokenKind::FieldKey => {
-                matches!(byte, b' ' | b'\t' | b'\n' | b'=')
-            }
-            TokenKind::TagValue => matches!(byte, b' ' | b'\t' | b'\n' | b','),
-            TokenKind::String => byte == b'"',
-        }
+        self.stops().contains(&byte)
     }
 
     /// Whether a backslash before the byte is a known escape.
@@ -35,13 +58,6 @@ impl TokenKind {
     pub fn is_known(self, byte: u8) -> bool
         ensures { result ≡ is_one_of (known_of self) byte }
     {
-        match self {
-            TokenKind::Measurement => matches!(byte, b',' | b' ' | b'\\'),
-            TokenKind::TagKey | TokenKind::TagValue | TokenKind::FieldKey => matches!(
-                byte,
-                b',' | b'=' | b' ' | b'\\'
-            ),
-            TokenKind::String => matches!(byte, b'"' | b'\\'),
-        }
+        self.known().contains(&byte)
     }
 }

@@ -9,7 +9,7 @@ pub mod Bounded
 pub use Rules.{rules_of}
 pub use Stops.{is_stop}
 pub use Ahead.{IsAhead, AreSeen}
-pub use Tracks.{IsCountOf, EndsIn, IsPlace, Steps, NeverComment, IsTrackOf, Leads, LeadsTo, most_counted, TracksOn, Part, Head, Plain}
+pub use Tracks.{IsCountOf, EndsIn, IsPlace, Steps, NeverComment, IsTrackOf, Leads, LeadsTo, most_counted, TracksOn, Region, Head, Plain}
 pub use Tracks.{Quoted, Place, Track, Comment, Blanks, Line}
 pub use Searches.{IsKnown, IsHeldAt, FindsCut, SearchesOn, CutsOrTracks}
 pub use Streams.{Held, HoldsThen, TakesPiece, GivesCut, GivesCutText, GivesFront, GivesLast, GivesLastText}

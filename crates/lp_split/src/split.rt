@@ -3,7 +3,7 @@
 ghost use Rattle.std.specs.Prelude.{◌≡◌, ◌≢◌, ◌+◌, ◌/◌, ◌^◌, ◌<◌, ◌≤◌, ◌==◌, ◌||◌, ℕ, length, take, drop, option_map, slice_index, IfSome};
 ghost use Rattle.std.specs.Prelude.{MatchOption, true, false, All};
 ghost use Rattle.std.specs.Iterator.{at_most};
-ghost use Rattle.lp_format.specs.format.{backslash, newline, quote, IsBareAfter, begins_comment, IsFirstCut, GivesPiece, most_pieces, newlines_in};
+ghost use Rattle.lp_format.specs.format.{backslash, newline, quote, IsBareAfter, begins_comment, IsFirstCut, GivesPiece, most_pieces};
 ghost use Rattle.lp_format.specs.format.{Crate};
 ghost use Rattle.memchr.specs.Find.{IsFirstByte, is_byte3};
 ghost use Rattle.lp_scan.specs.code.{mask_of, IsBarePassed};
@@ -19,7 +19,7 @@ mod resumed;
 mod tracked;
 
 use resumed::cut_after;
-pub use resumed::{Part, cut_or_track};
+pub use resumed::{Region, cut_or_track};
 pub(crate) use resumed::{Search, search_on};
 pub use tracked::{Place, Track, track_on};
 
@@ -203,19 +203,6 @@ fn quoted_end(text: &[u8], at: usize, ahead: Ahead) -> (usize, Ahead)
     (end, nothing_from(end + 1))
 }
 
-/// How many newlines there are.
-pub(crate) fn newlines_in(text: &[u8]) -> usize
-    ensures few { result ≤ length text.now }
-    ensures value { result ≡ newlines_in text.now }
-{
-    let (mut count, mut at) = (0, 0);
-    while text.len() - at >= WIDE {
-        count += ones_below(places_of(b'\n', text, at), WIDE);
-        at += WIDE;
-    }
-    count + text[at..].iter().filter(|byte| **byte == b'\n').count()
-}
-
 /// The place of the newline that ends the first piece, or `None` if the text is one piece, with no regard to
 /// comments. Loads show where plain stretches end, and what comes after the last load or stretch is tracked.
 #[tactic(auto, using(crate::proofs::lemmas::split::SplitStretches::stretches))]
@@ -227,7 +214,7 @@ fn cut_by_stretches(text: &[u8]) -> Option<usize>
     match text.get(head) {
         Some(b' ') => {}
         Some(b'\n') => return Some(head),
-        _ => return cut_after(text, head, Part::Head, 0, 0),
+        _ => return cut_after(text, head, Region::Head, 0, 0),
     }
     let mut at = head + 1;
     let (mut equals, mut commas, mut ahead) = (0, 0, nothing_from(at));
@@ -238,7 +225,7 @@ fn cut_by_stretches(text: &[u8]) -> Option<usize>
             equals += ones_below(ahead.equals, WIDE);
             commas += ones_below(ahead.commas, WIDE);
             if text.len() - at <= WIDE {
-                return cut_after(text, at, Part::Plain, equals, commas);
+                return cut_after(text, at, Region::Plain, equals, commas);
             }
             ahead = load_ahead(text, at);
             continue;
@@ -255,7 +242,7 @@ fn cut_by_stretches(text: &[u8]) -> Option<usize>
         if commas < equals {
             (at, ahead) = quoted_end(text, at, ahead);
             let Some(b'"') = text.get(at) else {
-                return cut_after(text, at, Part::Quoted, equals, commas);
+                return cut_after(text, at, Region::Quoted, equals, commas);
             };
             at += 1;
         }

@@ -1,7 +1,7 @@
 //! A run in each dialect, as the arguments of the program ask for it.
 
 use influxdb_line_protocol::Dialect;
-use lp_rebuild::{Kept, USAGE, dialect_of, rebuild_in, run_in, status};
+use lp_rebuild::{Kept, USAGE, asked_dialect, rebuild_in, run_in, status};
 use lp_vectors_shared::fault::Fault;
 
 #[test]
@@ -16,7 +16,7 @@ fn runs_are_in_the_dialect_that_was_asked_for(rt: HostRuntime) -> Result<(), Fau
             1,
         ),
     ] {
-        let dialect = dialect_of(words).ok_or(Fault::Unexpected)?;
+        let dialect = asked_dialect(words).ok_or(Fault::Unexpected)?;
         let mut reader = "m a=1i,\n".as_bytes();
         let mut out = Kept::new(alloc);
         let mut err = Kept::new(alloc);
@@ -30,7 +30,7 @@ fn runs_are_in_the_dialect_that_was_asked_for(rt: HostRuntime) -> Result<(), Fau
         ["--strict", "--strict"].as_slice(),
         [""].as_slice(),
     ] {
-        assert!(rt; dialect_of(words).is_none());
+        assert!(rt; asked_dialect(words).is_none());
     }
     assert_eq!(rt; USAGE, "usage: lp_rebuild [--strict]");
     let rebuilt = rebuild_in(alloc, Dialect::Strict, "# a=\"\nm b=1i\n")?;

@@ -4,7 +4,7 @@
 use influxdb_line_protocol::Dialect;
 use lp_rebuild::{RunFault, Sink, Source, run};
 use lp_relay_core::{Nowhere, Outputs, Settings, relay};
-use lp_vectors_shared::drops::Basin;
+use lp_vectors_shared::small_devices::Basin;
 use std::alloc::Global;
 
 /// A text of two lines and two items that are refused.

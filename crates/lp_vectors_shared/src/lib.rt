@@ -3,7 +3,6 @@
 
 pub mod building;
 pub mod cuts;
-pub mod drops;
 pub mod exhausted_memory;
 pub mod fault;
 pub mod given;
@@ -13,4 +12,5 @@ pub mod render;
 pub mod rows;
 pub mod short_line;
 pub mod short_texts;
+pub mod small_devices;
 pub mod streams;

@@ -5,7 +5,7 @@ ghost use Rattle.lp_format.specs.format.{letter_i, letter_u, quote, byte, miss, 
 ghost use Rattle.lp_written.specs.code.AsWritten.{EndsValue, IsOnlyRest, IsWrittenValue, has_extra_zero, is_written_integer};
 ghost use Rattle.lp_written.specs.code.AsWritten.{is_written_unsigned};
 
-use crate::tokens::after_string;
+use crate::tokens::after_written_string;
 use lp_scan::trim::strip_byte;
 use lp_values::FloatText;
 use lp_values::digits::{integer_value, unsigned_value};
@@ -96,7 +96,7 @@ fn after_word(text: &str) -> Option<&str>
 /// What follows the value at the start of `text`, if that is as the builder writes it.
 #[tactic(auto, using(crate::proofs::lemmas::parts::WrittenNumbers::string_only_value))]
 #[inline(always)]
-pub(crate) fn after_value(text: &str) -> Option<&str>
+pub(crate) fn after_written_value(text: &str) -> Option<&str>
     ensures { IsOnlyRest (IsWrittenValue text.now) EndsValue result }
 {
     let whole = integer_len(text);
@@ -104,7 +104,7 @@ pub(crate) fn after_value(text: &str) -> Option<&str>
         return after_number(text, whole);
     }
     if has_byte_at(text.as_bytes(), 0, b'"') {
-        return after_string(text);
+        return after_written_string(text);
     }
     after_word(text)
 }

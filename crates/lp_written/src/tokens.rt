@@ -69,7 +69,7 @@ fn is_admitted_spelling(kind: NameKind, spelled: &[u8]) -> bool
 
 /// What follows the name at the start of `text`, if that is spelled as the builder spells it, and is admitted.
 #[inline(always)]
-pub(crate) fn after_name(kind: NameKind, text: &str) -> Option<&str>
+pub(crate) fn after_written_name(kind: NameKind, text: &str) -> Option<&str>
     ensures { IsOnlyRest (IsWrittenName (kind_of kind) text.now) (EndsName (kind_of kind)) result }
 {
     let bytes = text.as_bytes();
@@ -83,7 +83,7 @@ pub(crate) fn after_name(kind: NameKind, text: &str) -> Option<&str>
 
 /// What follows the string at the start of `text`, if that is spelled as the builder spells it.
 #[inline(always)]
-pub(crate) fn after_string(text: &str) -> Option<&str>
+pub(crate) fn after_written_string(text: &str) -> Option<&str>
     ensures { IsOnlyRest (IsWrittenString text.now) (λ rest. Unit) result }
 {
     let opened = strip_byte(b'"', text)?;

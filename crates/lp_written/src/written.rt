@@ -5,8 +5,8 @@ ghost use Rattle.lp_format.specs.format.{a_tag_value, IsAsWritten};
 ghost use Rattle.lp_written.specs.code.AsWritten.{AreWrittenFields, EndsName, EndsValue, IsOnlyRest, IsWrittenAfterField};
 ghost use Rattle.lp_written.specs.code.AsWritten.{IsWrittenAfterName, IsWrittenField, IsWrittenTag, IsWrittenTimestamp};
 
-use crate::numbers::{after_value, is_written_integer};
-use crate::tokens::after_name;
+use crate::numbers::{after_written_value, is_written_integer};
+use crate::tokens::after_written_name;
 use lp_scan::trim::strip_byte;
 use lp_values::literals::integer_len;
 use lp_values::names::NameKind;
@@ -17,9 +17,9 @@ use lp_values::names::NameKind;
 fn after_tag(text: &str) -> Option<&str>
     ensures { IsOnlyRest (IsWrittenTag text.now) (EndsName a_tag_value) result }
 {
-    let key_end = after_name(NameKind::TagKey, text)?;
+    let key_end = after_written_name(NameKind::TagKey, text)?;
     let value = strip_byte(b'=', key_end)?;
-    after_name(NameKind::TagValue, value)
+    after_written_name(NameKind::TagValue, value)
 }
 
 // What follows the field at the start of `text`, if that is as the builder writes it.
@@ -28,9 +28,9 @@ fn after_tag(text: &str) -> Option<&str>
 fn after_field(text: &str) -> Option<&str>
     ensures { IsOnlyRest (IsWrittenField text.now) EndsValue result }
 {
-    let key_end = after_name(NameKind::FieldKey, text)?;
+    let key_end = after_written_name(NameKind::FieldKey, text)?;
     let value = strip_byte(b'=', key_end)?;
-    after_value(value)
+    after_written_value(value)
 }
 
 // Whether the builder writes `text` for a timestamp, or for none.
@@ -112,7 +112,7 @@ fn is_after_name(text: &str) -> bool
 pub fn is_as_written(line: &str) -> bool
     ensures { (result ≡ true) ↔ IsAsWritten line.now }
 {
-    let Some(rest) = after_name(NameKind::Measurement, line) else {
+    let Some(rest) = after_written_name(NameKind::Measurement, line) else {
         return false;
     };
     is_after_name(rest)

@@ -8,18 +8,6 @@ use super::buffer::BufMut;
 use super::marks::before_first;
 use lp_scan::sets::TokenKind;
 
-// The bytes of a token that get a backslash: those that one escapes in it.
-#[inline(always)]
-fn marks(kind: TokenKind) -> [u8; 4]
-    ensures { (b : ℕ) → is_one_of result b ≡ is_one_of (known_of kind) b }
-{
-    match kind {
-        TokenKind::Measurement => *b", \\\\",
-        TokenKind::TagKey | TokenKind::TagValue | TokenKind::FieldKey => *b",= \\",
-        TokenKind::String => *b"\"\\\\\\",
-    }
-}
-
 // The first byte of `text` that gets a backslash: what comes before it, the byte, and what follows.
 #[tactic(auto, using(crate::proofs::lemmas::builder::BuilderLemmas::escaped_first))]
 #[inline(always)]
@@ -29,7 +17,7 @@ fn next_escape(kind: TokenKind, text: &[u8]) -> Option<(&[u8], u8, &[u8])>
     ensures parts { IfSome result (λ p. length p.0.now + length p.2.now + 1 ≡ length text.now) }
     ensures none { IfNone result (escaped (known_of kind) text.now ≡ text.now) }
 {
-    let at = before_first(marks(kind), text);
+    let at = before_first(kind.known(), text);
     if at == text.len() {
         return None;
     }

@@ -3,8 +3,8 @@ use Rattle.std.specs.Prelude.{◌≡◌, ◌⊎◌, ℕ, ◌+◌, ◌<◌, ◌�
 use Rattle.std.specs.Prelude.{None, Result, Ok, Err, All, count_by}
 use Rattle.lp_format.specs.format.{Dialect, Crate, Strict, comma, equals, newline, space, tab, is_escaped_after, IsBareAfter, EndsPlain}
 use Rattle.lp_format.specs.format.{EndsQuoted, IsClosed, IsHead, begins_comment, IsComment, IsCutPiece}
-pub use Rattle.lp_split.specs.declared.split.resumed.Part.{Part}
-pub use Rattle.lp_split.specs.declared.split.resumed.Part.TheVariants.{Head, Plain, Quoted}
+pub use Rattle.lp_split.specs.declared.split.resumed.Region.{Region}
+pub use Rattle.lp_split.specs.declared.split.resumed.Region.TheVariants.{Head, Plain, Quoted}
 pub use Rattle.lp_split.specs.declared.split.tracked.Place.{Place}
 pub use Rattle.lp_split.specs.declared.split.tracked.Track.{Track}
 pub use Rattle.lp_split.specs.declared.split.tracked.Track.TheVariants.{Comment, Blanks, Line}
@@ -14,8 +14,8 @@ pub record IsCountOf (counted : List ℕ) (equal_signs commas : ℕ) : Type 0 wh
   pub equals_is : equal_signs ≡ count_by (λ b. b == equals) counted
   pub commas_is : commas ≡ count_by (λ b. b == comma) counted
 
--- the bytes of a piece end in this part of it, with these counts
-abbrev pub EndsIn : Part → ℕ → ℕ → List ℕ → Type 0
+-- the bytes of a piece end in this region of it, with these counts
+abbrev pub EndsIn : Region → ℕ → ℕ → List ℕ → Type 0
 EndsIn Head equal_signs commas bytes = IsHead bytes × IsCountOf [] equal_signs commas
 EndsIn Plain equal_signs commas bytes = (counted : List ℕ) × EndsPlain bytes counted × IsCountOf counted equal_signs commas
 EndsIn Quoted equal_signs commas bytes = (counted : List ℕ) × EndsQuoted bytes counted × IsCountOf counted equal_signs commas
@@ -23,7 +23,7 @@ EndsIn Quoted equal_signs commas bytes = (counted : List ℕ) × EndsQuoted byte
 -- the place after these bytes of a piece
 pub record IsPlace (bytes : List ℕ) (place : Place) : Type 0 where
   pub escaped_is : is_escaped_after bytes ≡ place.is_escaped
-  pub ends_in : EndsIn place.part place.equals place.commas bytes
+  pub ends_in : EndsIn place.region place.equals place.commas bytes
 
 -- one byte more ends the piece, or leads to another place
 abbrev pub Steps : Place → ℕ → Option Place → Type 0

@@ -12,9 +12,9 @@ ghost use Rattle.lp_split.specs.code.{rules_of, CutsOrTracks, EndsIn, IsKnown, S
 use super::tracked::Place;
 use super::{Dialect, Mark, Track, first_cut, first_newline, late_cut, track_on};
 
-/// A part of a piece, by what ends its stretches.
+/// A region of a piece, by what ends its stretches.
 #[derive(Clone, Copy)]
-pub enum Part {
+pub enum Region {
     /// What comes before the first bare space: the measurement and the tags.
     Head,
     /// Fields and what follows them, outside of quotes.
@@ -53,21 +53,21 @@ fn cut_from(text: &[u8], at: usize, track: Track) -> Result<Mark, Search>
     }
 }
 
-// The same of a text that begins no comment, from a bare place on that is in this part of a piece, with these counts.
+// The same of a text that begins no comment, from a bare place on that is in this region of a piece, with these counts.
 pub(super) fn cut_after(
     text: &[u8],
     at: usize,
-    part: Part,
+    region: Region,
     equals: usize,
     commas: usize,
 ) -> Option<usize>
     requires within { at ≤ length text.now }
     requires few { (equals ≤ at) × (commas ≤ at) }
     requires is_bare { IsBareAfter (take at text.now) }
-    requires ends_in { EndsIn part equals commas (take at text.now) }
+    requires ends_in { EndsIn region equals commas (take at text.now) }
     ensures { IsFirstCut dialects.Crate text.now result }
 {
-    match cut_from(text, at, Track::Line(Place::bare(part, equals, commas))) {
+    match cut_from(text, at, Track::Line(Place::bare(region, equals, commas))) {
         Ok(cut) => Some(cut.at),
         Err(_) => None,
     }

@@ -3,16 +3,16 @@
 ghost use Rattle.std.specs.Prelude.{◌≡◌, ◌+◌, ◌<◌, ◌≤◌, ◌^◌, [], false, true, length, take, IfSome};
 ghost use Rattle.lp_split.specs.code.{rules_of, Plain, Line, IsTrackOf, Leads, LeadsTo, most_counted, Steps, TracksOn};
 
-use super::resumed::Part;
+use super::resumed::Region;
 use super::{Dialect, HEAD, QUOTED, bare_len, load_ahead};
 use lp_scan::scan::{WIDE, ones_below};
 
-/// A place in a piece: in which part it is, whether its byte is escaped, and how many bare `=` and `,` the plain
+/// A place in a piece: in which region it is, whether its byte is escaped, and how many bare `=` and `,` the plain
 /// stretches before it hold.
 #[derive(Clone, Copy)]
 pub struct Place {
-    /// The part.
-    pub part: Part,
+    /// The region.
+    pub region: Region,
     /// Whether a bare backslash comes before it.
     pub is_escaped: bool,
     /// How many bare `=` the plain stretches before it hold.
@@ -22,13 +22,13 @@ pub struct Place {
 }
 
 impl Place {
-    /// A bare place of this part of a piece, with these counts.
+    /// A bare place of this region of a piece, with these counts.
     #[inline(always)]
-    pub(crate) fn bare(part: Part, equals: usize, commas: usize) -> Place
-        ensures { result ≡ record { part = part; is_escaped = false; equals = equals; commas = commas } }
+    pub(crate) fn bare(region: Region, equals: usize, commas: usize) -> Place
+        ensures { result ≡ record { region = region; is_escaped = false; equals = equals; commas = commas } }
     {
         Place {
-            part,
+            region,
             is_escaped: false,
             equals,
             commas,
@@ -59,14 +59,14 @@ fn after_byte(place: Place, byte: u8) -> Option<Place>
     if place.is_escaped {
         return Some(next);
     }
-    match (place.part, byte) {
-        (Part::Head | Part::Plain, b'\n') => return None,
+    match (place.region, byte) {
+        (Region::Head | Region::Plain, b'\n') => return None,
         (_, b'\\') => next.is_escaped = true,
-        (Part::Head, b' ') => next.part = Part::Plain,
-        (Part::Plain, b'=') => next.equals += 1,
-        (Part::Plain, b',') => next.commas += 1,
-        (Part::Plain, b'"') if place.commas < place.equals => next.part = Part::Quoted,
-        (Part::Quoted, b'"') => next.part = Part::Plain,
+        (Region::Head, b' ') => next.region = Region::Plain,
+        (Region::Plain, b'=') => next.equals += 1,
+        (Region::Plain, b',') => next.commas += 1,
+        (Region::Plain, b'"') if place.commas < place.equals => next.region = Region::Quoted,
+        (Region::Quoted, b'"') => next.region = Region::Plain,
         _ => {}
     }
     Some(next)
@@ -97,7 +97,7 @@ impl Track {
         ensures track { IsTrackOf (rules_of dialect) [] result }
         ensures few { most_counted result ≡ 0 }
     {
-        let place = Place::bare(Part::Head, 0, 0);
+        let place = Place::bare(Region::Head, 0, 0);
         match dialect {
             Dialect::Crate => Track::Line(place),
             Dialect::Strict => Track::Blanks(place),
@@ -109,7 +109,7 @@ impl Track {
 // bare newline or quote, or all that it tells of. A text that is no longer than a load is not looked at.
 #[inline(always)]
 fn plain_leap(place: Place, text: &[u8]) -> (usize, Place)
-    requires plain { place.part ≡ Part.Plain }
+    requires plain { place.region ≡ Region.Plain }
     requires is_bare { place.is_escaped ≡ false }
     requires room { (place.equals + length text.now < 2 ^ 64) × (place.commas + length text.now < 2 ^ 64) }
     ensures within { result.0 ≤ length text.now }
@@ -147,13 +147,13 @@ fn leap(track: Track, text: &[u8]) -> (usize, Track)
     ensures few { most_counted result.1 ≤ most_counted track + result.0 }
 {
     match track {
-        Track::Line(place) if !place.is_escaped => match place.part {
-            Part::Head => (bare_len(HEAD, text), track),
-            Part::Plain => {
+        Track::Line(place) if !place.is_escaped => match place.region {
+            Region::Head => (bare_len(HEAD, text), track),
+            Region::Plain => {
                 let (len, next) = plain_leap(place, text);
                 (len, Track::Line(next))
             }
-            Part::Quoted => (bare_len(QUOTED, text), track),
+            Region::Quoted => (bare_len(QUOTED, text), track),
         },
         _ => (0, track),
     }

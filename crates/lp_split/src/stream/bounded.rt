@@ -8,7 +8,8 @@ ghost use Rattle.lp_split.specs.declared.stream.bounded.Skipped.{Skipped};
 ghost use Rattle.lp_format.specs.format.{newlines_in, IsLastPiece};
 
 use super::LineStream;
-use crate::split::{Dialect, Mark, Track, newlines_in, track_on};
+use crate::split::{Dialect, Mark, Track, track_on};
+use lp_scan::newlines::newlines_in;
 use std::alloc::{AllocError, Global};
 use std::marker::Model;
 

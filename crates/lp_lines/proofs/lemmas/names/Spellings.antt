@@ -15,14 +15,14 @@ use Rattle.lp_format.proofs.lemmas.names.NameLemmas.{name_fatal, name_reads}
 use Rattle.lp_format.proofs.lemmas.read_back.NameReadsBack.{may_hold, space_escapable, stop_escapable, backslash_no_stop, escaped_found}
 use Rattle.lp_format.proofs.lemmas.read_back.NameReadsBack.{escaped_plain, admitted_parts, begins_otherwise, read_name}
 use Rattle.lp_format.proofs.lemmas.line.TrimLemmas.{is_blank, trimmed_is}
-use Rattle.lp_split.specs.code.{Part, Head, Plain, EndsIn as IsIn}
+use Rattle.lp_split.specs.code.{Region, Head, Plain, EndsIn as IsIn}
 use Rattle.lp_split.proofs.lemmas.split.SplitWalk.{IsIn-escaped, IsIn-backslash, Head-other, Head-space, Plain-other}
 use Rattle.lp_split.proofs.lemmas.split.ScanLemmas.{bare_len, first_bare_len}
 use Rattle.lp_lines.proofs.lemmas.names.KeptNames.{is_kept}
 
--- what comes after these bytes is bare, and it is in this part, with these counts
-abbrev pub Reaches : Part → ℕ → ℕ → List ℕ → Type 0
-Reaches part e c piece = IsBareAfter piece × IsIn part e c piece
+-- what comes after these bytes is bare, and it is in this region, with these counts
+abbrev pub Reaches : Region → ℕ → ℕ → List ℕ → Type 0
+Reaches region e c piece = IsBareAfter piece × IsIn region e c piece
 
 -- nothing was read yet
 pub reaches_start : Reaches Head 0 0 []
@@ -41,27 +41,27 @@ pub leads_then : {From Mid : List ℕ → Type 0} (To : List ℕ → Type 0) (xs
     → Leads From To (xs ++ ys)
 leads_then To xs ys first second piece r = subst To (append_assoc piece xs ys) (second (piece ++ xs) (first piece r))
 
--- a byte that turns one part into another wherever it is
-pub turns : (part : Part) (e c : ℕ) (next : Part) (f d b : ℕ) → b ≢ backslash
-    → ((q : List ℕ) → IsBareAfter q → IsIn part e c q → IsIn next f d (q ++ b ∷ [])) → Leads (Reaches part e c) (Reaches next f d) (b ∷ [])
-turns part e c next f d b no_backslash after piece r = (is_escaped-push_other piece b no_backslash, after piece r.0 r.1)
+-- a byte that turns one region into another wherever it is
+pub turns : (region : Region) (e c : ℕ) (next : Region) (f d b : ℕ) → b ≢ backslash
+    → ((q : List ℕ) → IsBareAfter q → IsIn region e c q → IsIn next f d (q ++ b ∷ [])) → Leads (Reaches region e c) (Reaches next f d) (b ∷ [])
+turns region e c next f d b no_backslash after piece r = (is_escaped-push_other piece b no_backslash, after piece r.0 r.1)
 
 -- a byte with a backslash before it changes nothing
-pub reaches_pair : (part : Part) (e c b : ℕ) → Leads (Reaches part e c) (Reaches part e c) (backslash ∷ b ∷ [])
-reaches_pair part e c b piece r =
+pub reaches_pair : (region : Region) (e c b : ℕ) → Leads (Reaches region e c) (Reaches region e c) (backslash ∷ b ∷ [])
+reaches_pair region e c b piece r =
     let flag = is_escaped-push_backslash piece r.0 in
-    subst (Reaches part e c) (append_assoc piece (backslash ∷ []) (b ∷ [])) (
+    subst (Reaches region e c) (append_assoc piece (backslash ∷ []) (b ∷ [])) (
       is_escaped-push_escaped (piece ++ backslash ∷ []) b flag,
-      IsIn-escaped part e c (piece ++ backslash ∷ []) b flag (IsIn-backslash part e c piece r.0 r.1),
+      IsIn-escaped region e c (piece ++ backslash ∷ []) b flag (IsIn-backslash region e c piece r.0 r.1),
     )
 
 -- a byte that changes nothing wherever it is
-abbrev pub ChangesNothing : Part → ℕ → ℕ → ℕ → Type 0
-ChangesNothing part e c b = (b ≢ backslash) × ((q : List ℕ) → IsBareAfter q → IsIn part e c q → IsIn part e c (q ++ b ∷ []))
+abbrev pub ChangesNothing : Region → ℕ → ℕ → ℕ → Type 0
+ChangesNothing region e c b = (b ≢ backslash) × ((q : List ℕ) → IsBareAfter q → IsIn region e c q → IsIn region e c (q ++ b ∷ []))
 
 -- such a byte leads on from there
-pub reaches_byte : (part : Part) (e c b : ℕ) → ChangesNothing part e c b → Leads (Reaches part e c) (Reaches part e c) (b ∷ [])
-reaches_byte part e c b same = turns part e c part e c b same.0 same.1
+pub reaches_byte : (region : Region) (e c b : ℕ) → ChangesNothing region e c b → Leads (Reaches region e c) (Reaches region e c) (b ∷ [])
+reaches_byte region e c b same = turns region e c region e c b same.0 same.1
 
 -- a byte that a name may hold bare is no newline
 pub no_newline : (kind : NameKind) (b : ℕ) → may_hold kind b ≡ true → b ≢ newline
@@ -179,16 +179,16 @@ pub spelled_fatal : {kind : NameKind} {n s : List ℕ} → SpelledAs kind n s �
 spelled_fatal {kind = kind} {n = n} {s = s} h some last rest ends = grind (arith, spelled_front, logical_ends, spelled_logical, name_fatal, spelled_some)
 
 -- a spelling after a piece
-pub reaches_spelled : (part : Part) (e c : ℕ) {kind : NameKind} {n s : List ℕ}
-    → ((b : ℕ) → may_hold kind b ≡ true → is_escapable kind b ≡ false → ChangesNothing part e c b)
-    → SpelledAs kind n s → Leads (Reaches part e c) (Reaches part e c) s
-reaches_spelled part e c same done = leads_by_none (Reaches part e c)
-reaches_spelled part e c same (escape b n s known more) =
-    leads_then (Reaches part e c) _ s (reaches_pair part e c b) (reaches_spelled part e c same more)
-reaches_spelled part e c same (plain b n s other may more) =
-    leads_then (Reaches part e c) _ s (reaches_byte part e c b (same b may other)) (reaches_spelled part e c same more)
-reaches_spelled part e c same (pair b n s never more) =
-    leads_then (Reaches part e c) _ s (reaches_pair part e c b) (reaches_spelled part e c same more)
+pub reaches_spelled : (region : Region) (e c : ℕ) {kind : NameKind} {n s : List ℕ}
+    → ((b : ℕ) → may_hold kind b ≡ true → is_escapable kind b ≡ false → ChangesNothing region e c b)
+    → SpelledAs kind n s → Leads (Reaches region e c) (Reaches region e c) s
+reaches_spelled region e c same done = leads_by_none (Reaches region e c)
+reaches_spelled region e c same (escape b n s known more) =
+    leads_then (Reaches region e c) _ s (reaches_pair region e c b) (reaches_spelled region e c same more)
+reaches_spelled region e c same (plain b n s other may more) =
+    leads_then (Reaches region e c) _ s (reaches_byte region e c b (same b may other)) (reaches_spelled region e c same more)
+reaches_spelled region e c same (pair b n s never more) =
+    leads_then (Reaches region e c) _ s (reaches_pair region e c b) (reaches_spelled region e c same more)
 
 -- a text that begins with no blank, no newline and no `#`
 abbrev pub BeginsLine : List ℕ → Type 0

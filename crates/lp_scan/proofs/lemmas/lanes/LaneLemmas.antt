@@ -1,8 +1,9 @@
 -- The lanes of one load that was compared with bytes.
 use Rattle.std.proofs.Common.{◌≡◌, ℕ, ◌+◌, ◌<◌, ◌≤◌, ◌%◌, ◌^◌, Bool, true, List, map, length, replicate, eqb, cond, bit_or, ◌||◌, get_or}
-use Rattle.std.proofs.Common.{refl, sym, ap, ◌∙◌, map-id, arith, [], ◌∷◌, ◌*◌, ◌/◌, ap₂, leb, suc, w8}
+use Rattle.std.proofs.Common.{slice_index_or, refl, sym, ap, ◌∙◌, map-id, arith, [], ◌∷◌, ◌*◌, ◌/◌, ap₂, leb, suc, w8}
 use Rattle.std.proofs.lemmas.Simd.{length-chunk, zip2_splat, zip2_of_maps, swz_l}
 use Rattle.std.proofs.lemmas.{Bool.agree_below, Bool.cases_lt, List.get_or_past}
+use Rattle.lp_format.specs.format.Bytes.{is_one_of}
 use lib.Lanes.{chunk, mask_l, top, zip2}
 use Rattle.lp_scan.{specs.code.mask_of, proofs.lemmas.scan.MaskLemmas.mask_by_lanes, proofs.lemmas.scan.MaskLemmas.mask_same}
 
@@ -48,6 +49,28 @@ lanes_are (either s t) n v long =
     zip2_of_maps bit_or _ _ v (lanes_are s n v long) (lanes_are t n v long)
     ∙ ap (λ (f : ℕ → ℕ). map f v) (λ j x. either_set (is_in s x) (is_in t x) j)
 
+-- a byte of an array of five or four
+abbrev pub lane_of : List ℕ → ℕ → Compared
+lane_of set i = one (slice_index_or set i 0)
+
+-- lanes that are compared with each of four bytes
+abbrev pub any_of_four : List ℕ → Compared
+any_of_four set = either (either (lane_of set 0) (lane_of set 1)) (either (lane_of set 2) (lane_of set 3))
+
+-- with each of five
+abbrev pub any_of_five : List ℕ → Compared
+any_of_five set = either (lane_of set 0) (either (either (lane_of set 1) (lane_of set 2)) (either (lane_of set 3) (lane_of set 4)))
+
+-- such a lane is set if its byte is one of the four
+pub one_of_four : (set : List ℕ) → length set ≡ 4 → (b : ℕ) → is_in (any_of_four set) b ≡ is_one_of set b
+one_of_four (v ∷ w ∷ x ∷ y ∷ []) long b = grind arith
+one_of_four set long b = absurd (omega arith)
+
+-- of the five
+pub one_of_five : (set : List ℕ) → length set ≡ 5 → (b : ℕ) → is_in (any_of_five set) b ≡ is_one_of set b
+one_of_five (v ∷ set) long b = grind (arith, one_of_four set (omega (arith, long)) b)
+one_of_five [] long b = absurd (omega arith)
+
 module _ (t : Compared) (bytes : List ℕ) (at n : ℕ) (room : at + n ≤ length bytes) (few : n ≤ 64) where
   -- the bits of the lanes are the mask of the bytes that are one of those
   pub mask_in : mask_l (map (top 7) (lanes_in t n (chunk at n bytes))) % 2 ^ 64 ≡ mask_of (is_in t) bytes at n
@@ -61,3 +84,10 @@ module _ (t : Compared) (bytes : List ℕ) (at n : ℕ) (room : at + n ≤ lengt
 -- two tests that answer the same of each byte answer the same of a text
 pub same_tests : (p q : ℕ → Bool) → ((b : ℕ) → p b ≡ q b) → (text : List ℕ) → map p text ≡ map q text
 same_tests p q same text = grind arith
+
+-- the mask of the lanes that are compared with each of four bytes
+pub mask_of_four : (set text : List ℕ) (at n : ℕ) → length set ≡ 4 → at + n ≤ length text → n ≤ 64
+    → mask_l (map (top 7) (lanes_in (any_of_four set) n (chunk at n text))) % 2 ^ 64 ≡ mask_of (is_one_of set) text at n
+mask_of_four set text at n long room few =
+    mask_in (any_of_four set) text at n room few
+    ∙ ap mask_l (same_tests (is_in (any_of_four set)) (is_one_of set) (one_of_four set long) (chunk at n text))

@@ -1,15 +1,13 @@
 -- What loads and searches tell: the first bare byte that passes a test, how many bytes pass it, and which end a stretch.
 use Rattle.std.proofs.Common.{◌≡◌, ◌≢◌, ℕ, zero, suc, ◌+◌, ◌<◌, ◌≤◌, List, length, take, drop, slice_index, Bool, true, false}
-use Rattle.std.proofs.Common.{◌||◌, Some, None, length-drop, refl, ap, ◌∙◌, subst, inl, inr, arith, ◌%◌, ◌^◌, map, count_ones}
-use Rattle.std.proofs.Common.{◌==◌, eqb-true, get_or-drop, count_by, take-add}
-use Rattle.std.proofs.lemmas.{Bool.and_right, Bool.cases_Bool, Bool.eqb-false, List.length-map, List.Sums.count_by-le-length}
-use Rattle.std.proofs.lemmas.{List.Sums.sum_by-append, Simd.length-chunk, Simd.mask_l-mod, Simd.ones-mask_l}
+use Rattle.std.proofs.Common.{◌||◌, Some, None, length-drop, refl, ap, ◌∙◌, subst, inl, inr, arith}
+use Rattle.std.proofs.Common.{◌==◌, eqb-true, get_or-drop}
+use Rattle.std.proofs.lemmas.{Bool.and_right, Bool.cases_Bool, Bool.eqb-false}
 use Rattle.memchr.specs.Find.{Nowhere, Passes, IsFirstByte, is_byte3}
 use Rattle.lp_format.specs.format.{backslash, is_escaped_after, is_bare_at}
 use Rattle.lp_format.proofs.lemmas.{tokens.EscapeLemmas.is_escaped_more, split.SplitBare.is_escaped-nil}
 use Rattle.lp_split.{specs.declared.split.Stops.Stops, specs.code.is_stop, proofs.lemmas.split.SplitStretches.bare_past}
-use lib.Lanes.{chunk}
-use Rattle.lp_scan.specs.code.{mask_of, IsBarePassed}
+use Rattle.lp_scan.specs.code.{IsBarePassed}
 
 module _ (passes : ℕ → Bool) (text : List ℕ) where
   -- before the first byte
@@ -77,20 +75,3 @@ module _ (stops : Stops) (fails : is_stop stops backslash ≡ false) {text rest 
   search_ends none =
       let to : at + length rest ≡ length text = omega (arith, ap length same, length-drop at text, p.within) in
       subst (IsBarePassed (is_stop stops) text) to (searched (length rest) (omega arith) none)
-
--- one load
-module _ (p : ℕ → Bool) (text : List ℕ) (at m : ℕ) (room : at + 64 ≤ length text) (is : m ≡ mask_of p text at 64) where
-  -- its mask has as many bits as bytes pass
-  load_counts : count_ones (m % 2 ^ 64) ≡ count_by p (chunk at 64 text)
-  load_counts =
-      let ms = map p (chunk at 64 text) in
-      let fits = mask_l-mod ms 64 (omega (arith, length-map (chunk at 64 text) p, length-chunk at 64 text room)) in
-      ap (λ (k : ℕ). count_ones (k % 2 ^ 64)) is ∙ ap count_ones fits ∙ ones-mask_l p (chunk at 64 text)
-
-  -- at most all
-  pub load_at_most : count_ones (m % 2 ^ 64) ≤ 64
-  load_at_most = omega (arith, load_counts, count_by-le-length p (chunk at 64 text), length-chunk at 64 text room)
-
-  -- the bytes that pass, one load further
-  pub count_load : count_by p (take (at + 64) text) ≡ count_by p (take at text) + count_ones (m % 2 ^ 64)
-  count_load = grind (arith, take-add, sum_by-append, load_counts)

@@ -2,14 +2,14 @@
 use Rattle.std.proofs.Common.{◌≡◌, ◌≢◌, ℕ, ◌+◌, ◌<◌, ◌≤◌, Bool, true, false, cond, eqb, List, [], ◌∷◌, ◌++◌, ◌∙◌, ap, refl, arith, add-zero, ◌&&◌}
 use Rattle.std.proofs.Common.{not, count_by, ne_eqb, ◌==◌, ◌||◌}
 use Rattle.std.proofs.lemmas.{List.Sums.sum_by-append, Bool.Decides.nat_tests}
-use Rattle.lp_split.specs.code.{IsCountOf, Part}
+use Rattle.lp_split.specs.code.{IsCountOf, Region}
 use Rattle.lp_format.specs.format.{is_escaped_after, IsBareAfter, newline, quote, backslash}
 use Rattle.lp_format.proofs.lemmas.split.SplitBare.{IsHead-escaped, IsHead-bare, EndsPlain-escaped, EndsPlain-bare, EndsPlain-start}
 use Rattle.lp_format.proofs.lemmas.split.SplitBare.{EndsQuoted-escaped, EndsQuoted-bare, EndsQuoted-start, EndsQuoted-close}
 use Rattle.lp_format.proofs.lemmas.tokens.EscapeLemmas.{is_escaped_push}
 use Rattle.lp_format.specs.format.Bytes.{comma, equals, space}
-pub use Rattle.lp_split.specs.declared.split.resumed.Part.{Part}
-pub use Rattle.lp_split.specs.declared.split.resumed.Part.TheVariants.{Head, Plain, Quoted}
+pub use Rattle.lp_split.specs.declared.split.resumed.Region.{Region}
+pub use Rattle.lp_split.specs.declared.split.resumed.Region.TheVariants.{Head, Plain, Quoted}
 pub use Rattle.lp_split.specs.code.Tracks.{EndsIn as IsIn}
 
 -- one byte more that is counted
@@ -26,9 +26,9 @@ IsCountOf-other : (counted : List ℕ) (e c b : ℕ) → IsCountOf counted e c �
 IsCountOf-other counted e c b h n m = grind (arith, count_by-push, eqb, ne_eqb)
 
 -- a byte that is escaped, and a backslash that is not
-pub IsIn-escaped : (part : Part) (e c : ℕ) (piece : List ℕ) (b : ℕ) → is_escaped_after piece ≡ true
-    → IsIn part e c piece → IsIn part e c (piece ++ b ∷ [])
-IsIn-escaped part e c piece b h k = grind (arith, IsHead-escaped, EndsPlain-escaped, EndsQuoted-escaped)
+pub IsIn-escaped : (region : Region) (e c : ℕ) (piece : List ℕ) (b : ℕ) → is_escaped_after piece ≡ true
+    → IsIn region e c piece → IsIn region e c (piece ++ b ∷ [])
+IsIn-escaped region e c piece b h k = grind (arith, IsHead-escaped, EndsPlain-escaped, EndsQuoted-escaped)
 
 -- a bare space ends a head
 pub Head-space : (e c : ℕ) (piece : List ℕ) → IsBareAfter piece → IsIn Head e c piece → IsIn Plain e c (piece ++ space ∷ [])
@@ -75,8 +75,8 @@ pub Quoted-other : (e c : ℕ) (piece : List ℕ) (b : ℕ) → IsBareAfter piec
     → IsIn Quoted e c (piece ++ b ∷ [])
 Quoted-other e c piece b f n h = (h.0, EndsQuoted-bare b h.1 f n, h.2)
 
--- a bare backslash changes no part and no count
-pub IsIn-backslash : (part : Part) (e c : ℕ) (piece : List ℕ) → IsBareAfter piece → IsIn part e c piece → IsIn part e c (piece ++ backslash ∷ [])
+-- a bare backslash changes no region and no count
+pub IsIn-backslash : (region : Region) (e c : ℕ) (piece : List ℕ) → IsBareAfter piece → IsIn region e c piece → IsIn region e c (piece ++ backslash ∷ [])
 IsIn-backslash Head e c piece f h = Head-other e c piece backslash f (omega arith) (omega arith) h
 IsIn-backslash Plain e c piece f h = Plain-other e c piece backslash f (omega arith) (omega arith) (omega arith) (λ q. absurd (omega arith)) h
 IsIn-backslash Quoted e c piece f h = Quoted-other e c piece backslash f (omega arith) h

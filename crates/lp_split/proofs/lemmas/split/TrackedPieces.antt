@@ -5,7 +5,7 @@ use Rattle.std.proofs.Common.{All, take_all, get_or-drop, take-add, ne_eqb, Resu
 use Rattle.lp_format.specs.format.{Dialect, Strict, Crate, begins_comment, IsLastPiece, IsCutPiece, IsFirstCut, newline, IsBareAfter}
 use Rattle.lp_format.specs.format.{IsClosed, IsOpen}
 use Rattle.lp_split.specs.declared.split.resumed.Search.TheVariants.{Quiet}
-use Rattle.lp_split.specs.code.{SearchesOn, CutsOrTracks, most_counted, NeverComment, EndsIn, IsPlace, IsTrackOf, Leads, LeadsTo, Steps, TracksOn, Part, Head}
+use Rattle.lp_split.specs.code.{SearchesOn, CutsOrTracks, most_counted, NeverComment, EndsIn, IsPlace, IsTrackOf, Leads, LeadsTo, Steps, TracksOn, Region, Head}
 use Rattle.lp_split.specs.code.{Track, Place, Comment, Blanks, Line}
 use Rattle.lp_format.proofs.lemmas.split.{SplitPieces.IsLastPiece-extend, SplitPieces.begins_comment-append, SplitBare.is_escaped-nil}
 use Rattle.std.proofs.lemmas.List.Elements.{All-head, All-nil, All-tail, All-push, All-weaker}
@@ -80,29 +80,29 @@ pub line_ends : (place : Place) (b : ℕ) → Steps place b None → Leads (Line
 line_ends place b step = grind (arith, cut_of_line)
 
 -- the place before the first byte
-pub first_place : IsPlace [] (record { part = Head; is_escaped = false; equals = 0; commas = 0 })
+pub first_place : IsPlace [] (record { region = Head; is_escaped = false; equals = 0; commas = 0 })
 first_place = grind (arith, is_escaped-nil)
 
 -- that a text begins no comment holds with more after it
 never_longer : (dialect : Dialect) (text more : List ℕ) → NeverComment dialect text → NeverComment dialect (text ++ more)
 never_longer dialect text more h = grind (arith, append_assoc)
 
--- bytes of a line that go on from a bare place to another of the same part lead to the counts that they end with
-pub line_goes_on : (place next : Place) (part : Part) (text : List ℕ) → place.part ≡ part → next.part ≡ part
+-- bytes of a line that go on from a bare place to another of the same region lead to the counts that they end with
+pub line_goes_on : (place next : Place) (region : Region) (text : List ℕ) → place.region ≡ region → next.region ≡ region
     → place.is_escaped ≡ false → next.is_escaped ≡ false → IsBareAfter text
-    → ((bytes : List ℕ) → IsBareAfter bytes → EndsIn part place.equals place.commas bytes
-    → EndsIn part next.equals next.commas (bytes ++ text))
+    → ((bytes : List ℕ) → IsBareAfter bytes → EndsIn region place.equals place.commas bytes
+    → EndsIn region next.equals next.commas (bytes ++ text))
     → LeadsTo text (Line place) (Line next)
-line_goes_on place next part text is_part next_part is_bare next_bare text_bare ends dialect bytes h = grind (arith, never_longer, bare_joined)
+line_goes_on place next region text is_part next_part is_bare next_bare text_bare ends dialect bytes h = grind (arith, never_longer, bare_joined)
 
 -- so they do if the place stays
-pub line_stays : (track : Track) (place : Place) (part : Part) (text : List ℕ) → track ≡ Line place → place.part ≡ part
+pub line_stays : (track : Track) (place : Place) (region : Region) (text : List ℕ) → track ≡ Line place → place.region ≡ region
     → place.is_escaped ≡ false → IsBareAfter text
-    → ((bytes : List ℕ) → IsBareAfter bytes → EndsIn part place.equals place.commas bytes
-    → EndsIn part place.equals place.commas (bytes ++ text))
+    → ((bytes : List ℕ) → IsBareAfter bytes → EndsIn region place.equals place.commas bytes
+    → EndsIn region place.equals place.commas (bytes ++ text))
     → LeadsTo text track (Line place)
-line_stays track place part text is is_part is_bare text_bare ends =
-    rw is (line_goes_on place place part text is_part is_part is_bare is_bare text_bare ends)
+line_stays track place region text is is_part is_bare text_bare ends =
+    rw is (line_goes_on place place region text is_part is_part is_bare is_bare text_bare ends)
 
 -- bytes lead on from what those before them lead to
 pub leads_on : (text rest : List ℕ) (at n : ℕ) (from via to : Track) → rest ≡ drop at text → LeadsTo (take at text) from via
@@ -110,13 +110,13 @@ pub leads_on : (text rest : List ℕ) (at n : ℕ) (from via to : Track) → res
 leads_on text rest at n from via to same leads more dialect bytes h = grind (arith, append_assoc, take-add)
 
 -- the track at a bare place of a line
-pub line_track : (part : Part) (bytes : List ℕ) (e c : ℕ) → IsBareAfter bytes → EndsIn part e c bytes
-    → IsTrackOf Crate bytes (Line (record { part = part; is_escaped = false; equals = e; commas = c }))
-line_track part bytes e c is_bare h = (tt, record { escaped_is = is_bare; ends_in = h })
+pub line_track : (region : Region) (bytes : List ℕ) (e c : ℕ) → IsBareAfter bytes → EndsIn region e c bytes
+    → IsTrackOf Crate bytes (Line (record { region = region; is_escaped = false; equals = e; commas = c }))
+line_track region bytes e c is_bare h = (tt, record { escaped_is = is_bare; ends_in = h })
 
 -- the place after bytes of a piece that no newline has ended
-place_is_last : (part : Part) (e c : ℕ) (bytes : List ℕ) → EndsIn part e c bytes → IsClosed bytes ⊎ IsOpen bytes
-place_is_last part e c bytes h = grind arith
+place_is_last : (region : Region) (e c : ℕ) (bytes : List ℕ) → EndsIn region e c bytes → IsClosed bytes ⊎ IsOpen bytes
+place_is_last region e c bytes h = grind arith
 
 -- no newline in bytes that have a track ends a piece
 pub tracked_is_last : (dialect : Dialect) (bytes : List ℕ) (track : Track) → IsTrackOf dialect bytes track → IsLastPiece dialect bytes

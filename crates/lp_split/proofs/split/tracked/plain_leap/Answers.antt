@@ -1,5 +1,5 @@
 use Rattle.std.proofs.Common.{ℕ, take, arith, refl, subst}
-use Rattle.lp_split.specs.declared.split.resumed.Part.TheVariants.{Plain}
+use Rattle.lp_split.specs.declared.split.resumed.Region.TheVariants.{Plain}
 use Rattle.lp_split.proofs.lemmas.split.SplitStretches.{bare_to, few_past, few_to, plain_bytes_past, plain_bytes_to}
 use Rattle.lp_split.proofs.lemmas.split.TrackedPieces.{line_goes_on}
 use Rattle.lp_split.proofs.split.tracked.plain_leap.Goals as goal

@@ -1,5 +1,5 @@
 use Rattle.lp_written.proofs.lemmas.parts.WrittenNames.{name_found, name_none}
-use Rattle.lp_written.proofs.tokens.after_name.Goals as goal
+use Rattle.lp_written.proofs.tokens.after_written_name.Goals as goal
 
 pub returns-then-is_admitted_spelling : goal.returns-then-is_admitted_spelling
 returns-then-is_admitted_spelling c = name_found _ _ _ _ _ _ _ _ c.range_from.ensures.value c.written_len-len.ensures.value

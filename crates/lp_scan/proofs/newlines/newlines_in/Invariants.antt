@@ -1,6 +1,6 @@
 use Rattle.std.proofs.Common.{◌≡◌, ◌+◌, ◌≤◌, length}
-use Rattle.influxdb_line_protocol.specs.format.Bytes.{newlines_in}
-use Rattle.lp_relay_core.proofs.texts.newlines_in.Given as goal
+use Rattle.lp_format.specs.format.Bytes.{newlines_in}
+use Rattle.lp_scan.proofs.newlines.newlines_in.Given as goal
 
 -- the newlines of the bytes before the rest are counted
 abbrev pub invariant-loop-rest : goal.invariant-loop-rest

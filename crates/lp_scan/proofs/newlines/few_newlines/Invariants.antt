@@ -1,6 +1,6 @@
 use Rattle.std.proofs.Common.{◌≡◌, ◌≤◌, take}
-use Rattle.influxdb_line_protocol.specs.format.Bytes.{newlines_in}
-use Rattle.lp_relay_core.proofs.texts.few_newlines.Given as goal
+use Rattle.lp_format.specs.format.Bytes.{newlines_in}
+use Rattle.lp_scan.proofs.newlines.few_newlines.Given as goal
 
 -- the newlines of the bytes so far are counted
 abbrev pub invariant-loop-at : goal.invariant-loop-at
