@@ -1,16 +1,14 @@
 -- Escaped texts: the first byte with a backslash, by the mask of a load, and what comes before and after it. And how many digits
 -- a number has.
 use Rattle.std.proofs.Common.{◌≡◌, ℕ, suc, zero, ◌+◌, ◌<◌, Bool, true, false, List, [], ◌∷◌, ◌++◌, length, take, drop, get_or, arith, ap}
-use Rattle.std.proofs.Common.{refl, ◌-◌, add-one, length-drop, length-append, ◌∙◌, ◌≤◌, ◌^◌, ◌*◌, ◌/◌, take_all, decimal, not, pow-suc, ◌%◌}
-use Rattle.std.proofs.Common.{eqb, map, eq-eqb, ne_eqb}
+use Rattle.std.proofs.Common.{refl, ◌-◌, add-one, length-drop, length-append, ◌∙◌, ◌≤◌, ◌^◌, ◌*◌, ◌/◌, take_all, decimal, not, pow-suc}
+use Rattle.std.proofs.Common.{eqb, eq-eqb, ne_eqb}
 use Rattle.std.proofs.Math.Nat.{one-le-pow}
 use Rattle.std.proofs.lemmas.{Fmt.decimal_step, Fmt.decimal_digit, Bool.not-false, Bool.not-true, Bool.cases_eq}
 use Rattle.std.proofs.lemmas.{List.Sums.list_all-from_AllPass, List.Elements.All-from_get_or, List.Folds.list_all_at}
 use Rattle.lp_format.specs.format.{backslash, is_one_of, escaped}
-use Rattle.lp_scan.specs.code.{IsRunAt, mask_of}
+use Rattle.lp_scan.specs.code.{IsRunAt}
 use Rattle.std.specs.List.{list_all}
-use lib.Lanes.{chunk, mask_l, top}
-use Rattle.lp_scan.proofs.lemmas.lanes.LaneLemmas.{Compared, either, is_in, lanes_in, mask_in, one, same_tests}
 
 -- a text in which each byte passes the test
 free_whole : (q : ℕ → Bool) (d : List ℕ) → ((k : ℕ) → k < length d → q (get_or d k 0) ≡ true) → list_all q d ≡ true

@@ -5,4 +5,4 @@ use Rattle.lp_build.proofs.builder.texts.next_escape.Goals as goal
 
 pub returns-then-at-text-clause-none : goal.returns-then-at-text-clause-none
 returns-then-at-text-clause-none c =
-    escaped_none (known_of c.args.kind) c.args.text.now c.marks.result _ c.marks.ensures c.before_first-at.ensures (omega arith)
+    escaped_none (known_of c.args.kind) c.args.text.now c.known.result _ c.known.ensures.bytes c.before_first-at.ensures (omega arith)
