@@ -5,3 +5,4 @@ pub mod ReadInto
 pub mod Bases
 pub mod Freeing
 pub mod Filling
+pub mod Unreads

@@ -10,6 +10,8 @@ pub mod freeing;
 mod line;
 pub mod parsed;
 mod shown;
+mod unread;
 
-pub use line::{ParseLines, parse_lines, parse_lines_in, read_into};
+pub use line::{ParseLines, parse_lines, parse_lines_in, read_into, read_spelled_into};
 pub use parsed::{FieldSet, ParsedLine, Series, TagSet};
+pub use unread::Unread;

@@ -1,16 +1,17 @@
 //! Lines.
 
-ghost use Rattle.std.specs.Prelude.{◌≡◌, ◌<◌, ◌≤◌, [], length, max, take, true, Err, None, Some, IfSome, OnErr, option_map};
+ghost use Rattle.std.specs.Prelude.{◌≡◌, ◌≢◌, ◌<◌, ◌≤◌, [], length, max, take, true, Err, None, Some, IfSome, OnErr, option_map};
 ghost use Rattle.lp_format.specs.format.{Crate, answer, trimmed};
 ghost use Rattle.lp_format.specs.code.Light.{inline_fields, inline_tags, is_light_in};
 ghost use Rattle.lp_split.specs.code.{rules_of};
 ghost use Rattle.lp_values.specs.code.Outcomes.{IsNotOutOfMemory};
 ghost use Rattle.lp_lines.specs.code.{Lookups.room_of, Lookups.some_items, Parsed.FillsLine, ReadInto.IsEmptyLine};
-ghost use Rattle.lp_lines.specs.code.{ReadInto.KeepsTagRoom};
+ghost use Rattle.lp_lines.specs.code.{ReadInto.KeepsTagRoom, Unreads.FillsSpelled};
 ghost use Rattle.lp_events.specs.code.LineSteps.{most_items};
 
 use crate::filling::{Filling, tell_line};
 use crate::freeing::{forget_line, free_line};
+use crate::unread::Unread;
 use crate::{FieldSet, ParsedLine, Series, TagSet};
 use lp_events::lines;
 use lp_split::Dialect;
@@ -76,10 +77,10 @@ fn fill<'a>(
     line: &'a str,
     parsed: &mut ParsedLine<'a>,
     spare: Option<&mut Option<TagSet<'a>>>,
-) -> Result<()>
-    ensures value { FillsLine parsed.new result (answer (rules_of dialect) line.now) }
+) -> std::result::Result<(), Unread<'a>>
+    ensures value { FillsSpelled parsed.new result (answer (rules_of dialect) line.now) }
     ensures light { is_light_in (room_of parsed.old.series.tag_set) parsed.old.field_set.capacity (rules_of dialect)
-        line.now ≡ true → IsNotOutOfMemory result }
+        line.now ≡ true → result ≢ Err Unread.OutOfMemory }
     ensures tag_room { KeepsTagRoom parsed.old parsed.new }
     ensures field_room { parsed.old.field_set.capacity ≤ parsed.new.field_set.capacity }
 {
@@ -93,18 +94,18 @@ fn fill<'a>(
     };
     tell_line(dialect, line, &mut filling);
     let Filling {
-        alloc,
         line,
         tag_count,
         field_count,
         refused,
         fault,
+        ..
     } = filling;
     if let Some(fault) = fault {
-        return Err(fault.to_error(alloc));
+        return Err(Unread::Fault(fault));
     }
     if refused {
-        return Err(Error::OutOfMemory);
+        return Err(Unread::OutOfMemory);
     }
     keep_fields(&mut line.field_set, field_count);
     keep_tags(&mut line.series.tag_set, tag_count, spare);
@@ -146,6 +147,25 @@ fn empty(parsed: &mut ParsedLine<'_>)
     parsed.timestamp = None;
 }
 
+// Fills the line of a new item, as [`fill`] does, with an error for its fault.
+#[tactic(auto, using(crate::proofs::lemmas::line::AnsweredLines::light_fault))]
+#[inline(always)]
+fn fill_new<'a>(
+    alloc: Global,
+    dialect: Dialect,
+    line: &'a str,
+    parsed: &mut ParsedLine<'a>,
+) -> Result<()>
+    ensures value { FillsLine parsed.new result (answer (rules_of dialect) line.now) }
+    ensures light { is_light_in (room_of parsed.old.series.tag_set) parsed.old.field_set.capacity (rules_of dialect)
+        line.now ≡ true → IsNotOutOfMemory result }
+{
+    match fill(alloc, dialect, line, parsed, None) {
+        Ok(()) => Ok(()),
+        Err(unread) => Err(unread.to_error(alloc)),
+    }
+}
+
 // Makes the item of a line that is at fault. What was read of the line is freed here, and nowhere else: to drop the line would visit
 // each place of its sets.
 #[cold]
@@ -160,10 +180,42 @@ fn refuse(alloc: Global, item: &mut Result<ParsedLine<'_>>, fault: Error)
     }
 }
 
+/// Reads a trimmed text into a line that is used again, as [`read_into`] does, but hands the fault of the text up as it is spelled.
+///
+/// # Errors
+///
+/// `Fault` with the fault of the text, if it has one, and else `OutOfMemory` if memory for the line was refused.
+#[tactic(auto, using(crate::proofs::lemmas::line::AnsweredLines::more_room))]
+#[inline(always)]
+pub fn read_spelled_into<'a>(
+    alloc: Global,
+    dialect: Dialect,
+    text: &'a str,
+    line: &mut ParsedLine<'a>,
+    spare: &mut Option<TagSet<'a>>,
+) -> std::result::Result<(), Unread<'a>>
+    ensures value { FillsSpelled line.new result (answer (rules_of dialect) text.now) }
+    ensures fault { OnErr result (IsEmptyLine line.new) }
+    ensures tag_room { KeepsTagRoom line.old line.new }
+    ensures field_room { line.old.field_set.capacity ≤ line.new.field_set.capacity }
+    ensures light { is_light_in (max inline_tags (room_of line.old.series.tag_set)) (max inline_fields line.old.field_set.capacity)
+        (rules_of dialect) text.now ≡ true → result ≢ Err Unread.OutOfMemory }
+{
+    let _at_least_inline = line.field_set.capacity();
+    ready_tags(alloc, &mut line.series.tag_set, spare);
+    match fill(alloc, dialect, text, line, Some(spare)) {
+        Ok(()) => Ok(()),
+        Err(unread) => {
+            empty(line);
+            Err(unread)
+        }
+    }
+}
+
 /// Reads a trimmed text into a line that is used again: the line is then what the text says, or empty if that is at fault.
 ///
 /// The sets of the line keep their room. One of tags that has grown is kept at `spare` while the line has no tags.
-#[tactic(auto, using(crate::proofs::lemmas::line::AnsweredLines::more_room))]
+#[tactic(auto, using(crate::proofs::lemmas::line::AnsweredLines::light_fault))]
 #[inline(always)]
 pub fn read_into<'a>(
     alloc: Global,
@@ -179,14 +231,9 @@ pub fn read_into<'a>(
     ensures light { is_light_in (max inline_tags (room_of line.old.series.tag_set)) (max inline_fields line.old.field_set.capacity)
         (rules_of dialect) text.now ≡ true → IsNotOutOfMemory result }
 {
-    let _at_least_inline = line.field_set.capacity();
-    ready_tags(alloc, &mut line.series.tag_set, spare);
-    match fill(alloc, dialect, text, line, Some(spare)) {
+    match read_spelled_into(alloc, dialect, text, line, spare) {
         Ok(()) => Ok(()),
-        Err(fault) => {
-            empty(line);
-            Err(fault)
-        }
+        Err(unread) => Err(unread.to_error(alloc)),
     }
 }
 
@@ -323,7 +370,7 @@ impl<'a> Iterator for ParseLines<'a> {
             return None;
         };
         if let Ok(parsed) = &mut item {
-            if let Err(fault) = fill(self.alloc, dialect_of(&self.lines), line, parsed, None) {
+            if let Err(fault) = fill_new(self.alloc, dialect_of(&self.lines), line, parsed) {
                 refuse(self.alloc, &mut item, fault);
             }
         }

@@ -1,6 +1,6 @@
 -- How a rebuild goes over the pieces of a text.
-use Rattle.std.proofs.Common.{None, Option, ◌≡◌, ◌≢◌, ℕ, ◌+◌, ◌==◌, ◌<◌, Bool, true, false, not, cond, List, [], ◌∷◌, ◌++◌, length}
-use Rattle.std.proofs.Common.{Result, Ok, Err, string_bytes, refl, sym, ap, subst, ◌∙◌, arith, append_assoc}
+use Rattle.std.proofs.Common.{None, Some, ◌≡◌, ℕ, ◌+◌, ◌==◌, ◌<◌, Bool, true, false, not, cond, List, [], ◌∷◌, ◌++◌, length}
+use Rattle.std.proofs.Common.{Result, Ok, string_bytes, refl, sym, ap, subst, ◌∙◌, arith, append_assoc}
 use Rattle.std.proofs.Common.{append-nil, eq-eqb, inl, inr}
 use Rattle.std.proofs.Math.Nat.{eq-zero-or-pos}
 use Rattle.std.specs.List.{flat_map}
@@ -9,65 +9,50 @@ use Rattle.std.proofs.lemmas.Bool.Decides.{nat_tests}
 use Rattle.std.proofs.lemmas.List.Sums.{sum_by-append}
 use Rattle.influxdb_line_protocol.specs.format.Bytes.{newline}
 use Rattle.influxdb_line_protocol.specs.format.Dialects.{Dialect}
-use Rattle.influxdb_line_protocol.specs.types.Error.{Error}
-use Rattle.influxdb_line_protocol.specs.types.Error.TheVariants as error
 use Rattle.lp_rebuild.specs.declared.batch.Progress.{Progress}
 use Rattle.lp_rebuild.specs.declared.batch.Rebuilt.{Rebuilt}
-use Rattle.influxdb_line_protocol.specs.code.Outcomes.{side, IsFault}
-use Rattle.influxdb_line_protocol.specs.format.Readings.{Fault, integer_value_invalid, uinteger_value_invalid}
-use Rattle.influxdb_line_protocol.specs.format.Readings.{timestamp_value_invalid, tag_set_malformed}
-use Rattle.influxdb_line_protocol.specs.format.Readings.{measurement_value_invalid, field_set_missing, ends_with_backslash}
-use Rattle.influxdb_line_protocol.specs.format.Readings.{take_while1, cannot_parse_entire_line}
+use Rattle.influxdb_line_protocol.specs.format.Readings.{Fault}
 use Rattle.influxdb_line_protocol.specs.format.Points.{Point, built, built_all, is_admitted_point}
 use Rattle.influxdb_line_protocol.specs.format.Lines.{Line, point_of, answer}
-use Rattle.influxdb_line_protocol.specs.code.Faults.{error_text, fault_text}
 use Rattle.influxdb_line_protocol.specs.format.Trimming.{trimmed}
 use Rattle.influxdb_line_protocol.specs.format.Pieces.{Pieces}
 use Rattle.influxdb_line_protocol.specs.format.Items.{answers_of, answers_of_piece}
 use Rattle.lp_rebuild.specs.Rebuilding.{RebuildsIn, batch_of, carried_point, faults_from, fault_of, carried_of}
 use Rattle.lp_rebuild.specs.Rebuilding.{refused_of, is_carried_answer, refusal_text}
-use Rattle.lp_rebuild.specs.RebuildSteps.{Refuses, Takes, fault_line_at}
+use Rattle.lp_rebuild.specs.RebuildSteps.{IsRefusedFor, Refuses, Takes, TakesLine, line_refusal_text}
+use Rattle.lp_rebuild.specs.declared.refusals.LineRefusal.{LineRefusal}
+use Rattle.lp_rebuild.specs.declared.refusals.LineRefusal.TheVariants as why
 
--- if an answer is not carried, and what is wrong with it was told, it was taken
-pub refused_answer : (old : Progress) (answer : Result Line Fault) (new : Progress)
-    → is_carried_answer answer ≡ false → Refuses old (refusal_text answer) new → Takes old answer new
-refused_answer old (Ok line) new e r =
-    let no : is_admitted_point (point_of line) ≡ false = e in
+-- an answer that is refused for this is not carried, and this is what is wrong with it
+pub refused_for : (refusal : LineRefusal) (answer : Result Line Fault) → IsRefusedFor (Some refusal) answer
+    → (is_carried_answer answer ≡ false) × (refusal_text answer ≡ line_refusal_text refusal)
+refused_for (why.Fault fault) answer is = rw is (refl, refl)
+refused_for why.NotAdmitted answer (line, same, not_admitted) = rw same (not_admitted, refl)
+
+-- an answer that is carried or refused so was taken
+pub carried_answer : (old new : Progress) (answer : Result Line Fault) → TakesLine old.batch.items None answer new.batch.items
+    → new.faults ≡ old.faults → new.carried ≡ old.carried + 1 → new.refused ≡ old.refused → Takes old answer new
+carried_answer old new answer took faults carried refused =
+    let carries = took.refused in
     record {
-      batch = rw no (r.batch ∙ sym (append-nil old.batch.items));
-      faults = rw no r.faults;
-      carried = rw no r.carried;
-      refused = rw no r.refused;
+      batch = took.batch;
+      faults = rw carries (ap string_bytes faults ∙ sym (append-nil (string_bytes old.faults)));
+      carried = rw carries carried;
+      refused = rw carries refused;
     }
-refused_answer old (Err fault) new e r =
+
+-- and one that is refused
+pub refused_answer : (old mid new : Progress) (refusal : LineRefusal) (answer : Result Line Fault)
+    → TakesLine old.batch.items (Some refusal) answer mid.batch.items → mid.faults ≡ old.faults → mid.carried ≡ old.carried
+    → mid.refused ≡ old.refused → Refuses mid (line_refusal_text refusal) new → Takes old answer new
+refused_answer old mid new refusal answer took faults carried refused r =
+    let is = refused_for refusal answer took.refused in
     record {
-      batch = r.batch ∙ sym (append-nil old.batch.items);
-      faults = r.faults;
-      carried = r.carried;
-      refused = r.refused;
+      batch = r.batch ∙ took.batch;
+      faults = rw (is.0, is.1, ← faults, ← carried, ← refused) r.faults;
+      carried = rw is.0 (r.carried ∙ carried);
+      refused = rw is.0 (r.refused ∙ ap (λ n. n + 1) refused);
     }
-
--- the text of an error other than `OutOfMemory` is that of its fault
-pub error_is : (e : Error) (answer : Result Line Fault) → e ≢ error.OutOfMemory
-    → IsFault e (λ fault. answer ≡ Err fault) → (fault : Fault) × (answer ≡ Err fault) × (error_text e ≡ fault_text fault)
-error_is (error.DuplicateTag key) answer some is = absurd is
-error_is error.MeasurementValueInvalid answer some is = (measurement_value_invalid, is, refl)
-error_is error.FieldSetMissing answer some is = (field_set_missing, is, refl)
-error_is (error.IntegerValueInvalid source value) answer some is = (integer_value_invalid (side source) (string_bytes value), is, refl)
-error_is (error.UIntegerValueInvalid source value) answer some is = (uinteger_value_invalid (side source) (string_bytes value), is, refl)
-error_is (error.TimestampValueInvalid source value) answer some is = (timestamp_value_invalid (side source) (string_bytes value), is, refl)
-error_is error.TagSetMalformed answer some is = (tag_set_malformed, is, refl)
-error_is error.EndsWithBackslash answer some is = (ends_with_backslash, is, refl)
-error_is (error.CannotParseEntireLine rest) answer some is = (cannot_parse_entire_line (string_bytes rest), is, refl)
-error_is (error.GenericParsingError kind) answer some is = (take_while1, is, refl)
-error_is error.OutOfMemory answer some is = absurd (some refl)
-
--- a fault was refused
-pub refused_fault : (old : Progress) (e : Error) (new : Progress) → e ≢ error.OutOfMemory → Refuses old (error_text e) new
-    → (answer : Result Line Fault) → IsFault e (λ fault. answer ≡ Err fault) → Takes old answer new
-refused_fault old e new some r answer is =
-    let f = error_is e answer some is in
-    subst (λ a. Takes old a new) (sym f.1) (refused_answer old (Err f.0) new refl (subst (λ t. Refuses old t new) f.2 r))
 
 -- an answer before others counts if it is carried
 pub carried_cons : (answer : Result Line Fault) (answers : List (Result Line Fault))
@@ -142,16 +127,13 @@ add_elsewhere false m n e = omega arith
 
 -- one answer more was taken, whose fault line names its number
 pub Took-more : (answers : List (Result Line Fault)) (answer : Result Line Fault) (old new : Progress)
-    → old.line ≡ None → Took answers old → Takes old answer new → Took (answers ++ answer ∷ []) new
-Took-more answers answer old new numbered h t =
-    let number = old.carried + old.refused + 1 in
+    → Took answers old → Takes old answer new → Took (answers ++ answer ∷ []) new
+Took-more answers answer old new h t =
     record {
       batch = t.batch ∙ ap (λ l. l ++ built_all (carried_point answer)) h.batch ∙ sym (batch_push answers answer);
       faults =
           t.faults
-          ∙ ap (λ (p : Option ℕ). string_bytes old.faults
-          ++ cond (is_carried_answer answer) [] (fault_line_at p number (refusal_text answer))) numbered
-          ∙ ap (λ (l : List ℕ). l ++ fault_of number answer) h.faults
+          ∙ ap (λ (l : List ℕ). l ++ fault_of (old.carried + old.refused + 1) answer) h.faults
           ∙ ap (λ (n : ℕ). faults_from 1 answers ++ fault_of n answer) {y = 1 + length answers}
           (omega (arith, h.carried, h.refused, counts_add_up answers))
           ∙ sym (faults_push 1 answers answer);
@@ -188,15 +170,15 @@ answers_push dialect front piece =
     ∙ ap (λ (l : List (Result Line Fault)). answers_of dialect front ++ l) (append-nil (answers_of_piece dialect piece))
 
 -- the answers of a piece more were taken
-took_piece : (dialect : Dialect) (front : List (List ℕ)) (piece : List ℕ) (old new : Progress) → old.line ≡ None
+took_piece : (dialect : Dialect) (front : List (List ℕ)) (piece : List ℕ) (old new : Progress)
     → Took (answers_of dialect front) old → (length (trimmed piece) ≡ 0 → new ≡ old)
     → (0 < length (trimmed piece) → Takes old (answer dialect (trimmed piece)) new)
     → Took (answers_of dialect front ++ answers_of_piece dialect piece) new
-took_piece dialect front piece old new numbered h blank takes =
+took_piece dialect front piece old new h blank takes =
     elim (eq-zero-or-pos (length (trimmed piece))) [
       | inr some ↦
           subst (λ l. Took (answers_of dialect front ++ l) new) (sym (piece_answers dialect piece some))
-          (Took-more (answers_of dialect front) (answer dialect (trimmed piece)) old new numbered h (takes some))
+          (Took-more (answers_of dialect front) (answer dialect (trimmed piece)) old new h (takes some))
       | inl none ↦
           subst (λ l. Took (answers_of dialect front ++ l) new) (sym (blank_answers dialect piece none))
           (subst (λ l. Took l new) (sym (append-nil (answers_of dialect front)))
@@ -204,15 +186,15 @@ took_piece dialect front piece old new numbered h blank takes =
     ]
 
 -- a piece more was taken
-pub SoFar-piece : (dialect : Dialect) (text piece : List ℕ) (others : List (List ℕ)) (old new : Progress) → old.line ≡ None
+pub SoFar-piece : (dialect : Dialect) (text piece : List ℕ) (others : List (List ℕ)) (old new : Progress)
     → SoFar dialect text (piece ∷ others) old → (length (trimmed piece) ≡ 0 → new ≡ old)
     → (0 < length (trimmed piece) → Takes old (answer dialect (trimmed piece)) new) → SoFar dialect text others new
-SoFar-piece dialect text piece others old new numbered h blank takes =
+SoFar-piece dialect text piece others old new h blank takes =
     record {
       front = h.front ++ piece ∷ [];
       pieces = subst (Pieces dialect text) (sym (append_assoc h.front (piece ∷ []) others)) h.pieces;
       took = subst (λ l. Took l new) (sym (answers_push dialect h.front piece))
-          (took_piece dialect h.front piece old new numbered h.took blank takes);
+          (took_piece dialect h.front piece old new h.took blank takes);
     }
 
 -- no piece was left
@@ -230,20 +212,12 @@ SoFar-end dialect text so_far h r batch faults carried refused =
     }
 
 -- the text of a line that the builder writes so was copied
-pub copied_line : (dialect : Dialect) (text : List ℕ) (old new : Progress) → ((line : Line) × (answer dialect text ≡ Ok line)
+pub copied_line : (dialect : Dialect) (text before after : List ℕ) → ((line : Line) × (answer dialect text ≡ Ok line)
     × ((is_admitted_point (point_of line) ≡ true) × (built (point_of line) ≡ text ++ newline ∷ [])))
-    → new.batch.items ≡ (old.batch.items ++ text) ++ newline ∷ [] → new.faults ≡ old.faults
-    → new.carried ≡ old.carried + 1 → new.refused ≡ old.refused → Takes old (answer dialect text) new
-copied_line dialect text old new stays batch faults carried refused =
+    → after ≡ before ++ (text ++ newline ∷ []) → TakesLine before None (answer dialect text) after
+copied_line dialect text before after stays copied =
     let line = stays.0 in
     let point : carried_point (Ok line) ≡ point_of line ∷ [] = rw stays.2.0 refl in
     let same : text ++ newline ∷ [] ≡ built_all (carried_point (Ok line)) =
     sym stays.2.1 ∙ sym (append-nil (built (point_of line))) ∙ ap built_all (sym point) in
-    let carries : is_carried_answer (Ok line) ≡ true = stays.2.0 in
-    subst (λ a. Takes old a new) (sym stays.1)
-    (record {
-      batch = batch ∙ append_assoc old.batch.items text (newline ∷ []) ∙ ap (λ (l : List ℕ). old.batch.items ++ l) same;
-      faults = rw carries (ap string_bytes faults ∙ sym (append-nil (string_bytes old.faults)));
-      carried = rw carries carried;
-      refused = rw carries refused;
-    })
+    rw stays.1 (record { batch = copied ∙ ap (λ (l : List ℕ). before ++ l) same; refused = stays.2.0 })

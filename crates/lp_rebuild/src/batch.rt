@@ -1,23 +1,24 @@
 //! The lines of a text, written again.
-ghost use Rattle.std.specs.Prelude.{◌≡◌, ◌+◌, ◌<◌, ◌≤◌, ◌++◌, length, IfOk, IfSome, OnOk, Result, Ok, Err};
+ghost use Rattle.std.specs.Prelude.{◌≡◌, ◌+◌, ◌<◌, ◌≤◌, ◌++◌, ◌∷◌, [], length, IfOk, OnOk, Ok};
 ghost use Rattle.influxdb_line_protocol.specs.code.Rules.{rules_of};
-ghost use Rattle.influxdb_line_protocol.specs.format.Readings.{Fault};
-ghost use Rattle.influxdb_line_protocol.specs.format.Points.{IsAsWritten, built};
-ghost use Rattle.influxdb_line_protocol.specs.format.Lines.{Line, answer};
+ghost use Rattle.influxdb_line_protocol.specs.format.Bytes.{newline};
+ghost use Rattle.influxdb_line_protocol.specs.format.Points.{built};
+ghost use Rattle.influxdb_line_protocol.specs.format.Lines.{answer};
 ghost use Rattle.influxdb_line_protocol.specs.format.Trimming.{trimmed};
-ghost use Rattle.influxdb_line_protocol.specs.code.Parsed.{line_read, parsed_point, Answers, IsReadLine};
+ghost use Rattle.influxdb_line_protocol.specs.code.Parsed.{line_read, parsed_point, IsReadLine};
 ghost use Rattle.lp_rebuild.specs.Rebuilding.{Rebuilds, RebuildsIn, ReadsBack, ReadsBackIn};
-ghost use Rattle.lp_rebuild.specs.RebuildSteps.{IsTrimmed, Refuses, Takes, TakesInEach};
+ghost use Rattle.lp_rebuild.specs.RebuildSteps.{IsTrimmed, Refuses, Takes, TakesLine, line_refusal_text};
 
+use crate::refusals::LineRefusal;
 use influxdb_line_protocol::builder::is_as_written;
 use influxdb_line_protocol::{
-    Dialect, Error, LineProtocolBuilder, ParsedLine, TagSet, is_admitted, laws, split_lines_in,
-    write_line,
+    Dialect, EscapedStr, FieldSet, LineProtocolBuilder, ParsedLine, Series, TagSet, is_admitted,
+    laws, split_lines_in, write_line,
 };
-use lp_lines::read_into;
+use lp_lines::freeing::{forget_line, free_line};
+use lp_lines::{Unread, read_spelled_into};
 use lp_scan::trim::trimmed;
 use std::alloc::{AllocError, Global};
-use std::fmt::Display;
 use std::mem;
 
 /// What a text gives when it is rebuilt: its items, numbered from 1, each written again or refused.
@@ -33,19 +34,54 @@ pub struct Rebuilt {
     pub refused: usize,
 }
 
-/// What was rebuilt so far, and what the fault line of the next item names.
+// What was rebuilt so far.
 #[derive(Drop)]
-pub struct Progress {
-    pub batch: Vec<u8>,
-    pub faults: String,
-    pub carried: usize,
-    pub refused: usize,
-    /// The line of the input on which the piece of the next item begins, if fault lines name lines.
-    pub line: Option<usize>,
+struct Progress {
+    batch: Vec<u8>,
+    faults: String,
+    carried: usize,
+    refused: usize,
 }
 
-// What is wrong with a line that has a name that is not admitted.
-const NOT_ADMITTED: &str = "a name cannot be written again";
+/// What reads lines again, one after another, each in the room of the ones before.
+#[derive(Drop)]
+pub struct LineReader<'a> {
+    alloc: Global,
+    dialect: Dialect,
+    line: ParsedLine<'a>,
+    // A tag set that has grown, of a line that has none now.
+    spare: Option<TagSet<'a>>,
+}
+
+impl<'a> LineReader<'a> {
+    /// Before the first line. It takes no memory.
+    #[inline(always)]
+    pub fn new(alloc: Global, dialect: Dialect) -> Self
+        ensures { result.dialect ≡ dialect }
+    {
+        LineReader {
+            alloc,
+            dialect,
+            line: ParsedLine {
+                series: Series {
+                    raw_input: "",
+                    measurement: EscapedStr::SingleSlice(""),
+                    tag_set: Some(TagSet::new(alloc)),
+                },
+                field_set: FieldSet::new(alloc),
+                timestamp: None,
+            },
+            spare: None,
+        }
+    }
+
+    /// Lets it go, without a visit to each place of its line's sets. Its memory is freed.
+    #[inline(always)]
+    pub fn free(mut self) {
+        free_line(self.alloc, &mut self.line);
+        forget_line(self.line);
+    }
+}
 
 // Writes the line again, after `batch`.
 fn append(batch: Vec<u8>, line: &ParsedLine<'_>) -> Result<Vec<u8>, AllocError>
@@ -59,125 +95,125 @@ fn append(batch: Vec<u8>, line: &ParsedLine<'_>) -> Result<Vec<u8>, AllocError>
     }
 }
 
-/// Writes a fault line for the next item.
-pub fn refuse<D: Display + Drop>(so_far: &mut Progress, text: D) -> Result<(), AllocError>
-    requires { so_far.old.carried + so_far.old.refused < usize.MAX }
-    ensures refused { OnOk result (IfSome (D.output text) (λ bs. Refuses so_far.old bs so_far.new)) }
-    ensures line { so_far.new.line ≡ so_far.old.line }
+// Takes a line that was read: it is written again, after the batch, or refused.
+fn take_line<'a>(
+    alloc: Global,
+    batch: &mut Vec<u8>,
+    line: &ParsedLine<'_>,
+) -> Result<Option<LineRefusal<'a>>, AllocError>
+    requires { IsReadLine line.now }
+    ensures { IfOk result (λ refusal. TakesLine batch.old.items refusal (Ok (line_read line.now)) batch.new.items) }
 {
-    match so_far.line {
-        None => {
-            let number = so_far.carried + so_far.refused + 1;
-            writeln!(so_far.faults, "item {number}: {text}")?;
-        }
-        Some(line) => writeln!(so_far.faults, "line {line}: {text}")?,
+    if !is_admitted(line) {
+        return Ok(Some(LineRefusal::NotAdmitted));
     }
+    let before = mem::replace(batch, Vec::new(alloc));
+    *batch = append(before, line)?;
+    Ok(None)
+}
+
+/// Appends a text and a newline.
+///
+/// # Errors
+///
+/// If memory was refused; then a front of them was appended.
+#[inline(always)]
+pub fn copy_line(batch: &mut Vec<u8>, text: &str) -> Result<(), AllocError>
+    ensures { OnOk result (batch.new.items ≡ batch.old.items ++ (text.now ++ newline ∷ [])) }
+{
+    batch.reserve(text.len() + 1)?;
+    batch.extend_from_slice(text.as_bytes())?;
+    batch.push(b'\n')?;
+    Ok(())
+}
+
+/// Reads a line and writes it again, after the batch, or tells why it is refused: then the batch stays as it was.
+///
+/// # Errors
+///
+/// If memory was refused for the line, or for the batch, which then may be lost.
+pub fn take_text<'a>(
+    batch: &mut Vec<u8>,
+    reader: &mut LineReader<'a>,
+    text: &'a str,
+) -> Result<Option<LineRefusal<'a>>, AllocError>
+    requires { IsTrimmed text.now }
+    ensures taken { IfOk result (λ refusal.
+        TakesLine batch.old.items refusal (answer (rules_of reader.old.dialect) text.now) batch.new.items) }
+    ensures dialect { reader.new.dialect ≡ reader.old.dialect }
+{
+    let read = read_spelled_into(
+        reader.alloc,
+        reader.dialect,
+        text,
+        &mut reader.line,
+        &mut reader.spare,
+    );
+    match read {
+        Ok(()) => take_line(reader.alloc, batch, &reader.line),
+        Err(Unread::Fault(fault)) => Ok(Some(LineRefusal::Fault(fault))),
+        Err(Unread::OutOfMemory) => Err(AllocError),
+    }
+}
+
+// Takes a line: its text is copied if it is as the builder writes it, and else it is read and written again, or refused.
+#[inline(always)]
+fn put_line<'a>(
+    batch: &mut Vec<u8>,
+    reader: &mut LineReader<'a>,
+    text: &'a str,
+) -> Result<Option<LineRefusal<'a>>, AllocError>
+    requires { IsTrimmed text.now }
+    ensures taken { IfOk result (λ refusal.
+        TakesLine batch.old.items refusal (answer (rules_of reader.old.dialect) text.now) batch.new.items) }
+    ensures dialect { reader.new.dialect ≡ reader.old.dialect }
+{
+    laws::written_lines_stay();
+    if is_as_written(text) {
+        copy_line(batch, text)?;
+        return Ok(None);
+    }
+    take_text(batch, reader, text)
+}
+
+// Writes a fault line for the next item.
+#[cold]
+#[inline(never)]
+fn refuse(so_far: &mut Progress, refusal: LineRefusal<'_>) -> Result<(), AllocError>
+    requires { so_far.old.carried + so_far.old.refused < usize.MAX }
+    ensures { OnOk result (Refuses so_far.old (line_refusal_text refusal.entry) so_far.new) }
+{
+    let number = so_far.carried + so_far.refused + 1;
+    writeln!(so_far.faults, "item {number}: {refusal}")?;
     so_far.refused += 1;
     Ok(())
 }
 
-// Takes the next item, a line: it is written again, or refused.
-fn take_line(alloc: Global, so_far: &mut Progress, line: &ParsedLine<'_>) -> Result<(), AllocError>
-    requires room { so_far.old.carried + so_far.old.refused < usize.MAX }
-    requires read { IsReadLine line.now }
-    ensures taken { OnOk result (Takes so_far.old (Ok (line_read line.now)) so_far.new) }
-    ensures counted { OnOk result
-        (so_far.new.carried + so_far.new.refused ≡ so_far.old.carried + so_far.old.refused + 1) }
-    ensures line { so_far.new.line ≡ so_far.old.line }
-{
-    if !is_admitted(line) {
-        return refuse(so_far, NOT_ADMITTED);
-    }
-    let batch = mem::replace(&mut so_far.batch, Vec::new(alloc));
-    so_far.batch = append(batch, line)?;
-    so_far.carried += 1;
-    Ok(())
-}
-
-// Takes the next item, an error: its fault is refused. `OutOfMemory` ends the rebuild.
-#[cold]
-#[inline(never)]
-fn take_fault(so_far: &mut Progress, error: &Error) -> Result<(), AllocError>
-    requires { so_far.old.carried + so_far.old.refused < usize.MAX }
-    ensures taken { OnOk result
-        ((answer : Result Line Fault) → Answers (Err error.now) answer → Takes so_far.old answer so_far.new) }
-    ensures counted { OnOk result
-        (so_far.new.carried + so_far.new.refused ≡ so_far.old.carried + so_far.old.refused + 1) }
-    ensures line { so_far.new.line ≡ so_far.old.line }
-{
-    match error {
-        Error::OutOfMemory => Err(AllocError),
-        fault => refuse(so_far, fault),
-    }
-}
-
-/// Takes the next item of a text, a line that is as the builder writes it: its text is copied.
+// Takes the next piece of a text. A blank piece has no item.
+#[tactic(auto, using(crate::proofs::RebuildLemmas::carried_answer, crate::proofs::RebuildLemmas::refused_answer))]
 #[inline(always)]
-pub fn take_written(so_far: &mut Progress, text: &str) -> Result<(), AllocError>
-    requires room { so_far.old.carried + so_far.old.refused < usize.MAX }
-    requires written { IsAsWritten text.now }
-    ensures taken { OnOk result (TakesInEach so_far.old text.now so_far.new) }
-    ensures counted { OnOk result
-        (so_far.new.carried + so_far.new.refused ≡ so_far.old.carried + so_far.old.refused + 1) }
-    ensures line { so_far.new.line ≡ so_far.old.line }
-{
-    laws::written_lines_stay();
-    so_far.batch.reserve(text.len() + 1)?;
-    so_far.batch.extend_from_slice(text.as_bytes())?;
-    so_far.batch.push(b'\n')?;
-    so_far.carried += 1;
-    Ok(())
-}
-
-/// Takes the next item of a text, a line: it is read into `line`, as [`read_into`] does, and written again or refused.
-pub fn take_text<'a>(
-    alloc: Global,
-    dialect: Dialect,
+fn take_piece<'a>(
     so_far: &mut Progress,
-    text: &'a str,
-    line: &mut ParsedLine<'a>,
-    spare: &mut Option<TagSet<'a>>,
-) -> Result<(), AllocError>
-    requires room { so_far.old.carried + so_far.old.refused < usize.MAX }
-    requires trimmed { IsTrimmed text.now }
-    ensures taken { OnOk result (Takes so_far.old (answer (rules_of dialect) text.now) so_far.new) }
-    ensures counted { OnOk result
-        (so_far.new.carried + so_far.new.refused ≡ so_far.old.carried + so_far.old.refused + 1) }
-    ensures line { so_far.new.line ≡ so_far.old.line }
-{
-    match read_into(alloc, dialect, text, line, spare) {
-        Ok(()) => take_line(alloc, so_far, line),
-        Err(error) => take_fault(so_far, &error),
-    }
-}
-
-/// Takes the next piece of a text: its line is copied if it is as the builder writes it, and else read into `line`. A blank
-/// piece has none.
-#[inline(always)]
-pub fn take_piece<'a>(
-    alloc: Global,
-    dialect: Dialect,
-    so_far: &mut Progress,
+    reader: &mut LineReader<'a>,
     piece: &'a str,
-    line: &mut ParsedLine<'a>,
-    spare: &mut Option<TagSet<'a>>,
 ) -> Result<(), AllocError>
     requires { so_far.old.carried + so_far.old.refused < usize.MAX }
     ensures blank { length (trimmed piece.now) ≡ 0 → so_far.new ≡ so_far.old }
     ensures taken { OnOk result (0 < length (trimmed piece.now)
-        → Takes so_far.old (answer (rules_of dialect) (trimmed piece.now)) so_far.new) }
+        → Takes so_far.old (answer (rules_of reader.old.dialect) (trimmed piece.now)) so_far.new) }
     ensures counted { OnOk result
         (so_far.new.carried + so_far.new.refused ≤ so_far.old.carried + so_far.old.refused + 1) }
-    ensures line { so_far.new.line ≡ so_far.old.line }
+    ensures dialect { reader.new.dialect ≡ reader.old.dialect }
 {
     let text = trimmed(piece);
     if text.is_empty() {
         return Ok(());
     }
-    if is_as_written(text) {
-        return take_written(so_far, text);
+    match put_line(&mut so_far.batch, reader, text)? {
+        None => so_far.carried += 1,
+        Some(refusal) => refuse(so_far, refusal)?,
     }
-    take_text(alloc, dialect, so_far, text, line, spare)
+    Ok(())
 }
 
 /// Writes again each line of a text whose names are all admitted, and refuses every other item.
@@ -222,13 +258,11 @@ pub fn rebuild_in(alloc: Global, dialect: Dialect, input: &str) -> Result<Rebuil
         faults: String::new(alloc),
         carried: 0,
         refused: 0,
-        line: None,
     };
-    let mut line = ParsedLine::new(alloc);
-    let mut spare = None;
+    let mut reader = LineReader::new(alloc, dialect);
     let mut pieces = split_lines_in(dialect, input);
     while let Some(piece) = pieces.next() {
-        take_piece(alloc, dialect, &mut so_far, piece, &mut line, &mut spare)?;
+        take_piece(&mut so_far, &mut reader, piece)?;
     }
     Ok(Rebuilt {
         batch: so_far.batch,

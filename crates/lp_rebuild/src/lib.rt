@@ -9,8 +9,10 @@ pub mod batch;
 mod devices;
 mod failures;
 pub mod program;
+mod refusals;
 
 pub use batch::{Rebuilt, rebuild, rebuild_in};
 pub use devices::{DeviceFault, Kept, Reading, Sink, Source, Writing};
 pub use failures::Failures;
 pub use program::{RunFault, USAGE, asked_dialect, read_all, run, run_in, status};
+pub use refusals::LineRefusal;

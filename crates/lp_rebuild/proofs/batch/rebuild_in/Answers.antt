@@ -12,10 +12,10 @@ loop-piece-preserved c =
     record {
       dialect = given.0 ∙ h.dialect;
       room = omega (arith, taken.counted, (c.in-Some.ensures.goes.on tt).2);
-      numbered = taken.line ∙ h.numbered;
+      reads = taken.dialect ∙ h.reads;
       done = λ others left.
           SoFar-piece (rules_of c.args.dialect) c.args.input.now c.in-Some.piece.now others c.loop-piece.so_far c.take_piece.new.so_far
-          h.numbered (h.done _ (given.1 others left)) taken.blank taken.taken;
+          (h.done _ (given.1 others left)) taken.blank (rw h.reads at taken.taken);
     }
 
 pub returns-clause-rebuilds : goal.returns-clause-rebuilds
