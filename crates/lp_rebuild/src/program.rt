@@ -43,7 +43,7 @@ impl fmt::Display for RunFault {
 pub const BLOCK: usize = 65_536;
 
 // Makes room for a block after the first `filled` bytes of `input`, which stay as they are.
-fn make_room(input: &mut Vec<u8>, filled: usize) -> Result<(), AllocError>
+fn grow_by_block(input: &mut Vec<u8>, filled: usize) -> Result<(), AllocError>
     requires { filled ≤ vec_len input.old }
     ensures front { take filled input.new.items ≡ take filled input.old.items }
     ensures within { filled ≤ vec_len input.new }
@@ -86,7 +86,7 @@ pub fn read_block<R: Source>(
     ensures end { IfOk result (λ n. n ≡ 0 → IsAtEnd (R.bytes reader.new)) }
     ensures counts { CountsReadFault result (R.failures reader.old) (R.failures reader.new) }
 {
-    if make_room(input, filled).is_err() {
+    if grow_by_block(input, filled).is_err() {
         return Err(RunFault::OutOfMemory);
     }
     match read_at(reader, input.as_mut_slice(), filled) {

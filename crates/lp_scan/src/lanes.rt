@@ -46,16 +46,20 @@ pub fn end_mask(kind: TokenKind, bytes: &[u8], at: usize) -> u64
     let v = u8x16::from_slice(&bytes[at..]);
     let backslashes = v.simd_eq(u8x16::splat(b'\\'));
     match kind {
+        TokenKind::Measurement => {
+            let blanks = v.simd_eq(u8x16::splat(b' ')) | v.simd_eq(u8x16::splat(b'\t'));
+            let stops = blanks | v.simd_eq(u8x16::splat(b'\n')) | backslashes;
+            let own = v.simd_eq(u8x16::splat(b',')) | v.simd_eq(u8x16::splat(0));
+            (stops | own).to_bitmask()
+        }
         TokenKind::TagKey | TokenKind::FieldKey => by_low_half(KEY_ENDS, v).simd_eq(v).to_bitmask(),
         TokenKind::TagValue => {
             let stops = by_low_half(TAG_VALUE_ENDS, v).simd_eq(v);
             (stops | backslashes).to_bitmask()
         }
-        TokenKind::Measurement | TokenKind::String => {
-            let [first, b, c, d, e] = kind.stops();
-            let second = v.simd_eq(u8x16::splat(b)) | v.simd_eq(u8x16::splat(c));
-            let others = second | (v.simd_eq(u8x16::splat(d)) | v.simd_eq(u8x16::splat(e)));
-            (v.simd_eq(u8x16::splat(first)) | others | backslashes).to_bitmask()
+        TokenKind::String => {
+            let quotes = v.simd_eq(u8x16::splat(b'"'));
+            (backslashes | quotes).to_bitmask()
         }
     }
 }

@@ -1,7 +1,8 @@
-//! The bytes that end a name or a string, and those that a backslash escapes in it: one table of both, by kind.
+//! The bytes that end a name or a string, and those that a backslash escapes in it: by kind, as arrays and as tests.
 //!
-//! Each test of a byte and each mask of a load is made from it. An array has a place for the most bytes that a kind has; a kind with
-//! fewer has a byte twice, which the compiler compares once.
+//! What is written and what is searched from the first backslash on is made from the arrays, of which each has a place for the most
+//! bytes that a kind has: a kind with fewer has a byte twice. The tests of a byte stand beside them, since they are a part of each
+//! reader of names, which the compiler inlines only if they are small before it knows the kind.
 
 ghost use Rattle.std.specs.Prelude.{◌≡◌, ℕ, length};
 ghost use Rattle.lp_format.specs.format.Bytes.{is_one_of};
@@ -50,7 +51,14 @@ impl TokenKind {
     pub fn is_stop(self, byte: u8) -> bool
         ensures { result ≡ stops_of self byte }
     {
-        self.stops().contains(&byte)
+        match self {
+            TokenKind::Measurement => matches!(byte, b' ' | b'\t' | b'\n' | 0 | b','),
+            TokenKind::TagKey | TokenKind::FieldKey => {
+                matches!(byte, b' ' | b'\t' | b'\n' | b'=')
+            }
+            TokenKind::TagValue => matches!(byte, b' ' | b'\t' | b'\n' | b','),
+            TokenKind::String => byte == b'"',
+        }
     }
 
     /// Whether a backslash before the byte is a known escape.
@@ -58,6 +66,13 @@ impl TokenKind {
     pub fn is_known(self, byte: u8) -> bool
         ensures { result ≡ is_one_of (known_of self) byte }
     {
-        self.known().contains(&byte)
+        match self {
+            TokenKind::Measurement => matches!(byte, b',' | b' ' | b'\\'),
+            TokenKind::TagKey | TokenKind::TagValue | TokenKind::FieldKey => matches!(
+                byte,
+                b',' | b'=' | b' ' | b'\\'
+            ),
+            TokenKind::String => matches!(byte, b'"' | b'\\'),
+        }
     }
 }

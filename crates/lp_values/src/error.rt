@@ -1,10 +1,9 @@
 //! What can be wrong with a line.
 
-ghost use Rattle.std.specs.Prelude.{◌≡◌, Some};
-ghost use Rattle.lp_values.specs.{code.Faults.error_text, declared.error.Error.TheVariants.OutOfMemory};
+ghost use Rattle.std.specs.Prelude.{◌≡◌};
+ghost use Rattle.lp_values.specs.declared.error.Error.TheVariants.{OutOfMemory};
 
 use std::alloc::{AllocError, AllocFailed};
-use std::fmt;
 
 /// A result whose error is an [`Error`].
 pub type Result<T> = std::result::Result<T, Error>;
@@ -51,43 +50,6 @@ pub enum Error {
     GenericParsingError { kind: ErrorKind },
     /// A request for memory was refused.
     OutOfMemory,
-}
-
-impl fmt::Display for Error {
-    ghost output = { λ e. Some (error_text e) };
-
-    fn fmt<W: fmt::Write>(&self, f: &mut fmt::Formatter<W>) -> fmt::Result {
-        match self {
-            Error::DuplicateTag { tag_key } => write!(
-                f,
-                "Must not contain duplicate tags, but \"{tag_key}\" was repeated"
-            ),
-            Error::MeasurementValueInvalid => write!(f, "Invalid measurement was provided"),
-            Error::FieldSetMissing => write!(f, "No fields were provided"),
-            Error::IntegerValueInvalid { source: _, value } => {
-                write!(f, "Unable to parse integer value '{value}'")
-            }
-            Error::UIntegerValueInvalid { source: _, value } => {
-                write!(f, "Unable to parse unsigned integer value '{value}'")
-            }
-            Error::TimestampValueInvalid { source: _, value } => {
-                write!(f, "Unable to parse timestamp value '{value}'")
-            }
-            Error::EndsWithBackslash => write!(
-                f,
-                "Measurements, tag keys and values, and field keys may not end with a backslash"
-            ),
-            Error::CannotParseEntireLine { trailing_content } => write!(
-                f,
-                "Could not parse entire line. Found trailing content: '{trailing_content}'"
-            ),
-            Error::TagSetMalformed => write!(f, "Tag Set Malformed"),
-            Error::GenericParsingError {
-                kind: ErrorKind::TakeWhile1,
-            } => write!(f, "A generic parsing error occurred: TakeWhile1"),
-            Error::OutOfMemory => write!(f, "out of memory"),
-        }
-    }
 }
 
 impl std::error::Error for Error {}

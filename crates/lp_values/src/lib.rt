@@ -7,6 +7,7 @@
 pub mod digits;
 pub mod error;
 mod escaped;
+mod fault_texts;
 pub mod literals;
 pub mod names;
 pub mod shown;

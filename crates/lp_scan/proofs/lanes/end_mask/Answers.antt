@@ -1,10 +1,15 @@
 -- A lane is set exactly if its byte ends a token of the kind or is a backslash, at each of the 256 bytes.
-use Rattle.std.proofs.Common.{◌≡◌, ◌∙◌, ap, refl, arith, inl, inr}
-use lib.Lanes.{mask_l}
-use Rattle.lp_format.specs.format.{backslash}
+use Rattle.std.proofs.Common.{◌≡◌, refl, arith, inl, inr}
+use Rattle.lp_format.specs.format.{backslash, comma, newline, quote, space, tab}
 use Rattle.lp_scan.specs.code.{stops_of, TagKey}
-use Rattle.lp_scan.proofs.lemmas.lanes.LaneLemmas.{any_of_five, either, looked, mask_as, mask_in, one, one_of_five, same_tests}
+use Rattle.lp_scan.proofs.lemmas.lanes.LaneLemmas.{either, looked, mask_as, one}
 use Rattle.lp_scan.proofs.lanes.end_mask.Goals as goal
+
+pub returns-in-Measurement : goal.returns-in-Measurement
+returns-in-Measurement c =
+    rw c.in-Measurement.is (mask_as
+    (either (either (either (either (one space) (one tab)) (one newline)) (one backslash)) (either (one comma) (one 0)))
+    _ _ 16 c.requires (omega arith) _ (λ k. (c.type_inv.bytes k).fits) refl)
 
 pub returns-in-TagKey : goal.returns-in-TagKey
 returns-in-TagKey c =
@@ -16,7 +21,6 @@ returns-in-TagValue c =
     rw (c.in-TagValue.is, c.by_low_half-in-TagValue.ensures)
     (mask_as (either (looked _) (one backslash)) _ _ 16 c.requires (omega arith) _ (λ k. (c.type_inv.bytes k).fits) refl)
 
-pub returns-in-Measurement : goal.returns-in-Measurement
-returns-in-Measurement c =
-    mask_in (either (any_of_five c.stops.result) (one backslash)) _ _ 16 c.requires (omega arith)
-    ∙ ap mask_l (same_tests _ _ (λ b. grind (arith, one_of_five c.stops.result c.stops.ensures.len b, c.stops.ensures.bytes b)) _)
+pub returns-in-String : goal.returns-in-String
+returns-in-String c =
+    rw c.in-String.is (mask_as (either (one backslash) (one quote)) _ _ 16 c.requires (omega arith) _ (λ k. (c.type_inv.bytes k).fits) refl)
