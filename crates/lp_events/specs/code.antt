@@ -1,3 +1,4 @@
 pub mod LineSteps
 pub mod Events
 pub mod EventsLeft
+pub mod Stops

@@ -71,7 +71,7 @@ type Step<'a> = Result<(Event<'a>, Place<'a>), SpelledFault<'a>>;
 
 // A tag after a comma at the start of `text`, and the rest.
 #[inline(always)]
-fn next_tag<'a>(text: &'a str) -> Front<'a, (Spelled<'a>, Spelled<'a>)>
+pub(crate) fn next_tag<'a>(text: &'a str) -> Front<'a, (Spelled<'a>, Spelled<'a>)>
     ensures value { GivesSpelled spelled_tag result (after_comma tag text.now) }
     ensures less { IfOk result (λ o. IfSome o (λ p. length p.1.now < length text.now)) }
 {
@@ -83,7 +83,7 @@ fn next_tag<'a>(text: &'a str) -> Front<'a, (Spelled<'a>, Spelled<'a>)>
 
 // A field after a comma at the start of `text`, and the rest.
 #[inline(always)]
-fn next_field<'a>(text: &'a str) -> Front<'a, (Spelled<'a>, SpelledValue<'a>)>
+pub(crate) fn next_field<'a>(text: &'a str) -> Front<'a, (Spelled<'a>, SpelledValue<'a>)>
     ensures value { GivesSpelled spelled_field result (after_comma field text.now) }
     ensures less { IfOk result (λ o. IfSome o (λ p. length p.1.now < length text.now)) }
 {
@@ -157,13 +157,13 @@ fn after_name<'a>(names: Names<'a>) -> Step<'a>
 
 // What is left after the last field: in the crate's dialect without the comma after a first field that is the only one.
 #[inline(always)]
-fn rest_after<'a>(dialect: Dialect, fields: Fields<'a>) -> &'a str
-    ensures { (all : List (Pair Text (Value Text))) → fields.entry.is_first ≡ (length all == 1)
-        → result.now ≡ without_comma (rules_of dialect) all fields.entry.rest.now }
+pub(crate) fn rest_after(dialect: Dialect, is_first: bool, rest: &str) -> &str
+    ensures { (all : List (Pair Text (Value Text))) → is_first ≡ (length all == 1)
+        → result.now ≡ without_comma (rules_of dialect) all rest.now }
 {
     match dialect {
-        Dialect::Crate if fields.is_first => strip_byte(b',', fields.rest).unwrap_or(fields.rest),
-        _ => fields.rest,
+        Dialect::Crate if is_first => strip_byte(b',', rest).unwrap_or(rest),
+        _ => rest,
     }
 }
 
@@ -181,7 +181,8 @@ fn after_field<'a>(dialect: Dialect, fields: Fields<'a>) -> Step<'a>
         };
         return Ok((Event::Field(key, value), Place::Fields(fields)));
     }
-    let (timestamp, rest) = spelled_parts::timestamp(rest_after(dialect, fields))?;
+    let left = rest_after(dialect, fields.is_first, fields.rest);
+    let (timestamp, rest) = spelled_parts::timestamp(left)?;
     if !rest.is_empty() {
         return Err(SpelledFault::CannotParseEntireLine {
             trailing_content: rest,

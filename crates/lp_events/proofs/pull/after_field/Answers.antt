@@ -27,14 +27,14 @@ pub returns-in_err-timestamp-clause-steps : goal.returns-in_err-timestamp-clause
 returns-in_err-timestamp-clause-steps c =
     let p = err_from_is_err_and c.from_residual-in_err-timestamp.result c.from_residual-in_err-timestamp.ensures.1 in
     rw (p.1, p.2) (λ left others later d line m tags fs h.
-    let rest = c.rest_after.ensures fs h.first_is in
+    let rest = c.rest_after-left.ensures fs h.first_is in
     let none = rw c.in_default.is at c.in_ok-key.ensures.value in
     completes_fault (fields_front h (rw none (tt {0})))
     (rw d (time_fault h (rules_of c.args.dialect) none _ (rw rest at c.in_err-timestamp.ensures))) later)
 
 pub returns-then-not-is_empty-clause-steps : goal.returns-then-not-is_empty-clause-steps
 returns-then-not-is_empty-clause-steps c = λ left others later d line m tags fs h.
-    let rest = c.rest_after.ensures fs h.first_is in
+    let rest = c.rest_after-left.ensures fs h.first_is in
     let more = c.in_ok-timestamp.rest.now in
     let none = rw c.in_default.is at c.in_ok-key.ensures.value in
     completes_fault (fields_front h (rw none (tt {0})))
@@ -43,6 +43,6 @@ returns-then-not-is_empty-clause-steps c = λ left others later d line m tags fs
 
 pub returns-clause-steps : goal.returns-clause-steps
 returns-clause-steps c = λ left others later d line m tags fs h.
-    let rest = c.rest_after.ensures fs h.first_is in
+    let rest = c.rest_after-left.ensures fs h.first_is in
     completes_end h (rules_of c.args.dialect) (grind arith) left others _ c.in_ok-timestamp.rest.now d (grind arith)
     (grind (arith, common_steps)) later
