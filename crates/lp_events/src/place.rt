@@ -27,7 +27,7 @@ pub(crate) struct Fields<'a> {
 
 /// Where in a text the parts that were read end.
 #[derive(Clone, Copy)]
-pub(crate) enum Place<'a> {
+pub(crate) enum LinePlace<'a> {
     /// Between two lines.
     Between,
     /// In a line, before its fields.

@@ -11,7 +11,7 @@ ghost use Rattle.lp_events.specs.code.EventsLeft.{most_events, most_of_line, tol
 
 use crate::events::{self, EventSink, front_before};
 use crate::lines::next_line;
-use crate::place::{Fields, Names, Place};
+use crate::place::{Fields, LinePlace, Names};
 use lp_scan::trim::{strip_byte, trim_start_spaces};
 use lp_split::Dialect;
 use lp_split::split::{SplitLines, dialect_of, split_lines_in};
@@ -67,7 +67,7 @@ impl<'a> Event<'a> {
 }
 
 // The next event of a line and where its part ends, or the fault of the line.
-type Step<'a> = Result<(Event<'a>, Place<'a>), SpelledFault<'a>>;
+type Step<'a> = Result<(Event<'a>, LinePlace<'a>), SpelledFault<'a>>;
 
 // A tag after a comma at the start of `text`, and the rest.
 #[inline(always)]
@@ -108,7 +108,7 @@ fn begin<'a>(line: &'a str) -> Step<'a>
         rest,
         is_first: true,
     };
-    Ok((Event::Measurement(name), Place::Names(names)))
+    Ok((Event::Measurement(name), LinePlace::Names(names)))
 }
 
 // The first field of a line, after its tags and spaces.
@@ -132,13 +132,13 @@ fn first_field<'a>(names: Names<'a>) -> Step<'a>
         rest,
         is_first: true,
     };
-    Ok((Event::Field(key, value), Place::Fields(fields)))
+    Ok((Event::Field(key, value), LinePlace::Fields(fields)))
 }
 
 // The next tag of a line, or its first field.
 #[inline(always)]
 fn after_name<'a>(names: Names<'a>) -> Step<'a>
-    ensures steps { Steps (AreLeftFrom (Place.Names names.entry)) result }
+    ensures steps { Steps (AreLeftFrom (LinePlace.Names names.entry)) result }
     ensures less { IfOk result (λ p. most_of_line p.1 < length names.entry.rest.now + 1) }
 {
     let Some(((key, value), rest)) = next_tag(names.rest)? else {
@@ -152,7 +152,7 @@ fn after_name<'a>(names: Names<'a>) -> Step<'a>
         rest,
         is_first: false,
     };
-    Ok((Event::Tag(key, value), Place::Names(names)))
+    Ok((Event::Tag(key, value), LinePlace::Names(names)))
 }
 
 // What is left after the last field: in the crate's dialect without the comma after a first field that is the only one.
@@ -170,7 +170,7 @@ pub(crate) fn rest_after(dialect: Dialect, is_first: bool, rest: &str) -> &str
 // The next field of a line, or its end.
 #[inline(always)]
 fn after_field<'a>(dialect: Dialect, fields: Fields<'a>) -> Step<'a>
-    ensures steps { Steps (λ left events. left.dialect ≡ rules_of dialect → AreLeftFrom (Place.Fields fields.entry) left events) result }
+    ensures steps { Steps (λ left events. left.dialect ≡ rules_of dialect → AreLeftFrom (LinePlace.Fields fields.entry) left events) result }
     ensures less { IfOk result (λ p. most_of_line p.1 < length fields.entry.rest.now + 1) }
 {
     if let Some(((key, value), rest)) = next_field(fields.rest)? {
@@ -179,7 +179,7 @@ fn after_field<'a>(dialect: Dialect, fields: Fields<'a>) -> Step<'a>
             rest,
             is_first: false,
         };
-        return Ok((Event::Field(key, value), Place::Fields(fields)));
+        return Ok((Event::Field(key, value), LinePlace::Fields(fields)));
     }
     let left = rest_after(dialect, fields.is_first, fields.rest);
     let (timestamp, rest) = spelled_parts::timestamp(left)?;
@@ -192,7 +192,7 @@ fn after_field<'a>(dialect: Dialect, fields: Fields<'a>) -> Step<'a>
         series: fields.series,
         timestamp,
     };
-    Ok((end, Place::Between))
+    Ok((end, LinePlace::Between))
 }
 
 /// The events of a text, one after another: what [`parse_events`] gives.
@@ -203,7 +203,7 @@ fn after_field<'a>(dialect: Dialect, fields: Fields<'a>) -> Step<'a>
 pub struct ParseEvents<'a> {
     lines: SplitLines<'a>,
     // In the line before those that are left.
-    place: Place<'a>,
+    place: LinePlace<'a>,
 }
 
 /// Reads the lines of a text part by part: the events that [`read_events_in`](crate::read_events_in) tells a sink of.
@@ -232,7 +232,7 @@ pub fn parse_events_in(dialect: Dialect, input: &str) -> ParseEvents<'_>
 {
     ParseEvents {
         lines: split_lines_in(dialect, input),
-        place: Place::Between,
+        place: LinePlace::Between,
     }
 }
 
@@ -248,9 +248,9 @@ impl<'a> ParseEvents<'a> {
             (λ fault. most_pieces self.new.lines.text < most_events self.old)) }
     {
         match self.place {
-            Place::Between => Some(begin(next_line(&mut self.lines)?)),
-            Place::Names(names) => Some(after_name(names)),
-            Place::Fields(fields) => Some(after_field(dialect_of(&self.lines), fields)),
+            LinePlace::Between => Some(begin(next_line(&mut self.lines)?)),
+            LinePlace::Names(names) => Some(after_name(names)),
+            LinePlace::Fields(fields) => Some(after_field(dialect_of(&self.lines), fields)),
         }
     }
 
@@ -283,7 +283,7 @@ impl<'a> Iterator for ParseEvents<'a> {
                 Some(event)
             }
             Err(fault) => {
-                self.place = Place::Between;
+                self.place = LinePlace::Between;
                 Some(Event::Fault(fault))
             }
         }

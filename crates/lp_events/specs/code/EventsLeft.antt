@@ -9,8 +9,8 @@ use Rattle.lp_values.specs.declared.spelled.SpelledFault.{SpelledFault}
 use Rattle.lp_events.specs.code.Events.{AreEventsOf, AreEventsOfAll, AreMost, AreRead, Event, ended, failed, front_events, named}
 use Rattle.lp_events.specs.code.Events.{spelled_field, spelled_tag, tagged, valued}
 use Rattle.lp_events.specs.declared.pull.Event.TheVariants.{Measurement, Tag, Field, End, Fault}
-use Rattle.lp_events.specs.declared.{place.Place.Place, place.Place.TheVariants.Between, place.Place.TheVariants.Names}
-use Rattle.lp_events.specs.declared.{place.Place.TheVariants.Fields, pull.ParseEvents.ParseEvents}
+use Rattle.lp_events.specs.declared.{place.LinePlace.LinePlace, place.LinePlace.TheVariants.Between, place.LinePlace.TheVariants.Names}
+use Rattle.lp_events.specs.declared.{place.LinePlace.TheVariants.Fields, pull.ParseEvents.ParseEvents}
 use Rattle.lp_events.specs.declared.pull.Event as given
 
 -- an event that was given, as a sink is told of it
@@ -78,7 +78,7 @@ AreLeftAfterSeries line rest left events =
     → Completes line (front_events measurement tags []) left events
 
 -- these events are left from a place on, whatever was read of its line
-abbrev pub AreLeftFrom : Place → Left → List Event → Type 0
+abbrev pub AreLeftFrom : LinePlace → Left → List Event → Type 0
 AreLeftFrom Between left events = AreEventsLeft left events
 AreLeftFrom (Names p) left events =
     (measurement : Text) (tags : List (Pair Text Text)) → NamesRead p.line.now measurement tags p.rest.now p.is_first
@@ -89,7 +89,7 @@ AreLeftFrom (Fields p) left events =
     → Completes line (front_events measurement tags fields) left events
 
 -- a step gives the first of the events that are left, and leaves the others; a fault is the last event of its line
-abbrev pub Steps : (Left → List Event → Type 0) → Result (given.Event × Place) SpelledFault → Type 0
+abbrev pub Steps : (Left → List Event → Type 0) → Result (given.Event × LinePlace) SpelledFault → Type 0
 Steps Are (Ok p) = (left : Left) (others : List Event) → AreLeftFrom p.1 left others → Are left (told p.0 ∷ others)
 Steps Are (Err fault) =
     (left : Left) (others : List Event) → AreEventsLeft left others → Are left (failed (spelled_fault fault) ∷ others)
@@ -99,7 +99,7 @@ abbrev pub HasEventsLeft : ParseEvents → List Event → Type 0
 HasEventsLeft reader events = AreLeftFrom reader.place reader.lines events
 
 -- so many events are left of a line at most
-abbrev pub most_of_line : Place → ℕ
+abbrev pub most_of_line : LinePlace → ℕ
 most_of_line Between = 0
 most_of_line (Names p) = length p.rest.now + 1
 most_of_line (Fields p) = length p.rest.now + 1

@@ -12,7 +12,7 @@ use Rattle.lp_values.proofs.lemmas.fields.ReadingLemmas.{EndsIn, bind_reads, byt
 use Rattle.lp_values.specs.declared.spelled.SpelledFault.{SpelledFault}
 use Rattle.lp_events.specs.code.Events.{AreEventsOf, AreLongestFront, AreMost, Event, ended, failed, front_events, tagged, valued}
 use Rattle.lp_events.specs.code.EventsLeft.{AreEventsLeft, Completes, FieldsRead, NamesRead, SeriesRead, Steps, most_of_line}
-use Rattle.lp_events.specs.declared.{place.Place.Place}
+use Rattle.lp_events.specs.declared.{place.LinePlace.LinePlace}
 use Rattle.lp_events.proofs.lemmas.fields.ManyLemmas.{DoesNotRead, comma_cases, none_most, so_far_end, so_far_fatal, so_far_more}
 use Rattle.lp_events.proofs.lemmas.fields.ManyLemmas.{so_far_most, so_far_start}
 use Rattle.lp_events.proofs.lemmas.fields.FrontLemmas.{comma_no_space, front_fields, front_names, front_none, tags_after}
@@ -71,7 +71,7 @@ pub not_stripped : (result : Option (Bor (List ℕ))) (text : List ℕ)
 not_stripped place text is none = grind (arith)
 
 -- what a step gives of some events it gives of those that they are left for
-pub steps_from : (Are Wanted : Left → List Event → Type 0) (result : Result (given.Event × Place) SpelledFault)
+pub steps_from : (Are Wanted : Left → List Event → Type 0) (result : Result (given.Event × LinePlace) SpelledFault)
     → ((left : Left) (events : List Event) → Are left events → Wanted left events) → Steps Are result → Steps Wanted result
 steps_from re anted fault on h = grind (arith)
 
@@ -225,7 +225,7 @@ pub field_after : (m : Text) (tags : List (Pair Text Text)) (fields : List (Pair
 field_after m tags fields x = simp (append_assoc, map_push)
 
 -- after a step that leaves fewer events of a line, fewer are left
-pub step_less : (result : Result (given.Event × Place) SpelledFault) (line after before : ℕ) → IfOk result (λ p. most_of_line p.1 < line + 1)
+pub step_less : (result : Result (given.Event × LinePlace) SpelledFault) (line after before : ℕ) → IfOk result (λ p. most_of_line p.1 < line + 1)
     → line + 1 + after ≤ before → MatchResult result (λ p. most_of_line p.1 + after < before) (λ fault. after < before)
 step_less fault line after before less fits = grind (arith)
 

@@ -3,7 +3,7 @@ use Rattle.std.proofs.lemmas.{Grind.common_steps, Result.err_from_is_err_and}
 use Rattle.lp_format.specs.format.{comma, byte, tag, miss}
 use Rattle.lp_values.proofs.lemmas.fields.ReadingLemmas.{EndsIn, EndsIn-end, after_comma_ends, tag_ends}
 use Rattle.lp_events.specs.code.{Events.spelled_tag, EventsLeft.AreLeftAfterSeries, EventsLeft.AreLeftFrom}
-use Rattle.lp_events.specs.declared.place.Place.TheVariants.{Names}
+use Rattle.lp_events.specs.declared.place.LinePlace.TheVariants.{Names}
 use Rattle.lp_events.proofs.lemmas.fields.FrontLemmas.{fatal_comma}
 use Rattle.lp_events.proofs.lemmas.pull.EventSteps.{completes_fault, completes_more, front_is, names_end, names_fatal}
 use Rattle.lp_events.proofs.lemmas.pull.EventSteps.{names_front, names_malformed, names_more, not_stripped, steps_from, stripped, tag_after}

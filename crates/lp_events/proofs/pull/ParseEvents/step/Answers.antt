@@ -2,7 +2,7 @@ use Rattle.std.proofs.Common.{◌≡◌, [], arith, subst, sym, Some}
 use Rattle.std.proofs.lemmas.Grind.{common_steps}
 use Rattle.lp_split.specs.code.{rules_of}
 use Rattle.lp_events.specs.code.{EventsLeft.AreLeftFrom, EventsLeft.Completes, EventsLeft.HasEventsLeft, LineSteps.GivesLine}
-use Rattle.lp_events.specs.declared.place.Place.TheVariants.{Fields}
+use Rattle.lp_events.specs.declared.place.LinePlace.TheVariants.{Fields}
 use Rattle.lp_events.proofs.lemmas.{pull.EventSteps.steps_from, pull.EventSteps.step_less, events.LineEvents.blank_events}
 use Rattle.lp_events.proofs.lemmas.{events.LineEvents.line_left, lines.LineSteps.line_less, lines.LineSteps.none_comes}
 use Rattle.lp_events.proofs.pull.ParseEvents.step.Goals as goal
