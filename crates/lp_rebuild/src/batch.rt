@@ -46,8 +46,10 @@ struct Progress {
 /// What reads lines again, one after another, each in the room of the ones before.
 #[derive(Drop)]
 pub struct LineReader<'a> {
-    alloc: Global,
-    dialect: Dialect,
+    /// Where memory for what is read comes from.
+    pub alloc: Global,
+    /// The dialect whose rules hold.
+    pub dialect: Dialect,
     line: ParsedLine<'a>,
     // A tag set that has grown, of a line that has none now.
     spare: Option<TagSet<'a>>,
@@ -112,17 +114,17 @@ fn take_line<'a>(
     Ok(None)
 }
 
-/// Appends a text and a newline.
+/// Appends a line and a newline.
 ///
 /// # Errors
 ///
 /// If memory was refused; then a front of them was appended.
 #[inline(always)]
-pub fn copy_line(batch: &mut Vec<u8>, text: &str) -> Result<(), AllocError>
-    ensures { OnOk result (batch.new.items ≡ batch.old.items ++ (text.now ++ newline ∷ [])) }
+pub fn copy_line(batch: &mut Vec<u8>, line: &[u8]) -> Result<(), AllocError>
+    ensures { OnOk result (batch.new.items ≡ batch.old.items ++ (line.now ++ newline ∷ [])) }
 {
-    batch.reserve(text.len() + 1)?;
-    batch.extend_from_slice(text.as_bytes())?;
+    batch.reserve(line.len() + 1)?;
+    batch.extend_from_slice(line)?;
     batch.push(b'\n')?;
     Ok(())
 }
@@ -156,9 +158,13 @@ pub fn take_text<'a>(
     }
 }
 
-// Takes a line: its text is copied if it is as the builder writes it, and else it is read and written again, or refused.
+/// Takes a line, as [`take_text`] does, but its text is copied if it is as the builder writes it.
+///
+/// # Errors
+///
+/// Those of [`take_text`].
 #[inline(always)]
-fn put_line<'a>(
+pub fn put_line<'a>(
     batch: &mut Vec<u8>,
     reader: &mut LineReader<'a>,
     text: &'a str,
@@ -170,7 +176,7 @@ fn put_line<'a>(
 {
     laws::written_lines_stay();
     if is_as_written(text) {
-        copy_line(batch, text)?;
+        copy_line(batch, text.as_bytes())?;
         return Ok(None);
     }
     take_text(batch, reader, text)

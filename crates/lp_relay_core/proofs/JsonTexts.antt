@@ -1,15 +1,9 @@
 -- Texts in strings of JSON, and the texts of fault lines.
 use Rattle.std.proofs.Common.{◌≡◌, ℕ, ◌+◌, ◌-◌, ◌<◌, ◌≤◌, true, false, List, [], ◌∷◌, ◌++◌, length, take, drop, get_or, slice_index}
-use Rattle.std.proofs.Common.{refl, sym, ap, subst, ◌∙◌, arith, append_assoc, append-nil, length-append, length-drop, IsCharBoundary}
-use Rattle.std.proofs.Common.{Option, None, Some}
-use Rattle.std.specs.Str.{IsUtf8}
+use Rattle.std.proofs.Common.{refl, sym, ap, ◌∙◌, arith, append_assoc, append-nil, length-drop}
 use Rattle.std.proofs.Math.Nat.{sub_self}
-use Rattle.std.proofs.Math.Seq.{drop-append_seam, take-append_seam}
 use Rattle.std.proofs.lemmas.{Grind.common_steps, Grind.flat_map-append, List.take_more}
-use Rattle.std.proofs.lemmas.Str.{IsCharBoundary-before_ascii, IsCharBoundary-from_take}
-use Rattle.influxdb_line_protocol.specs.format.Bytes.{newline}
-use Rattle.lp_rebuild.specs.RebuildSteps.{fault_line_at}
-use Rattle.lp_relay_core.specs.Objects.{escape_of, is_escaped, json_byte, json_text, line_mark}
+use Rattle.lp_relay_core.specs.Objects.{escape_of, is_escaped, json_byte, json_text}
 
 -- one byte more
 text_more : (text : List ℕ) (at : ℕ) → at < length text → json_text (take (at + 1) text) ≡ json_text (take at text) ++ json_byte (slice_index text at)
@@ -55,38 +49,15 @@ pub last_run : (old done new text : List ℕ) (start at : ℕ) → start ≤ at 
     → new ≡ old ++ json_text text
 last_run old done new text start at low all whole is = grind (arith, common_steps)
 
--- a fault line is its mark, its text and a newline
-pub marked : (line : Option ℕ) (number : ℕ) (text : List ℕ) → fault_line_at line number text ≡ line_mark line number ++ text ++ newline ∷ []
-marked None number text = refl
-marked (Some line) number text = refl
+-- if bytes stand as they are, and the next has no escape, so do all of them
+pub one_more_plain : (bytes : List ℕ) (at : ℕ) → at < length bytes → json_text (take at bytes) ≡ take at bytes
+    → is_escaped (slice_index bytes at) ≡ false → json_text (take (at + 1) bytes) ≡ take (at + 1) bytes
+one_more_plain bytes at more front plain =
+    let one : json_byte (slice_index bytes at) ≡ slice_index bytes at ∷ [] = rw plain refl in
+    text_more bytes at more ∙ ap (λ (l : List ℕ). l ++ json_byte (slice_index bytes at)) front
+    ∙ ap (λ (l : List ℕ). take at bytes ++ l) one ∙ sym (take_more bytes at 0 (omega (arith, more)))
 
--- how long such a line is
-pub marked_len : (mark line text : List ℕ) → line ≡ mark ++ text ++ newline ∷ [] → length line ≡ length mark + length text + 1
-marked_len mark line text is =
-    omega (arith, ap length is, length-append (mark ++ text) (newline ∷ []), length-append mark text)
-
--- its text may be cut off after the mark
-pub after_mark : (mark line text : List ℕ) → line ≡ mark ++ text ++ newline ∷ [] → IsUtf8 mark → IsUtf8 line → IsCharBoundary line (length mark)
-after_mark mark line text is u whole =
-    let front : take (length mark) line ≡ mark =
-    ap (take (length mark)) (is ∙ append_assoc mark text (newline ∷ [])) ∙ take-append_seam mark (text ++ newline ∷ []) in
-    IsCharBoundary-from_take line (length mark) whole (omega (arith, marked_len mark line text is)) (subst IsUtf8 (sym front) u)
-
--- so it may before the newline
-pub before_newline : (mark line text : List ℕ) → line ≡ mark ++ text ++ newline ∷ [] → IsCharBoundary line (length line - 1)
-before_newline mark line text is =
-    let len = marked_len mark line text is in
-    let end : length line - 1 ≡ length (mark ++ text) = omega (arith, len, length-append mark text) in
-    let last : drop (length line - 1) line ≡ newline ∷ [] =
-    ap (λ (n : ℕ). drop n line) end ∙ ap (drop (length (mark ++ text))) is ∙ drop-append_seam (mark ++ text) (newline ∷ []) in
-    let byte : get_or line (length line - 1) 0 < 128 = grind (arith, common_steps) in
-    IsCharBoundary-before_ascii line (length line - 1) (omega (arith, len)) byte
-
--- that is its text
-pub text_is : (mark line text : List ℕ) → line ≡ mark ++ text ++ newline ∷ []
-    → take (length line - 1 - length mark) (drop (length mark) line) ≡ text
-text_is mark line text is =
-    let rest : drop (length mark) line ≡ text ++ newline ∷ [] =
-    ap (drop (length mark)) (is ∙ append_assoc mark text (newline ∷ [])) ∙ drop-append_seam mark (text ++ newline ∷ []) in
-    let len : length line - 1 - length mark ≡ length text = omega (arith, marked_len mark line text is) in
-    ap (λ (n : ℕ). take n (drop (length mark) line)) len ∙ ap (take (length text)) rest ∙ take-append_seam text (newline ∷ [])
+-- three parts that were added one after another, and an end
+pub parts_added : (old a b c end last first second third : List ℕ) → first ≡ old ++ a → second ≡ first ++ b → third ≡ second ++ c
+    → third ++ (end ++ last) ≡ old ++ (a ++ b ++ c ++ end ++ last)
+parts_added old a b c end last first second third one two three = rw (three, two, one) (grind (arith, append_assoc))

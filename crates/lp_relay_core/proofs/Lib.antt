@@ -11,7 +11,7 @@ pub mod DifferingLemmas
 pub mod CanonicalLemmas
 pub mod ToldLemmas
 pub mod JsonTexts
-pub mod ObjectLemmas
+pub mod RefusalLemmas
 pub mod OneLine
 pub mod RelayPieces
 pub mod WholeLines

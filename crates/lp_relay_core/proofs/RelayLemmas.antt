@@ -1,56 +1,33 @@
 -- The steps of a relay, one after another.
-use Rattle.std.proofs.Common.{◌≡◌, ◌+◌, ◌<◌, ◌==◌, ℕ, Bool, false, true, List, [], ◌∷◌, ◌++◌, length, map, string_bytes, codes, is_ok, Ok, Err}
+use Rattle.std.proofs.Common.{◌≡◌, ◌<◌, ℕ, List, [], ◌∷◌, ◌++◌, length, map, string_bytes}
 use Rattle.std.proofs.Common.{Result, refl, sym, ap, subst, ◌∙◌, arith, append-nil}
-use Rattle.std.proofs.Common.{OnErr, inl, inr, append_assoc}
-use Rattle.std.proofs.lemmas.Bool.{eqb-false, eqb-true}
-use Rattle.std.proofs.Math.Nat.{eq-zero-or-pos}
+use Rattle.std.proofs.Common.{OnErr}
 use Rattle.std.specs.Borrow.{Bor}
 use Rattle.std.specs.Str.{IsUtf8}
-use Rattle.std.proofs.lemmas.Str.{IsUtf8-nil}
 use Rattle.std.proofs.KnownBytes.{Appends-nil}
-use Rattle.influxdb_line_protocol.specs.format.Bytes.{newline}
 use Rattle.influxdb_line_protocol.specs.format.Dialects.{Dialect}
 use Rattle.influxdb_line_protocol.specs.format.Readings.{Fault}
 use Rattle.influxdb_line_protocol.specs.format.Lines.{Line, answer}
 use Rattle.influxdb_line_protocol.specs.format.Trimming.{trimmed}
-use Rattle.influxdb_line_protocol.specs.format.Items.{answers_of_piece}
-use Rattle.lp_rebuild.specs.declared.batch.Progress.{Progress}
-use Rattle.lp_rebuild.specs.RebuildSteps.{Refuses, Takes}
 use Rattle.lp_rebuild.specs.Running.{AppendsFront}
 use Rattle.lp_relay_core.specs.declared.taking.Lines.{Lines}
-use Rattle.lp_relay_core.specs.declared.taking.Lines.TheVariants.{Rebuilt, Verbatim}
 use Rattle.lp_relay_core.specs.Kinds.{kinds_after}
-use Rattle.lp_relay_core.specs.Relaying.{Item, answered, as_it_came, front_of, item_of, kept_of, long_text, not_utf8, too_long, items_of_bytes, items_batch}
+use Rattle.lp_relay_core.specs.Relaying.{Item, item_of, items_of_bytes, items_batch}
 use Rattle.influxdb_line_protocol.specs.types.PieceTooLong.{PieceTooLong}
 use Rattle.lp_relay_core.specs.declared.taking.Pending.{Pending}
 use Rattle.lp_relay_core.specs.declared.taking.Settings.{Settings}
-use Rattle.lp_relay_core.specs.RelaySteps.{Form, as_raw, form_given, start_of, Made, made, Passes, RelaysItems, RelaysPart, TakesItems, TakesGiven, Unwritten, faults_next}
+use Rattle.lp_relay_core.specs.RelaySteps.{Form, as_raw, form_given, start_of, Made, Passes, RelaysItems, RelaysPart, TakesItems, TakesGiven, Unwritten, faults_next}
 use Rattle.lp_relay_core.specs.RelaySteps.{items_given, refused_given, unwritten_of}
 use Rattle.lp_relay_core.specs.Writers.{GainsFronts, Told}
-use Rattle.lp_rebuild.proofs.RebuildLemmas.{add_where, add_elsewhere, blank_answers, piece_answers}
+use Rattle.lp_rebuild.proofs.RebuildLemmas.{blank_answers, piece_answers}
 use Rattle.lp_relay_core.proofs.PassLemmas.{passes_more, passes_front}
 use Rattle.lp_relay_core.proofs.ItemLemmas.{batch_append, carried_append, refused_append}
 use Rattle.lp_relay_core.proofs.KindLemmas.{kinds_of_more, kinds_of_nothing}
-use Rattle.lp_relay_core.proofs.ItemLemmas.{items_of_text, item_of_no_text}
+use Rattle.lp_relay_core.proofs.ItemLemmas.{items_of_text}
 
 -- nothing was taken
 takes_nothing : (old : Made) → TakesItems as_raw old [] old
 takes_nothing old = grind (arith, append-nil)
-
--- an answer is one item
-pub takes_answer : (front : List ℕ) (old : Progress) (answer : Result Line Fault) (new : Progress) → Takes old answer new
-    → TakesItems as_raw (made old) (answered front answer ∷ []) (made new)
-takes_answer front old answer new t = grind (arith, append-nil, string_bytes, add_where, add_elsewhere)
-
--- a piece that is not UTF-8 is one item
-takes_no_text : (old new : Progress) → Refuses old (codes "the line is not UTF-8") new
-    → TakesItems as_raw (made old) (not_utf8 ∷ []) (made new)
-takes_no_text old new r = grind (arith, append-nil, string_bytes)
-
--- so is one that is too long
-pub takes_too_long : (s : Settings) (old new : Progress) (text : List ℕ) → text ≡ long_text (kept_of s) → Refuses old text new
-    → TakesItems as_raw (made old) (too_long (kept_of s) ∷ []) (made new)
-takes_too_long s old new text is r = grind (arith, append-nil, string_bytes)
 
 -- a blank text has no item
 pub blank_items : (lines : Lines) (dialect : Dialect) (piece : List ℕ) → IsUtf8 piece → length (trimmed piece) ≡ 0
@@ -64,100 +41,6 @@ pub text_item : (lines : Lines) (dialect : Dialect) (piece : List ℕ) → IsUtf
 text_item lines dialect piece u some =
     items_of_text lines dialect piece u
     ∙ ap (λ (l : List (Result Line Fault)). map (item_of lines piece) l) (piece_answers dialect piece some)
-
--- of a blank text nothing is taken
-pub takes_blank : (lines : Lines) (dialect : Dialect) (piece : List ℕ) (old : Made) → IsUtf8 piece → length (trimmed piece) ≡ 0
-    → TakesItems as_raw old (items_of_bytes lines dialect piece) old
-takes_blank lines dialect piece old u blank =
-    subst (λ (l : List Item). TakesItems as_raw old l old) (sym (blank_items lines dialect piece u blank)) (takes_nothing old)
-
--- the line of a text is its one item, and a blank text has none
-pub takes_text : (dialect : Dialect) (piece : List ℕ) (old new : Progress) → IsUtf8 piece → (length (trimmed piece) ≡ 0 → new ≡ old)
-    → (0 < length (trimmed piece) → Takes old (answer dialect (trimmed piece)) new)
-    → TakesItems as_raw (made old) (items_of_bytes Rebuilt dialect piece) (made new)
-takes_text dialect piece old new u blank some =
-    elim (eq-zero-or-pos (length (trimmed piece))) [
-      | inl none ↦
-          subst (λ (p : Progress). TakesItems as_raw (made old) (items_of_bytes Rebuilt dialect piece) (made p)) (sym (blank none))
-          (takes_blank Rebuilt dialect piece (made old) u none)
-      | inr more ↦
-          subst (λ (l : List Item). TakesItems as_raw (made old) l (made new)) (sym (text_item Rebuilt dialect piece u more))
-          (takes_answer (front_of piece) old (answer dialect (trimmed piece)) new (some more))
-    ]
-
--- a piece was taken as it came
-pub takes_as_it_came : (old new : Made) (piece : List ℕ) → new.batch ≡ (old.batch ++ piece) ++ newline ∷ [] → new.faults ≡ old.faults
-    → new.carried ≡ old.carried + 1 → new.refused ≡ old.refused → TakesItems as_raw old (as_it_came piece ∷ []) new
-takes_as_it_came old new piece batch faults carried refused = grind (arith, append-nil, append_assoc)
-
--- a text is empty if a test of its length says so
-is_blank : (text piece : List ℕ) (test : Bool) → text ≡ trimmed piece → test ≡ (length text == 0) → test ≡ true → length (trimmed piece) ≡ 0
-is_blank text piece test is tests holds = ap length (sym is) ∙ eqb-true (length text) 0 (sym tests ∙ holds)
-
--- of a text that is blank nothing goes out as it came
-pub takes_no_line : (lines : Lines) (dialect : Dialect) (piece text : List ℕ) (test : Bool) (old : Made) → text ≡ trimmed piece
-    → IsUtf8 piece → test ≡ (length text == 0) → test ≡ true → TakesItems as_raw old (items_of_bytes lines dialect piece) old
-takes_no_line lines dialect piece text test old is u tests holds =
-    takes_blank lines dialect piece old u (is_blank text piece test is tests holds)
-
--- the item of a text that goes out as it came, if it is a line
-piece_of_line : (piece : List ℕ) (answer : Result Line Fault) → is_ok answer ≡ true → item_of Verbatim piece answer ≡ as_it_came piece
-piece_of_line piece (Ok line) is = refl
-piece_of_line piece (Err fault) is = absurd (cc)
-
--- the item of a text that would go out as it came, if it is at fault
-answer_of_fault : (piece : List ℕ) (answer : Result Line Fault) → is_ok answer ≡ false → item_of Verbatim piece answer ≡ answered (front_of piece) answer
-answer_of_fault piece (Ok line) is = absurd (cc)
-answer_of_fault piece (Err fault) is = refl
-
--- a text that is not empty
-pub not_blank : (text piece : List ℕ) (test : Bool) → text ≡ trimmed piece → test ≡ (length text == 0) → test ≡ false → 0 < length (trimmed piece)
-not_blank text piece test is tests fails =
-    elim (eq-zero-or-pos (length text)) [
-      | inl none ↦ absurd (eqb-false (length text) 0 (sym tests ∙ fails) none)
-      | inr more ↦ subst (λ (l : List ℕ). 0 < length l) is more
-    ]
-
--- a line goes out as it came
-pub takes_line : (dialect : Dialect) (piece text : List ℕ) (test verdict : Bool) (old new : Made) → text ≡ trimmed piece → IsUtf8 piece
-    → test ≡ (length text == 0) → test ≡ false → verdict ≡ is_ok (answer dialect text) → verdict ≡ true
-    → TakesItems as_raw old (as_it_came piece ∷ []) new → TakesItems as_raw old (items_of_bytes Verbatim dialect piece) new
-takes_line dialect piece text test verdict old new is u tests fails says holds takes =
-    let line : is_ok (answer dialect (trimmed piece)) ≡ true =
-    ap (λ (l : List ℕ). is_ok (answer dialect l)) (sym is) ∙ sym says ∙ holds in
-    subst (λ (l : List Item). TakesItems as_raw old l new)
-    (sym (text_item Verbatim dialect piece u (not_blank text piece test is tests fails)
-    ∙ ap (λ (i : Item). i ∷ []) (piece_of_line piece (answer dialect (trimmed piece)) line)))
-    takes
-
--- where lines go out as they came, a text at fault is refused
-pub takes_fault : (dialect : Dialect) (piece text : List ℕ) (test verdict : Bool) (old new : Progress) → text ≡ trimmed piece
-    → IsUtf8 piece → test ≡ (length text == 0) → test ≡ false → verdict ≡ is_ok (answer dialect text) → verdict ≡ false
-    → Takes old (answer dialect text) new → TakesItems as_raw (made old) (items_of_bytes Verbatim dialect piece) (made new)
-takes_fault dialect piece text test verdict old new is u tests fails says wrong takes =
-    let fault : is_ok (answer dialect (trimmed piece)) ≡ false =
-    ap (λ (l : List ℕ). is_ok (answer dialect l)) (sym is) ∙ sym says ∙ wrong in
-    subst (λ (l : List Item). TakesItems as_raw (made old) l (made new))
-    (sym (text_item Verbatim dialect piece u (not_blank text piece test is tests fails)
-    ∙ ap (λ (i : Item). i ∷ []) (answer_of_fault piece (answer dialect (trimmed piece)) fault)))
-    (takes_answer (front_of piece) old (answer dialect (trimmed piece)) new (subst (λ (l : List ℕ). Takes old (answer dialect l) new) is takes))
-
--- an empty piece has no item
-no_items : (lines : Lines) (dialect : Dialect) → items_of_bytes lines dialect [] ≡ []
-unfolding answers_of_piece trimmed
-no_items lines dialect = items_of_text lines dialect [] IsUtf8-nil
-
--- of an empty piece nothing is taken
-pub takes_empty : (lines : Lines) (dialect : Dialect) (piece : List ℕ) (old : Made) → piece ≡ []
-    → TakesItems as_raw old (items_of_bytes lines dialect piece) old
-takes_empty lines dialect piece old none =
-    subst (λ l. TakesItems as_raw old l old) (sym (ap (items_of_bytes lines dialect) none ∙ no_items lines dialect)) (takes_nothing old)
-
--- a piece that is not UTF-8 was refused
-pub takes_bad_bytes : (lines : Lines) (dialect : Dialect) (piece : List ℕ) (old new : Progress) → (¬ IsUtf8 piece)
-    → Refuses old (codes "the line is not UTF-8") new → TakesItems as_raw (made old) (items_of_bytes lines dialect piece) (made new)
-takes_bad_bytes lines dialect piece old new bad r =
-    subst (λ l. TakesItems as_raw (made old) l (made new)) (sym (item_of_no_text lines dialect piece bad)) (takes_no_text old new r)
 
 -- what was taken is held
 pub relays_taken : (form : Form) (old new : Unwritten) (a : Told) (xs : List Item) (ps : List ℕ)

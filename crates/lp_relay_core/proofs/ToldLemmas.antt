@@ -1,47 +1,26 @@
--- Fault lines, as they are told.
-use Rattle.std.proofs.Common.{◌≡◌, ℕ, ◌+◌, ◌<◌, ◌≤◌, Bool, false, true, string_bytes, List, [], ◌∷◌, ◌++◌, length, take, drop, Option, None, Some, Result, Ok, Err, refl, sym, ap, subst, ◌∙◌, arith}
-use Rattle.std.proofs.Common.{append-nil, length-append, inl, inr}
+-- How a piece ends: nothing is told of it, or why its item is refused.
+use Rattle.std.proofs.Common.{◌≡◌, ℕ, ◌+◌, Bool, false, true, List, [], ◌∷◌, ◌++◌, length, Option, Ok, Err, Result, refl, sym, ap, subst, ◌∙◌, arith}
+use Rattle.std.proofs.Common.{append-nil, option_map}
 use Rattle.std.specs.Borrow.{Bor}
-use Rattle.std.specs.Str.{is_utf8}
 use Rattle.std.specs.Prelude.{if◌then◌else◌}
-use Rattle.std.proofs.lemmas.Bool.{cases_Bool}
-use Rattle.std.proofs.lemmas.Str.{IsUtf8-from_is_utf8, is_utf8-from_IsUtf8}
-use Rattle.std.proofs.Math.Nat.{eq-zero-or-pos}
-use Rattle.std.proofs.Math.Seq.{drop-append_seam, take-append_seam}
 use Rattle.influxdb_line_protocol.specs.code.Rules.{rules_of}
-use Rattle.influxdb_line_protocol.specs.format.Bytes.{newline}
+use Rattle.influxdb_line_protocol.specs.format.Bytes.{newline, newlines_in}
 use Rattle.influxdb_line_protocol.specs.format.Dialects.{Dialect}
-use Rattle.influxdb_line_protocol.specs.format.Trimming.{trimmed}
 use Rattle.influxdb_line_protocol.specs.types.PieceTooLong.{PieceTooLong}
-use Rattle.lp_rebuild.specs.RebuildSteps.{fault_line_at}
-use Rattle.lp_relay_core.specs.declared.telling.Faults.TheVariants.{OneLine}
-use Rattle.lp_relay_core.specs.declared.taking.Lines.{Lines}
-use Rattle.lp_relay_core.specs.declared.taking.Pending.{Pending}
+use Rattle.lp_relay_core.specs.declared.pieces.Piece.{Piece}
+use Rattle.lp_relay_core.specs.declared.refusals.Refusal.{Refusal}
+use Rattle.lp_relay_core.specs.declared.telling.{Faults.Faults, Place.Place}
+use Rattle.lp_relay_core.specs.declared.telling.Faults.TheVariants.{Raw, OneLine, Json}
 use Rattle.lp_relay_core.specs.declared.taking.Settings.{Settings}
-use Rattle.lp_relay_core.specs.Kinds.{Counts, counts_if, kinds_after}
-use Rattle.lp_relay_core.specs.LineFaults.{item_text}
-use Rattle.lp_relay_core.specs.Objects.{stop_of_bytes}
-use Rattle.lp_relay_core.specs.Relaying.{Item, is_carried_item, items_of_bytes, refused_lines}
-use Rattle.lp_relay_core.specs.RelaySteps.{EndsPiece, Made, TakesItems, TakesGiven, TakesRaw, Unwritten, faults_at, faults_next}
-use Rattle.lp_relay_core.specs.RelaySteps.{Form, bytes_given, as_raw, as_object, as_one_line, form_given, form_of, items_given, line_or_none, made, raw_fault, refused_given, told_item, unwritten_of}
-use Rattle.lp_relay_core.specs.Told.{told}
-use Rattle.lp_relay_core.proofs.KindLemmas.{kinds_of_carried, kinds_of_nothing, no_kind}
-use Rattle.lp_relay_core.proofs.RelayLemmas.{blank_items, text_item}
-use Rattle.lp_relay_core.proofs.ItemLemmas.{item_of_no_text, items_add_up}
-
--- the fault line of one item at most is told as that of the item is
-one_told : (line : Option ℕ) (number : ℕ) (items : List Item) → length items ≤ 1
-    → told OneLine (faults_at as_raw line number items) ≡ faults_at as_one_line line number items
-one_told line number [] few = refl
-one_told line number (item ∷ []) few =
-    let raw = raw_fault line number item in
-    ap (told OneLine) (append-nil raw) ∙ sym (append-nil (told OneLine raw))
-one_told line number (item ∷ other ∷ items) few = absurd (omega (arith, few))
-
--- a fault line has bytes
-fault_line_some : (line : Option ℕ) (number : ℕ) (text : List ℕ) → 0 < length (fault_line_at line number text)
-fault_line_some None number text = omega arith
-fault_line_some (Some line) number text = omega arith
+use Rattle.lp_relay_core.specs.declared.taking.{Pending.Pending}
+use Rattle.lp_relay_core.specs.declared.taking.Taken.TheVariants as took
+use Rattle.lp_relay_core.specs.Kinds.{Counts, counts_if, kinds_after, with_fault}
+use Rattle.lp_relay_core.specs.Objects.{item_front, stop_given, stop_of_bytes}
+use Rattle.lp_relay_core.specs.Refusals.{EndsPiece, GaveSame, IsRefusal, RefusesPiece, front_in, given_of, is_fault, refusal_kind, stop_in, told_by}
+use Rattle.lp_relay_core.specs.Relaying.{Item, answered, as_it_came, not_as_written, not_utf8, too_long, is_carried_item, item_line, items_of_bytes, refused_lines}
+use Rattle.lp_relay_core.specs.RelaySteps.{TakesItems, TakesGiven, Unwritten, Form, as_raw, as_one_line, as_object, bytes_given, form_of, items_given}
+use Rattle.lp_relay_core.specs.RelaySteps.{faults_at, len_given, line_or_none, made, newlines_given, told_item, unwritten_of}
+use Rattle.lp_relay_core.proofs.KindLemmas.{kinds_of_carried, kinds_of_nothing, kinds_of_refused, no_kind}
 
 -- of an item that is carried nothing is told
 carried_told : (form : Form) (line : Option ℕ) (number : ℕ) (item : Item) → is_carried_item item ≡ true
@@ -50,170 +29,17 @@ carried_told as_raw line number item carried = rw carried refl
 carried_told as_one_line line number item carried = rw carried refl
 carried_told (as_object offset stop) line number item carried = rw (no_kind item carried) refl
 
--- if one item at most has no fault line, nothing is told of it
-none_told : (form : Form) (line : Option ℕ) (number : ℕ) (items : List Item) → length items ≤ 1
-    → length (faults_at as_raw line number items) ≡ 0 → faults_at form line number items ≡ []
-none_told form line number [] few none = refl
-none_told form line number (item ∷ []) few none =
-    elim (cases_Bool (is_carried_item item)) [
-      | inl carried ↦ carried_told form line number item carried
-      | inr refused ↦
-          let its = rw refused at none in
-          let raw = fault_line_at line number (item_text item) in
-          absurd (omega (arith, its, length-append raw [], fault_line_some line number (item_text item)))
-    ]
-none_told form line number (item ∷ other ∷ items) few none = absurd (omega (arith, few))
-
--- bytes have one item at most
-pub few_items : (lines : Lines) (dialect : Dialect) (piece : List ℕ) → length (items_of_bytes lines dialect piece) ≤ 1
-few_items lines dialect piece =
-    elim (cases_Bool (is_utf8 piece)) [
-      | inl good ↦
-          let u = IsUtf8-from_is_utf8 piece good in
-          elim (eq-zero-or-pos (length (trimmed piece))) [
-            | inl none ↦ omega (arith, ap length (blank_items lines dialect piece u none))
-            | inr some ↦ omega (arith, ap length (text_item lines dialect piece u some))
-          ]
-      | inr bad ↦ omega (arith, ap length (item_of_no_text lines dialect piece (λ u. let e : is_utf8 piece ≡ true = is_utf8-from_IsUtf8 piece u in absurd (cc))))
-    ]
-
--- so has what a call gave
-pub few_given : (s : Settings) (result : Result (Bor (List ℕ)) PieceTooLong) → length (items_given s result) ≤ 1
-few_given s (Ok piece) = few_items s.lines (rules_of s.dialect) piece.now
-few_given s (Err fault) = omega arith
-
--- what was added since comes after what was there
-grown : (s : Settings) (given : Result (Bor (List ℕ)) PieceTooLong) (from : ℕ) (old mid : Made) → TakesRaw s given from old mid
-    → length mid.faults ≡ from + length (faults_next as_raw old (items_given s given))
-grown s given from old mid t =
-    let raw = faults_next as_raw old (items_given s given) in
-    omega (arith, t.from_is, ap length t.takes.faults, length-append old.faults raw)
-
--- the fault lines are no fewer bytes than before
-pub within : (s : Settings) (given : Result (Bor (List ℕ)) PieceTooLong) (from : ℕ) (old mid : Made) → TakesRaw s given from old mid
-    → from ≤ length mid.faults
-within s given from old mid t = omega (arith, grown s given from old mid t)
-
--- if they are as many, nothing is told
-pub takes_same : (form : Form) (s : Settings) (given : Result (Bor (List ℕ)) PieceTooLong) (from : ℕ) (old new : Made)
-    → TakesRaw s given from old new → from ≡ length new.faults → TakesItems form old (items_given s given) new
-takes_same form s given from old new t same =
-    let items = items_given s given in
-    let number = old.carried + old.refused + 1 in
-    let few = few_given s given in
-    let none : length (faults_at as_raw old.line number items) ≡ 0 = omega (arith, same, grown s given from old new t) in
-    record {
-      batch = t.takes.batch;
-      faults = t.takes.faults
-          ∙ ap (λ (l : List ℕ). old.faults ++ l) (none_told as_raw old.line number items few none ∙ sym (none_told form old.line number items few none));
-      carried = t.takes.carried;
-      refused = t.takes.refused;
-    }
-
--- the fault line that was added was told on one line
-pub takes_one_line : (s : Settings) (given : Result (Bor (List ℕ)) PieceTooLong) (from offset : ℕ) (stop : List ℕ) (old mid new : Made)
-    → s.faults ≡ OneLine → TakesRaw s given from old mid → new.faults ≡ take from mid.faults ++ told OneLine (drop from mid.faults)
-    → new.batch ≡ mid.batch → new.carried ≡ mid.carried → new.refused ≡ mid.refused
-    → TakesItems (form_of s.faults offset stop) old (items_given s given) new
-takes_one_line s given from offset stop old mid new is t faults batch carried refused =
-    let items = items_given s given in
-    let raw = faults_next as_raw old items in
-    subst (λ f. TakesItems (form_of f offset stop) old items new) (sym is) (record {
-      batch = batch ∙ t.takes.batch;
-      faults = faults ∙ ap (λ (k : ℕ). take k mid.faults ++ told OneLine (drop k mid.faults)) t.from_is
-          ∙ ap (λ (l : List ℕ). take (length old.faults) l ++ told OneLine (drop (length old.faults) l)) t.takes.faults
-          ∙ ap (λ (l : List ℕ). l ++ told OneLine (drop (length old.faults) (old.faults ++ raw))) (take-append_seam old.faults raw)
-          ∙ ap (λ (l : List ℕ). old.faults ++ told OneLine l) (drop-append_seam old.faults raw)
-          ∙ ap (λ (l : List ℕ). old.faults ++ l)
-          (one_told old.line (old.carried + old.refused + 1) items (few_given s given));
-      carried = carried ∙ t.takes.carried;
-      refused = refused ∙ t.takes.refused;
-    })
-
--- what a call gave has one item, which is refused, and its fault line was added
-pub record RefusedOne (s : Settings) (given : Result (Bor (List ℕ)) PieceTooLong) (from : ℕ) (old mid : Made) : Type 0 where
-  pub item : Item
-  pub is : items_given s given ≡ item ∷ []
-  pub refused : is_carried_item item ≡ false
-  pub number : mid.carried + mid.refused ≡ old.carried + old.refused + 1
-  pub line : drop from mid.faults ≡ fault_line_at mid.line (mid.carried + mid.refused) (item_text item)
-
--- the one item that has a fault line
-record OneFault (line : Option ℕ) (number : ℕ) (items : List Item) : Type 0 where
-  pub item : Item
-  pub is : items ≡ item ∷ []
-  pub refused : is_carried_item item ≡ false
-  pub raw : faults_at as_raw line number items ≡ fault_line_at line number (item_text item)
-
--- if a fault line was added, one item has it
-one_fault : (line : Option ℕ) (number : ℕ) (items : List Item) → length items ≤ 1 → 0 < length (faults_at as_raw line number items)
-    → OneFault line number items
-one_fault line number [] few some = absurd (omega (arith, some))
-one_fault line number (item ∷ []) few some =
-    elim (cases_Bool (is_carried_item item)) [
-      | inl carried ↦ let none = rw carried at some in absurd (omega (arith, none))
-      | inr bad ↦
-          record { item = item; is = refl; refused = bad; raw = rw bad (append-nil (fault_line_at line number (item_text item))) }
-    ]
-one_fault line number (item ∷ other ∷ items) few some = absurd (omega (arith, few))
-
--- if the fault lines are more bytes than before, one item is refused
-pub refused_one : (s : Settings) (given : Result (Bor (List ℕ)) PieceTooLong) (from : ℕ) (old mid : Made) → TakesRaw s given from old mid
-    → from < length mid.faults → RefusedOne s given from old mid
-refused_one s given from old mid t some =
-    let items = items_given s given in
-    let number = old.carried + old.refused + 1 in
-    let raw = faults_at as_raw old.line number items in
-    let more : 0 < length raw = omega (arith, some, grown s given from old mid t) in
-    let one = one_fault old.line number items (few_given s given) more in
-    let text = item_text one.item in
-    let counts : mid.carried + mid.refused ≡ number =
-    omega (arith, t.takes.carried, t.takes.refused, items_add_up items, ap length one.is) in
-    record {
-      item = one.item;
-      is = one.is;
-      refused = one.refused;
-      number = counts;
-      line = ap (λ (k : ℕ). drop k mid.faults) t.from_is ∙ ap (drop (length old.faults)) t.takes.faults ∙ drop-append_seam old.faults raw
-          ∙ one.raw ∙ ap (λ (l : Option ℕ). fault_line_at l number text) (sym t.line)
-          ∙ ap (λ (n : ℕ). fault_line_at mid.line n text) (sym counts);
-    }
-
--- what is put out of what a call gave, if its item is refused
-abbrev pub put_of : Bool → Result (Bor (List ℕ)) PieceTooLong → List ℕ
-put_of goes_out given = if goes_out then bytes_given given ++ newline ∷ [] else []
-
--- which is nothing, if refused pieces do not go out
-pub put_unasked : (pieces : List ℕ) (goes_out : Bool) (result : Result (Bor (List ℕ)) PieceTooLong) → goes_out ≡ false
-    → pieces ≡ pieces ++ put_of goes_out result
-put_unasked pieces false result unasked = sym (append-nil pieces)
-put_unasked pieces true result unasked = absurd (cc)
-
--- and else its bytes
-pub put_asked : (pieces put : List ℕ) (goes_out : Bool) (result : Result (Bor (List ℕ)) PieceTooLong)
-    → put ≡ bytes_given result → goes_out ≡ true → pieces ++ (put ++ newline ∷ []) ≡ pieces ++ put_of goes_out result
-put_asked pieces put goes_out result is asked = rw (is, asked) refl
-
 -- there is no item, or one that is carried
 data Carried (items : List Item) : Type 0 where
   no_item : items ≡ [] → Carried items
   one_item : (item : Item) → items ≡ item ∷ [] → is_carried_item item ≡ true → Carried items
 
--- so it is if one item at most has no fault line
-carried_if_none : (line : Option ℕ) (number : ℕ) (items : List Item) → length items ≤ 1
-    → length (faults_at as_raw line number items) ≡ 0 → Carried items
-carried_if_none line number [] few none = no_item refl
-carried_if_none line number (item ∷ []) few none =
-    elim (cases_Bool (is_carried_item item)) [
-      | inl carried ↦ one_item item refl carried
-      | inr refused ↦
-          let its = rw refused at none in
-          let raw = fault_line_at line number (item_text item) in
-          absurd (omega (arith, its, length-append raw [], fault_line_some line number (item_text item)))
-    ]
-carried_if_none line number (item ∷ other ∷ items) few none = absurd (omega (arith, few))
+-- then nothing is told
+told_none : (form : Form) (line : Option ℕ) (number : ℕ) (items : List Item) → Carried items → faults_at form line number items ≡ []
+told_none form line number items (no_item none) = rw none refl
+told_none form line number items (one_item item one carried) = rw one (carried_told form line number item carried)
 
--- then nothing goes out as refused
+-- nothing goes out as refused
 put_none : (goes_out : Bool) (piece : List ℕ) (items : List Item) → Carried items → refused_lines goes_out piece items ≡ []
 put_none false piece items c = refl
 put_none true piece items (no_item none) = rw none refl
@@ -224,50 +50,105 @@ count_none : (items : List Item) (counts : Option Counts) → Carried items → 
 count_none items counts (no_item none) = ap (λ (l : List Item). kinds_after l counts) none ∙ kinds_of_nothing counts
 count_none items counts (one_item item one carried) = ap (λ (l : List Item). kinds_after l counts) one ∙ kinds_of_carried item counts carried
 
+-- of an item that is refused no line goes out
+no_line : (item : Item) → is_carried_item item ≡ false → item_line item ≡ []
+no_line (answered front (Ok l)) refused = rw refused refl
+no_line (answered front (Err fault)) refused = refl
+no_line (as_it_came piece) refused = absurd (cc)
+no_line (not_as_written front wrong) refused = refl
+no_line not_utf8 refused = refl
+no_line (too_long kept) refused = refl
+
 -- of an item that is refused, its piece goes out
-put_one : (goes_out : Bool) (piece : List ℕ) (item : Item) → is_carried_item item ≡ false
+refused_put : (goes_out : Bool) (piece : List ℕ) (item : Item) → is_carried_item item ≡ false
     → refused_lines goes_out piece (item ∷ []) ≡ (if goes_out then piece ++ newline ∷ [] else [])
-put_one false piece item refused = refl
-put_one true piece item refused = rw refused (append-nil (piece ++ newline ∷ []))
+refused_put false piece item refused = refl
+refused_put true piece item refused = rw refused (append-nil (piece ++ newline ∷ []))
 
--- so it is of what a call gave
-given_one : (s : Settings) (given : Result (Bor (List ℕ)) PieceTooLong) (item : Item)
-    → items_given s given ≡ item ∷ [] → is_carried_item item ≡ false
-    → refused_given s given ≡ put_of s.puts_refused given
-given_one s given item is refused =
-    ap (refused_lines s.puts_refused (bytes_given given)) is ∙ put_one s.puts_refused (bytes_given given) item refused
+-- what is put out of a piece whose item is refused: nothing, if refused pieces do not go out
+pub put_unasked : (pieces bytes : List ℕ) (goes_out : Bool) → goes_out ≡ false
+    → pieces ≡ pieces ++ (if goes_out then bytes ++ newline ∷ [] else [])
+put_unasked pieces bytes goes_out unasked = rw unasked (sym (append-nil pieces))
 
--- a piece that has no fault line ends as it is
-pub ends_same : (s : Settings) (given : Result (Bor (List ℕ)) PieceTooLong) (from : ℕ) (mid : Pending)
-    → from ≡ length (string_bytes mid.so_far.faults) → EndsPiece s from given mid mid
-ends_same s given from mid same old t =
-    let now = made mid.so_far in
-    let number = old.carried + old.refused + 1 in
-    let items = items_given s given in
-    let none : length (faults_at as_raw old.line number items) ≡ 0 = omega (arith, same, grown s given from old now t) in
-    let carried = carried_if_none old.line number items (few_given s given) none in
+-- and else its bytes
+pub put_asked : (pieces bytes : List ℕ) (goes_out : Bool) → goes_out ≡ true
+    → pieces ++ (bytes ++ newline ∷ []) ≡ pieces ++ (if goes_out then bytes ++ newline ∷ [] else [])
+put_asked pieces bytes goes_out asked = rw asked refl
+
+-- why an item is refused is told as what is told of the item
+told_is : (f : Faults) (dialect : Dialect) (place : Place) (piece : Piece) (refusal : Refusal) (item : Item) (stop : List ℕ)
+    → IsRefusal refusal item → item_front item ≡ front_in piece → stop ≡ stop_in (is_fault refusal) dialect (line_or_none place.line) piece
+    → told_item (form_of f place.offset stop) place.line place.number item ≡ told_by f dialect place piece refusal
+told_is Raw dialect place piece refusal item stop r front is = rw (r.refused, r.wrong) refl
+told_is OneLine dialect place piece refusal item stop r front is = rw (r.refused, r.wrong) refl
+told_is (Json first) dialect place piece refusal item stop r front is = rw (r.kind, r.wrong, front, is) refl
+
+-- a piece without an item ends as it is
+pub ends_blank : (s : Settings) (piece : Piece) (mid : Unwritten) → EndsPiece s piece took.Blank mid mid
+ends_blank s piece mid before t =
+    let items = items_given s (given_of piece) in
+    let none : Carried items = no_item t.0 in
     record {
-      items = takes_same (form_given s (record { line = old.line; offset = mid.offset }) given) s given from old now t same;
-      pieces = sym (ap (λ (l : List ℕ). mid.pieces.items ++ l) (put_none s.puts_refused (bytes_given given) items carried)
-          ∙ append-nil mid.pieces.items);
-      kinds = sym (count_none items (counts_if mid.kinds) carried);
+      items = record {
+        batch = rw t.0 (t.1 ∙ sym (append-nil before));
+        faults = sym (ap (λ (l : List ℕ). mid.made.faults ++ l) (told_none _ _ _ items none) ∙ append-nil mid.made.faults);
+        carried = rw t.0 (omega arith);
+        refused = rw t.0 (omega arith);
+      };
+      pieces = sym (ap (λ (l : List ℕ). mid.pieces ++ l) (put_none s.puts_refused (bytes_given (given_of piece)) items none) ∙ append-nil mid.pieces);
+      kinds = sym (count_none items mid.kinds none);
     }
 
--- a piece that has a fault line ends once that is told, its kind is counted, and the piece is put out
-pub ends_told : (s : Settings) (given : Result (Bor (List ℕ)) PieceTooLong) (from : ℕ) (mid new : Pending)
-    → from < length (string_bytes mid.so_far.faults)
-    → ((old : Made) → TakesRaw s given from old (made mid.so_far)
-    → TakesItems (form_given s (record { line = old.line; offset = mid.offset }) given) old
-    (items_given s given) (made new.so_far))
-    → ((old : Made) → TakesRaw s given from old (made mid.so_far) → counts_if new.kinds ≡ kinds_after (items_given s given) (counts_if mid.kinds))
-    → new.pieces.items ≡ mid.pieces.items ++ put_of s.puts_refused given → EndsPiece s from given mid new
-ends_told s given from mid new some told counted put old t =
-    let one = refused_one s given from old (made mid.so_far) t some in
+-- a piece whose line was added ends once that is counted
+pub ends_carried : (s : Settings) (piece : Piece) (mid : Unwritten) → EndsPiece s piece took.Carried mid
+    (record mid { made = record mid.made { carried = mid.made.carried + 1 } })
+ends_carried s piece mid before (item, one, carries, copied) =
+    let items = items_given s (given_of piece) in
+    let carried : Carried items = one_item item one carries in
     record {
-      items = told old t;
-      pieces = put ∙ ap (λ (l : List ℕ). mid.pieces.items ++ l) (sym (given_one s given one.item one.is one.refused));
-      kinds = counted old t;
+      items = record {
+        batch = rw one (copied ∙ ap (λ (l : List ℕ). before ++ l) (sym (append-nil (item_line item))));
+        faults = sym (ap (λ (l : List ℕ). mid.made.faults ++ l) (told_none _ _ _ items carried) ∙ append-nil mid.made.faults);
+        carried = rw (one, carries) (omega arith);
+        refused = rw (one, carries) (omega arith);
+      };
+      pieces = sym (ap (λ (l : List ℕ). mid.pieces ++ l) (put_none s.puts_refused (bytes_given (given_of piece)) items carried) ∙ append-nil mid.pieces);
+      kinds = sym (count_none items mid.kinds carried);
     }
+
+-- a piece whose item is refused ends once that is told and counted, and the piece is put out
+pub refuses : (s : Settings) (piece : Piece) (refusal : Refusal) (item : Item) (old new : Unwritten) (n : ℕ) → RefusesPiece s piece refusal item
+    → n ≡ old.made.carried + old.made.refused + 1
+    → new.made.batch ≡ old.made.batch
+    → new.made.faults ≡ old.made.faults ++ told_by s.faults (rules_of s.dialect)
+    (record { number = n; line = old.made.line; offset = old.offset }) piece refusal
+    → new.made.carried ≡ old.made.carried → new.made.refused ≡ old.made.refused + 1
+    → new.kinds ≡ option_map (with_fault (refusal_kind refusal)) old.kinds
+    → new.pieces ≡ old.pieces ++ (if s.puts_refused then bytes_given (given_of piece) ++ newline ∷ [] else [])
+    → TakesGiven s old (given_of piece) new
+refuses s piece refusal item old new n r numbered batch faults carried refused kinds pieces =
+    let d = rules_of s.dialect in
+    let stop = stop_given d (line_or_none old.made.line) (given_of piece) in
+    let is = r.refused in
+    let told = told_is s.faults d (record { number = n; line = old.made.line; offset = old.offset }) piece refusal item stop is r.front
+    (r.stop (line_or_none old.made.line)) in
+    record {
+      items = record {
+        batch = batch ∙ sym (rw (r.is, no_line item is.refused) (append-nil old.made.batch));
+        faults = rw (r.is, ← numbered) (faults ∙ ap (λ (l : List ℕ). old.made.faults ++ l) (sym (append-nil _ ∙ told)));
+        carried = rw (r.is, is.refused) (carried ∙ omega arith);
+        refused = rw (r.is, is.refused) (refused ∙ omega arith);
+      };
+      pieces = rw r.is (pieces ∙ ap (λ (l : List ℕ). old.pieces ++ l) (sym (refused_put s.puts_refused (bytes_given (given_of piece)) item is.refused)));
+      kinds = rw r.is (kinds ∙ kinds_of_refused item (refusal_kind refusal) old.kinds (sym is.kind));
+    }
+
+-- a piece ends so
+pub ends_refused : (s : Settings) (piece : Piece) (refusal : Refusal) (mid new : Unwritten)
+    → ((item : Item) → RefusesPiece s piece refusal item → TakesGiven s mid (given_of piece) new)
+    → EndsPiece s piece (took.Refused refusal) mid new
+ends_refused s piece refusal mid new takes before ((item, r), same) =
+    subst (λ (l : List ℕ). TakesGiven s (record mid { made = record mid.made { batch = l } }) (given_of piece) new) same (takes item r)
 
 -- what was taken is taken, wherever the next piece starts
 pub takes_on : (s : Settings) (old : Unwritten) (result : Result (Bor (List ℕ)) PieceTooLong) (new : Pending)
@@ -281,10 +162,10 @@ takes_on s old result new line offset t =
       kinds = t.kinds;
     }
 
--- so is it with another reference to the same bytes
-pub given_same : (s : Settings) (old new : Unwritten) (piece other : Bor (List ℕ)) → piece.now ≡ other.now
-    → TakesGiven s old (Ok piece) new → TakesGiven s old (Ok other) new
-given_same s old new piece other same t =
+-- so is what a call gave with another reference to the same bytes
+pub given_same : (s : Settings) (old new : Unwritten) (given other : Result (Bor (List ℕ)) PieceTooLong) → GaveSame given other
+    → TakesGiven s old given new → TakesGiven s old other new
+given_same s old new (Ok piece) (Ok other) same t =
     let items = items_of_bytes s.lines (rules_of s.dialect) in
     record {
       items = subst (λ (l : List ℕ). TakesItems
@@ -292,3 +173,14 @@ given_same s old new piece other same t =
       pieces = t.pieces ∙ ap (λ (l : List ℕ). old.pieces ++ refused_lines s.puts_refused l (items l)) same;
       kinds = t.kinds ∙ ap (λ (l : List ℕ). kinds_after (items l) old.kinds) same;
     }
+given_same s old new (Ok piece) (Err other) same t = absurd same
+given_same s old new (Err fault) (Ok other) same t = absurd same
+given_same s old new (Err fault) (Err other) same t = subst (λ f. TakesGiven s old (Err f) new) same t
+
+-- and it has as many newlines and bytes
+pub same_size : (given other : Result (Bor (List ℕ)) PieceTooLong) → GaveSame given other
+    → (newlines_given given ≡ newlines_given other) × (len_given given ≡ len_given other)
+same_size (Ok piece) (Ok other) same = (ap newlines_in same, ap length same)
+same_size (Ok piece) (Err other) same = absurd same
+same_size (Err fault) (Ok other) same = absurd same
+same_size (Err fault) (Err other) same = (ap (λ f. f.newlines) same, ap (λ f. f.len) same)

@@ -1,5 +1,5 @@
 -- What the events of a text tell of it.
-use Rattle.std.proofs.Common.{◌≡◌, ℕ, List, [], ◌∷◌, ◌++◌, map, Option, Some, None, Result, Ok, Err, is_none, is_ok, option_map, refl, sym, ap, ◌∙◌}
+use Rattle.std.proofs.Common.{◌≡◌, ℕ, List, [], ◌∷◌, ◌++◌, map, Option, None, Result, Ok, Err, option_map, refl, sym, ap, ◌∙◌}
 use Rattle.influxdb_line_protocol.specs.format.Readings.{Fault, Text}
 use Rattle.influxdb_line_protocol.specs.format.Points.{Pair}
 use Rattle.influxdb_line_protocol.specs.format.Values.{Value}
@@ -8,7 +8,6 @@ use Rattle.influxdb_line_protocol.specs.code.Events.{AreEventsOf, Event, TakesAl
 use Rattle.lp_relay_core.specs.declared.verdict.Verdict.{Verdict}
 use Rattle.lp_relay_core.specs.Verdicts.{Judges, fault_after, fault_in}
 use Rattle.lp_values.specs.code.SpelledParts.{spelled_fault}
-use Rattle.lp_values.specs.declared.spelled.SpelledFault.{SpelledFault}
 
 -- the fault that was told last, once these events are told
 abbrev fault_told : Option Fault → List Event → Option Fault
@@ -55,11 +54,3 @@ verdict_is old new text events (Ok line) fresh told are =
     judges_all old new events told ∙ ap (λ (f : Option Fault). fault_told f events) fresh ∙ ap (fault_told None) are ∙ told_line line
 verdict_is old new text events (Err fault) fresh told are =
     judges_all old new events told ∙ ap (fault_told (fault_known old)) are.2 ∙ told_append (fault_known old) are.0 (failed fault ∷ [])
-
--- a text that has no fault is a line
-pub line_if_no_fault : (found : Option SpelledFault) (answer : Result Line Fault) → option_map spelled_fault found ≡ fault_in answer
-    → is_none found ≡ is_ok answer
-line_if_no_fault None (Ok line) is = refl
-line_if_no_fault None (Err fault) is = absurd (cc)
-line_if_no_fault (Some found) (Ok line) is = absurd (cc)
-line_if_no_fault (Some found) (Err fault) is = refl

@@ -9,7 +9,7 @@ pub mod RelaySteps
 pub mod Relays
 pub mod ReadingStops
 pub mod StopSteps
-pub mod TakenBack
 pub mod Told
 pub mod Verdicts
 pub mod Writers
+pub mod Refusals

@@ -1,13 +1,21 @@
 -- The fault lines of a relay that name lines of its input.
-use Rattle.std.specs.Prelude.{ℕ, ◌+◌, List, [], ◌∷◌, ◌++◌, codes, if◌then◌else◌}
+use Rattle.std.specs.Prelude.{ℕ, ◌+◌, List, [], ◌∷◌, ◌++◌, codes, decimal, Option, Some, None, if◌then◌else◌}
 use Rattle.std.specs.List.{flat_map}
-use Rattle.influxdb_line_protocol.specs.format.Bytes.{newlines_in}
-use Rattle.lp_rebuild.specs.Rebuilding.{refusal_text}
-use Rattle.lp_rebuild.specs.RebuildSteps.{fault_line_on}
+use Rattle.influxdb_line_protocol.specs.format.Bytes.{newline, newlines_in}
+use Rattle.lp_rebuild.specs.Rebuilding.{fault_line, refusal_text}
 use Rattle.lp_relay_core.specs.Relaying.{Item, answered, as_it_came, not_as_written, not_utf8, too_long, is_carried_item}
 use Rattle.lp_relay_core.specs.Relaying.{items_of_piece, long_text}
 use Rattle.lp_relay_core.specs.declared.taking.Settings.{Settings}
 use Rattle.lp_relay_core.specs.Told.{told}
+
+-- a line that names the line of the input on which the piece of an item begins, and says what is wrong with the item
+abbrev pub fault_line_on : ℕ → List ℕ → List ℕ
+fault_line_on line text = codes "line " ++ decimal line ++ codes ": " ++ text ++ newline ∷ []
+
+-- the fault line of an item at a place, which has this number
+abbrev pub fault_line_at : Option ℕ → ℕ → List ℕ → List ℕ
+fault_line_at None number text = fault_line number text
+fault_line_at (Some line) number text = fault_line_on line text
 
 -- what is wrong with an item that is not carried
 abbrev pub item_text : Item → List ℕ

@@ -1,13 +1,13 @@
 -- The faults of a relay as objects of JSON.
-use Rattle.std.specs.Prelude.{ℕ, ◌+◌, ◌/◌, ◌%◌, ◌==◌, ◌||◌, ◌&&◌, nat_eq, nat_lt, Bool, List, [], ◌∷◌, ◌++◌, codes, decimal, length, if◌then◌else◌}
+use Rattle.std.specs.Prelude.{ℕ, ◌+◌, ◌/◌, ◌%◌, ◌==◌, ◌||◌, ◌&&◌, nat_lt, Bool, List, [], ◌∷◌, ◌++◌, codes, decimal, length, if◌then◌else◌}
 use Rattle.std.specs.Prelude.{Option, Some, None, Result, Ok, Err, is_err}
 use Rattle.std.specs.Borrow.{Bor}
-use Rattle.std.specs.List.{flat_map, starts_with}
+use Rattle.std.specs.List.{flat_map}
 use Rattle.std.specs.Option.{option_map_or}
 use Rattle.std.specs.Str.{is_utf8}
 use Rattle.influxdb_line_protocol.specs.format.Bytes.{newline, newlines_in, backslash}
 use Rattle.influxdb_line_protocol.specs.format.Dialects.{Dialect}
-use Rattle.influxdb_line_protocol.specs.format.Lines.{Line, answer, front_before}
+use Rattle.influxdb_line_protocol.specs.format.Lines.{answer, front_before}
 use Rattle.influxdb_line_protocol.specs.format.Readings as fault
 use Rattle.influxdb_line_protocol.specs.format.Trimming.{trimmed}
 use Rattle.influxdb_line_protocol.specs.types.PieceTooLong.{PieceTooLong}
@@ -19,7 +19,7 @@ use Rattle.lp_relay_core.specs.declared.kinds.Kind.TheVariants.{TagSetMalformed,
 use Rattle.lp_relay_core.specs.declared.taking.Settings.{Settings}
 use Rattle.lp_relay_core.specs.LineFaults.{item_text}
 use Rattle.influxdb_line_protocol.specs.code.Rules.{rules_of}
-use Rattle.lp_relay_core.specs.Relaying.{Item, answered, as_it_came, not_as_written, not_utf8, too_long, front_of, items_of_piece}
+use Rattle.lp_relay_core.specs.Relaying.{Item, answered, as_it_came, not_as_written, not_utf8, too_long, items_of_piece}
 use Rattle.lp_relay_core.specs.Relaying.{is_too_long, limit_of}
 use Rattle.lp_relay_core.specs.ReadingStops.{stop_text}
 use Rattle.lp_relay_core.specs.Told.{hex_digit}
@@ -122,11 +122,14 @@ object_start number line offset front =
     ++ member (codes "line") (line + newlines_in front) ++ member (codes "offset") (offset + length front)
     ++ member (codes "piece_line") line ++ member (codes "piece_offset") offset
 
+-- the members that tell the kind of a fault and its text
+abbrev pub fault_members : Kind → (text : List ℕ) → List ℕ
+fault_members kind text = codes ",\"kind\":\"" ++ kind_name kind ++ codes "\",\"text\":\"" ++ json_text text ++ codes "\""
+
 -- the object of a fault that has these members on where reading stops, and a newline
 abbrev pub object : (number line offset : ℕ) → (front : List ℕ) → Kind → (text stop : List ℕ) → List ℕ
 object number line offset front kind text stop =
-    object_start number line offset front ++ codes ",\"kind\":\"" ++ kind_name kind ++ codes "\",\"text\":\"" ++ json_text text ++ codes "\""
-    ++ stop ++ codes "}" ++ newline ∷ []
+    object_start number line offset front ++ fault_members kind text ++ stop ++ codes "}" ++ newline ∷ []
 
 -- the object of an item that is not carried, which has this number, and whose piece begins on this line and after so many bytes
 abbrev pub item_object : (number line offset : ℕ) → (stop : List ℕ) → Item → List ℕ
@@ -149,37 +152,7 @@ fault_objects s number line offset (piece ∷ pieces) =
     item_objects number line offset (stop_of_piece s line piece) items
     ++ fault_objects s (number + length items) (line + newlines_in piece + 1) (offset + length piece + 1) pieces
 
--- what a fault line has before its text
-abbrev pub line_mark : Option ℕ → ℕ → List ℕ
-line_mark None number = codes "item " ++ decimal number ++ codes ": "
-line_mark (Some line) number = codes "line " ++ decimal line ++ codes ": "
-
--- what comes before the text of what a call gave
-abbrev pub front_given : Result (Bor (List ℕ)) PieceTooLong → List ℕ
-front_given (Ok piece) = if is_utf8 piece.now then front_of piece.now else []
-front_given (Err _) = []
-
--- the kind of a line that is refused for this text: the first byte of `not as written: ..`, or of `a name cannot be written again`
-abbrev pub line_kind : List ℕ → Kind
-line_kind text = if starts_with nat_eq text (codes "n") then NotAsWritten else NameNotAdmitted
-
--- the kind of an answer that is refused for this text
-abbrev pub answer_kind : Result Line fault.Fault → List ℕ → Kind
-answer_kind (Ok line) text = line_kind text
-answer_kind (Err fault) text = fault_kind fault
-
--- the kind of what a call gave, which is refused for this text
-abbrev pub kind_given : Dialect → Result (Bor (List ℕ)) PieceTooLong → List ℕ → Kind
-kind_given dialect (Ok piece) text =
-    if is_utf8 piece.now then answer_kind (answer dialect (trimmed piece.now)) text else NotUtf8
-kind_given dialect (Err _) text = TooLong
-
 -- the members that tell where reading stops in what a call gave, which begins on this line
 abbrev pub stop_given : Dialect → (line : ℕ) → Result (Bor (List ℕ)) PieceTooLong → List ℕ
 stop_given dialect line (Ok piece) = stop_of_bytes dialect line piece.now
 stop_given dialect line (Err _) = []
-
--- the members that tell where reading stops that took these bytes, if it stopped
-abbrev pub stop_members_of : (line : ℕ) → Option (Bor (List ℕ)) → List ℕ
-stop_members_of line (Some bytes) = stop_members line bytes.now
-stop_members_of line None = []

@@ -3,7 +3,6 @@ use Rattle.std.specs.Prelude.{◌≡◌, ◌<◌, ℕ, ◌+◌, ◌-◌, ◌++�
 use Rattle.std.specs.Prelude.{Result, Ok, Err, unwrap_or, if◌then◌else◌}
 use Rattle.std.specs.Borrow.{Bor}
 use Rattle.std.specs.Io.KnownBytes.{Appends}
-use Rattle.std.specs.Str.{IsUtf8}
 use Rattle.influxdb_line_protocol.specs.format.Dialects.{Dialect}
 use Rattle.influxdb_line_protocol.specs.format.Bytes.{newlines_in}
 use Rattle.influxdb_line_protocol.specs.format.Pieces.{IsLastPiece}
@@ -11,7 +10,7 @@ use Rattle.influxdb_line_protocol.specs.types.PieceTooLong.{PieceTooLong}
 use Rattle.influxdb_line_protocol.specs.code.Bounded.{HeldWithin, Holds}
 use Rattle.influxdb_line_protocol.specs.laws.StreamLaws.{Run}
 use Rattle.influxdb_line_protocol.specs.code.Rules.{rules_of}
-use Rattle.lp_rebuild.specs.declared.batch.Progress.{Progress}
+use Rattle.lp_relay_core.specs.declared.taking.Progress.{Progress}
 use Rattle.lp_relay_core.specs.declared.taking.Pending.{Pending}
 use Rattle.lp_relay_core.specs.declared.taking.Numbering.{Numbering}
 use Rattle.lp_relay_core.specs.declared.taking.Numbering.TheVariants as named
@@ -19,10 +18,9 @@ use Rattle.lp_relay_core.specs.declared.taking.Settings.{Settings}
 use Rattle.lp_relay_core.specs.declared.telling.Faults.{Faults}
 use Rattle.lp_relay_core.specs.declared.telling.Faults.TheVariants.{Raw, OneLine, Json}
 use Rattle.lp_relay_core.specs.Told.{told}
-use Rattle.lp_rebuild.specs.RebuildSteps.{fault_line_at}
 use Rattle.lp_relay_core.specs.Kinds.{Counts, counts_if, kinds_after, kinds_of_none}
-use Rattle.lp_relay_core.specs.LineFaults.{item_text}
-use Rattle.lp_relay_core.specs.Objects.{front_given, item_object, kind_given, object, stop_given, stop_of_piece}
+use Rattle.lp_relay_core.specs.LineFaults.{fault_line_at, item_text}
+use Rattle.lp_relay_core.specs.Objects.{item_object, stop_given, stop_of_piece}
 use Rattle.lp_relay_core.specs.Relaying.{Item, first_of, kept_of, too_long, is_carried_item, items_of_bytes, items_of_piece, items_of, items_batch, carried_items}
 use Rattle.lp_relay_core.specs.Relaying.{refused_items, refused_lines, refused_piece, refused_pieces}
 use Rattle.lp_relay_core.specs.Writers.{Told}
@@ -220,25 +218,6 @@ pub record TakesGiven (s : Settings) (old : Unwritten) (result : Result (Bor (Li
   pub items : TakesItems (form_given s (start_of old) result) old.made (items_given s result) new.made
   pub pieces : new.pieces ≡ old.pieces ++ refused_given s result
   pub kinds : new.kinds ≡ kinds_after (items_given s result) old.kinds
-
--- what a call gave was taken, and its fault line, if it has one, comes after these first bytes, as a rebuild writes it
-pub record TakesRaw (s : Settings) (given : Result (Bor (List ℕ)) PieceTooLong) (from : ℕ) (old new : Made) : Type 0 where
-  pub from_is : from ≡ length old.faults
-  pub text : IsUtf8 old.faults
-  pub line : new.line ≡ old.line
-  pub takes : TakesItems as_raw old (items_given s given) new
-
--- if what a call gave was taken so, the piece is taken once it ended so
-abbrev pub EndsPiece : Settings → (from : ℕ) → Result (Bor (List ℕ)) PieceTooLong → (mid new : Pending) → Type 0
-EndsPiece s from given mid new =
-    (old : Made) → TakesRaw s given from old (made mid.so_far)
-    → TakesGiven s (record { made = old; pieces = mid.pieces.items; offset = mid.offset; kinds = counts_if mid.kinds }) given (unwritten_of new)
-
--- the object of what a call gave, which is refused for this text
-abbrev pub object_given : Dialect → Option ℕ → (offset number : ℕ) → Result (Bor (List ℕ)) PieceTooLong → List ℕ → List ℕ
-object_given dialect line offset number given text =
-    object number (line_or_none line) offset (front_given given) (kind_given dialect given text) text
-    (stop_given dialect (line_or_none line) given)
 
 -- a writer gained all that was held and that was made, but for what is left
 abbrev pub Passes : Option (List ℕ) → Option (List ℕ) → (held added left : List ℕ) → Type 0

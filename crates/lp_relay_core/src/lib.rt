@@ -8,13 +8,14 @@
 //! It takes each item as `lp_rebuild` does. It is a crate of its own, since the program `lp_rebuild` needs none of it.
 #![tactic(auto)]
 
-mod counting;
 mod cuts;
 mod differing;
 mod kinds;
 mod nowhere;
 mod objects;
 mod outputs;
+mod pieces;
+mod refusals;
 mod relaying;
 mod stops;
 mod taking;

@@ -1,23 +1,18 @@
 //! Tells faults as objects of JSON, each on one line.
-ghost use Rattle.std.specs.Prelude.{◌≡◌, ◌+◌, ◌<◌, ◌≤◌, ◌++◌, ◌∷◌, ℕ, List, [], drop, length, string_bytes, take, true, IfOk, IsUtf8, OnOk};
+ghost use Rattle.std.specs.Prelude.{◌≡◌, ◌+◌, ◌<◌, ◌≤◌, ◌++◌, ◌∷◌, ℕ, List, [], drop, length, string_bytes, take, true, IsUtf8, OnOk};
 ghost use Rattle.influxdb_line_protocol.specs.code.Rules.{rules_of};
 ghost use Rattle.influxdb_line_protocol.specs.format.Bytes.{newline, newlines_in};
-ghost use Rattle.lp_rebuild.specs.RebuildSteps.{fault_line_at};
-ghost use Rattle.lp_relay_core.specs.Objects.{column_after, escape_of, fault_kind, front_given, is_escaped, json_text, kind_given, line_kind};
-ghost use Rattle.lp_relay_core.specs.Objects.{line_mark, member, object, object_start, place_members, stop_given, stop_members_of};
-ghost use Rattle.lp_relay_core.specs.RelaySteps.{line_or_none, object_given};
-ghost use Rattle.lp_values.specs.code.SpelledParts.{spelled_fault};
+ghost use Rattle.lp_relay_core.specs.Objects.{column_after, escape_of, fault_members, is_escaped, json_text, member, object_start, stop_members};
+ghost use Rattle.lp_relay_core.specs.Refusals.{object_of, refusal_kind, stop_in, wrong_of};
 
-use crate::kinds::Kind;
+use crate::pieces::Piece;
+use crate::refusals::Refusal;
 use crate::stops::stop_text;
-use crate::telling::hex_digit;
-use crate::texts::text_of;
-use crate::verdict::{fault_of, is_line};
-use influxdb_line_protocol::{Dialect, PieceTooLong, SpelledFault};
-use lp_rebuild::batch::Progress;
+use crate::telling::{Place, hex_digit};
+use influxdb_line_protocol::Dialect;
 use lp_scan::newlines::newlines_in;
 use lp_scan::trim::trimmed;
-use std::alloc::{AllocError, Global};
+use std::alloc::AllocError;
 
 // Whether a byte has an escape in a string of JSON.
 fn is_escaped(byte: u8) -> bool
@@ -82,111 +77,11 @@ fn put_start(
     put_member(faults, "piece_offset", offset)
 }
 
-// Adds the object of a fault, and a newline.
-fn put_object(
-    faults: &mut String,
-    number: usize,
-    line: usize,
-    offset: usize,
-    front: &[u8],
-    kind: Kind,
-    text: &str,
-    stop: &str,
-) -> Result<(), AllocError>
-    ensures { OnOk result (string_bytes faults.new
-        ≡ string_bytes faults.old ++ object number line offset front.now kind text.now stop.now) }
-{
-    put_start(faults, number, line, offset, front)?;
-    let kind = kind.name();
-    write!(faults, ",\"kind\":\"{kind}\",\"text\":\"")?;
-    put_json_text(faults, text)?;
-    write!(faults, "\"{stop}}}\n")
-}
-
 // Adds a member that tells a number.
 fn put_member(members: &mut String, name: &str, value: usize) -> Result<(), AllocError>
     ensures { OnOk result (string_bytes members.new ≡ string_bytes members.old ++ member name.now value) }
 {
     write!(members, ",\"{name}\":{value}")
-}
-
-// The kind of the fault of a text.
-fn kind_of(fault: SpelledFault<'_>) -> Kind
-    ensures { result ≡ fault_kind (spelled_fault fault.entry) }
-{
-    match fault {
-        SpelledFault::MeasurementValueInvalid => Kind::MeasurementValueInvalid,
-        SpelledFault::FieldSetMissing => Kind::FieldSetMissing,
-        SpelledFault::IntegerValueInvalid { .. } => Kind::IntegerValueInvalid,
-        SpelledFault::UIntegerValueInvalid { .. } => Kind::UintegerValueInvalid,
-        SpelledFault::TimestampValueInvalid { .. } => Kind::TimestampValueInvalid,
-        SpelledFault::EndsWithBackslash => Kind::EndsWithBackslash,
-        SpelledFault::CannotParseEntireLine { .. } => Kind::CannotParseEntireLine,
-        SpelledFault::TagSetMalformed => Kind::TagSetMalformed,
-        SpelledFault::GenericParsingError { .. } => Kind::GenericParsingError,
-    }
-}
-
-// The kind of a line that is refused for this text: it is not as it would be written, or has a name that is not admitted.
-fn line_kind(text: &str) -> Kind
-    ensures { result ≡ line_kind text.now }
-{
-    if text.as_bytes().starts_with(b"n") {
-        Kind::NotAsWritten
-    } else {
-        Kind::NameNotAdmitted
-    }
-}
-
-// The kind of a piece that is refused for this text.
-fn kind_given(dialect: Dialect, piece: Result<&[u8], PieceTooLong<'_>>, text: &str) -> Kind
-    ensures { result ≡ kind_given (rules_of dialect) piece.entry text.now }
-{
-    let Ok(bytes) = piece else {
-        return Kind::TooLong;
-    };
-    let Ok(piece) = text_of(bytes) else {
-        return Kind::NotUtf8;
-    };
-    match fault_of(dialect, trimmed(piece)) {
-        Some(fault) => kind_of(fault),
-        None => line_kind(text),
-    }
-}
-
-// What comes before the text of a piece.
-fn front_given<'a>(piece: Result<&'a [u8], PieceTooLong<'_>>) -> &'a [u8]
-    ensures { result.now ≡ front_given piece.entry }
-{
-    let Ok(bytes) = piece else {
-        return b"";
-    };
-    let Ok(text) = text_of(bytes) else {
-        return b"";
-    };
-    let front = bytes.len().saturating_sub(trimmed(text).len());
-    &bytes[..front]
-}
-
-// What comes before the byte at which reading stops, of a piece whose text is no line.
-fn bytes_to_stop<'a>(
-    dialect: Dialect,
-    piece: Result<&'a [u8], PieceTooLong<'_>>,
-) -> Option<&'a [u8]>
-    ensures { (line : ℕ) → stop_members_of line result ≡ stop_given (rules_of dialect) line piece.entry }
-{
-    let Ok(bytes) = piece else {
-        return None;
-    };
-    let Ok(piece) = text_of(bytes) else {
-        return None;
-    };
-    let text = trimmed(piece);
-    if is_line(dialect, text) {
-        return None;
-    }
-    let end = bytes.len().saturating_sub(stop_text(dialect, text).len());
-    Some(&bytes[..end])
 }
 
 // The column after these bytes, from the first one on.
@@ -204,111 +99,97 @@ fn column_after(bytes: &[u8]) -> usize
     column
 }
 
-// The members that tell this line and this column.
-fn place_members(alloc: Global, line: usize, column: usize) -> Result<String, AllocError>
-    ensures { IfOk result (λ members. string_bytes members ≡ place_members line column) }
+// Adds the members that tell where reading stopped that took these bytes of a piece, which begins on this line.
+fn put_stop(faults: &mut String, line: usize, bytes: &[u8]) -> Result<(), AllocError>
+    ensures { OnOk result (string_bytes faults.new ≡ string_bytes faults.old ++ stop_members line bytes.now) }
 {
-    let mut members = String::new(alloc);
-    put_member(&mut members, "stop_line", line)?;
-    put_member(&mut members, "stop_column", column)?;
-    Ok(members)
+    let stop_line = line.checked_add(newlines_in(bytes)).ok_or(AllocError)?;
+    put_member(faults, "stop_line", stop_line)?;
+    put_member(faults, "stop_column", column_after(bytes))
 }
 
-// The members that tell where reading stops in a piece that begins on this line.
-fn stop_given(
-    alloc: Global,
+// Adds the members that tell where reading stops in a piece that begins on this line, if its text is at fault.
+fn put_stop_in(
+    faults: &mut String,
     dialect: Dialect,
     line: usize,
-    piece: Result<&[u8], PieceTooLong<'_>>,
-) -> Result<String, AllocError>
-    ensures { IfOk result (λ stop. string_bytes stop ≡ stop_given (rules_of dialect) line piece.entry) }
+    piece: Piece<'_>,
+    is_fault: bool,
+) -> Result<(), AllocError>
+    ensures { OnOk result (string_bytes faults.new
+        ≡ string_bytes faults.old ++ stop_in is_fault (rules_of dialect) line piece.entry) }
 {
-    let Some(bytes) = bytes_to_stop(dialect, piece) else {
-        return Ok(String::new(alloc));
-    };
-    let stop_line = line.checked_add(newlines_in(bytes)).ok_or(AllocError)?;
-    place_members(alloc, stop_line, column_after(bytes))
-}
-
-// What a fault line has before its text.
-fn line_mark(alloc: Global, line: Option<usize>, number: usize) -> Result<String, AllocError>
-    ensures { IfOk result (λ mark. string_bytes mark ≡ line_mark line number) }
-{
-    match line {
-        None => format!(in alloc; "item {number}: "),
-        Some(line) => format!(in alloc; "line {line}: "),
+    match piece {
+        Piece::Text(text) if is_fault => {
+            let end = text
+                .len()
+                .saturating_sub(stop_text(dialect, trimmed(text)).len());
+            put_stop(faults, line, &text.as_bytes()[..end])
+        }
+        _ => Ok(()),
     }
 }
 
-// The text of a fault line, after its mark and before its newline.
-fn text_in<'a>(mark: &str, line: &'a str) -> &'a str
-    requires { (text : List ℕ) × (line.now ≡ mark.now ++ text ++ newline ∷ []) }
-    ensures { (text : List ℕ) → line.now ≡ mark.now ++ text ++ newline ∷ [] → result.now ≡ text }
+// Whether bytes stand in a string of JSON as they are. No byte ends the loop, so that the compiler tests 16 at a time.
+#[tactic(auto, using(crate::proofs::JsonTexts::one_more_plain))]
+fn are_plain(bytes: &[u8]) -> bool
+    ensures { result ≡ true → json_text bytes.now ≡ bytes.now }
 {
-    &line[mark.len()..line.len() - 1]
+    let mut are = true;
+    for at in 0..bytes.len() {
+        are = are & !is_escaped(bytes[at]);
+    }
+    are
 }
 
-// The kind of the fault of a piece whose fault line follows these first bytes.
-pub(crate) fn kind_told(
-    alloc: Global,
-    dialect: Dialect,
-    so_far: &Progress,
-    from: usize,
-    piece: Result<&[u8], PieceTooLong<'_>>,
-) -> Result<Kind, AllocError>
-    requires front { IsUtf8 (take from (string_bytes so_far.now.faults)) }
-    requires within { from ≤ length (string_bytes so_far.now.faults) }
-    requires fits { so_far.now.carried + so_far.now.refused ≤ usize.MAX }
-    requires line { (text : List ℕ) × (drop from (string_bytes so_far.now.faults)
-        ≡ fault_line_at so_far.now.line (so_far.now.carried + so_far.now.refused) text) }
-    ensures { IfOk result (λ kind. (text : List ℕ) → drop from (string_bytes so_far.now.faults)
-        ≡ fault_line_at so_far.now.line (so_far.now.carried + so_far.now.refused) text
-        → kind ≡ kind_given (rules_of dialect) piece.entry text) }
+// Makes of what follows these first bytes what stands for it in a string of JSON: mostly it is that.
+fn escape_from(faults: &mut String, from: usize) -> Result<(), AllocError>
+    requires front { IsUtf8 (take from (string_bytes faults.old)) }
+    requires within { from ≤ length (string_bytes faults.old) }
+    ensures { OnOk result (string_bytes faults.new
+        ≡ take from (string_bytes faults.old) ++ json_text (drop from (string_bytes faults.old))) }
 {
-    let mark = line_mark(alloc, so_far.line, so_far.carried + so_far.refused)?;
-    let text = text_in(mark.as_str(), &so_far.faults.as_str()[from..]);
-    Ok(kind_given(dialect, piece, text))
+    if are_plain(&faults.as_bytes()[from..]) {
+        return Ok(());
+    }
+    let text = faults.split_off(from)?;
+    put_json_text(faults, text.as_str())
 }
 
-// Tells as an object the fault line that follows these first bytes, which is that of a piece that comes after so many bytes of the
-// input.
-#[cold]
-#[inline(never)]
+// Adds why an item is refused, as it stands in a string of JSON.
+fn put_wrong(faults: &mut String, refusal: &Refusal<'_>) -> Result<(), AllocError>
+    ensures { OnOk result (string_bytes faults.new ≡ string_bytes faults.old ++ json_text (wrong_of refusal.now)) }
+{
+    let from = faults.len();
+    write!(faults, "{refusal}")?;
+    escape_from(faults, from)
+}
+
+// Adds the members that tell why an item is refused.
+fn put_fault(faults: &mut String, refusal: &Refusal<'_>) -> Result<(), AllocError>
+    ensures { OnOk result (string_bytes faults.new
+        ≡ string_bytes faults.old ++ fault_members (refusal_kind refusal.now) (wrong_of refusal.now)) }
+{
+    let kind = refusal.kind().name();
+    write!(faults, ",\"kind\":\"{kind}\",\"text\":\"")?;
+    put_wrong(faults, refusal)?;
+    faults.push_str("\"")
+}
+
+// Adds the object of an item that is refused, and a newline.
 pub(crate) fn tell_as_object(
-    alloc: Global,
+    faults: &mut String,
     dialect: Dialect,
-    so_far: &mut Progress,
-    offset: usize,
-    from: usize,
-    piece: Result<&[u8], PieceTooLong<'_>>,
+    place: Place,
+    refusal: &Refusal<'_>,
+    piece: Piece<'_>,
 ) -> Result<(), AllocError>
-    requires front { IsUtf8 (take from (string_bytes so_far.old.faults)) }
-    requires within { from ≤ length (string_bytes so_far.old.faults) }
-    requires fits { so_far.old.carried + so_far.old.refused ≤ usize.MAX }
-    requires line { (text : List ℕ) × (drop from (string_bytes so_far.old.faults)
-        ≡ fault_line_at so_far.old.line (so_far.old.carried + so_far.old.refused) text) }
-    ensures told { OnOk result ((text : List ℕ) → drop from (string_bytes so_far.old.faults)
-        ≡ fault_line_at so_far.old.line (so_far.old.carried + so_far.old.refused) text
-        → string_bytes so_far.new.faults ≡ take from (string_bytes so_far.old.faults)
-        ++ object_given (rules_of dialect) so_far.old.line offset (so_far.old.carried + so_far.old.refused) piece.entry text) }
-    ensures others { (so_far.new.batch ≡ so_far.old.batch) × (so_far.new.line ≡ so_far.old.line)
-        × (so_far.new.carried ≡ so_far.old.carried) × (so_far.new.refused ≡ so_far.old.refused) }
+    ensures { OnOk result (string_bytes faults.new
+        ≡ string_bytes faults.old ++ object_of (rules_of dialect) place piece.entry refusal.now) }
 {
-    let number = so_far.carried + so_far.refused;
-    let mark = line_mark(alloc, so_far.line, number)?;
-    let fault_line = so_far.faults.split_off(from)?;
-    let text = text_in(mark.as_str(), fault_line.as_str());
-    let kind = kind_given(dialect, piece, text);
-    let line = so_far.line.unwrap_or(0);
-    let stop = stop_given(alloc, dialect, line, piece)?;
-    put_object(
-        &mut so_far.faults,
-        number,
-        line,
-        offset,
-        front_given(piece),
-        kind,
-        text,
-        stop.as_str(),
-    )
+    let line = place.line.unwrap_or(0);
+    put_start(faults, place.number, line, place.offset, piece.front())?;
+    put_fault(faults, refusal)?;
+    put_stop_in(faults, dialect, line, piece, refusal.is_fault())?;
+    faults.push_str("}\n")
 }

@@ -13,9 +13,11 @@ ghost use Rattle.lp_rebuild.specs.Running.{reader_told};
 
 use crate::kinds::KindCounts;
 use crate::outputs::ThreeWriters;
-use crate::taking::{Pending, Settings, items_before, nothing_made, take_piece, take_text_piece};
+use crate::pieces::Piece;
+use crate::taking::{Pending, Settings, items_before, nothing_made, take_given, take_piece};
 use crate::texts::text_of;
-use influxdb_line_protocol::{BoundedLineStream, ParsedLine, laws, split_lines_in};
+use influxdb_line_protocol::{BoundedLineStream, laws, split_lines_in};
+use lp_rebuild::batch::LineReader;
 use lp_rebuild::program::{BLOCK, read_block};
 use lp_rebuild::{RunFault, Source};
 use memchr::{memchr, memrchr};
@@ -109,7 +111,7 @@ fn relay_pieces<O: ThreeWriters>(
     ensures counts { CountsWriteFault result (O.told outputs.old) (O.told outputs.new) }
 {
     while let Some(piece) = stream.next() {
-        if take_piece(settings, pending, piece).is_err() {
+        if take_given(settings, pending, piece).is_err() {
             return Err(RunFault::OutOfMemory);
         }
         pour_full(pending, outputs)?;
@@ -147,15 +149,14 @@ fn relay_lines<O: ThreeWriters>(
 {
     laws::pieces_join();
     let mut lines = split_lines_in(settings.dialect, whole_lines(bytes));
-    let mut line = ParsedLine::new(pending.alloc);
-    let mut spare = None;
+    let mut reader = LineReader::new(pending.alloc, settings.dialect);
     let mut taken = 0;
     while let Some(piece) = lines.next() {
         // The last piece has no newline.
         if lines.remainder().is_none() || piece.len() > settings.limit {
             return Ok(taken);
         }
-        if take_text_piece(settings, pending, piece, &mut line, &mut spare).is_err() {
+        if take_piece(settings, pending, &mut reader, Piece::Text(piece)).is_err() {
             return Err(RunFault::OutOfMemory);
         }
         pour_full(pending, outputs)?;
@@ -207,7 +208,7 @@ fn relay_begun<O: ThreeWriters>(
     let Some(piece) = stream.next() else {
         return Ok(end);
     };
-    if take_piece(settings, pending, piece).is_err() {
+    if take_given(settings, pending, piece).is_err() {
         return Err(RunFault::OutOfMemory);
     }
     pour_full(pending, outputs)?;
@@ -269,7 +270,7 @@ fn finish<O: ThreeWriters>(
     ensures counts { CountsWriteFault result (O.told outputs.old) (O.told outputs.new) }
     ensures flushed { OnOk result (AreFlushed (O.told outputs.new)) }
 {
-    if take_piece(settings, pending, stream.finish()).is_err() {
+    if take_given(settings, pending, stream.finish()).is_err() {
         return Err(RunFault::OutOfMemory);
     }
     pour_and_flush(pending, outputs)
@@ -283,7 +284,7 @@ fn finish<O: ThreeWriters>(
 /// byte as it came, and a newline; of a piece that is too long its first bytes, as many as the limit. Else they gain nothing.
 ///
 /// If `settings.counts_kinds` says so, the answer tells how many items were refused for each kind of fault; they add up to all that
-/// were. The text of a refused piece is read once more for that.
+/// were.
 ///
 /// What each read completes is written and flushed before the next read is asked for, and the rest at the end. What is held of
 /// the input is the line that has not ended yet and two blocks at most, and of each output less than a block and what one line

@@ -1,28 +1,25 @@
 //! What a relay takes of a piece of its input.
-ghost use Rattle.std.specs.Prelude.{◌≡◌, ◌+◌, ◌<◌, ◌≤◌, ◌∷◌, ◌++◌, [], false, length, string_bytes, take, IfOk, IsUtf8, MatchResult};
-ghost use Rattle.std.specs.Prelude.{Ok, OnOk};
+ghost use Rattle.std.specs.Prelude.{◌≡◌, ◌+◌, ◌<◌, ◌≤◌, ◌++◌, List, false, ℕ, option_map, string_bytes, IfOk, OnOk};
 ghost use Rattle.influxdb_line_protocol.specs.code.Rules.{rules_of};
-ghost use Rattle.influxdb_line_protocol.specs.format.Bytes.{newline, newlines_in};
-ghost use Rattle.lp_relay_core.specs.Relaying.{as_it_came, items_of_bytes, kept_of, too_long};
-ghost use Rattle.lp_relay_core.specs.RelaySteps.{EndsPiece, HoldsLess, Made, TakesItems, TakesGiven, TakesRaw, as_raw, bytes_given};
-ghost use Rattle.lp_relay_core.specs.RelaySteps.{first_line, form_given, items_before, items_given, len_given, line_after, made};
-ghost use Rattle.lp_relay_core.specs.RelaySteps.{newlines_given, start_after, start_of, unwritten_of, unwritten_of_none};
-ghost use Rattle.lp_relay_core.specs.TakenBack.{TakesBack};
+ghost use Rattle.influxdb_line_protocol.specs.format.Lines.{answer};
+ghost use Rattle.influxdb_line_protocol.specs.format.Trimming.{trimmed};
+ghost use Rattle.lp_relay_core.specs.Kinds.{counts_if, with_fault};
+ghost use Rattle.lp_relay_core.specs.Refusals.{EndsPiece, GaveSame, IsKnown, RefusesPiece, TakesItem, TakesPiece, given_of, refusal_kind, told_by};
+ghost use Rattle.lp_relay_core.specs.Relaying.{Item, canonical_item, front_of, item_of, kept_of};
+ghost use Rattle.lp_relay_core.specs.RelaySteps.{HoldsLess, TakesGiven, first_line, items_before, len_given, line_after, made, newlines_given};
+ghost use Rattle.lp_relay_core.specs.RelaySteps.{start_after, start_of, unwritten_of, unwritten_of_none};
 
-use crate::counting::count_refused;
-use crate::differing::{Part, differing_part, part_text};
-use crate::kinds::KindCounts;
+use crate::differing::{differing_part, part_text};
+use crate::kinds::{Kind, KindCounts};
 use crate::objects::tell_as_object;
-use crate::telling::{Faults, tell_on_one_line};
-use crate::texts::text_of;
-use crate::verdict::is_line;
-use influxdb_line_protocol::{
-    Dialect, EscapedStr, FieldSet, ParsedLine, PieceTooLong, Series, TagSet, is_as_written, laws,
-};
-use lp_lines::freeing::{forget_line, free_line};
-use lp_rebuild::batch::{self, Progress, refuse};
+use crate::pieces::{Piece, piece_of};
+use crate::refusals::Refusal;
+use crate::telling::{Faults, Place, put_fault_line, put_on_one_line};
+use crate::verdict::fault_of;
+use influxdb_line_protocol::{Dialect, PieceTooLong, is_as_written, laws};
+use lp_rebuild::LineRefusal;
+use lp_rebuild::batch::{self, LineReader, copy_line, put_line};
 use lp_rebuild::program::BLOCK;
-use lp_scan::newlines::newlines_in;
 use lp_scan::trim::trimmed;
 use std::alloc::{AllocError, Global};
 
@@ -100,6 +97,17 @@ impl Default for Settings {
     }
 }
 
+/// What was made so far, and what the fault line of the next item names.
+#[derive(Drop)]
+pub(crate) struct Progress {
+    pub(crate) batch: Vec<u8>,
+    pub(crate) faults: String,
+    pub(crate) carried: usize,
+    pub(crate) refused: usize,
+    /// The line of the input on which the piece of the next item begins, if fault lines name lines.
+    pub(crate) line: Option<usize>,
+}
+
 /// What a relay made and has not written yet.
 #[derive(Drop)]
 pub(crate) struct Pending {
@@ -115,8 +123,15 @@ pub(crate) struct Pending {
     pub(crate) kinds: Option<KindCounts>,
 }
 
-// What is wrong with a piece that is no text.
-const NOT_UTF8: &str = "the line is not UTF-8";
+/// What came of a piece.
+#[derive(Drop)]
+pub(crate) enum Taken<'a> {
+    /// It has no item.
+    Blank,
+    /// Its line was added to those that go out.
+    Carried,
+    Refused(Refusal<'a>),
+}
 
 // How many items are counted before the first item: if fault lines name items, as many as give it its number.
 pub(crate) fn items_before(settings: Settings) -> usize
@@ -165,208 +180,131 @@ pub(crate) fn nothing_made(alloc: Global, settings: Settings) -> Pending
     }
 }
 
-// Takes a text that holds a line as it came.
-fn take_as_it_came(so_far: &mut Progress, piece: &str) -> Result<(), AllocError>
-    requires { so_far.old.carried + so_far.old.refused < usize.MAX }
-    ensures taken { OnOk result (TakesItems as_raw (made so_far.old) (as_it_came piece.now ∷ []) (made so_far.new)) }
-    ensures counted { OnOk result
-        (so_far.new.carried + so_far.new.refused ≡ so_far.old.carried + so_far.old.refused + 1) }
-    ensures line { so_far.new.line ≡ so_far.old.line }
-{
-    so_far.batch.reserve(piece.len() + 1)?;
-    so_far.batch.extend_from_slice(piece.as_bytes())?;
-    so_far.batch.push(b'\n')?;
-    so_far.carried += 1;
-    Ok(())
-}
-
-// Takes the text of a piece as it came if it holds a line. A text at fault is read into `line`, and refused as a rebuild does.
-#[inline(never)]
+// Takes a line as it came, with what its piece has before it.
 fn take_verbatim<'a>(
-    alloc: Global,
+    batch: &mut Vec<u8>,
     dialect: Dialect,
-    so_far: &mut Progress,
     piece: &'a str,
-    line: &mut ParsedLine<'a>,
-    spare: &mut Option<TagSet<'a>>,
-) -> Result<(), AllocError>
-    requires { so_far.old.carried + so_far.old.refused < usize.MAX }
-    ensures taken { OnOk result
-        (TakesItems as_raw (made so_far.old) (items_of_bytes Lines.Verbatim (rules_of dialect) piece.now) (made so_far.new)) }
-    ensures counted { OnOk result
-        (so_far.new.carried + so_far.new.refused ≤ so_far.old.carried + so_far.old.refused + 1) }
-    ensures line { so_far.new.line ≡ so_far.old.line }
+    text: &'a str,
+) -> Result<Taken<'a>, AllocError>
+    ensures { IfOk result (λ taken. TakesItem taken (item_of Lines.Verbatim piece.now (answer (rules_of dialect) text.now))
+        batch.old.items batch.new.items) }
 {
-    let text = trimmed(piece);
-    if text.is_empty() {
-        return Ok(());
+    match fault_of(dialect, text) {
+        None => {
+            copy_line(batch, piece.as_bytes())?;
+            Ok(Taken::Carried)
+        }
+        Some(fault) => Ok(Taken::Refused(Refusal::Line(LineRefusal::Fault(fault)))),
     }
-    if is_line(dialect, text) {
-        return take_as_it_came(so_far, piece);
-    }
-    batch::take_text(alloc, dialect, so_far, text, line, spare)
 }
 
-// Takes back the line that was written last, after these first bytes of the batch, and refuses its item for this part.
-fn take_back(
-    alloc: Global,
-    so_far: &mut Progress,
-    start: usize,
-    part: Part,
-) -> Result<(), AllocError>
-    requires some { 0 < so_far.old.carried }
-    requires room { so_far.old.carried + so_far.old.refused ≤ usize.MAX }
-    ensures back { OnOk result (TakesBack so_far.old start part so_far.new) }
-    ensures line { so_far.new.line ≡ so_far.old.line }
-{
-    so_far.batch.truncate(start);
-    so_far.carried -= 1;
-    let text = part_text(alloc, part)?;
-    refuse(so_far, text.as_str())
-}
-
-// Takes the text of a piece if it is as the builder writes it. Another line is written again, to find the part that is not so, and
-// taken back; a text at fault is refused as a rebuild does.
-#[inline(never)]
+// Takes a line as it came, if it is as the builder writes it. Another one is written again, to find the part that is not so, and
+// taken back.
 fn take_canonical<'a>(
-    alloc: Global,
-    dialect: Dialect,
-    so_far: &mut Progress,
+    batch: &mut Vec<u8>,
+    reader: &mut LineReader<'a>,
     piece: &'a str,
-    line: &mut ParsedLine<'a>,
-    spare: &mut Option<TagSet<'a>>,
-) -> Result<(), AllocError>
-    requires { so_far.old.carried + so_far.old.refused < usize.MAX }
-    ensures taken { OnOk result
-        (TakesItems as_raw (made so_far.old) (items_of_bytes Lines.Canonical (rules_of dialect) piece.now) (made so_far.new)) }
-    ensures counted { OnOk result
-        (so_far.new.carried + so_far.new.refused ≤ so_far.old.carried + so_far.old.refused + 1) }
-    ensures line { so_far.new.line ≡ so_far.old.line }
+    text: &'a str,
+) -> Result<Taken<'a>, AllocError>
+    requires { text.now ≡ trimmed piece.now }
+    ensures taken { IfOk result (λ taken. TakesItem taken
+        (item_of Lines.Canonical piece.now (answer (rules_of reader.old.dialect) text.now)) batch.old.items batch.new.items) }
+    ensures dialect { reader.new.dialect ≡ reader.old.dialect }
 {
     laws::written_lines_stay();
-    let text = trimmed(piece);
-    if text.is_empty() {
-        return Ok(());
-    }
     if is_as_written(text) {
-        return take_as_it_came(so_far, text);
+        copy_line(batch, text.as_bytes())?;
+        return Ok(Taken::Carried);
     }
-    let start = so_far.batch.len();
-    batch::take_text(alloc, dialect, so_far, text, line, spare)?;
-    if so_far.batch.len() == start {
-        return Ok(());
+    let start = batch.len();
+    if let Some(refusal) = batch::take_text(batch, reader, text)? {
+        return Ok(Taken::Refused(Refusal::Line(refusal)));
     }
-    let part = differing_part(text.as_bytes(), &so_far.batch[start..]);
-    take_back(alloc, so_far, start, part)
+    let part = differing_part(text.as_bytes(), &batch[start..]);
+    batch.truncate(start);
+    let wrong = part_text(reader.alloc, part)?;
+    Ok(Taken::Refused(Refusal::NotAsWritten(wrong)))
 }
 
-// Takes the text of a piece. It is called for each line, so that the test whether a line is as written is compiled once, in line
-// here.
+// Takes a line: it is written again.
+fn take_rebuilt<'a>(
+    batch: &mut Vec<u8>,
+    reader: &mut LineReader<'a>,
+    piece: &'a str,
+    text: &'a str,
+) -> Result<Taken<'a>, AllocError>
+    requires { text.now ≡ trimmed piece.now }
+    ensures taken { IfOk result (λ taken. TakesItem taken
+        (item_of Lines.Rebuilt piece.now (answer (rules_of reader.old.dialect) text.now)) batch.old.items batch.new.items) }
+    ensures dialect { reader.new.dialect ≡ reader.old.dialect }
+{
+    match put_line(batch, reader, text)? {
+        None => Ok(Taken::Carried),
+        Some(refusal) => Ok(Taken::Refused(Refusal::Line(refusal))),
+    }
+}
+
+// Takes the line of a piece, if it has one: it goes out by the settings, or is refused. It is called for each line, so that the test
+// whether a line is as written is compiled once, in line here.
 #[inline(never)]
 fn take_text<'a>(
-    alloc: Global,
     settings: Settings,
-    so_far: &mut Progress,
+    batch: &mut Vec<u8>,
+    reader: &mut LineReader<'a>,
     piece: &'a str,
-    line: &mut ParsedLine<'a>,
-    spare: &mut Option<TagSet<'a>>,
-) -> Result<(), AllocError>
-    requires { so_far.old.carried + so_far.old.refused < usize.MAX }
-    ensures taken { OnOk result
-        (TakesItems as_raw (made so_far.old) (items_of_bytes settings.lines (rules_of settings.dialect) piece.now) (made so_far.new)) }
-    ensures counted { OnOk result
-        (so_far.new.carried + so_far.new.refused ≤ so_far.old.carried + so_far.old.refused + 1) }
-    ensures line { so_far.new.line ≡ so_far.old.line }
+) -> Result<Taken<'a>, AllocError>
+    requires dialect { reader.old.dialect ≡ settings.dialect }
+    ensures taken { IfOk result (λ taken. TakesPiece settings (Piece.Text piece.entry) taken batch.old.items batch.new.items) }
+    ensures dialect { reader.new.dialect ≡ reader.old.dialect }
 {
+    let text = trimmed(piece);
+    if text.is_empty() {
+        return Ok(Taken::Blank);
+    }
     match settings.lines {
-        Lines::Rebuilt => batch::take_piece(alloc, settings.dialect, so_far, piece, line, spare),
-        Lines::Verbatim => take_verbatim(alloc, settings.dialect, so_far, piece, line, spare),
-        Lines::Canonical => take_canonical(alloc, settings.dialect, so_far, piece, line, spare),
+        Lines::Rebuilt => take_rebuilt(batch, reader, piece, text),
+        Lines::Verbatim => take_verbatim(batch, reader.dialect, piece, text),
+        Lines::Canonical => take_canonical(batch, reader, piece, text),
     }
 }
 
-// Takes the text of a piece by way of a line of its own, which is freed by its parts.
-#[inline(never)]
-fn take_alone(
-    alloc: Global,
-    settings: Settings,
-    so_far: &mut Progress,
-    piece: &str,
-) -> Result<(), AllocError>
-    requires { so_far.old.carried + so_far.old.refused < usize.MAX }
-    ensures taken { OnOk result
-        (TakesItems as_raw (made so_far.old) (items_of_bytes settings.lines (rules_of settings.dialect) piece.now) (made so_far.new)) }
-    ensures counted { OnOk result
-        (so_far.new.carried + so_far.new.refused ≤ so_far.old.carried + so_far.old.refused + 1) }
-    ensures line { so_far.new.line ≡ so_far.old.line }
-{
-    let mut line = ParsedLine {
-        series: Series {
-            raw_input: "",
-            measurement: EscapedStr::SingleSlice(""),
-            tag_set: Some(TagSet::new(alloc)),
-        },
-        field_set: FieldSet::new(alloc),
-        timestamp: None,
-    };
-    let taken = take_text(alloc, settings, so_far, piece, &mut line, &mut None);
-    free_line(alloc, &mut line);
-    forget_line(line);
-    taken
-}
-
-// Refuses a piece that is too long. If refused pieces go out, its fault tells how many bytes of it do.
-fn refuse_long(alloc: Global, settings: Settings, so_far: &mut Progress) -> Result<(), AllocError>
-    requires room { so_far.old.carried + so_far.old.refused < usize.MAX }
-    ensures taken { OnOk result
-        (TakesItems as_raw (made so_far.old) (too_long (kept_of settings) ∷ []) (made so_far.new)) }
-    ensures counted { OnOk result
-        (so_far.new.carried + so_far.new.refused ≡ so_far.old.carried + so_far.old.refused + 1) }
-    ensures line { so_far.new.line ≡ so_far.old.line }
+// How many bytes are kept of a piece that is too long, if any are.
+fn kept_of(settings: Settings) -> Option<usize>
+    ensures { result ≡ kept_of settings }
 {
     if settings.puts_refused {
-        let limit = settings.limit;
-        let text = format!(in alloc; "the line is too long: its first {limit} bytes are kept")?;
-        return refuse(so_far, text.as_str());
+        Some(settings.limit)
+    } else {
+        None
     }
-    refuse(so_far, "the line is too long")
 }
 
-// Takes what the stream gave: its text, or a fault if it is not UTF-8 or too long. An empty piece, which has no item, needs no
-// line.
-fn take_given(
-    alloc: Global,
+// Takes the item of a piece.
+#[inline(always)]
+fn take_item<'a>(
     settings: Settings,
-    so_far: &mut Progress,
-    piece: Result<&[u8], PieceTooLong<'_>>,
-) -> Result<(), AllocError>
-    requires room { so_far.old.carried + so_far.old.refused < usize.MAX }
-    ensures taken { OnOk result
-        (TakesItems as_raw (made so_far.old) (items_given settings piece.entry) (made so_far.new)) }
-    ensures counted { OnOk result
-        (so_far.new.carried + so_far.new.refused ≤ so_far.old.carried + so_far.old.refused + 1) }
-    ensures line { so_far.new.line ≡ so_far.old.line }
+    batch: &mut Vec<u8>,
+    reader: &mut LineReader<'a>,
+    piece: Piece<'a>,
+) -> Result<Taken<'a>, AllocError>
+    requires dialect { reader.old.dialect ≡ settings.dialect }
+    requires known { IsKnown piece }
+    ensures taken { IfOk result (λ taken. TakesPiece settings piece.entry taken batch.old.items batch.new.items) }
+    ensures dialect { reader.new.dialect ≡ reader.old.dialect }
 {
-    let Ok(bytes) = piece else {
-        return refuse_long(alloc, settings, so_far);
-    };
-    if bytes.is_empty() {
-        return Ok(());
-    }
-    match text_of(bytes) {
-        Ok(text) => take_alone(alloc, settings, so_far, text),
-        Err(_) => refuse(so_far, NOT_UTF8),
+    match piece {
+        Piece::Text(text) => take_text(settings, batch, reader, text),
+        Piece::NoText(_) => Ok(Taken::Refused(Refusal::NotUtf8)),
+        Piece::TooLong(_) => Ok(Taken::Refused(Refusal::TooLong(kept_of(settings)))),
     }
 }
 
 // The line of the next piece, if fault lines name lines. It is refused if it, or the number of an item more, would not fit.
-fn line_after(
-    so_far: &Progress,
-    piece: Result<&[u8], PieceTooLong<'_>>,
-) -> Result<Option<usize>, AllocError>
+fn line_after(so_far: &Progress, piece: Piece<'_>) -> Result<Option<usize>, AllocError>
     requires fits { so_far.now.carried + so_far.now.refused ≤ usize.MAX }
     ensures room { OnOk result (so_far.now.carried + so_far.now.refused < usize.MAX) }
-    ensures line { IfOk result (λ next. next ≡ line_after so_far.now.line (newlines_given piece.entry)) }
+    ensures line { IfOk result (λ next. next ≡ line_after so_far.now.line (newlines_given (given_of piece.entry))) }
 {
     if so_far.carried + so_far.refused == usize::MAX {
         return Err(AllocError);
@@ -374,163 +312,141 @@ fn line_after(
     let Some(line) = so_far.line else {
         return Ok(None);
     };
-    let newlines = match piece {
-        Ok(bytes) => newlines_in(bytes),
-        Err(fault) => fault.newlines,
-    };
-    let end = line.checked_add(newlines).ok_or(AllocError)?;
+    let end = line.checked_add(piece.newlines()).ok_or(AllocError)?;
     Ok(Some(end.checked_add(1).ok_or(AllocError)?))
 }
 
 // How many bytes come before the piece after this one, which comes after so many. They are refused if that would not fit.
-fn offset_after(offset: usize, piece: Result<&[u8], PieceTooLong<'_>>) -> Result<usize, AllocError>
-    ensures { IfOk result (λ next. next ≡ offset + len_given piece.entry + 1) }
+fn offset_after(offset: usize, piece: Piece<'_>) -> Result<usize, AllocError>
+    ensures { IfOk result (λ next. next ≡ offset + len_given (given_of piece.entry) + 1) }
 {
-    let len = match piece {
-        Ok(bytes) => bytes.len(),
-        Err(fault) => fault.len,
-    };
-    let newline_at = offset.checked_add(len).ok_or(AllocError)?;
+    let newline_at = offset.checked_add(piece.len()).ok_or(AllocError)?;
     newline_at.checked_add(1).ok_or(AllocError)
 }
 
-// Tells as the settings say the fault line of a piece, which comes after so many bytes of the input; the line follows these first
-// bytes.
-#[inline(always)]
+// Counts a fault of this kind, if kinds are counted.
+fn count(kinds: &mut Option<KindCounts>, kind: Kind) -> Result<(), AllocError>
+    ensures { OnOk result (counts_if kinds.new ≡ option_map (with_fault kind) (counts_if kinds.old)) }
+{
+    match kinds {
+        Some(counts) => counts.count(kind),
+        None => Ok(()),
+    }
+}
+
+// Tells why an item is refused, as the settings say.
 fn tell(
-    alloc: Global,
     settings: Settings,
-    so_far: &mut Progress,
-    offset: usize,
-    from: usize,
-    piece: Result<&[u8], PieceTooLong<'_>>,
+    faults: &mut String,
+    place: Place,
+    refusal: &Refusal<'_>,
+    piece: Piece<'_>,
 ) -> Result<(), AllocError>
-    requires taken { (before : Made) × TakesRaw settings piece from before (made so_far.old) }
-    requires some { from < length (string_bytes so_far.old.faults) }
-    requires fits { so_far.old.carried + so_far.old.refused ≤ usize.MAX }
-    ensures told { OnOk result ((before : Made) → TakesRaw settings piece.entry from before (made so_far.old)
-        → TakesItems (form_given settings (record { line = before.line; offset = offset }) piece.entry) before
-        (items_given settings piece.entry) (made so_far.new)) }
-    ensures counts { (so_far.new.carried ≡ so_far.old.carried) × (so_far.new.refused ≡ so_far.old.refused) }
+    ensures { OnOk result (string_bytes faults.new
+        ≡ string_bytes faults.old ++ told_by settings.faults (rules_of settings.dialect) place piece.entry refusal.now) }
 {
     match settings.faults {
-        Faults::Raw => Ok(()),
-        Faults::OneLine => tell_on_one_line(&mut so_far.faults, from),
-        Faults::Json { .. } => {
-            tell_as_object(alloc, settings.dialect, so_far, offset, from, piece)
-        },
+        Faults::Raw => put_fault_line(faults, place, refusal),
+        Faults::OneLine => put_on_one_line(faults, place, refusal),
+        Faults::Json { .. } => tell_as_object(faults, settings.dialect, place, refusal, piece),
     }
 }
 
-// The bytes of what the stream gave: those of a piece, or the first ones of one that is too long.
-fn bytes_given<'a>(piece: Result<&'a [u8], PieceTooLong<'a>>) -> &'a [u8]
-    ensures { result.now ≡ bytes_given piece.entry }
-{
-    match piece {
-        Ok(bytes) => bytes,
-        Err(fault) => fault.front,
-    }
-}
-
-// Adds a piece that was refused, as it came, and a newline.
+// Refuses the item of a piece: the kind of its fault is counted, it is told, and the piece, or its first bytes if it is too long, goes
+// out, if refused pieces do.
 #[cold]
 #[inline(never)]
-fn put_refused(pieces: &mut Vec<u8>, piece: &[u8]) -> Result<(), AllocError>
-    ensures { OnOk result (pieces.new.items ≡ pieces.old.items ++ (piece.now ++ newline ∷ [])) }
+fn refuse(
+    settings: Settings,
+    pending: &mut Pending,
+    refusal: &Refusal<'_>,
+    piece: Piece<'_>,
+) -> Result<(), AllocError>
+    requires { pending.old.so_far.carried + pending.old.so_far.refused < usize.MAX }
+    ensures taken { OnOk result ((item : Item) → RefusesPiece settings piece.entry refusal.now item
+        → TakesGiven settings (unwritten_of pending.old) (given_of piece.entry) (unwritten_of pending.new)) }
+    ensures counted { OnOk result
+        ((pending.new.so_far.carried ≡ pending.old.so_far.carried) × (pending.new.so_far.refused ≡ pending.old.so_far.refused + 1)) }
 {
-    pieces.reserve(piece.len() + 1)?;
-    pieces.extend_from_slice(piece)?;
-    pieces.push(b'\n')?;
-    Ok(())
+    pending.so_far.refused += 1;
+    count(&mut pending.kinds, refusal.kind())?;
+    let place = Place {
+        number: pending.so_far.carried + pending.so_far.refused,
+        line: pending.so_far.line,
+        offset: pending.offset,
+    };
+    tell(settings, &mut pending.so_far.faults, place, refusal, piece)?;
+    if !settings.puts_refused {
+        return Ok(());
+    }
+    copy_line(&mut pending.pieces, piece.bytes())
 }
 
-// Ends a piece that was taken: if its item was refused, its fault line, which follows these first bytes, is told, its kind is counted, if
-// kinds are, and the piece, or its first bytes if it is too long, goes out, if refused pieces do.
+// Ends a piece: what came of it is counted, or refused.
 #[inline(always)]
 fn end_piece(
     settings: Settings,
     pending: &mut Pending,
-    from: usize,
-    piece: Result<&[u8], PieceTooLong<'_>>,
+    taken: Taken<'_>,
+    piece: Piece<'_>,
 ) -> Result<(), AllocError>
-    requires taken { (before : Made) × TakesRaw settings piece from before (made pending.old.so_far) }
-    requires fits { pending.old.so_far.carried + pending.old.so_far.refused ≤ usize.MAX }
-    ensures ends { OnOk result (EndsPiece settings from piece.entry pending.old pending.new) }
-    ensures others { OnOk result ((pending.new.so_far.carried ≡ pending.old.so_far.carried)
-        × (pending.new.so_far.refused ≡ pending.old.so_far.refused) × (pending.new.offset ≡ pending.old.offset)) }
+    requires { pending.old.so_far.carried + pending.old.so_far.refused < usize.MAX }
+    ensures ends { OnOk result (EndsPiece settings piece.entry taken.entry (unwritten_of pending.old) (unwritten_of pending.new)) }
+    ensures counted { OnOk result (pending.new.so_far.carried + pending.new.so_far.refused ≤ usize.MAX) }
 {
-    if from == pending.so_far.faults.len() {
-        return Ok(());
+    match taken {
+        Taken::Blank => Ok(()),
+        Taken::Carried => {
+            pending.so_far.carried += 1;
+            Ok(())
+        }
+        Taken::Refused(refusal) => refuse(settings, pending, &refusal, piece),
     }
-    count_refused(
-        pending.alloc,
-        settings.dialect,
-        &mut pending.kinds,
-        &pending.so_far,
-        from,
-        piece,
-    )?;
-    tell(
-        pending.alloc,
-        settings,
-        &mut pending.so_far,
-        pending.offset,
-        from,
-        piece,
-    )?;
-    if !settings.puts_refused {
-        return Ok(());
-    }
-    put_refused(&mut pending.pieces, bytes_given(piece))
 }
 
-// Takes a piece. It is refused if its number, or the line after it, would not fit.
-pub(crate) fn take_piece(
+// Takes a piece, by way of a line that is used again. It is refused if its number, or the line after it, would not fit.
+#[inline(always)]
+pub(crate) fn take_piece<'a>(
     settings: Settings,
     pending: &mut Pending,
-    piece: Result<&[u8], PieceTooLong<'_>>,
+    reader: &mut LineReader<'a>,
+    piece: Piece<'a>,
 ) -> Result<(), AllocError>
+    requires dialect { reader.old.dialect ≡ settings.dialect }
+    requires known { IsKnown piece }
     requires fits { pending.old.so_far.carried + pending.old.so_far.refused ≤ usize.MAX }
     requires few { HoldsLess BLOCK pending.old }
-    ensures taken { OnOk result (TakesGiven settings (unwritten_of pending.old) piece.entry (unwritten_of pending.new)) }
-    ensures start { OnOk result (start_of (unwritten_of pending.new)
-        ≡ start_after (start_of (unwritten_of pending.old)) (newlines_given piece.entry) (len_given piece.entry)) }
+    ensures taken { OnOk result (TakesGiven settings (unwritten_of pending.old) (given_of piece.entry) (unwritten_of pending.new)) }
+    ensures start { OnOk result (start_of (unwritten_of pending.new) ≡ start_after (start_of (unwritten_of pending.old))
+        (newlines_given (given_of piece.entry)) (len_given (given_of piece.entry))) }
     ensures fits { OnOk result (pending.new.so_far.carried + pending.new.so_far.refused ≤ usize.MAX) }
+    ensures dialect { reader.new.dialect ≡ reader.old.dialect }
 {
     let next = line_after(&pending.so_far, piece)?;
     let end = offset_after(pending.offset, piece)?;
-    let from = pending.so_far.faults.len();
-    take_given(pending.alloc, settings, &mut pending.so_far, piece)?;
-    end_piece(settings, pending, from, piece)?;
+    let taken = take_item(settings, &mut pending.so_far.batch, reader, piece)?;
+    end_piece(settings, pending, taken, piece)?;
     pending.so_far.line = next;
     pending.offset = end;
     Ok(())
 }
 
-// Takes a piece that is text, as [`take_piece`] does, by way of a line that is used again.
-#[inline(always)]
-pub(crate) fn take_text_piece<'a>(
+// Takes what the stream gave, by way of a line of its own, which is freed by its parts.
+#[inline(never)]
+pub(crate) fn take_given(
     settings: Settings,
     pending: &mut Pending,
-    piece: &'a str,
-    line: &mut ParsedLine<'a>,
-    spare: &mut Option<TagSet<'a>>,
+    given: Result<&[u8], PieceTooLong<'_>>,
 ) -> Result<(), AllocError>
     requires fits { pending.old.so_far.carried + pending.old.so_far.refused ≤ usize.MAX }
     requires few { HoldsLess BLOCK pending.old }
-    ensures taken { OnOk result (TakesGiven settings (unwritten_of pending.old) (Ok piece.entry) (unwritten_of pending.new)) }
+    ensures taken { OnOk result (TakesGiven settings (unwritten_of pending.old) given.entry (unwritten_of pending.new)) }
     ensures start { OnOk result (start_of (unwritten_of pending.new)
-        ≡ start_after (start_of (unwritten_of pending.old)) (newlines_in piece.now) (length piece.now)) }
+        ≡ start_after (start_of (unwritten_of pending.old)) (newlines_given given.entry) (len_given given.entry)) }
     ensures fits { OnOk result (pending.new.so_far.carried + pending.new.so_far.refused ≤ usize.MAX) }
 {
-    let alloc = pending.alloc;
-    let given = Ok(piece.as_bytes());
-    let next = line_after(&pending.so_far, given)?;
-    let end = offset_after(pending.offset, given)?;
-    let from = pending.so_far.faults.len();
-    take_text(alloc, settings, &mut pending.so_far, piece, line, spare)?;
-    end_piece(settings, pending, from, given)?;
-    pending.so_far.line = next;
-    pending.offset = end;
-    Ok(())
+    let mut reader = LineReader::new(pending.alloc, settings.dialect);
+    let taken = take_piece(settings, pending, &mut reader, piece_of(given));
+    reader.free();
+    taken
 }

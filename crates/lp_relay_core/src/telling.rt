@@ -1,11 +1,13 @@
 //! How fault lines are told, and each on one line.
 //!
-//! A fault line is made as a rebuild makes it, and only then told: so the calls of `lp_rebuild` that refuse items serve for both
-//! forms, and a relay that refuses nothing pays one comparison for each line.
+//! A fault line is added as it is, and most are on one line then.
 ghost use Rattle.std.specs.Prelude.{◌≡◌, ◌<◌, ◌++◌, ◌∷◌, [], drop, length, string_bytes, take, true, IsUtf8, OnOk};
+ghost use Rattle.lp_relay_core.specs.LineFaults.{fault_line_at};
+ghost use Rattle.lp_relay_core.specs.Refusals.{wrong_of};
 ghost use Rattle.std.specs.List.{flat_map};
 ghost use Rattle.lp_relay_core.specs.Told.{hex_digit, on_one_line, told, told_byte};
 
+use crate::refusals::Refusal;
 use std::alloc::AllocError;
 
 /// How a relay tells its fault lines.
@@ -23,6 +25,17 @@ pub enum Faults {
     /// its line and its column. Lines are counted from `first_line`, whatever `numbering` of the settings says, where 0 is taken as 1, and
     /// columns from 1.
     Json { first_line: usize },
+}
+
+/// Where an item is.
+#[derive(Clone, Copy)]
+pub(crate) struct Place {
+    /// Its number.
+    pub(crate) number: usize,
+    /// The line of the input on which its piece begins, if fault lines name lines.
+    pub(crate) line: Option<usize>,
+    /// How many bytes come before its piece.
+    pub(crate) offset: usize,
 }
 
 // Of a fault line that is told on one line, so many bytes are told at most.
@@ -117,9 +130,7 @@ fn is_on_one_line(line: &[u8]) -> bool
 }
 
 // Tells on one line the fault line that follows the first bytes of these.
-#[cold]
-#[inline(never)]
-pub(crate) fn tell_on_one_line(faults: &mut String, from: usize) -> Result<(), AllocError>
+fn tell_on_one_line(faults: &mut String, from: usize) -> Result<(), AllocError>
     requires front { IsUtf8 (take from (string_bytes faults.old)) }
     requires some { from < length (string_bytes faults.old) }
     ensures { OnOk result (string_bytes faults.new
@@ -133,4 +144,37 @@ pub(crate) fn tell_on_one_line(faults: &mut String, from: usize) -> Result<(), A
     let text = &bytes[..bytes.len() - 1];
     tell_text(faults, text)?;
     faults.push('\n')
+}
+
+// Adds the fault line of an item that is refused.
+pub(crate) fn put_fault_line(
+    faults: &mut String,
+    place: Place,
+    refusal: &Refusal<'_>,
+) -> Result<(), AllocError>
+    ensures { OnOk result (string_bytes faults.new
+        ≡ string_bytes faults.old ++ fault_line_at place.line place.number (wrong_of refusal.now)) }
+{
+    match place.line {
+        None => {
+            let number = place.number;
+            writeln!(faults, "item {number}: {refusal}")?;
+        }
+        Some(line) => writeln!(faults, "line {line}: {refusal}")?,
+    }
+    Ok(())
+}
+
+// The same, on one line.
+pub(crate) fn put_on_one_line(
+    faults: &mut String,
+    place: Place,
+    refusal: &Refusal<'_>,
+) -> Result<(), AllocError>
+    ensures { OnOk result (string_bytes faults.new
+        ≡ string_bytes faults.old ++ told Faults.OneLine (fault_line_at place.line place.number (wrong_of refusal.now))) }
+{
+    let from = faults.len();
+    put_fault_line(faults, place, refusal)?;
+    tell_on_one_line(faults, from)
 }

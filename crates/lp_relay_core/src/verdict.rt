@@ -1,5 +1,5 @@
 //! Tells what is wrong with a text that is no line, with no memory.
-ghost use Rattle.std.specs.Prelude.{◌≡◌, is_ok, option_map};
+ghost use Rattle.std.specs.Prelude.{◌≡◌, option_map};
 ghost use Rattle.influxdb_line_protocol.specs.code.Rules.{rules_of};
 ghost use Rattle.influxdb_line_protocol.specs.format.Lines.{answer};
 ghost use Rattle.lp_relay_core.specs.Verdicts.{fault_in};
@@ -45,12 +45,4 @@ pub(crate) fn fault_of<'a>(dialect: Dialect, text: &'a str) -> Option<SpelledFau
     let mut verdict = Verdict { fault: None };
     read_line_events(dialect, text, &mut verdict);
     verdict.fault
-}
-
-// Whether a trimmed text is a line. It takes no memory.
-#[tactic(auto, using(crate::proofs::VerdictLemmas::line_if_no_fault))]
-pub(crate) fn is_line(dialect: Dialect, text: &str) -> bool
-    ensures { result ≡ is_ok (answer (rules_of dialect) text.now) }
-{
-    fault_of(dialect, text).is_none()
 }

@@ -19,7 +19,7 @@ returns-clause-ok g c =
     let last = subst (λ l. IsLastOf l text c.finish.result) c.requires.limit
     (gives.2 text holds (subst (λ e. IsLastPiece e text) (sym c.requires.dialect) is_last)) in
     last_relayed c.args.settings _ _ _ _ _ text c.finish.result last
-    (at_no_fault c.take_piece.result c.if-is_err.ensures.value c.take_piece.ensures.taken) poured)
+    (at_no_fault c.take_given.result c.if-is_err.ensures.value c.take_given.ensures.taken) poured)
     c.pour_and_flush.ensures.ok
 
 pub returns-clause-part : goal.returns-clause-part
@@ -30,5 +30,5 @@ returns-clause-part g c =
     let last = subst (λ l. IsLastOf l text c.finish.result) c.requires.limit
     (gives.2 text holds (subst (λ e. IsLastPiece e text) (sym c.requires.dialect) is_last)) in
     last_part c.args.settings _ _ _ _ text c.finish.result last
-    (at_no_fault c.take_piece.result c.if-is_err.ensures.value c.take_piece.ensures.taken) part)
+    (at_no_fault c.take_given.result c.if-is_err.ensures.value c.take_given.ensures.taken) part)
     c.pour_and_flush.ensures.part

@@ -46,9 +46,9 @@ returns-in_err-pour_full-clause-part g c =
     c.push.new.self after c.in-Some-next.piece rest (c.push.ensures.rules.0 ∙ c.requires.dialect) (c.push.ensures.rules.1 ∙ c.requires.limit) is_last
     (take_rest part (c.in-Some.at + 1)) c.in-Some.ensures.1 c.in-Some.ensures.2
     (gives.3 (text ++ take (c.in-Some.at + 1) part) (pushed text holds)) in
-    to_part c.args.settings (text ++ part) (text ++ part) rest old old (unwritten_of c.take_piece.new.pending)
+    to_part c.args.settings (text ++ part) (text ++ part) rest old old (unwritten_of c.take_given.new.pending)
     _ _ _ c.in-Some-next.piece (to_none c.args.settings (text ++ part) old _) first.1
-    (at_no_fault c.take_piece.result c.if-is_err-2.ensures.value c.take_piece.ensures.taken) c.in_err-pour_full.ensures.part)
+    (at_no_fault c.take_given.result c.if-is_err-2.ensures.value c.take_given.ensures.taken) c.in_err-pour_full.ensures.part)
 
 pub returns-in_err-taken-clause-part : goal.returns-in_err-taken-clause-part
 returns-in_err-taken-clause-part g c =
@@ -59,7 +59,7 @@ returns-in_err-taken-clause-part g c =
     let after = c.next.follows.lender-at-none in
     let gives = subst (λ r. GivesWithin c.push.new.self r after) c.in-Some-next.is c.next.follows.holds-at-none in
     let pushed = at_no_fault c.push.result c.if-is_err.ensures.value c.push.ensures.ok in
-    let taken = c.take_piece.ensures in
+    let taken = c.take_given.ensures in
     let poured = c.in_ok-pour_full.ensures in
     on_err c.from_residual-in_err-taken.result
     (λ text holds is_last.
@@ -68,10 +68,10 @@ returns-in_err-taken-clause-part g c =
     (take_rest part (c.in-Some.at + 1)) c.in-Some.ensures.1 c.in-Some.ensures.2
     (gives.3 (text ++ take (c.in-Some.at + 1) part) (pushed text holds)) in
     some_then c.args.settings (text ++ part) rest _ _ _ _ _
-    (to_more c.args.settings (text ++ part) (text ++ part) rest old old (unwritten_of c.take_piece.new.pending) (unwritten_of c.pour_full.new.pending)
+    (to_more c.args.settings (text ++ part) (text ++ part) rest old old (unwritten_of c.take_given.new.pending) (unwritten_of c.pour_full.new.pending)
     _ _ _ c.in-Some-next.piece (to_none c.args.settings (text ++ part) old _) first.1
-    (at_no_fault c.take_piece.result c.if-is_err-2.ensures.value taken.taken)
-    (poured.start ∙ at_no_fault c.take_piece.result c.if-is_err-2.ensures.value taken.start) poured.ok)
+    (at_no_fault c.take_given.result c.if-is_err-2.ensures.value taken.taken)
+    (poured.start ∙ at_no_fault c.take_given.result c.if-is_err-2.ensures.value taken.start) poured.ok)
     c.in_err-taken.ensures.part)
 
 pub returns-clause-ok : goal.returns-clause-ok
@@ -83,7 +83,7 @@ returns-clause-ok g c text holds is_last =
     let after = c.next.follows.lender-at-none in
     let gives = subst (λ r. GivesWithin c.push.new.self r after) c.in-Some-next.is c.next.follows.holds-at-none in
     let pushed = at_no_fault c.push.result c.if-is_err.ensures.value c.push.ensures.ok in
-    let taken = c.take_piece.ensures in
+    let taken = c.take_given.ensures in
     let poured = c.in_ok-pour_full.ensures in
     let first = first_given c.pieces_join.ensures.some c.pieces_join.ensures.one c.args.settings text part c.in-Some.at
     c.push.new.self after c.in-Some-next.piece rest (c.push.ensures.rules.0 ∙ c.requires.dialect) (c.push.ensures.rules.1 ∙ c.requires.limit) is_last
@@ -91,8 +91,8 @@ returns-clause-ok g c text holds is_last =
     (gives.3 (text ++ take (c.in-Some.at + 1) part) (pushed text holds)) in
     begun_then c.args.settings text part rest (c.in-Some.at + 1) c.in_ok-taken.taken after _ _ _ _ _ _
     (take_rest part (c.in-Some.at + 1)) first.0
-    (to_more c.args.settings (text ++ part) (text ++ part) rest old old (unwritten_of c.take_piece.new.pending) (unwritten_of c.pour_full.new.pending)
+    (to_more c.args.settings (text ++ part) (text ++ part) rest old old (unwritten_of c.take_given.new.pending) (unwritten_of c.pour_full.new.pending)
     _ _ _ c.in-Some-next.piece (to_none c.args.settings (text ++ part) old _) first.1
-    (at_no_fault c.take_piece.result c.if-is_err-2.ensures.value taken.taken)
-    (poured.start ∙ at_no_fault c.take_piece.result c.if-is_err-2.ensures.value taken.start) poured.ok)
+    (at_no_fault c.take_given.result c.if-is_err-2.ensures.value taken.taken)
+    (poured.start ∙ at_no_fault c.take_given.result c.if-is_err-2.ensures.value taken.start) poured.ok)
     c.in_ok-taken.ensures.ok

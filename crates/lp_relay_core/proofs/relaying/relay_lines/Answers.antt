@@ -14,6 +14,7 @@ loop-piece-init g c =
     let is = c.split_lines_in-lines.ensures in
     record {
       dialect = ap (λ (l : Left). l.dialect) is;
+      reads = c.new-reader.ensures;
       within = omega arith;
       left = begins_with c.split_lines_in-lines.result.text c.args.bytes.now c.whole_lines.result.now (ap (λ (l : Left). l.text) is)
           c.whole_lines.ensures;
@@ -31,19 +32,20 @@ loop-piece-preserved g c =
     c.in-Some.piece c.remainder.result c.args.bytes.now c.loop-piece.taken h.dialect h.within h.left c.in-Some.ensures.steps
     c.if-is_none.ensures c.remainder.ensures c.if-piece-settings.false in
     let poured = c.in_ok-pour_full.ensures in
-    let taken = c.take_text_piece.ensures in
-    let fits = at_no_fault c.take_text_piece.result c.if-is_err.ensures.value taken.fits in
+    let taken = c.take_piece.ensures in
+    let fits = at_no_fault c.take_piece.result c.if-is_err.ensures.value taken.fits in
     record {
       dialect = c.in-Some.ensures.steps.0 ∙ h.dialect;
+      reads = taken.dialect ∙ h.reads;
       within = line.within;
       left = line.left;
       fits = omega (arith, fits, poured.ok.carried, poured.ok.refused);
       held = poured.held;
       relays = to_more c.args.settings c.args.bytes.now (drop c.loop-piece.taken c.args.bytes.now) _
-          (unwritten_of c.args.pending.now) (unwritten_of c.loop-piece.pending) (unwritten_of c.take_text_piece.new.pending) (unwritten_of c.pour_full.new.pending)
+          (unwritten_of c.args.pending.now) (unwritten_of c.loop-piece.pending) (unwritten_of c.take_piece.new.pending) (unwritten_of c.pour_full.new.pending)
           _ _ _ (Ok c.in-Some.piece) h.relays line.given
-          (at_no_fault c.take_text_piece.result c.if-is_err.ensures.value taken.taken)
-          (poured.start ∙ at_no_fault c.take_text_piece.result c.if-is_err.ensures.value taken.start) poured.ok;
+          (at_no_fault c.take_piece.result c.if-is_err.ensures.value taken.taken)
+          (poured.start ∙ at_no_fault c.take_piece.result c.if-is_err.ensures.value taken.start) poured.ok;
       unfailed = none_twice _ _ _ h.unfailed poured.counts;
     }
 
@@ -56,6 +58,6 @@ returns-in_err-pour_full-clause-part g c =
     c.if-is_none.ensures c.remainder.ensures c.if-piece-settings.false in
     on_err c.from_residual.result
     (to_part c.args.settings c.args.bytes.now (drop c.loop-piece.taken c.args.bytes.now) _
-    (unwritten_of c.args.pending.now) (unwritten_of c.loop-piece.pending) (unwritten_of c.take_text_piece.new.pending)
+    (unwritten_of c.args.pending.now) (unwritten_of c.loop-piece.pending) (unwritten_of c.take_piece.new.pending)
     _ _ _ (Ok c.in-Some.piece) h.relays line.given
-    (at_no_fault c.take_text_piece.result c.if-is_err.ensures.value c.take_text_piece.ensures.taken) c.in_err-pour_full.ensures.part)
+    (at_no_fault c.take_piece.result c.if-is_err.ensures.value c.take_piece.ensures.taken) c.in_err-pour_full.ensures.part)

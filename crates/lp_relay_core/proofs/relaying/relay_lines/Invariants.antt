@@ -8,6 +8,7 @@ use Rattle.lp_relay_core.proofs.relaying.relay_lines.Given as goal
 abbrev pub invariant-loop-piece : goal.invariant-loop-piece
 invariant-loop-piece g l = record {
   dialect : l.lines.dialect ≡ rules_of l.fn.settings.dialect;
+  reads : l.reader.dialect ≡ l.fn.settings.dialect;
   within : l.taken ≤ length l.bytes;
   left : IfSome l.lines.text (λ text. (t : List ℕ) × (drop l.taken l.bytes ≡ text ++ t));
   fits : l.pending.so_far.carried + l.pending.so_far.refused < 2 ^ 64;

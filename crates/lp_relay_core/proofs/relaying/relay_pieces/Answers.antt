@@ -33,7 +33,7 @@ loop-piece-preserved g c =
     let h = c.loop-piece.invariant in
     let gives = subst (λ r. GivesWithin c.loop-piece.stream r c.next.follows.lender-at-none) c.in-Some.is c.next.follows.holds-at-none in
     let poured = c.in_ok-pour_full.ensures in
-    let fits = at_no_fault c.take_piece.result c.if-is_err.ensures.value c.take_piece.ensures.fits in
+    let fits = at_no_fault c.take_given.result c.if-is_err.ensures.value c.take_given.ensures.fits in
     record {
       rules = (gives.0.0 ∙ h.rules.0, gives.0.1 ∙ h.rules.1);
       fits = omega (arith, fits, poured.ok.carried, poured.ok.refused);
@@ -46,10 +46,10 @@ loop-piece-preserved g c =
             rest = one.0;
             holds = one.1;
             to = to_more c.args.settings text p.rest one.0
-                (unwritten_of c.args.pending.now) (unwritten_of c.loop-piece.pending) (unwritten_of c.take_piece.new.pending) (unwritten_of c.pour_full.new.pending)
+                (unwritten_of c.args.pending.now) (unwritten_of c.loop-piece.pending) (unwritten_of c.take_given.new.pending) (unwritten_of c.pour_full.new.pending)
                 _ _ _ c.in-Some.piece p.to one.2
-                (at_no_fault c.take_piece.result c.if-is_err.ensures.value c.take_piece.ensures.taken)
-                (poured.start ∙ at_no_fault c.take_piece.result c.if-is_err.ensures.value c.take_piece.ensures.start) poured.ok;
+                (at_no_fault c.take_given.result c.if-is_err.ensures.value c.take_given.ensures.taken)
+                (poured.start ∙ at_no_fault c.take_given.result c.if-is_err.ensures.value c.take_given.ensures.start) poured.ok;
           };
       unfailed = none_twice _ _ _ h.unfailed poured.counts;
     }
@@ -64,8 +64,8 @@ returns-in_err-pour_full-clause-part g c =
     let one = given_piece c.args.settings c.loop-piece.stream c.next.follows.lender-at-none p.rest
     c.in-Some.piece (h.rules.0 ∙ c.requires.dialect) (h.rules.1 ∙ c.requires.limit) (gives.3 p.rest p.holds) in
     to_part c.args.settings text p.rest one.0
-    (unwritten_of c.args.pending.now) (unwritten_of c.loop-piece.pending) (unwritten_of c.take_piece.new.pending) _ _ _ c.in-Some.piece p.to one.2
-    (at_no_fault c.take_piece.result c.if-is_err.ensures.value c.take_piece.ensures.taken) c.in_err-pour_full.ensures.part)
+    (unwritten_of c.args.pending.now) (unwritten_of c.loop-piece.pending) (unwritten_of c.take_given.new.pending) _ _ _ c.in-Some.piece p.to one.2
+    (at_no_fault c.take_given.result c.if-is_err.ensures.value c.take_given.ensures.taken) c.in_err-pour_full.ensures.part)
 
 pub returns-clause-ok : goal.returns-clause-ok
 returns-clause-ok g c text holds =

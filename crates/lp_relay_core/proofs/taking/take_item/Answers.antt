@@ -1,0 +1,18 @@
+use Rattle.std.proofs.Common.{subst, sym}
+use Rattle.lp_relay_core.specs.declared.refusals.Refusal.TheVariants as why
+use Rattle.lp_relay_core.specs.declared.taking.Taken.TheVariants as took
+use Rattle.lp_relay_core.specs.Refusals.{IsKnown, TakesPiece}
+use Rattle.lp_relay_core.proofs.RefusalLemmas.{takes_no_text, takes_too_long}
+use Rattle.lp_relay_core.proofs.taking.take_item.Goals as goal
+
+pub returns-in-NoText-clause-taken : goal.returns-in-NoText-clause-taken
+returns-in-NoText-clause-taken c =
+    let before = c.args.batch.now.items in
+    subst (λ p. TakesPiece c.args.settings p (took.Refused why.NotUtf8) before before) (sym c.in-NoText.is)
+    (takes_no_text c.args.settings c.in-NoText.field-0 before (subst IsKnown c.in-NoText.is c.requires.known))
+
+pub returns-in-TooLong-clause-taken : goal.returns-in-TooLong-clause-taken
+returns-in-TooLong-clause-taken c =
+    let before = c.args.batch.now.items in
+    subst (λ p. TakesPiece c.args.settings p (took.Refused (why.TooLong c.kept_of.result)) before before) (sym c.in-TooLong.is)
+    (takes_too_long c.args.settings c.in-TooLong.field-0 c.kept_of.result before c.kept_of.ensures)
