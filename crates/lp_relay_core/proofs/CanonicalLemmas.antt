@@ -17,7 +17,7 @@ use Rattle.lp_rebuild.specs.declared.batch.Progress.{Progress}
 use Rattle.lp_rebuild.specs.RebuildSteps.{Takes, fault_line_at}
 use Rattle.lp_relay_core.specs.declared.taking.Lines.TheVariants.{Canonical}
 use Rattle.lp_relay_core.specs.declared.differing.Part.{Part}
-use Rattle.lp_relay_core.specs.Differing.{at_start, differing_part, part_text}
+use Rattle.lp_relay_core.specs.Differing.{differing_part, part_text}
 use Rattle.lp_relay_core.specs.Relaying.{Item, answered, as_it_came, not_as_written, canonical_item, front_of, item_of, items_of_bytes}
 use Rattle.lp_relay_core.specs.RelaySteps.{as_raw, Made, TakesItems, made}
 use Rattle.lp_relay_core.specs.TakenBack.{TakesBack}
@@ -32,7 +32,7 @@ as_it_is front text line admitted writes =
 -- a line whose names are all admitted, and that the builder writes otherwise
 pub otherwise : (front text : List ℕ) (line : Line) → is_admitted_point (point_of line) ≡ true
     → bytes_eq (built (point_of line)) (text ++ newline ∷ []) ≡ false
-    → canonical_item front text line ≡ not_as_written front (part_text (differing_part at_start text (built (point_of line))))
+    → canonical_item front text line ≡ not_as_written front (part_text (differing_part text (built (point_of line))))
 otherwise front text line admitted other = rw (admitted, other) refl
 
 -- a line with a name that is not admitted
@@ -146,7 +146,7 @@ rest_is n l = take_all (length l - n) (drop n l) (omega (arith, length-drop n l)
 pub takes_differing : (dialect : Dialect) (piece text : List ℕ) (test : Bool) (old mid new : Progress) (start : ℕ) (part : Part)
     → text ≡ trimmed piece → IsUtf8 piece → test ≡ (length text == 0) → test ≡ false → LinesThatStayAreWritten → (¬ IsAsWritten text)
     → Takes old (answer dialect text) mid → length mid.batch.items ≢ length old.batch.items → start ≡ length old.batch.items
-    → mid.line ≡ old.line → part ≡ differing_part at_start text (drop start mid.batch.items) → TakesBack mid start part new
+    → mid.line ≡ old.line → part ≡ differing_part text (drop start mid.batch.items) → TakesBack mid start part new
     → TakesItems as_raw (made old) (items_of_bytes Canonical dialect piece) (made new)
 takes_differing dialect piece text test old mid new start part is u tests fails stay not_written takes more starts lines part_is back =
     let w = a_line old mid (answer dialect text) takes more in
@@ -161,7 +161,7 @@ takes_differing dialect piece text test old mid new start part is u tests fails 
     ] in
     let item : item_of Canonical piece (answer dialect text) ≡ not_as_written (front_of piece) (part_text part) =
     ap (item_of Canonical piece) w.is ∙ ap (λ (l : List ℕ). canonical_item (front_of piece) l w.line) (sym is) ∙ otherwise (front_of piece) text w.line w.admitted other
-    ∙ ap (λ (l : List ℕ). not_as_written (front_of piece) (part_text (differing_part at_start text l))) (sym written)
+    ∙ ap (λ (l : List ℕ). not_as_written (front_of piece) (part_text (differing_part text l))) (sym written)
     ∙ ap (λ (q : Part). not_as_written (front_of piece) (part_text q)) (sym part_is) in
     subst (λ (l : List Item). TakesItems as_raw (made old) l (made new))
     (sym (item_is dialect piece text test is u tests fails ∙ ap (λ (i : Item). i ∷ []) item))

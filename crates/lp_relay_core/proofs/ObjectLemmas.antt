@@ -19,18 +19,19 @@ use Rattle.influxdb_line_protocol.specs.code.Rules.{rules_of}
 use Rattle.lp_rebuild.specs.RebuildSteps.{fault_line_at}
 use Rattle.lp_relay_core.specs.declared.kinds.Kind.{Kind, TheVariants.NotAsWritten, TheVariants.NotUtf8, TheVariants.TooLong}
 use Rattle.lp_relay_core.specs.declared.differing.Part.{Part}
+use Rattle.lp_events.specs.declared.stops.LinePart.TheVariants as line_part
 use Rattle.lp_relay_core.specs.declared.differing.Part.TheVariants as part
 use Rattle.lp_relay_core.specs.declared.telling.Faults.TheVariants.{Json}
 use Rattle.lp_relay_core.specs.declared.taking.Lines.{Lines}
 use Rattle.lp_relay_core.specs.declared.taking.Lines.TheVariants.{Rebuilt, Verbatim, Canonical}
 use Rattle.lp_relay_core.specs.declared.taking.Settings.{Settings}
-use Rattle.lp_relay_core.specs.Differing.{at_start, differing_part, part_text}
+use Rattle.lp_relay_core.specs.Differing.{differing_part, part_text}
 use Rattle.lp_relay_core.specs.Kinds.{Counts, kinds_after, with_fault}
 use Rattle.lp_relay_core.specs.LineFaults.{item_text}
 use Rattle.lp_relay_core.specs.Objects.{answer_kind, fault_kind, front_given, item_front, item_kind, item_object, kind_given, line_kind, object, stop_given, stop_members}
 use Rattle.lp_relay_core.specs.Relaying.{Item, canonical_item, front_of, is_carried_item, item_of, items_of_bytes, kept_of, not_utf8, too_long}
 use Rattle.lp_relay_core.specs.RelaySteps.{as_object, form_given, form_of, Made, TakesItems, TakesRaw, faults_at, items_given, line_or_none, object_given}
-use Rattle.lp_relay_core.specs.ReadingStops.{stop_text}
+use Rattle.lp_events.specs.code.Stops.{reading_stop}
 use Rattle.lp_relay_core.specs.Verdicts.{fault_in}
 use Rattle.lp_values.specs.code.SpelledParts.{spelled_fault}
 use Rattle.lp_values.specs.declared.spelled.SpelledFault.{SpelledFault}
@@ -42,13 +43,12 @@ use Rattle.lp_relay_core.proofs.ToldLemmas.{refused_one}
 
 -- the kind of a line that is refused for a part
 part_kind : (p : Part) → line_kind (part_text p) ≡ NotAsWritten
-part_kind part.Measurement = refl
-part_kind (part.TagKey n) = refl
-part_kind (part.TagValue n) = refl
-part_kind (part.FieldKey n) = refl
-part_kind (part.FieldValue n) = refl
-part_kind (part.Quoted n) = refl
-part_kind part.Timestamp = refl
+part_kind (part.In line_part.Measurement) = refl
+part_kind (part.In (line_part.TagKey n)) = refl
+part_kind (part.In (line_part.TagValue n)) = refl
+part_kind (part.In (line_part.FieldKey n)) = refl
+part_kind (part.In (line_part.FieldValue n)) = refl
+part_kind (part.In line_part.Timestamp) = refl
 part_kind part.Spaces = refl
 part_kind part.Comma = refl
 
@@ -66,7 +66,7 @@ canonical_described front text line refused =
             | inl same ↦ let carried = rw (good, same) at refused in absurd (cc)
             | inr other ↦
                 subst (IsDescribed front line_kind) (sym (otherwise front text line good other))
-                (refl, ap Some (part_kind (differing_part at_start text (built (point_of line)))))
+                (refl, ap Some (part_kind (differing_part text (built (point_of line)))))
           ]
       | inr bad ↦ subst (IsDescribed front line_kind) (sym (not_admitted front text line bad)) (refl, rw bad refl)
     ]
@@ -209,11 +209,11 @@ no_stop_of_line dialect line given bytes test is u ok line_is =
 -- in another text it stops after these bytes
 pub stop_of_fault : (dialect : Dialect) (line : ℕ) (given : Result (Bor (List ℕ)) PieceTooLong) (bytes : Bor (List ℕ)) (test : Bool) (n : ℕ)
     → given ≡ Ok bytes → IsUtf8 bytes.now → test ≡ is_ok (answer dialect (trimmed bytes.now)) → test ≡ false
-    → n ≡ length bytes.now - length (stop_text dialect (trimmed bytes.now)) → stop_members line (take n bytes.now) ≡ stop_given dialect line given
+    → n ≡ length bytes.now - length (reading_stop dialect (trimmed bytes.now)).1 → stop_members line (take n bytes.now) ≡ stop_given dialect line given
 stop_of_fault dialect line given bytes test n is u ok fault_is len =
     let utf8 : is_utf8 bytes.now ≡ true = is_utf8-from_IsUtf8 bytes.now u in
     let err : is_err (answer dialect (trimmed bytes.now)) ≡ true = not_both (answer dialect (trimmed bytes.now)) test ok ∙ ap not fault_is in
-    let some : stop_given dialect line (Ok bytes) ≡ stop_members line (front_before bytes.now (stop_text dialect (trimmed bytes.now))) =
+    let some : stop_given dialect line (Ok bytes) ≡ stop_members line (front_before bytes.now (reading_stop dialect (trimmed bytes.now)).1) =
     rw (utf8, err) refl in
     ap (λ (k : ℕ). stop_members line (take k bytes.now)) len ∙ sym some ∙ ap (stop_given dialect line) (sym is)
 

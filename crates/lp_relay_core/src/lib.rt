@@ -16,7 +16,6 @@ mod nowhere;
 mod objects;
 mod outputs;
 mod relaying;
-mod stops;
 mod taking;
 mod telling;
 mod texts;

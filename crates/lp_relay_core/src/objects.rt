@@ -9,11 +9,11 @@ ghost use Rattle.lp_relay_core.specs.RelaySteps.{line_or_none, object_given};
 ghost use Rattle.lp_values.specs.code.SpelledParts.{spelled_fault};
 
 use crate::kinds::Kind;
-use crate::stops::stop_text;
 use crate::telling::hex_digit;
 use crate::texts::{newlines_in, text_of};
 use crate::verdict::{fault_of, is_line};
 use influxdb_line_protocol::{Dialect, PieceTooLong, SpelledFault};
+use lp_events::stops::reading_stop;
 use lp_rebuild::batch::Progress;
 use lp_scan::trim::trimmed;
 use std::alloc::{AllocError, Global};
@@ -184,7 +184,8 @@ fn bytes_to_stop<'a>(
     if is_line(dialect, text) {
         return None;
     }
-    let end = bytes.len().saturating_sub(stop_text(dialect, text).len());
+    let left = reading_stop(dialect, text).rest;
+    let end = bytes.len().saturating_sub(left.len());
     Some(&bytes[..end])
 }
 

@@ -255,7 +255,7 @@ fn take_canonical<'a>(
     if so_far.batch.len() == start {
         return Ok(());
     }
-    let part = differing_part(text.as_bytes(), &so_far.batch[start..]);
+    let part = differing_part(text, &so_far.batch[start..]);
     take_back(alloc, so_far, start, part)
 }
 

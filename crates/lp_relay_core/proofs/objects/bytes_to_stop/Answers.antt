@@ -2,7 +2,7 @@ use Rattle.std.proofs.Common.{List, ℕ, ◌-◌, length, ap, ◌∙◌, is_ok}
 use Rattle.influxdb_line_protocol.specs.code.Rules.{rules_of}
 use Rattle.influxdb_line_protocol.specs.format.Lines.{answer}
 use Rattle.influxdb_line_protocol.specs.format.Trimming.{trimmed}
-use Rattle.lp_relay_core.specs.ReadingStops.{stop_text}
+use Rattle.lp_events.specs.code.Stops.{reading_stop}
 use Rattle.lp_relay_core.proofs.ObjectLemmas.{no_stop_of_line, no_stop_of_no_text, stop_of_fault}
 use Rattle.lp_relay_core.proofs.objects.bytes_to_stop.Goals as goal
 
@@ -24,4 +24,4 @@ returns c line =
     let same = c.trimmed-text.ensures ∙ ap trimmed text.0 in
     stop_of_fault d line c.args.piece c.in-Ok.bytes c.is_line.result c.saturating_sub-end.result c.in-Ok.is text.1
     (c.is_line.ensures ∙ ap (λ (l : List ℕ). is_ok (answer d l)) same) c.if-is_line.false
-    (c.saturating_sub-end.ensures ∙ ap (λ (l : List ℕ). length c.in-Ok.bytes.now - length l) (c.stop_text.ensures ∙ ap (stop_text d) same))
+    (c.saturating_sub-end.ensures ∙ ap (λ (l : List ℕ). length c.in-Ok.bytes.now - length l) (ap (λ stop. stop.1) c.reading_stop.ensures ∙ ap (λ (t : List ℕ). (reading_stop d t).1) same))

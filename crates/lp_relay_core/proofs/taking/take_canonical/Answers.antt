@@ -3,7 +3,7 @@ use Rattle.std.proofs.lemmas.Result.{on_ok_weaker}
 use Rattle.influxdb_line_protocol.specs.code.Rules.{rules_of}
 use Rattle.influxdb_line_protocol.specs.format.Points.{IsAsWritten}
 use Rattle.lp_relay_core.specs.declared.taking.Lines.TheVariants.{Canonical}
-use Rattle.lp_relay_core.specs.Differing.{at_start, differing_part}
+use Rattle.lp_relay_core.specs.Differing.{differing_part}
 use Rattle.lp_relay_core.specs.RelaySteps.{made}
 use Rattle.lp_relay_core.proofs.RelayLemmas.{takes_no_line}
 use Rattle.lp_relay_core.proofs.CanonicalLemmas.{rest_is, takes_differing, takes_refused, takes_written}
@@ -39,11 +39,10 @@ returns-clause-taken c =
     let not_written : IsAsWritten text → c.is_as_written.result ≡ true = λ is. c.is_as_written.ensures.1 is in
     let more : length mid.batch.items ≢ length old.batch.items =
     λ same. c.if-len-start.false (omega (arith, same, c.len.ensures, c.len-start.ensures)) in
-    let part : c.differing_part-part.result ≡ differing_part at_start text (drop start mid.batch.items) =
+    let part : c.differing_part-part.result ≡ differing_part text (drop start mid.batch.items) =
     c.differing_part-part.ensures
-    ∙ ap (differing_part at_start c.as_bytes.result.now) (rest_is start c.deref.result.now)
-    ∙ ap (λ (l : List ℕ). differing_part at_start l (drop start c.deref.result.now)) c.as_bytes.ensures.value
-    ∙ ap (λ (l : List ℕ). differing_part at_start text (drop start l)) c.deref.ensures.value in
+    ∙ ap (differing_part text) (rest_is start c.deref.result.now)
+    ∙ ap (λ (l : List ℕ). differing_part text (drop start l)) c.deref.ensures.value in
     on_ok_weaker c.take_back.result
     (takes_differing (rules_of c.args.dialect) c.args.piece.now text c.is_empty.result old mid c.take_back.new.so_far start
     c.differing_part-part.result c.trimmed-text.ensures c.utf8.piece c.is_empty.ensures c.if-is_empty.false
