@@ -20,7 +20,7 @@ use Rattle.lp_relay_core.specs.declared.taking.Lines.TheVariants.{Canonical}
 use Rattle.lp_relay_core.specs.declared.taking.Taken.TheVariants as took
 use Rattle.lp_relay_core.specs.declared.refusals.Refusal.TheVariants as why
 use Rattle.lp_relay_core.specs.declared.differing.Part.{Part}
-use Rattle.lp_relay_core.specs.Differing.{at_start, differing_part, part_text}
+use Rattle.lp_relay_core.specs.Differing.{differing_part, part_text}
 use Rattle.lp_relay_core.specs.Refusals.{TakesItem}
 use Rattle.lp_relay_core.specs.Relaying.{Item, answered, as_it_came, not_as_written, canonical_item, front_of, item_of}
 use Rattle.lp_relay_core.proofs.RefusalLemmas.{a_line, refuses_answer, same_batch}
@@ -34,7 +34,7 @@ as_it_is front text line admitted writes =
 -- a line whose names are all admitted, and that the builder writes otherwise
 otherwise : (front text : List ℕ) (line : Line) → is_admitted_point (point_of line) ≡ true
     → bytes_eq (built (point_of line)) (text ++ newline ∷ []) ≡ false
-    → canonical_item front text line ≡ not_as_written front (part_text (differing_part at_start text (built (point_of line))))
+    → canonical_item front text line ≡ not_as_written front (part_text (differing_part text (built (point_of line))))
 otherwise front text line admitted other = rw (admitted, other) refl
 
 -- a text that is as written goes out as it came
@@ -73,7 +73,7 @@ rest_is n l = take_all (length l - n) (drop n l) (omega (arith, length-drop n l)
 -- a line that is not as written was written again, to find the part in which it differs, and taken back
 pub takes_differing : (dialect : Dialect) (piece text before mid after : List ℕ) (start : ℕ) (part : Part) (wrong : _)
     → text ≡ trimmed piece → LinesThatStayAreWritten → (¬ IsAsWritten text) → TakesLine before None (answer dialect text) mid
-    → start ≡ length before → part ≡ differing_part at_start text (drop start mid) → string_bytes wrong ≡ part_text part
+    → start ≡ length before → part ≡ differing_part text (drop start mid) → string_bytes wrong ≡ part_text part
     → after ≡ take start mid → TakesItem (took.Refused (why.NotAsWritten wrong)) (item_of Canonical piece (answer dialect text)) before after
 takes_differing dialect piece text before mid after start part wrong is stay not_written t starts part_is says back =
     let w = a_line before mid (answer dialect text) t in
@@ -88,7 +88,7 @@ takes_differing dialect piece text before mid after start part wrong is stay not
     ] in
     let item : item_of Canonical piece (answer dialect text) ≡ not_as_written (front_of piece) (part_text part) =
     ap (item_of Canonical piece) w.is ∙ ap (λ (l : List ℕ). canonical_item (front_of piece) l w.line) (sym is) ∙ otherwise (front_of piece) text w.line w.admitted other
-    ∙ ap (λ (l : List ℕ). not_as_written (front_of piece) (part_text (differing_part at_start text l))) (sym written)
+    ∙ ap (λ (l : List ℕ). not_as_written (front_of piece) (part_text (differing_part text l))) (sym written)
     ∙ ap (λ (q : Part). not_as_written (front_of piece) (part_text q)) (sym part_is) in
     subst (λ (i : Item). TakesItem (took.Refused (why.NotAsWritten wrong)) i before after) (sym item) (
       record { refused = refl; wrong = sym says; kind = refl; fault = refl },

@@ -18,5 +18,4 @@ pub mod WholeLines
 pub mod RelaysSoFar
 pub mod RelaysOfText
 pub mod RelayEnds
-pub mod StopLemmas
 pub mod VerdictLemmas

@@ -1,77 +1,54 @@
 -- The first part of a line that is not as the builder writes it.
-use Rattle.std.specs.Prelude.{ℕ, ◌+◌, ◌==◌, ◌&&◌, ◌||◌, false, List, [], ◌∷◌, ◌++◌, codes, decimal, if◌then◌else◌}
-use Rattle.influxdb_line_protocol.specs.format.Bytes.{newline, space, quote, comma, equals, backslash}
+use Rattle.std.specs.Prelude.{ℕ, zero, suc, ◌==◌, ◌&&◌, ◌||◌, nat_lt, Bool, List, ◌∷◌, ◌++◌, codes, decimal, length, slice_index, take}
+use Rattle.std.specs.Prelude.{if◌then◌else◌}
+use Rattle.influxdb_line_protocol.specs.format.{Bytes.newline, Bytes.space, Bytes.comma, Dialects.Strict}
+use Rattle.lp_events.specs.code.Stops.{reading_stop}
+use Rattle.lp_events.specs.declared.stops.LinePart.{LinePart}
+use Rattle.lp_events.specs.declared.stops.LinePart.TheVariants.{Measurement, TagKey, TagValue, FieldKey, FieldValue, Timestamp}
 use Rattle.lp_relay_core.specs.declared.differing.Part.{Part}
-use Rattle.lp_relay_core.specs.declared.differing.Part.TheVariants.{Measurement, TagKey, TagValue, FieldKey, FieldValue, Quoted}
-use Rattle.lp_relay_core.specs.declared.differing.Part.TheVariants.{Timestamp, Spaces, Comma}
-use Rattle.lp_relay_core.specs.declared.differing.Place.{Place}
+use Rattle.lp_relay_core.specs.declared.differing.Part.TheVariants.{In, Spaces, Comma}
 
--- the number of the tag or of the field of a part
-abbrev pub number_of : Part → ℕ
-number_of (TagKey n) = n
-number_of (TagValue n) = n
-number_of (FieldKey n) = n
-number_of (FieldValue n) = n
-number_of (Quoted n) = n
-number_of Measurement = 0
-number_of Timestamp = 0
-number_of Spaces = 0
-number_of Comma = 0
+-- how many bytes at the start both have
+abbrev pub common_len : (line written : List ℕ) → ℕ
+common_len (b ∷ line) (c ∷ written) = if b == c then suc (common_len line written) else zero
+common_len line written = zero
 
--- the part that comes after a byte of this part which is not escaped, in a line that the builder writes: it escapes each byte of a
--- name or of a string that would end it
-abbrev pub part_after : Part → ℕ → Part
-part_after Measurement b = if b == comma then TagKey 1 else (if b == space then FieldKey 1 else Measurement)
-part_after (TagKey n) b = if b == equals then TagValue n else TagKey n
-part_after (TagValue n) b = if b == comma then TagKey (n + 1) else (if b == space then FieldKey 1 else TagValue n)
-part_after (FieldKey n) b = if b == equals then FieldValue n else FieldKey n
-part_after (FieldValue n) b =
-    if b == quote then Quoted n
-    else (if b == comma then FieldKey (n + 1) else (if b == space then Timestamp else FieldValue n))
-part_after (Quoted n) b = if b == quote then FieldValue n else Quoted n
-part_after Timestamp b = Timestamp
-part_after Spaces b = Spaces
-part_after Comma b = Comma
+-- whether a character goes on at this byte of a text
+abbrev pub goes_on : List ℕ → ℕ → Bool
+goes_on text n = nat_lt n (length text) && nat_lt 127 (slice_index text n) && nat_lt (slice_index text n) 192
 
--- where an empty front of a line ends
-abbrev pub at_start : Place
-at_start = record { part = Measurement; is_escaped = false }
+-- where the character begins that goes on at this byte, or this byte
+abbrev pub char_start : List ℕ → ℕ → ℕ
+char_start text zero = zero
+char_start text (suc n) = if goes_on text (suc n) then char_start text n else suc n
 
--- where a front ends that has one byte more: an escaped byte stays in its part, and a backslash that is not escaped escapes the
--- next byte
-abbrev pub place_after : Place → ℕ → Place
-place_after place b =
-    if place.is_escaped then record { part = place.part; is_escaped = false }
-    else record { part = part_after place.part b; is_escaped = b == backslash }
+-- the part in which reading stops of so many bytes of a line, without those of a character that goes on after them
+abbrev pub part_after : List ℕ → ℕ → LinePart
+part_after line at = (reading_stop Strict (take (char_start line at) line)).0
 
--- the part of which a line has the first byte where the builder writes the second: a space where a key or a timestamp begins, or
--- after the timestamp, is one too many, and a comma after the last field has no field after it
-abbrev pub part_at : Part → (b written : ℕ) → Part
-part_at (FieldKey n) b written = if b == space then Spaces else FieldKey n
-part_at Timestamp b written = if b == space then Spaces else Timestamp
-part_at (FieldValue n) b written = if b == comma && (written == space || written == newline) then Comma else FieldValue n
-part_at Measurement b written = Measurement
-part_at (TagKey n) b written = TagKey n
-part_at (TagValue n) b written = TagValue n
-part_at (Quoted n) b written = Quoted n
-part_at Spaces b written = Spaces
-part_at Comma b written = Comma
+-- what is not as written if a line has the first byte in this part where the builder writes the second: a space where a key or a
+-- timestamp begins, or after the timestamp, is one too many, and a comma after the last field has no field after it
+abbrev pub part_at : LinePart → (b written : ℕ) → Part
+part_at (FieldKey n) b written = if b == space then Spaces else In (FieldKey n)
+part_at Timestamp b written = if b == space then Spaces else In Timestamp
+part_at (FieldValue n) b written = if b == comma && (written == space || written == newline) then Comma else In (FieldValue n)
+part_at other b written = In other
 
--- the part in which a line first differs from the line that the builder writes, after a front that both have and that ends here
-abbrev pub differing_part : Place → (line written : List ℕ) → Part
-differing_part place [] written = place.part
-differing_part place (b ∷ line) [] = place.part
-differing_part place (b ∷ line) (c ∷ written) =
-    if b == c then differing_part (place_after place b) line written else part_at place.part b c
+-- the part in which a line first differs from the line that the builder writes: the one in which reading stops of the front that
+-- both have
+abbrev pub differing_part : (line written : List ℕ) → Part
+differing_part line written =
+    let at = common_len line written in
+    let part = part_after line at in
+    if nat_lt at (length line) && nat_lt at (length written) then part_at part (slice_index line at) (slice_index written at) else In part
 
 -- what is wrong with a line whose first part that is not as it is written is this one
 abbrev pub part_text : Part → List ℕ
-part_text Measurement = codes "not as written: the measurement"
-part_text (TagKey n) = codes "not as written: the key of tag " ++ decimal n
-part_text (TagValue n) = codes "not as written: the value of tag " ++ decimal n
-part_text (FieldKey n) = codes "not as written: the key of field " ++ decimal n
-part_text (FieldValue n) = codes "not as written: the value of field " ++ decimal n
-part_text (Quoted n) = codes "not as written: the value of field " ++ decimal n
-part_text Timestamp = codes "not as written: the timestamp"
+part_text (In Measurement) = codes "not as written: the measurement"
+part_text (In (TagKey n)) = codes "not as written: the key of tag " ++ decimal n
+part_text (In (TagValue n)) = codes "not as written: the value of tag " ++ decimal n
+part_text (In (FieldKey n)) = codes "not as written: the key of field " ++ decimal n
+part_text (In (FieldValue n)) = codes "not as written: the value of field " ++ decimal n
+part_text (In Timestamp) = codes "not as written: the timestamp"
 part_text Spaces = codes "not as written: the spaces"
 part_text Comma = codes "not as written: the comma after the fields"

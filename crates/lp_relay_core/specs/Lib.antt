@@ -7,8 +7,6 @@ pub mod Objects
 pub mod Relaying
 pub mod RelaySteps
 pub mod Relays
-pub mod ReadingStops
-pub mod StopSteps
 pub mod Told
 pub mod Verdicts
 pub mod Writers

@@ -21,7 +21,7 @@ use Rattle.lp_relay_core.specs.LineFaults.{item_text}
 use Rattle.influxdb_line_protocol.specs.code.Rules.{rules_of}
 use Rattle.lp_relay_core.specs.Relaying.{Item, answered, as_it_came, not_as_written, not_utf8, too_long, items_of_piece}
 use Rattle.lp_relay_core.specs.Relaying.{is_too_long, limit_of}
-use Rattle.lp_relay_core.specs.ReadingStops.{stop_text}
+use Rattle.lp_events.specs.code.Stops.{reading_stop}
 use Rattle.lp_relay_core.specs.Told.{hex_digit}
 
 -- whether a byte has an escape in a string of JSON: a quote, a backslash, and what ASCII does not print
@@ -108,7 +108,7 @@ stop_members line bytes = place_members (line + newlines_in bytes) (column_after
 abbrev pub stop_of_bytes : Dialect → (line : ℕ) → List ℕ → List ℕ
 stop_of_bytes dialect line piece =
     let text = trimmed piece in
-    if is_utf8 piece && is_err (answer dialect text) then stop_members line (front_before piece (stop_text dialect text)) else []
+    if is_utf8 piece && is_err (answer dialect text) then stop_members line (front_before piece (reading_stop dialect text).1) else []
 
 -- the same of a piece that may be too long
 unfoldable pub stop_of_piece : Settings → (line : ℕ) → List ℕ → List ℕ

@@ -23,7 +23,7 @@ use Rattle.lp_relay_core.specs.declared.telling.{Faults.Faults, Place.Place}
 use Rattle.lp_relay_core.specs.declared.telling.Faults.TheVariants as form
 use Rattle.lp_relay_core.specs.LineFaults.{fault_line_at, item_text}
 use Rattle.lp_relay_core.specs.Objects.{fault_kind, item_front, item_kind, object, stop_given, stop_members}
-use Rattle.lp_relay_core.specs.ReadingStops.{stop_text}
+use Rattle.lp_events.specs.code.Stops.{reading_stop}
 use Rattle.lp_relay_core.specs.Relaying.{Item, answered, front_of, is_carried_item, item_line, long_text}
 use Rattle.lp_relay_core.specs.RelaySteps.{TakesGiven, Unwritten, items_given, line_or_none}
 use Rattle.lp_relay_core.specs.Told.{told}
@@ -80,7 +80,7 @@ front_in other = []
 -- the members that tell where reading stops in it, if its text is at fault
 abbrev pub stop_in : (fault : Bool) → Dialect → (line : ℕ) → Piece → List ℕ
 stop_in false dialect line piece = []
-stop_in true dialect line (Text text) = stop_members line (front_before text.now (stop_text dialect (trimmed text.now)))
+stop_in true dialect line (Text text) = stop_members line (front_before text.now (reading_stop dialect (trimmed text.now)).1)
 stop_in true dialect line other = []
 
 -- the object of a piece at this place that is refused for this

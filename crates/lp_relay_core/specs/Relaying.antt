@@ -17,7 +17,7 @@ use Rattle.lp_relay_core.specs.declared.taking.Lines.{Lines}
 use Rattle.lp_relay_core.specs.declared.taking.Lines.TheVariants.{Rebuilt, Verbatim, Canonical}
 use Rattle.lp_relay_core.specs.declared.taking.Settings.{Settings}
 use Rattle.lp_relay_core.specs.declared.telling.Faults.{Faults}
-use Rattle.lp_relay_core.specs.Differing.{at_start, differing_part, part_text}
+use Rattle.lp_relay_core.specs.Differing.{differing_part, part_text}
 use Rattle.lp_relay_core.specs.Told.{told}
 
 -- an item: an answer; a text that holds a line and goes out as it came; a line that is refused, with what is wrong with it, since
@@ -40,7 +40,7 @@ abbrev pub canonical_item : (front text : List ℕ) → Line → Item
 canonical_item front text line =
     if is_admitted_point (point_of line)
     then if bytes_eq (built (point_of line)) (text ++ newline ∷ []) then as_it_came text
-    else not_as_written front (part_text (differing_part at_start text (built (point_of line))))
+    else not_as_written front (part_text (differing_part text (built (point_of line))))
     else answered front (Ok line)
 
 -- the item of an answer for a piece: where lines go out as they came, that of a line is its piece, whatever its names are; where

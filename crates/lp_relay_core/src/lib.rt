@@ -17,7 +17,6 @@ mod outputs;
 mod pieces;
 mod refusals;
 mod relaying;
-mod stops;
 mod taking;
 mod telling;
 mod texts;

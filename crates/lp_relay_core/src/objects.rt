@@ -7,9 +7,9 @@ ghost use Rattle.lp_relay_core.specs.Refusals.{object_of, refusal_kind, stop_in,
 
 use crate::pieces::Piece;
 use crate::refusals::Refusal;
-use crate::stops::stop_text;
 use crate::telling::{Place, hex_digit};
 use influxdb_line_protocol::Dialect;
+use lp_events::stops::reading_stop;
 use lp_scan::newlines::newlines_in;
 use lp_scan::trim::trimmed;
 use std::alloc::AllocError;
@@ -121,9 +121,8 @@ fn put_stop_in(
 {
     match piece {
         Piece::Text(text) if is_fault => {
-            let end = text
-                .len()
-                .saturating_sub(stop_text(dialect, trimmed(text)).len());
+            let left = reading_stop(dialect, trimmed(text)).rest;
+            let end = text.len().saturating_sub(left.len());
             put_stop(faults, line, &text.as_bytes()[..end])
         }
         _ => Ok(()),

@@ -221,7 +221,7 @@ fn take_canonical<'a>(
     if let Some(refusal) = batch::take_text(batch, reader, text)? {
         return Ok(Taken::Refused(Refusal::Line(refusal)));
     }
-    let part = differing_part(text.as_bytes(), &batch[start..]);
+    let part = differing_part(text, &batch[start..]);
     batch.truncate(start);
     let wrong = part_text(reader.alloc, part)?;
     Ok(Taken::Refused(Refusal::NotAsWritten(wrong)))

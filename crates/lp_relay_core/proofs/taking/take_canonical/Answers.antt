@@ -2,7 +2,7 @@ use Rattle.std.proofs.Common.{◌≡◌, ◌++◌, ◌∷◌, [], List, ℕ, ap,
 use Rattle.influxdb_line_protocol.specs.code.Rules.{rules_of}
 use Rattle.influxdb_line_protocol.specs.format.Bytes.{newline}
 use Rattle.influxdb_line_protocol.specs.format.Points.{IsAsWritten}
-use Rattle.lp_relay_core.specs.Differing.{at_start, differing_part}
+use Rattle.lp_relay_core.specs.Differing.{differing_part}
 use Rattle.lp_relay_core.proofs.CanonicalLemmas.{no_refusal, rest_is, takes_differing, takes_written}
 use Rattle.lp_relay_core.proofs.taking.take_canonical.Goals as goal
 
@@ -18,11 +18,10 @@ returns-clause-taken c =
     let text = c.args.text.now in
     let start = c.len-start.result in
     let not_written : IsAsWritten text → c.is_as_written.result ≡ true = λ is. c.is_as_written.ensures.1 is in
-    let part : c.differing_part-part.result ≡ differing_part at_start text (drop start c.take_text.new.batch.items) =
+    let part : c.differing_part-part.result ≡ differing_part text (drop start c.take_text.new.batch.items) =
     c.differing_part-part.ensures
-    ∙ ap (differing_part at_start c.as_bytes-2.result.now) (rest_is start c.deref.result.now)
-    ∙ ap (λ (l : List ℕ). differing_part at_start l (drop start c.deref.result.now)) c.as_bytes-2.ensures.value
-    ∙ ap (λ (l : List ℕ). differing_part at_start text (drop start l)) c.deref.ensures.value in
+    ∙ ap (differing_part text) (rest_is start c.deref.result.now)
+    ∙ ap (λ (l : List ℕ). differing_part text (drop start l)) c.deref.ensures.value in
     takes_differing (rules_of c.args.reader.now.dialect) c.args.piece.now text c.args.batch.now.items c.take_text.new.batch.items
     c.truncate.new.self.items start c.differing_part-part.result c.in_ok-wrong.wrong c.requires c.written_lines_stay.ensures.written
     (λ is. let h = not_written is in let f = c.if-is_as_written.false in absurd (cc))
