@@ -7,4 +7,5 @@ pub use Rattle.lp_format.specs.laws.Laws
 pub use Rattle.lp_format.specs.laws.Meanings
 pub use Rattle.lp_format.specs.laws.MeaningsOfAnswers
 pub use Rattle.lp_lines.specs.laws.BaseLaws
+pub mod StopLaws
 pub mod StreamLaws

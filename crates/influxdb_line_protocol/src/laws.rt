@@ -14,6 +14,7 @@ ghost use Rattle.lp_format.specs.laws.Meanings.{CountIsOfTheMost, FloatFrontIsFl
 ghost use Rattle.lp_format.specs.laws.Meanings.{WordFrontIsLongest, TrimmedIsAfterBlanks, TrimmedFrontIsLongest};
 ghost use Rattle.lp_format.specs.laws.Meanings.{NameEndsBeforeStop, BodyEndsBeforeQuote};
 ghost use Rattle.lp_format.specs.laws.MeaningsOfAnswers.{AnswerIsByRows};
+ghost use Rattle.influxdb_line_protocol.specs.laws.StopLaws.{LinesAreReadWhole, StopsAreByRows, StopsAreInText};
 ghost use Rattle.influxdb_line_protocol.specs.laws.StreamLaws.{FrontsKeepTheirCuts, TakenIsFirst, RunsGivePieces, RunsEnd};
 ghost use Rattle.influxdb_line_protocol.specs.laws.StreamLaws.{StreamsAnswerAll, StreamsGiveAnswers, Utf8ByPieces};
 ghost use Rattle.lp_format.specs.format.Lines.{tag, field};
@@ -153,6 +154,15 @@ pub fn most_are_read()
 #[tactic(auto, using(lp_lines::proofs::lemmas::meanings::AnswerMeaning::answer_is_by_rows))]
 pub fn answers_are_by_rows()
     ensures { AnswerIsByRows }
+{}
+
+/// What is left where reading stops is an end of the text, the one that the row of the answer names; and nothing, if the text is
+/// read as a line.
+#[tactic(auto, using(crate::proofs::lemmas::laws::StopEnds::stop_laws))]
+pub fn stops_are_by_rows()
+    ensures rows { StopsAreByRows }
+    ensures end { StopsAreInText }
+    ensures whole { LinesAreReadWhole }
 {}
 
 /// What is left of a piece once it is trimmed is what follows its longest front of blanks and

@@ -4,4 +4,6 @@ pub mod BatchesReadBack
 pub mod FatalLines
 pub mod GivenItems
 pub mod NamesInLines
+pub mod StopEnds
+pub mod StopRows
 pub mod WordsAndKeys
