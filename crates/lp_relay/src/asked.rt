@@ -21,17 +21,17 @@ use std::alloc::Global;
 /// Those of [`relay`].
 pub fn relay_as_asked<R: Source, L: Sink, F: Sink, P: Sink>(
     alloc: Global,
-    settings: Settings,
+    settings: Settings<'_>,
     reader: &mut R,
     outputs: Outputs<L, F, P>,
 ) -> (Outputs<L, F, P>, Result<Relayed, RunFault>)
-    ensures relays { OnFalse settings.check (Relays settings.relay result.1
+    ensures relays { OnFalse settings.entry.check (Relays settings.entry.relay result.1
         (reader_told R.bytes R.failures reader.old) (reader_told R.bytes R.failures reader.new)
         (⟦<Outputs<L, F, P> as ThreeWriters>⟧.told outputs) (⟦<Outputs<L, F, P> as ThreeWriters>⟧.told result.0)) }
-    ensures checks { OnTrue settings.check (ChecksBy settings.relay result.1
+    ensures checks { OnTrue settings.entry.check (ChecksBy settings.entry.relay result.1
         (reader_told R.bytes R.failures reader.old) (reader_told R.bytes R.failures reader.new)
         (⟦<Outputs<L, F, P> as ThreeWriters>⟧.told outputs) (⟦<Outputs<L, F, P> as ThreeWriters>⟧.told result.0)) }
-    ensures unwritten { OnTrue settings.check (result.0.lines ≡ outputs.lines) }
+    ensures unwritten { OnTrue settings.entry.check (result.0.lines ≡ outputs.lines) }
 {
     if settings.check {
         let Outputs {

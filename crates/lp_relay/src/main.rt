@@ -33,19 +33,24 @@ use words::{
 };
 
 // The settings for an input that comes after items that were counted so: its items are counted on, its lines from 1 on.
-fn settings_after(settings: Settings, so_far: Relayed) -> Settings {
-    let mut next = settings;
-    next.relay.first = match settings.relay.numbering {
+fn settings_after<'n>(settings: Settings<'n>, so_far: Relayed) -> Settings<'n> {
+    let first = match settings.relay.numbering {
         Numbering::Items => {
             let items = so_far.carried.saturating_add(so_far.refused);
             settings.relay.first.max(1).saturating_add(items)
         }
         Numbering::Lines => 1,
     };
-    if let Faults::Json { .. } = settings.relay.faults {
-        next.relay.faults = Faults::Json { first_line: 1 };
-    }
-    next
+    let faults = match settings.relay.faults {
+        Faults::Json { .. } => Faults::Json { first_line: 1 },
+        faults => faults,
+    };
+    let relay = lp_relay_core::Settings {
+        first,
+        faults,
+        ..settings.relay
+    };
+    Settings { relay, ..settings }
 }
 
 // The counts of what came before, and after it of an input.
@@ -67,7 +72,7 @@ fn sum_of(so_far: Relayed, counts: Relayed) -> Relayed {
 // Relays each input by itself, and adds up the counts.
 fn relay_each<R: Source + Drop, L: Sink + Drop, F: Sink + Drop, P: Sink + Drop>(
     alloc: Global,
-    settings: Settings,
+    settings: Settings<'_>,
     names: &[&str],
     reader: R,
     outputs: Outputs<L, Named<F>, P>,
@@ -105,7 +110,7 @@ fn relay_each<R: Source + Drop, L: Sink + Drop, F: Sink + Drop, P: Sink + Drop>(
 // Relays the inputs of these names, one after another, and shows on the terminal how far it is, if that is asked for.
 fn relay_inputs<'n>(
     rt: &HostRuntime,
-    settings: Settings,
+    settings: Settings<'_>,
     names: &'n [&'n str],
     files: OutputFiles<'_>,
     notes: &Notes<'n>,

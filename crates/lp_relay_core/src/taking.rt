@@ -51,7 +51,7 @@ pub enum Numbering {
 /// How a relay reads lines and puts them out, and what its fault lines name: by default, it reads them by the rules of the crate,
 /// however long they are, writes them again, and names items from 1 on, in fault lines as they are.
 #[derive(Clone, Copy, Debug, PartialEq, Eq)]
-pub struct Settings {
+pub struct Settings<'n> {
     /// The dialect whose rules hold.
     pub dialect: Dialect,
     /// How many bytes a line may have, those of the newlines within its strings too, but without the one that ends it.
@@ -71,9 +71,11 @@ pub struct Settings {
     pub puts_refused: bool,
     /// Whether it is counted for which kind of fault each item is refused.
     pub counts_kinds: bool,
+    /// The name of the input, if faults are to name it: each does that is told on one line or as an object.
+    pub file: Option<&'n str>,
 }
 
-impl Default for Settings {
+impl<'n> Default for Settings<'n> {
     fn default() -> Self
         ensures { result ≡ record {
           dialect = Dialect.Crate;
@@ -84,6 +86,7 @@ impl Default for Settings {
           faults = Faults.Raw;
           puts_refused = false;
           counts_kinds = false;
+          file = None;
         } }
     {
         Settings {
@@ -95,6 +98,7 @@ impl Default for Settings {
             faults: Faults::Raw,
             puts_refused: false,
             counts_kinds: false,
+            file: None,
         }
     }
 }
@@ -118,8 +122,8 @@ pub(crate) struct Pending {
 const NOT_UTF8: &str = "the line is not UTF-8";
 
 // How many items are counted before the first item: if fault lines name items, as many as give it its number.
-pub(crate) fn items_before(settings: Settings) -> usize
-    ensures { result ≡ items_before settings.numbering settings.first }
+pub(crate) fn items_before(settings: Settings<'_>) -> usize
+    ensures { result ≡ items_before settings.entry.numbering settings.entry.first }
 {
     match settings.numbering {
         Numbering::Items => settings.first.saturating_sub(1),
@@ -128,8 +132,8 @@ pub(crate) fn items_before(settings: Settings) -> usize
 }
 
 // The line on which the first piece begins, if lines are named.
-fn first_line(settings: Settings) -> Option<usize>
-    ensures { result ≡ first_line settings.faults settings.numbering settings.first }
+fn first_line(settings: Settings<'_>) -> Option<usize>
+    ensures { result ≡ first_line settings.entry.faults settings.entry.numbering settings.entry.first }
 {
     match (settings.faults, settings.numbering) {
         (Faults::Json { first_line }, _) => Some(first_line.max(1)),
@@ -139,8 +143,8 @@ fn first_line(settings: Settings) -> Option<usize>
 }
 
 // Before the first item. It takes no memory.
-pub(crate) fn nothing_made(alloc: Global, settings: Settings) -> Pending
-    ensures made { unwritten_of result ≡ unwritten_of_none settings }
+pub(crate) fn nothing_made(alloc: Global, settings: Settings<'_>) -> Pending
+    ensures made { unwritten_of result ≡ unwritten_of_none settings.entry }
     ensures fits { result.so_far.carried + result.so_far.refused ≤ usize.MAX }
 {
     let so_far = Progress {
@@ -264,7 +268,7 @@ fn take_canonical<'a>(
 #[inline(never)]
 fn take_text<'a>(
     alloc: Global,
-    settings: Settings,
+    settings: Settings<'_>,
     so_far: &mut Progress,
     piece: &'a str,
     line: &mut ParsedLine<'a>,
@@ -272,7 +276,7 @@ fn take_text<'a>(
 ) -> Result<(), AllocError>
     requires { so_far.old.carried + so_far.old.refused < usize.MAX }
     ensures taken { OnOk result
-        (TakesItems as_raw (made so_far.old) (items_of_bytes settings.lines (rules_of settings.dialect) piece.now) (made so_far.new)) }
+        (TakesItems as_raw (made so_far.old) (items_of_bytes settings.entry.lines (rules_of settings.entry.dialect) piece.now) (made so_far.new)) }
     ensures counted { OnOk result
         (so_far.new.carried + so_far.new.refused ≤ so_far.old.carried + so_far.old.refused + 1) }
     ensures line { so_far.new.line ≡ so_far.old.line }
@@ -288,13 +292,13 @@ fn take_text<'a>(
 #[inline(never)]
 fn take_alone(
     alloc: Global,
-    settings: Settings,
+    settings: Settings<'_>,
     so_far: &mut Progress,
     piece: &str,
 ) -> Result<(), AllocError>
     requires { so_far.old.carried + so_far.old.refused < usize.MAX }
     ensures taken { OnOk result
-        (TakesItems as_raw (made so_far.old) (items_of_bytes settings.lines (rules_of settings.dialect) piece.now) (made so_far.new)) }
+        (TakesItems as_raw (made so_far.old) (items_of_bytes settings.entry.lines (rules_of settings.entry.dialect) piece.now) (made so_far.new)) }
     ensures counted { OnOk result
         (so_far.new.carried + so_far.new.refused ≤ so_far.old.carried + so_far.old.refused + 1) }
     ensures line { so_far.new.line ≡ so_far.old.line }
@@ -315,10 +319,14 @@ fn take_alone(
 }
 
 // Refuses a piece that is too long. If refused pieces go out, its fault tells how many bytes of it do.
-fn refuse_long(alloc: Global, settings: Settings, so_far: &mut Progress) -> Result<(), AllocError>
+fn refuse_long(
+    alloc: Global,
+    settings: Settings<'_>,
+    so_far: &mut Progress,
+) -> Result<(), AllocError>
     requires room { so_far.old.carried + so_far.old.refused < usize.MAX }
     ensures taken { OnOk result
-        (TakesItems as_raw (made so_far.old) (too_long (kept_of settings) ∷ []) (made so_far.new)) }
+        (TakesItems as_raw (made so_far.old) (too_long (kept_of settings.entry) ∷ []) (made so_far.new)) }
     ensures counted { OnOk result
         (so_far.new.carried + so_far.new.refused ≡ so_far.old.carried + so_far.old.refused + 1) }
     ensures line { so_far.new.line ≡ so_far.old.line }
@@ -335,13 +343,13 @@ fn refuse_long(alloc: Global, settings: Settings, so_far: &mut Progress) -> Resu
 // line.
 fn take_given(
     alloc: Global,
-    settings: Settings,
+    settings: Settings<'_>,
     so_far: &mut Progress,
     piece: Result<&[u8], PieceTooLong<'_>>,
 ) -> Result<(), AllocError>
     requires room { so_far.old.carried + so_far.old.refused < usize.MAX }
     ensures taken { OnOk result
-        (TakesItems as_raw (made so_far.old) (items_given settings piece.entry) (made so_far.new)) }
+        (TakesItems as_raw (made so_far.old) (items_given settings.entry piece.entry) (made so_far.new)) }
     ensures counted { OnOk result
         (so_far.new.carried + so_far.new.refused ≤ so_far.old.carried + so_far.old.refused + 1) }
     ensures line { so_far.new.line ≡ so_far.old.line }
@@ -398,7 +406,7 @@ fn offset_after(offset: usize, piece: Result<&[u8], PieceTooLong<'_>>) -> Result
 #[inline(always)]
 fn tell(
     alloc: Global,
-    settings: Settings,
+    settings: Settings<'_>,
     so_far: &mut Progress,
     offset: usize,
     from: usize,
@@ -407,9 +415,9 @@ fn tell(
     requires taken { (before : Made) × TakesRaw settings piece from before (made so_far.old) }
     requires some { from < length (string_bytes so_far.old.faults) }
     requires fits { so_far.old.carried + so_far.old.refused ≤ usize.MAX }
-    ensures told { OnOk result ((before : Made) → TakesRaw settings piece.entry from before (made so_far.old)
-        → TakesItems (form_given settings (record { line = before.line; offset = offset }) piece.entry) before
-        (items_given settings piece.entry) (made so_far.new)) }
+    ensures told { OnOk result ((before : Made) → TakesRaw settings.entry piece.entry from before (made so_far.old)
+        → TakesItems (form_given settings.entry (record { line = before.line; offset = offset }) piece.entry) before
+        (items_given settings.entry piece.entry) (made so_far.new)) }
     ensures counts { (so_far.new.carried ≡ so_far.old.carried) × (so_far.new.refused ≡ so_far.old.refused) }
 {
     match settings.faults {
@@ -447,14 +455,14 @@ fn put_refused(pieces: &mut Vec<u8>, piece: &[u8]) -> Result<(), AllocError>
 // kinds are, and the piece, or its first bytes if it is too long, goes out, if refused pieces do.
 #[inline(always)]
 fn end_piece(
-    settings: Settings,
+    settings: Settings<'_>,
     pending: &mut Pending,
     from: usize,
     piece: Result<&[u8], PieceTooLong<'_>>,
 ) -> Result<(), AllocError>
     requires taken { (before : Made) × TakesRaw settings piece from before (made pending.old.so_far) }
     requires fits { pending.old.so_far.carried + pending.old.so_far.refused ≤ usize.MAX }
-    ensures ends { OnOk result (EndsPiece settings from piece.entry pending.old pending.new) }
+    ensures ends { OnOk result (EndsPiece settings.entry from piece.entry pending.old pending.new) }
     ensures others { OnOk result ((pending.new.so_far.carried ≡ pending.old.so_far.carried)
         × (pending.new.so_far.refused ≡ pending.old.so_far.refused) × (pending.new.offset ≡ pending.old.offset)) }
 {
@@ -485,13 +493,13 @@ fn end_piece(
 
 // Takes a piece. It is refused if its number, or the line after it, would not fit.
 pub(crate) fn take_piece(
-    settings: Settings,
+    settings: Settings<'_>,
     pending: &mut Pending,
     piece: Result<&[u8], PieceTooLong<'_>>,
 ) -> Result<(), AllocError>
     requires fits { pending.old.so_far.carried + pending.old.so_far.refused ≤ usize.MAX }
     requires few { HoldsLess BLOCK pending.old }
-    ensures taken { OnOk result (TakesGiven settings (unwritten_of pending.old) piece.entry (unwritten_of pending.new)) }
+    ensures taken { OnOk result (TakesGiven settings.entry (unwritten_of pending.old) piece.entry (unwritten_of pending.new)) }
     ensures start { OnOk result (start_of (unwritten_of pending.new)
         ≡ start_after (start_of (unwritten_of pending.old)) (newlines_given piece.entry) (len_given piece.entry)) }
     ensures fits { OnOk result (pending.new.so_far.carried + pending.new.so_far.refused ≤ usize.MAX) }
@@ -509,7 +517,7 @@ pub(crate) fn take_piece(
 // Takes a piece that is text, as [`take_piece`] does, by way of a line that is used again.
 #[inline(always)]
 pub(crate) fn take_text_piece<'a>(
-    settings: Settings,
+    settings: Settings<'_>,
     pending: &mut Pending,
     piece: &'a str,
     line: &mut ParsedLine<'a>,
@@ -517,7 +525,7 @@ pub(crate) fn take_text_piece<'a>(
 ) -> Result<(), AllocError>
     requires fits { pending.old.so_far.carried + pending.old.so_far.refused ≤ usize.MAX }
     requires few { HoldsLess BLOCK pending.old }
-    ensures taken { OnOk result (TakesGiven settings (unwritten_of pending.old) (Ok piece.entry) (unwritten_of pending.new)) }
+    ensures taken { OnOk result (TakesGiven settings.entry (unwritten_of pending.old) (Ok piece.entry) (unwritten_of pending.new)) }
     ensures start { OnOk result (start_of (unwritten_of pending.new)
         ≡ start_after (start_of (unwritten_of pending.old)) (newlines_in piece.now) (length piece.now)) }
     ensures fits { OnOk result (pending.new.so_far.carried + pending.new.so_far.refused ≤ usize.MAX) }
