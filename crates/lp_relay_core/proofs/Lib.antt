@@ -18,5 +18,6 @@ pub mod WholeLines
 pub mod RelaysSoFar
 pub mod RelaysOfText
 pub mod RelayEnds
+pub mod InputLemmas
 pub mod StopLemmas
 pub mod VerdictLemmas
