@@ -13,7 +13,7 @@ use influxdb_line_protocol::Dialect;
 use lp_relay_core::{Faults, Lines, Numbering, Settings};
 
 /// The settings that these letters spell, with this limit. Other letters spell nothing.
-pub fn spelled(letters: &[u8], limit: usize) -> Settings {
+pub fn spelled(letters: &[u8], limit: usize) -> Settings<'static> {
     let mut settings = Settings {
         limit,
         ..Settings::default()

@@ -1,4 +1,5 @@
 pub mod Asked
+pub mod Counted
 pub mod Named
 pub mod Summaries
 pub mod Words

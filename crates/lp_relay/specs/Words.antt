@@ -80,6 +80,7 @@ given_settings given = record {
     faults = told_form given;
     puts_refused = is_some given.refused;
     counts_kinds = given.summary;
+    file = None;
   };
   progress = given.progress;
   summary = given.summary;

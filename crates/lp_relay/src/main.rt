@@ -3,6 +3,7 @@
 #![tactic(auto)]
 
 mod asked;
+mod counted;
 mod files;
 mod inputs;
 mod meter;
@@ -10,102 +11,29 @@ mod named;
 mod noted;
 mod output;
 mod summary;
-mod tally;
 mod words;
 
-use asked::{part_ends_of, relay_as_asked};
+use asked::{part_ends_of, relay_each};
 use files::{Files, OutputFiles};
 use influxdb_line_protocol::Dialect;
 use inputs::{Closed, Inputs, STANDARD_INPUT, STDOUT, are_one_file, input_written_to, total_len};
-use lp_rebuild::{Reading, RunFault, Sink, Source, Writing};
-use lp_relay_core::{Faults, Numbering, Outputs, Relayed};
+use lp_rebuild::{Reading, RunFault, Writing};
+use lp_relay_core::Outputs;
 use meter::{Counted, Meter, MeteredSink, MeteredSource};
 use named::Named;
 use noted::{Noted, Notes};
-use std::alloc::Global;
 use std::env;
 use std::io::{self, ErrorKind, IsTerminal};
 use std::process::ExitCode;
 use summary::{Totals, summary_of};
-use tally::Tally;
 use words::{
     HELP, Request, Settings, Task, USAGE, VERSION, status_of_fault, status_of_relay, task_of,
 };
 
-// The settings for an input that comes after items that were counted so: its items are counted on, its lines from 1 on.
-fn settings_after(settings: Settings, so_far: Relayed) -> Settings {
-    let mut next = settings;
-    next.relay.first = match settings.relay.numbering {
-        Numbering::Items => {
-            let items = so_far.carried.saturating_add(so_far.refused);
-            settings.relay.first.max(1).saturating_add(items)
-        }
-        Numbering::Lines => 1,
-    };
-    if let Faults::Json { .. } = settings.relay.faults {
-        next.relay.faults = Faults::Json { first_line: 1 };
-    }
-    next
-}
-
-// The counts of what came before, and after it of an input.
-fn sum_of(so_far: Relayed, counts: Relayed) -> Relayed {
-    let kinds = match (so_far.kinds, counts.kinds) {
-        (Some(mut kinds), Some(more)) => {
-            kinds.add(&more);
-            Some(kinds)
-        }
-        (_, more) => more,
-    };
-    Relayed {
-        carried: so_far.carried.saturating_add(counts.carried),
-        refused: so_far.refused.saturating_add(counts.refused),
-        kinds,
-    }
-}
-
-// Relays each input by itself, and adds up the counts.
-fn relay_each<R: Source + Drop, L: Sink + Drop, F: Sink + Drop, P: Sink + Drop>(
-    alloc: Global,
-    settings: Settings,
-    names: &[&str],
-    reader: R,
-    outputs: Outputs<L, Named<F>, P>,
-) -> Result<Totals, RunFault> {
-    let mut outputs = outputs;
-    let mut reader = Tally::new(settings.summary, reader);
-    let mut total = Relayed {
-        carried: 0,
-        refused: 0,
-        kinds: None,
-    };
-    let mut asked = settings;
-    for name in names {
-        if names.len() > 1
-            && outputs
-                .faults
-                .set_name(alloc, settings.relay.faults, name)
-                .is_err()
-        {
-            return Err(RunFault::OutOfMemory);
-        }
-        let (back, answer) = relay_as_asked(alloc, asked, &mut reader, outputs);
-        outputs = back;
-        total = sum_of(total, answer?);
-        asked = settings_after(settings, total);
-    }
-    let (bytes, lines) = reader.counts();
-    Ok(Totals {
-        bytes,
-        lines,
-        counts: total,
-    })
-}
-
 // Relays the inputs of these names, one after another, and shows on the terminal how far it is, if that is asked for.
 fn relay_inputs<'n>(
     rt: &HostRuntime,
-    settings: Settings,
+    settings: Settings<'_>,
     names: &'n [&'n str],
     files: OutputFiles<'_>,
     notes: &Notes<'n>,

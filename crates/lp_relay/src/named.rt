@@ -1,12 +1,12 @@
 //! The name of the file in each fault, but for raw fault lines, if there is more than one input.
-ghost use Rattle.std.specs.Prelude.{◌≡◌, ◌<◌, ◌≤◌, false, length, None, string_bytes, take, IfOk, OnOk};
+ghost use Rattle.std.specs.Prelude.{◌≡◌, ◌<◌, ◌≤◌, false, length, None, string_bytes, take, IfOk, IfSome, OnOk};
 ghost use Rattle.lp_rebuild.specs.Devices.{CountsFailure};
 ghost use Rattle.std.specs.Io.KnownBytes.{Appends};
 ghost use Rattle.lp_relay.specs.Named.{IsFront, IsLineFront, column_after, is_within, name_at, name_text, named_text, next_column, place_of};
 
 use lp_rebuild::program::write_bytes;
-use lp_rebuild::{DeviceFault, Sink};
-use lp_relay_core::{Faults, put_json_text, tell_bytes};
+use lp_rebuild::{DeviceFault, RunFault, Sink};
+use lp_relay_core::{Faults, Outputs, Settings, ThreeWriters, put_json_text, tell_bytes};
 use std::alloc::{AllocError, Global};
 
 // How a fault that is told so names its file: a line by the name before it, an object by its first member.
@@ -79,7 +79,7 @@ fn next_column(column: usize, byte: u8) -> usize
 ///
 /// What comes before a name in a line is then a write of its own, and so is the name, and the rest of the line.
 #[derive(Drop)]
-pub(crate) struct Named<S> {
+pub struct Named<S> {
     /// What names the file in each line; empty if nothing does.
     name: String,
     /// Whether it comes after the first byte of a line, and not before it.
@@ -170,6 +170,36 @@ impl<S: Sink> Sink for Named<S> {
     }
 
     fn flush(&mut self) -> Result<(), DeviceFault> {
+        self.inner.flush()
+    }
+}
+
+/// Three writers, of which that for faults has the name of each input, if the settings do.
+#[derive(Drop)]
+pub struct NamedOutputs<L, F, P> {
+    pub(crate) inner: Outputs<L, Named<F>, P>,
+}
+
+impl<L: Sink, F: Sink, P: Sink> ThreeWriters for NamedOutputs<L, F, P> {
+    ghost told = { λ outputs. ⟦<Outputs<L, Named<F>, P> as ThreeWriters>⟧.told outputs.inner };
+
+    fn put(&mut self, lines: &[u8], faults: &[u8], refused: &[u8]) -> Result<(), RunFault> {
+        self.inner.put(lines, faults, refused)
+    }
+
+    fn begin(&mut self, alloc: Global, settings: Settings<'_>) -> Result<(), AllocError>
+        ensures told { ⟦<Outputs<L, Named<F>, P> as ThreeWriters>⟧.told self.new.inner
+            ≡ ⟦<Outputs<L, Named<F>, P> as ThreeWriters>⟧.told self.old.inner }
+        ensures named { OnOk result (IfSome settings.entry.file (λ name.
+            string_bytes self.new.inner.faults.name ≡ name_text settings.entry.faults name.now)) }
+    {
+        match settings.file {
+            Some(name) => self.inner.faults.set_name(alloc, settings.faults, name),
+            None => Ok(()),
+        }
+    }
+
+    fn flush(&mut self) -> Result<(), RunFault> {
         self.inner.flush()
     }
 }

@@ -110,8 +110,8 @@ impl fmt::Display for Summary {
 }
 
 /// The summary of a relay that gave this answer: none if its settings ask for none, and none after a fault.
-pub fn summary_of(settings: Settings, answer: &Result<Totals, RunFault>) -> Option<Summary>
-    ensures { result ≡ asked_summary settings answer.now }
+pub fn summary_of(settings: Settings<'_>, answer: &Result<Totals, RunFault>) -> Option<Summary>
+    ensures { result ≡ asked_summary settings.entry answer.now }
 {
     match answer {
         Ok(totals) if settings.summary => Some(Summary { totals: *totals }),

@@ -79,9 +79,9 @@ pub const MOST_PARTS: usize = 1_000_000;
 
 /// How the relay is to run.
 #[derive(Clone, Copy, Debug, PartialEq, Eq)]
-pub struct Settings {
+pub struct Settings<'n> {
     /// How lines are read and written, and what the fault lines name.
-    pub relay: lp_relay_core::Settings,
+    pub relay: lp_relay_core::Settings<'n>,
     /// Whether progress is shown.
     pub progress: bool,
     /// Whether the counts of items are told at the end.
@@ -94,7 +94,7 @@ pub struct Settings {
 #[derive(Clone, Copy)]
 pub struct Request<'a> {
     /// How it is to run.
-    pub settings: Settings,
+    pub settings: Settings<'a>,
     /// The file that the lines go to, or none: standard output. A check has none.
     pub output: Option<&'a str>,
     /// The file that the refused pieces go to, if they go out.
@@ -197,7 +197,7 @@ impl<'a> Given<'a> {
         }
     }
 
-    fn settings(self) -> Settings
+    fn settings(self) -> Settings<'a>
         ensures { result ≡ given_settings self.entry }
     {
         let dialect = if self.strict {
@@ -219,6 +219,7 @@ impl<'a> Given<'a> {
             faults: self.told_form(),
             puts_refused: self.refused.is_some(),
             counts_kinds: self.summary,
+            file: None,
         };
         Settings {
             relay,
@@ -480,7 +481,7 @@ pub fn task_of<'a>(words: &[&'a str]) -> Option<Task<'a>>
         [word] if *word == "--version" => Some(Task::Version),
         _ => match cut_of(words) {
             Some(task) => Some(task),
-            None => request_after(Given::nothing(), words).map(Task::Relay),
+            None => Some(Task::Relay(request_after(Given::nothing(), words)?)),
         },
     }
 }

@@ -18,4 +18,5 @@ pub mod WholeLines
 pub mod RelaysSoFar
 pub mod RelaysOfText
 pub mod RelayEnds
+pub mod InputLemmas
 pub mod VerdictLemmas

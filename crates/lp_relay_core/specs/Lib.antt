@@ -1,6 +1,7 @@
 pub mod Cuts
 pub mod CutSteps
 pub mod Differing
+pub mod Inputs
 pub mod Kinds
 pub mod LineFaults
 pub mod Objects

@@ -114,5 +114,5 @@ pub record Relays (s : Settings) (result : Result Relayed RunFault) (reader read
   -- `NotUtf8` is never answered
   pub utf8 : result ≢ Err NotUtf8
   -- no count of failures falls, so one that has not risen is as before
-  pub counts : (before.lines.failures ≤ after.lines.failures) × (before.faults.failures ≤ after.faults.failures)
-      × (before.refused.failures ≤ after.refused.failures)
+  pub counts : (reader.failures ≤ reader_after.failures) × (before.lines.failures ≤ after.lines.failures)
+      × (before.faults.failures ≤ after.faults.failures) × (before.refused.failures ≤ after.refused.failures)

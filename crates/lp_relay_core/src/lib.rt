@@ -10,6 +10,7 @@
 
 mod cuts;
 mod differing;
+mod inputs;
 mod kinds;
 mod nowhere;
 mod objects;
@@ -23,6 +24,7 @@ mod texts;
 mod verdict;
 
 pub use cuts::part_ends;
+pub use inputs::{Inputs, NextInput, relay_inputs};
 pub use kinds::{KINDS, Kind, KindCounts};
 pub use nowhere::Nowhere;
 pub use objects::put_json_text;

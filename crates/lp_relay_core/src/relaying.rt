@@ -90,7 +90,7 @@ fn pour_and_flush<O: ThreeWriters>(pending: &mut Pending, outputs: &mut O) -> Re
 
 // Takes each piece that the stream can give.
 fn relay_pieces<O: ThreeWriters>(
-    settings: Settings,
+    settings: Settings<'_>,
     stream: &mut BoundedLineStream,
     pending: &mut Pending,
     outputs: &mut O,
@@ -102,12 +102,12 @@ fn relay_pieces<O: ThreeWriters>(
     requires few { HoldsLess BLOCK pending.old }
     ensures rules { OnOk result (KeepsRules stream.old stream.new) }
     ensures ok { OnOk result ((text : List ℕ) → Holds stream.old text
-        → RelaysAllPieces settings text stream.new
+        → RelaysAllPieces settings.entry text stream.new
         (unwritten_of pending.old) (unwritten_of pending.new) (O.told outputs.old) (O.told outputs.new)) }
     ensures held { OnOk result (HoldsLess BLOCK pending.new) }
     ensures fits { OnOk result (pending.new.so_far.carried + pending.new.so_far.refused ≤ usize.MAX) }
     ensures part { OnErr result ((text : List ℕ) → Holds stream.old text
-        → RelaysSome settings text (unwritten_of pending.old) (O.told outputs.old) (O.told outputs.new)) }
+        → RelaysSome settings.entry text (unwritten_of pending.old) (O.told outputs.old) (O.told outputs.new)) }
     ensures counts { CountsWriteFault result (O.told outputs.old) (O.told outputs.new) }
 {
     while let Some(piece) = stream.next() {
@@ -131,7 +131,7 @@ fn whole_lines(bytes: &[u8]) -> &str
 
 // Takes the whole lines at the start of bytes as a rebuild does, up to one that is too long. Gives how many bytes were taken.
 fn relay_lines<O: ThreeWriters>(
-    settings: Settings,
+    settings: Settings<'_>,
     pending: &mut Pending,
     bytes: &[u8],
     outputs: &mut O,
@@ -139,11 +139,11 @@ fn relay_lines<O: ThreeWriters>(
     requires fits { pending.old.so_far.carried + pending.old.so_far.refused ≤ usize.MAX }
     requires few { HoldsLess BLOCK pending.old }
     ensures within { IfOk result (λ taken. taken ≤ length bytes.now) }
-    ensures ok { IfOk result (λ taken. RelaysTo settings bytes.now (drop taken bytes.now)
+    ensures ok { IfOk result (λ taken. RelaysTo settings.entry bytes.now (drop taken bytes.now)
         (unwritten_of pending.old) (unwritten_of pending.new) (O.told outputs.old) (O.told outputs.new)) }
     ensures held { OnOk result (HoldsLess BLOCK pending.new) }
     ensures fits { OnOk result (pending.new.so_far.carried + pending.new.so_far.refused ≤ usize.MAX) }
-    ensures part { OnErr result (RelaysSome settings bytes.now (unwritten_of pending.old)
+    ensures part { OnErr result (RelaysSome settings.entry bytes.now (unwritten_of pending.old)
         (O.told outputs.old) (O.told outputs.new)) }
     ensures counts { CountsWriteFault result (O.told outputs.old) (O.told outputs.new) }
 {
@@ -176,7 +176,7 @@ fn first_newline(bytes: &[u8]) -> Option<usize>
 // Takes the line that ends in a part, if its first newline ends it, and the whole lines after it, which the stream is not
 // given. Gives how many bytes of the part were taken, or given to the stream.
 fn relay_begun<O: ThreeWriters>(
-    settings: Settings,
+    settings: Settings<'_>,
     stream: &mut BoundedLineStream,
     pending: &mut Pending,
     part: &[u8],
@@ -188,13 +188,13 @@ fn relay_begun<O: ThreeWriters>(
     requires few { HoldsLess BLOCK pending.old }
     ensures within { IfOk result (λ given. given ≤ length part.now) }
     ensures rules { OnOk result (KeepsRules stream.old stream.new) }
-    ensures ok { IfOk result (λ given. (text : List ℕ) → Holds stream.old text → IsLastPiece (rules_of settings.dialect) text
-        → RelaysBegun settings text part.now given stream.new
+    ensures ok { IfOk result (λ given. (text : List ℕ) → Holds stream.old text → IsLastPiece (rules_of settings.entry.dialect) text
+        → RelaysBegun settings.entry text part.now given stream.new
         (unwritten_of pending.old) (unwritten_of pending.new) (O.told outputs.old) (O.told outputs.new)) }
     ensures held { OnOk result (HoldsLess BLOCK pending.new) }
     ensures fits { OnOk result (pending.new.so_far.carried + pending.new.so_far.refused ≤ usize.MAX) }
-    ensures part { OnErr result ((text : List ℕ) → Holds stream.old text → IsLastPiece (rules_of settings.dialect) text
-        → RelaysSome settings (text ++ part.now) (unwritten_of pending.old) (O.told outputs.old) (O.told outputs.new)) }
+    ensures part { OnErr result ((text : List ℕ) → Holds stream.old text → IsLastPiece (rules_of settings.entry.dialect) text
+        → RelaysSome settings.entry (text ++ part.now) (unwritten_of pending.old) (O.told outputs.old) (O.told outputs.new)) }
     ensures counts { CountsWriteFault result (O.told outputs.old) (O.told outputs.new) }
 {
     laws::pieces_join();
@@ -218,7 +218,7 @@ fn relay_begun<O: ThreeWriters>(
 
 // Takes a part of the text, and each piece that is there then. All that these make is written and flushed.
 fn relay_part<O: ThreeWriters>(
-    settings: Settings,
+    settings: Settings<'_>,
     stream: &mut BoundedLineStream,
     pending: &mut Pending,
     part: &[u8],
@@ -231,13 +231,13 @@ fn relay_part<O: ThreeWriters>(
     requires empty { HoldsNone pending.old }
     requires block { length part.now ≤ BLOCK }
     ensures rules { OnOk result (KeepsRules stream.old stream.new) }
-    ensures ok { OnOk result ((text : List ℕ) → Holds stream.old text → IsLastPiece (rules_of settings.dialect) text
-        → RelaysAllPieces settings (text ++ part.now) stream.new
+    ensures ok { OnOk result ((text : List ℕ) → Holds stream.old text → IsLastPiece (rules_of settings.entry.dialect) text
+        → RelaysAllPieces settings.entry (text ++ part.now) stream.new
         (unwritten_of pending.old) (unwritten_of pending.new) (O.told outputs.old) (O.told outputs.new)) }
     ensures none { OnOk result (HoldsNone pending.new) }
     ensures fits { OnOk result (pending.new.so_far.carried + pending.new.so_far.refused ≤ usize.MAX) }
-    ensures part { OnErr result ((text : List ℕ) → Holds stream.old text → IsLastPiece (rules_of settings.dialect) text
-        → RelaysSome settings (text ++ part.now) (unwritten_of pending.old) (O.told outputs.old) (O.told outputs.new)) }
+    ensures part { OnErr result ((text : List ℕ) → Holds stream.old text → IsLastPiece (rules_of settings.entry.dialect) text
+        → RelaysSome settings.entry (text ++ part.now) (unwritten_of pending.old) (O.told outputs.old) (O.told outputs.new)) }
     ensures counts { CountsWriteFault result (O.told outputs.old) (O.told outputs.new) }
     ensures flushed { OnOk result (AreFlushed (O.told outputs.new)) }
 {
@@ -251,7 +251,7 @@ fn relay_part<O: ThreeWriters>(
 
 // Takes the last piece, writes all that is held, and flushes.
 fn finish<O: ThreeWriters>(
-    settings: Settings,
+    settings: Settings<'_>,
     stream: &mut BoundedLineStream,
     pending: &mut Pending,
     outputs: &mut O,
@@ -261,12 +261,12 @@ fn finish<O: ThreeWriters>(
     requires holds { (text : List ℕ) × Holds stream.old text × IsLastPiece (rules_of settings.dialect) text }
     requires fits { pending.old.so_far.carried + pending.old.so_far.refused ≤ usize.MAX }
     requires empty { HoldsNone pending.old }
-    ensures ok { OnOk result ((text : List ℕ) → Holds stream.old text → IsLastPiece (rules_of settings.dialect) text
-        → RelaysLast settings text
+    ensures ok { OnOk result ((text : List ℕ) → Holds stream.old text → IsLastPiece (rules_of settings.entry.dialect) text
+        → RelaysLast settings.entry text
         (unwritten_of pending.old) (unwritten_of pending.new) (O.told outputs.old) (O.told outputs.new)) }
     ensures none { OnOk result (HoldsNone pending.new) }
-    ensures part { OnErr result ((text : List ℕ) → Holds stream.old text → IsLastPiece (rules_of settings.dialect) text
-        → RelaysLastPart settings text (unwritten_of pending.old) (O.told outputs.old) (O.told outputs.new)) }
+    ensures part { OnErr result ((text : List ℕ) → Holds stream.old text → IsLastPiece (rules_of settings.entry.dialect) text
+        → RelaysLastPart settings.entry text (unwritten_of pending.old) (O.told outputs.old) (O.told outputs.new)) }
     ensures counts { CountsWriteFault result (O.told outputs.old) (O.told outputs.new) }
     ensures flushed { OnOk result (AreFlushed (O.told outputs.new)) }
 {
@@ -309,11 +309,11 @@ fn finish<O: ThreeWriters>(
 /// * `Write` if a writer of `outputs` failed, and only there.
 pub fn relay<R: Source, O: ThreeWriters>(
     alloc: Global,
-    settings: Settings,
+    settings: Settings<'_>,
     reader: &mut R,
     outputs: &mut O,
 ) -> Result<Relayed, RunFault>
-    ensures { Relays settings result
+    ensures { Relays settings.entry result
         (reader_told R.bytes R.failures reader.old) (reader_told R.bytes R.failures reader.new)
         (O.told outputs.old) (O.told outputs.new) }
 {

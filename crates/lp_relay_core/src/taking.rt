@@ -49,7 +49,7 @@ pub enum Numbering {
 /// How a relay reads lines and puts them out, and what its fault lines name: by default, it reads them by the rules of the crate,
 /// however long they are, writes them again, and names items from 1 on, in fault lines as they are.
 #[derive(Clone, Copy, Debug, PartialEq, Eq)]
-pub struct Settings {
+pub struct Settings<'n> {
     /// The dialect whose rules hold.
     pub dialect: Dialect,
     /// How many bytes a line may have, those of the newlines within its strings too, but without the one that ends it.
@@ -69,9 +69,12 @@ pub struct Settings {
     pub puts_refused: bool,
     /// Whether it is counted for which kind of fault each item is refused.
     pub counts_kinds: bool,
+    /// The name of the input, if its faults are to name it. The writers have it as the input begins (`begin` of
+    /// [`ThreeWriters`](crate::ThreeWriters)); a relay itself puts it into no fault.
+    pub file: Option<&'n str>,
 }
 
-impl Default for Settings {
+impl<'n> Default for Settings<'n> {
     fn default() -> Self
         ensures { result ≡ record {
           dialect = Dialect.Crate;
@@ -82,6 +85,7 @@ impl Default for Settings {
           faults = Faults.Raw;
           puts_refused = false;
           counts_kinds = false;
+          file = None;
         } }
     {
         Settings {
@@ -93,6 +97,7 @@ impl Default for Settings {
             faults: Faults::Raw,
             puts_refused: false,
             counts_kinds: false,
+            file: None,
         }
     }
 }
@@ -134,8 +139,8 @@ pub(crate) enum Taken<'a> {
 }
 
 // How many items are counted before the first item: if fault lines name items, as many as give it its number.
-pub(crate) fn items_before(settings: Settings) -> usize
-    ensures { result ≡ items_before settings.numbering settings.first }
+pub(crate) fn items_before(settings: Settings<'_>) -> usize
+    ensures { result ≡ items_before settings.entry.numbering settings.entry.first }
 {
     match settings.numbering {
         Numbering::Items => settings.first.saturating_sub(1),
@@ -144,8 +149,8 @@ pub(crate) fn items_before(settings: Settings) -> usize
 }
 
 // The line on which the first piece begins, if lines are named.
-fn first_line(settings: Settings) -> Option<usize>
-    ensures { result ≡ first_line settings.faults settings.numbering settings.first }
+fn first_line(settings: Settings<'_>) -> Option<usize>
+    ensures { result ≡ first_line settings.entry.faults settings.entry.numbering settings.entry.first }
 {
     match (settings.faults, settings.numbering) {
         (Faults::Json { first_line }, _) => Some(first_line.max(1)),
@@ -155,8 +160,8 @@ fn first_line(settings: Settings) -> Option<usize>
 }
 
 // Before the first item. It takes no memory.
-pub(crate) fn nothing_made(alloc: Global, settings: Settings) -> Pending
-    ensures made { unwritten_of result ≡ unwritten_of_none settings }
+pub(crate) fn nothing_made(alloc: Global, settings: Settings<'_>) -> Pending
+    ensures made { unwritten_of result ≡ unwritten_of_none settings.entry }
     ensures fits { result.so_far.carried + result.so_far.refused ≤ usize.MAX }
 {
     let so_far = Progress {
@@ -249,13 +254,13 @@ fn take_rebuilt<'a>(
 // whether a line is as written is compiled once, in line here.
 #[inline(never)]
 fn take_text<'a>(
-    settings: Settings,
+    settings: Settings<'_>,
     batch: &mut Vec<u8>,
     reader: &mut LineReader<'a>,
     piece: &'a str,
 ) -> Result<Taken<'a>, AllocError>
     requires dialect { reader.old.dialect ≡ settings.dialect }
-    ensures taken { IfOk result (λ taken. TakesPiece settings (Piece.Text piece.entry) taken batch.old.items batch.new.items) }
+    ensures taken { IfOk result (λ taken. TakesPiece settings.entry (Piece.Text piece.entry) taken batch.old.items batch.new.items) }
     ensures dialect { reader.new.dialect ≡ reader.old.dialect }
 {
     let text = trimmed(piece);
@@ -270,8 +275,8 @@ fn take_text<'a>(
 }
 
 // How many bytes are kept of a piece that is too long, if any are.
-fn kept_of(settings: Settings) -> Option<usize>
-    ensures { result ≡ kept_of settings }
+fn kept_of(settings: Settings<'_>) -> Option<usize>
+    ensures { result ≡ kept_of settings.entry }
 {
     if settings.puts_refused {
         Some(settings.limit)
@@ -283,14 +288,14 @@ fn kept_of(settings: Settings) -> Option<usize>
 // Takes the item of a piece.
 #[inline(always)]
 fn take_item<'a>(
-    settings: Settings,
+    settings: Settings<'_>,
     batch: &mut Vec<u8>,
     reader: &mut LineReader<'a>,
     piece: Piece<'a>,
 ) -> Result<Taken<'a>, AllocError>
     requires dialect { reader.old.dialect ≡ settings.dialect }
     requires known { IsKnown piece }
-    ensures taken { IfOk result (λ taken. TakesPiece settings piece.entry taken batch.old.items batch.new.items) }
+    ensures taken { IfOk result (λ taken. TakesPiece settings.entry piece.entry taken batch.old.items batch.new.items) }
     ensures dialect { reader.new.dialect ≡ reader.old.dialect }
 {
     match piece {
@@ -336,14 +341,14 @@ fn count(kinds: &mut Option<KindCounts>, kind: Kind) -> Result<(), AllocError>
 
 // Tells why an item is refused, as the settings say.
 fn tell(
-    settings: Settings,
+    settings: Settings<'_>,
     faults: &mut String,
     place: Place,
     refusal: &Refusal<'_>,
     piece: Piece<'_>,
 ) -> Result<(), AllocError>
     ensures { OnOk result (string_bytes faults.new
-        ≡ string_bytes faults.old ++ told_by settings.faults (rules_of settings.dialect) place piece.entry refusal.now) }
+        ≡ string_bytes faults.old ++ told_by settings.entry.faults (rules_of settings.entry.dialect) place piece.entry refusal.now) }
 {
     match settings.faults {
         Faults::Raw => put_fault_line(faults, place, refusal),
@@ -357,14 +362,14 @@ fn tell(
 #[cold]
 #[inline(never)]
 fn refuse(
-    settings: Settings,
+    settings: Settings<'_>,
     pending: &mut Pending,
     refusal: &Refusal<'_>,
     piece: Piece<'_>,
 ) -> Result<(), AllocError>
     requires { pending.old.so_far.carried + pending.old.so_far.refused < usize.MAX }
-    ensures taken { OnOk result ((item : Item) → RefusesPiece settings piece.entry refusal.now item
-        → TakesGiven settings (unwritten_of pending.old) (given_of piece.entry) (unwritten_of pending.new)) }
+    ensures taken { OnOk result ((item : Item) → RefusesPiece settings.entry piece.entry refusal.now item
+        → TakesGiven settings.entry (unwritten_of pending.old) (given_of piece.entry) (unwritten_of pending.new)) }
     ensures counted { OnOk result
         ((pending.new.so_far.carried ≡ pending.old.so_far.carried) × (pending.new.so_far.refused ≡ pending.old.so_far.refused + 1)) }
 {
@@ -385,13 +390,13 @@ fn refuse(
 // Ends a piece: what came of it is counted, or refused.
 #[inline(always)]
 fn end_piece(
-    settings: Settings,
+    settings: Settings<'_>,
     pending: &mut Pending,
     taken: Taken<'_>,
     piece: Piece<'_>,
 ) -> Result<(), AllocError>
     requires { pending.old.so_far.carried + pending.old.so_far.refused < usize.MAX }
-    ensures ends { OnOk result (EndsPiece settings piece.entry taken.entry (unwritten_of pending.old) (unwritten_of pending.new)) }
+    ensures ends { OnOk result (EndsPiece settings.entry piece.entry taken.entry (unwritten_of pending.old) (unwritten_of pending.new)) }
     ensures counted { OnOk result (pending.new.so_far.carried + pending.new.so_far.refused ≤ usize.MAX) }
 {
     match taken {
@@ -407,7 +412,7 @@ fn end_piece(
 // Takes a piece, by way of a line that is used again. It is refused if its number, or the line after it, would not fit.
 #[inline(always)]
 pub(crate) fn take_piece<'a>(
-    settings: Settings,
+    settings: Settings<'_>,
     pending: &mut Pending,
     reader: &mut LineReader<'a>,
     piece: Piece<'a>,
@@ -416,7 +421,7 @@ pub(crate) fn take_piece<'a>(
     requires known { IsKnown piece }
     requires fits { pending.old.so_far.carried + pending.old.so_far.refused ≤ usize.MAX }
     requires few { HoldsLess BLOCK pending.old }
-    ensures taken { OnOk result (TakesGiven settings (unwritten_of pending.old) (given_of piece.entry) (unwritten_of pending.new)) }
+    ensures taken { OnOk result (TakesGiven settings.entry (unwritten_of pending.old) (given_of piece.entry) (unwritten_of pending.new)) }
     ensures start { OnOk result (start_of (unwritten_of pending.new) ≡ start_after (start_of (unwritten_of pending.old))
         (newlines_given (given_of piece.entry)) (len_given (given_of piece.entry))) }
     ensures fits { OnOk result (pending.new.so_far.carried + pending.new.so_far.refused ≤ usize.MAX) }
@@ -434,13 +439,13 @@ pub(crate) fn take_piece<'a>(
 // Takes what the stream gave, by way of a line of its own, which is freed by its parts.
 #[inline(never)]
 pub(crate) fn take_given(
-    settings: Settings,
+    settings: Settings<'_>,
     pending: &mut Pending,
     given: Result<&[u8], PieceTooLong<'_>>,
 ) -> Result<(), AllocError>
     requires fits { pending.old.so_far.carried + pending.old.so_far.refused ≤ usize.MAX }
     requires few { HoldsLess BLOCK pending.old }
-    ensures taken { OnOk result (TakesGiven settings (unwritten_of pending.old) given.entry (unwritten_of pending.new)) }
+    ensures taken { OnOk result (TakesGiven settings.entry (unwritten_of pending.old) given.entry (unwritten_of pending.new)) }
     ensures start { OnOk result (start_of (unwritten_of pending.new)
         ≡ start_after (start_of (unwritten_of pending.old)) (newlines_given given.entry) (len_given given.entry)) }
     ensures fits { OnOk result (pending.new.so_far.carried + pending.new.so_far.refused ≤ usize.MAX) }

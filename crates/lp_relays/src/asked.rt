@@ -16,7 +16,7 @@ pub struct Asked {
     /// The dialects in which all that it asks is asked.
     pub dialects: &'static [Dialect],
     /// By which settings its text is relayed.
-    pub settings: Settings,
+    pub settings: Settings<'static>,
     /// How many bytes come at each read, if the row says so.
     pub reads: Option<usize>,
     /// How often a cell comes that has a number between braces.

@@ -47,7 +47,7 @@ pub struct Wrote {
 }
 
 // Relays what a source gives.
-fn relayed_from<R: Source>(alloc: Global, settings: Settings, reader: &mut R) -> Wrote {
+fn relayed_from<R: Source>(alloc: Global, settings: Settings<'_>, reader: &mut R) -> Wrote {
     let mut outputs = Outputs {
         lines: Kept::new(alloc),
         faults: Kept::new(alloc),
@@ -58,7 +58,7 @@ fn relayed_from<R: Source>(alloc: Global, settings: Settings, reader: &mut R) ->
 }
 
 /// Relays a text that comes so.
-pub fn relayed(alloc: Global, settings: Settings, way: Way, text: &[u8]) -> Wrote {
+pub fn relayed(alloc: Global, settings: Settings<'_>, way: Way, text: &[u8]) -> Wrote {
     match way {
         Way::Reads(len) => relayed_from(alloc, settings, &mut Blocks { left: text, len }),
         Way::Cut(cuts) => relayed_from(alloc, settings, &mut CutSource::new(text, cuts, 0)),
