@@ -12,6 +12,7 @@ mod counting;
 mod cuts;
 mod differing;
 mod kinds;
+pub mod laws;
 mod nowhere;
 mod objects;
 mod outputs;
