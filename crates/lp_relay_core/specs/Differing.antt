@@ -1,6 +1,6 @@
 -- The first part of a line that is not as the builder writes it.
-use Rattle.std.specs.Prelude.{ℕ, zero, suc, ◌==◌, ◌&&◌, ◌||◌, nat_lt, Bool, List, ◌∷◌, ◌++◌, codes, decimal, length, slice_index, take}
-use Rattle.std.specs.Prelude.{if◌then◌else◌}
+use Rattle.std.specs.Prelude.{◌≡◌, ◌≢◌, ℕ, zero, suc, ◌==◌, ◌&&◌, ◌||◌, nat_lt, Bool, List, ◌∷◌, ◌++◌, codes, decimal, length, slice_index, take}
+use Rattle.std.specs.{Prelude.if◌then◌else◌, Str.IsCharBoundary}
 use Rattle.influxdb_line_protocol.specs.format.{Bytes.newline, Bytes.space, Bytes.comma, Dialects.Strict}
 use Rattle.lp_events.specs.code.Stops.{reading_stop}
 use Rattle.lp_events.specs.declared.stops.LinePart.{LinePart}
@@ -52,3 +52,9 @@ part_text (In (FieldValue n)) = codes "not as written: the value of field " ++ d
 part_text (In Timestamp) = codes "not as written: the timestamp"
 part_text Spaces = codes "not as written: the spaces"
 part_text Comma = codes "not as written: the comma after the fields"
+
+-- Reading of a front that two texts have, before other bytes, stops in the part in which they differ, if a character begins there.
+abbrev pub FrontsStopInThePart : Type 0
+FrontsStopInThePart =
+    (front line written : List ℕ) (b c : ℕ) → b ≢ c → IsCharBoundary (front ++ b ∷ line) (length front)
+    → differing_part (front ++ b ∷ line) (front ++ c ∷ written) ≡ part_at (reading_stop Strict front).0 b c

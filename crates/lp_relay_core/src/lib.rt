@@ -12,6 +12,7 @@ mod cuts;
 mod differing;
 mod inputs;
 mod kinds;
+pub mod laws;
 mod nowhere;
 mod objects;
 mod outputs;
