@@ -19,35 +19,9 @@ impl<'a> fmt::Display for LineRefusal<'a> {
     ghost output = { λ refusal. Some (line_refusal_text refusal) };
 
     fn fmt<W: fmt::Write>(&self, f: &mut fmt::Formatter<W>) -> fmt::Result {
-        let fault = match self {
-            LineRefusal::Fault(fault) => fault,
-            LineRefusal::NotAdmitted => return f.write_str("a name cannot be written again"),
-        };
-        match fault {
-            SpelledFault::MeasurementValueInvalid => f.write_str(
-                "Invalid measurement was provided",
-            ),
-            SpelledFault::FieldSetMissing => f.write_str("No fields were provided"),
-            SpelledFault::EndsWithBackslash => f.write_str(
-                "Measurements, tag keys and values, and field keys may not end with a backslash",
-            ),
-            SpelledFault::TagSetMalformed => f.write_str("Tag Set Malformed"),
-            SpelledFault::GenericParsingError { .. } => {
-                f.write_str("A generic parsing error occurred: TakeWhile1")
-            }
-            SpelledFault::IntegerValueInvalid { value, .. } => {
-                write!(f, "Unable to parse integer value '{value}'")
-            }
-            SpelledFault::UIntegerValueInvalid { value, .. } => {
-                write!(f, "Unable to parse unsigned integer value '{value}'")
-            }
-            SpelledFault::TimestampValueInvalid { value, .. } => {
-                write!(f, "Unable to parse timestamp value '{value}'")
-            }
-            SpelledFault::CannotParseEntireLine { trailing_content } => write!(
-                f,
-                "Could not parse entire line. Found trailing content: '{trailing_content}'"
-            ),
+        match self {
+            LineRefusal::Fault(fault) => write!(f, "{fault}"),
+            LineRefusal::NotAdmitted => f.write_str("a name cannot be written again"),
         }
     }
 }
