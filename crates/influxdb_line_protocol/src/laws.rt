@@ -156,8 +156,8 @@ pub fn answers_are_by_rows()
     ensures { AnswerIsByRows }
 {}
 
-/// What is left where reading stops is an end of the text, the one that the row of the answer names; and nothing, if the text is
-/// read as a line.
+/// Reading stops where the row of the answer says, and in the part that is there. What is left of the text is an end of it, and
+/// nothing if the text is read as a line.
 #[tactic(auto, using(crate::proofs::lemmas::laws::StopEnds::stop_laws))]
 pub fn stops_are_by_rows()
     ensures rows { StopsAreByRows }

@@ -1,42 +1,61 @@
 -- Where reading stops, by the row of the answer; and what is left of a line there.
-use Rattle.std.specs.Prelude.{◌≡◌, ℕ, List, [], ◌∷◌, ◌++◌, Result, Ok}
-use Rattle.lp_format.specs.format.{comma, equals, Dialect, Fault, Line, Text, NameKind, a_field_key, a_tag_key, answer, name, reads}
+use Rattle.std.specs.Prelude.{◌≡◌, ◌+◌, ℕ, List, [], ◌∷◌, ◌++◌, length, Result, Ok}
+use Rattle.lp_format.specs.format.{comma, equals, space, Dialect, Fault, Line, Text, NameKind, a_field_key, a_tag_key, answer, name, reads}
+use Rattle.lp_format.specs.format.{some_tags}
 use Rattle.lp_format.specs.laws.MeaningsOfAnswers.{after_spaces, BeginsWith, IsAnswer}
 use Rattle.lp_format.specs.laws.MeaningsOfAnswers.IsAnswer.{fatal_measurement, no_measurement, fatal_tag, no_tag, no_space, fatal_field, no_field}
 use Rattle.lp_format.specs.laws.MeaningsOfAnswers.IsAnswer.{fatal_timestamp, left, all_read}
-use Rattle.lp_events.specs.code.Stops.{reading_stop}
+use Rattle.lp_events.specs.code.Stops.{Place, reading_stop, series_part}
+use Rattle.lp_events.specs.declared.stops.LinePart.{LinePart}
+use Rattle.lp_events.specs.declared.stops.LinePart.TheVariants.{Measurement, TagKey, TagValue, FieldKey, FieldValue, Timestamp}
 
--- what is left of a tag or a field that does not read: its key does not, or no equals sign follows it, or the value after that does not
-pub data IsLeftInPair (kind : NameKind) (text : List ℕ) : List ℕ → Type 0 where
+-- where a tag or a field stops that does not read: its key does not, or no equals sign follows it, or the value after that does not
+pub data IsStopInPair (kind : NameKind) (key value : LinePart) (text : List ℕ) : Place → Type 0 where
   -- no key is read
-  at_key : ((key : Text) (rest : List ℕ) → ¬ (name kind text ≡ reads key rest)) → IsLeftInPair kind text text
+  at_key : ((k : Text) (rest : List ℕ) → ¬ (name kind text ≡ reads k rest)) → IsStopInPair kind key value text (key, text)
   -- no equals sign follows its key
-  at_sign : (key : Text) (rest : List ℕ) → name kind text ≡ reads key rest → ¬ BeginsWith equals rest → IsLeftInPair kind text rest
+  at_sign : (k : Text) (rest : List ℕ) → name kind text ≡ reads k rest → ¬ BeginsWith equals rest
+      → IsStopInPair kind key value text (key, rest)
   -- its key and an equals sign are read
-  at_value : (key : Text) (rest : List ℕ) → name kind text ≡ reads key (equals ∷ rest) → IsLeftInPair kind text rest
+  at_value : (k : Text) (rest : List ℕ) → name kind text ≡ reads k (equals ∷ rest) → IsStopInPair kind key value text (value, rest)
 
--- the same of the one after these: it is at the front if none is there, and else after a comma
-abbrev pub IsLeftInNext : {A : Type 0} → NameKind → List A → List ℕ → List ℕ → Type 0
-IsLeftInNext kind [] last rest = IsLeftInPair kind last rest
-IsLeftInNext kind (x ∷ xs) last rest = (after : List ℕ) × (last ≡ comma ∷ after) × IsLeftInPair kind after rest
+-- where the tag of this number stops
+abbrev pub IsStopInTag : ℕ → List ℕ → Place → Type 0
+IsStopInTag number text place = IsStopInPair a_tag_key (TagKey number) (TagValue number) text place
 
--- what is left where reading stops, by the row of the answer
-abbrev pub IsLeftByRow : {dialect : Dialect} {text : List ℕ} {a : Result Line Fault} → IsAnswer dialect text a → List ℕ → Type 0
-IsLeftByRow {text = text} (fatal_measurement e h) rest = rest ≡ text
-IsLeftByRow {text = text} (no_measurement h) rest = rest ≡ text
-IsLeftByRow (fatal_tag m after tags last e named most next) rest = IsLeftInNext a_tag_key tags last rest
-IsLeftByRow (no_tag m after named h) rest = IsLeftInPair a_tag_key after rest
-IsLeftByRow (no_space m tags last series gap) rest = rest ≡ last
-IsLeftByRow (fatal_field m tags after fields last e series gap most next) rest = IsLeftInNext a_field_key fields last rest
-IsLeftByRow (no_field m tags after series gap h) rest = IsLeftInPair a_field_key (after_spaces after) rest
-IsLeftByRow (fatal_timestamp line last side number r stamp) rest = rest ≡ after_spaces last
-IsLeftByRow (left line last b more r stamp) rest = rest ≡ b ∷ more
-IsLeftByRow (all_read line last r stamp) rest = rest ≡ []
+-- where the field of this number stops
+abbrev pub IsStopInField : ℕ → List ℕ → Place → Type 0
+IsStopInField number text place = IsStopInPair a_field_key (FieldKey number) (FieldValue number) text place
 
--- What is left where reading stops is what the row of the answer says.
+-- where the one after these stops: it is at the front if none is there, and else after a comma
+abbrev pub IsStopInNext : {A : Type 0} → (ℕ → List ℕ → Place → Type 0) → List A → List ℕ → Place → Type 0
+IsStopInNext IsStop [] last place = IsStop 1 last place
+IsStopInNext IsStop (x ∷ xs) last place = (after : List ℕ) × (last ≡ comma ∷ after) × IsStop (length (x ∷ xs) + 1) after place
+
+-- the part after fields: a timestamp if a space is there, and the last value if no comma is there either
+abbrev pub IsPartAfter : ℕ → (last rest : List ℕ) → LinePart → Type 0
+IsPartAfter fields last rest part =
+    (BeginsWith space rest → part ≡ Timestamp)
+    × (¬ BeginsWith space rest → ¬ BeginsWith comma last → part ≡ FieldValue fields)
+
+-- where reading stops, by the row of the answer
+abbrev pub IsStopByRow : {dialect : Dialect} {text : List ℕ} {a : Result Line Fault} → IsAnswer dialect text a → Place → Type 0
+IsStopByRow {text = text} (fatal_measurement e h) place = place ≡ (Measurement, text)
+IsStopByRow {text = text} (no_measurement h) place = place ≡ (Measurement, text)
+IsStopByRow (fatal_tag m after tags last e named most next) place = IsStopInNext IsStopInTag tags last place
+IsStopByRow (no_tag m after named h) place = IsStopInTag 1 after place
+IsStopByRow (no_space m tags last series gap) place =
+    (place.1 ≡ last) × (¬ BeginsWith comma last → place.0 ≡ series_part (length (some_tags tags)))
+IsStopByRow (fatal_field m tags after fields last e series gap most next) place = IsStopInNext IsStopInField fields last place
+IsStopByRow (no_field m tags after series gap h) place = IsStopInField 1 (after_spaces after) place
+IsStopByRow (fatal_timestamp line last side number r stamp) place = place ≡ (Timestamp, after_spaces last)
+IsStopByRow (left line last b more r stamp) place = (place.1 ≡ b ∷ more) × IsPartAfter (length line.fields) r.after_fields last place.0
+IsStopByRow (all_read line last r stamp) place = (place.1 ≡ []) × IsPartAfter (length line.fields) r.after_fields last place.0
+
+-- Reading stops where the row of the answer says.
 abbrev pub StopsAreByRows : Type 0
 StopsAreByRows =
-    (dialect : Dialect) (text : List ℕ) (a : Result Line Fault) (row : IsAnswer dialect text a) → IsLeftByRow row (reading_stop dialect text).1
+    (dialect : Dialect) (text : List ℕ) (a : Result Line Fault) (row : IsAnswer dialect text a) → IsStopByRow row (reading_stop dialect text)
 
 -- What is left where reading stops is an end of the text.
 abbrev pub StopsAreInText : Type 0

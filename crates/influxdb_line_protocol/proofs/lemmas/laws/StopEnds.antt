@@ -9,11 +9,12 @@ use Rattle.lp_format.specs.laws.MeaningsOfAnswers.{after_spaces, IsAnswer, Reads
 use Rattle.lp_format.specs.laws.MeaningsOfAnswers.IsAnswer.{fatal_measurement, no_measurement, fatal_tag, no_tag, no_space, fatal_field, no_field}
 use Rattle.lp_format.specs.laws.MeaningsOfAnswers.IsAnswer.{fatal_timestamp, left, all_read}
 use Rattle.lp_values.proofs.lemmas.fields.ReadingLemmas.{EndsIn, EndsIn-drop, EndsIn-end, EndsIn-self, name_ends, pair_parts, tag_ends}
-use Rattle.lp_events.specs.code.Stops.{reading_stop}
+use Rattle.lp_events.specs.code.Stops.{Place, reading_stop}
+use Rattle.lp_events.specs.declared.stops.LinePart.{LinePart}
 use Rattle.lp_events.proofs.lemmas.fields.ManyLemmas.{series_ends}
 use Rattle.lp_lines.proofs.lemmas.meanings.AnswerMeaning.{answer_is_by_rows, series_parts}
-use Rattle.influxdb_line_protocol.specs.laws.StopLaws.{IsLeftByRow, IsLeftInNext, IsLeftInPair, IsLeftInPair.at_key, IsLeftInPair.at_sign}
-use Rattle.influxdb_line_protocol.specs.laws.StopLaws.{IsLeftInPair.at_value, StopsAreInText}
+use Rattle.influxdb_line_protocol.specs.laws.StopLaws.{IsStopByRow, IsStopInField, IsStopInNext, IsStopInPair, IsStopInPair.at_key, IsStopInPair.at_sign}
+use Rattle.influxdb_line_protocol.specs.laws.StopLaws.{IsStopInPair.at_value, IsStopInTag, StopsAreInText}
 use Rattle.influxdb_line_protocol.proofs.lemmas.laws.StopRows.{lines_are_read_whole, stops_are_by_rows}
 
 -- what a reading leaves is an end of the text
@@ -74,11 +75,12 @@ comma_ends : (text place rest : List ℕ) → text ≡ comma ∷ place → EndsI
 comma_ends text place rest is h = EndsIn-end text place rest (record { front = comma ∷ []; is = is }) h
 
 -- and in what is left in a pair
-pair_ends : (kind : NameKind) (text rest : List ℕ) → IsLeftInPair kind text rest → EndsIn text rest
-pair_ends kind text rest (at_key none) = EndsIn-self text
-pair_ends kind text rest (at_sign key last e none) = name_ends kind text key last e
-pair_ends kind text rest (at_value key last e) =
-    EndsIn-end text (equals ∷ last) last (name_ends kind text key (equals ∷ last) e) (record { front = equals ∷ []; is = refl })
+pair_ends : (kind : NameKind) (key value : LinePart) (text : List ℕ) (place : Place) → IsStopInPair kind key value text place
+    → EndsIn text place.1
+pair_ends kind key value text place (at_key none) = EndsIn-self text
+pair_ends kind key value text place (at_sign k last e none) = name_ends kind text k last e
+pair_ends kind key value text place (at_value k last e) =
+    EndsIn-end text (equals ∷ last) last (name_ends kind text k (equals ∷ last) e) (record { front = equals ∷ []; is = refl })
 
 module _ {A : Type 0} (one : List ℕ → Reading A) (ends : (text : List ℕ) (x : A) (rest : List ℕ) → one text ≡ reads x rest → EndsIn text rest) where
   -- in what is left after parts
@@ -93,11 +95,12 @@ module _ {A : Type 0} (one : List ℕ → Reading A) (ends : (text : List ℕ) (
   list_ends (x ∷ xs) text rest h = EndsIn-end text h.0 rest (ends text x h.0 h.1) (many_ends xs h.0 rest h.2)
 
   -- and in the next one
-  next_ends : (kind : NameKind) (xs : List A) (text last rest : List ℕ) → SeparatedBy one xs text last → IsLeftInNext kind xs last rest
-      → EndsIn text rest
-  next_ends kind [] text last rest h k = rw h (pair_ends kind last rest k)
-  next_ends kind (x ∷ xs) text last rest h k =
-      EndsIn-end text last rest (list_ends (x ∷ xs) text last h) (comma_ends last k.0 rest k.1 (pair_ends kind k.0 rest k.2))
+  next_ends : (IsStop : ℕ → List ℕ → Place → Type 0) → ((number : ℕ) (text : List ℕ) (place : Place) → IsStop number text place
+      → EndsIn text place.1) → (xs : List A) (text last : List ℕ) (place : Place) → SeparatedBy one xs text last
+      → IsStopInNext IsStop xs last place → EndsIn text place.1
+  next_ends IsStop in_one [] text last place h k = rw h (in_one 1 last place k)
+  next_ends IsStop in_one (x ∷ xs) text last place h k =
+      EndsIn-end text last place.1 (list_ends (x ∷ xs) text last h) (comma_ends last k.0 place.1 k.1 (in_one _ k.0 place k.2))
 
 -- in what is left after spaces
 spaces_end : (text : List ℕ) → EndsIn text (after_spaces text)
@@ -148,31 +151,34 @@ module _ {dialect : Dialect} {text : List ℕ} where
       rw r.rest_is taken
 
   -- in each row
-  row_ends : {a : Result Line Fault} (row : IsAnswer dialect text a) (rest : List ℕ) → IsLeftByRow row rest → EndsIn text rest
-  row_ends (fatal_measurement e h) rest is = rw is (EndsIn-self text)
-  row_ends (no_measurement h) rest is = rw is (EndsIn-self text)
-  row_ends (fatal_tag m after tags last e named longest next) rest is =
-      EndsIn-end text (comma ∷ after) rest (name_ends a_measurement text m (comma ∷ after) named)
-      (comma_ends (comma ∷ after) after rest refl (next_ends tag tag_ends _ tags after last rest longest.separated is))
-  row_ends (no_tag m after named h) rest is =
-      EndsIn-end text (comma ∷ after) rest (name_ends a_measurement text m (comma ∷ after) named)
-      (comma_ends (comma ∷ after) after rest refl (pair_ends _ after rest is))
-  row_ends (no_space m tags last series gap) rest is = rw is (series_end series)
-  row_ends (fatal_field m tags after fields last e series gap longest next) rest is =
-      EndsIn-end text after rest (series_end series) (EndsIn-end after (after_spaces after) rest (spaces_end after)
-      (next_ends field field_ends _ fields (after_spaces after) last rest longest.separated is))
-  row_ends (no_field m tags after series gap h) rest is =
-      EndsIn-end text after rest (series_end series)
-      (EndsIn-end after (after_spaces after) rest (spaces_end after) (pair_ends _ (after_spaces after) rest is))
-  row_ends (fatal_timestamp line last side number r stamp) rest is = rw is (EndsIn-end text last (after_spaces last) (fields_end r) (spaces_end last))
-  row_ends (left line last b more r stamp) rest is = rw is (EndsIn-end text last (b ∷ more) (fields_end r) (time_end last line.timestamp (b ∷ more) stamp))
-  row_ends (all_read line last r stamp) rest is = rw is (EndsIn-end text last [] (fields_end r) (time_end last line.timestamp [] stamp))
+  row_ends : {a : Result Line Fault} (row : IsAnswer dialect text a) (place : Place) → IsStopByRow row place → EndsIn text place.1
+  row_ends (fatal_measurement e h) place is = rw is (EndsIn-self text)
+  row_ends (no_measurement h) place is = rw is (EndsIn-self text)
+  row_ends (fatal_tag m after tags last e named longest next) place is =
+      EndsIn-end text (comma ∷ after) place.1 (name_ends a_measurement text m (comma ∷ after) named)
+      (comma_ends (comma ∷ after) after place.1 refl
+      (next_ends tag tag_ends IsStopInTag (λ n. pair_ends _ _ _) tags after last place longest.separated is))
+  row_ends (no_tag m after named h) place is =
+      EndsIn-end text (comma ∷ after) place.1 (name_ends a_measurement text m (comma ∷ after) named)
+      (comma_ends (comma ∷ after) after place.1 refl (pair_ends _ _ _ after place is))
+  row_ends (no_space m tags last series gap) place is = rw is.0 (series_end series)
+  row_ends (fatal_field m tags after fields last e series gap longest next) place is =
+      EndsIn-end text after place.1 (series_end series) (EndsIn-end after (after_spaces after) place.1 (spaces_end after)
+      (next_ends field field_ends IsStopInField (λ n. pair_ends _ _ _) fields (after_spaces after) last place longest.separated is))
+  row_ends (no_field m tags after series gap h) place is =
+      EndsIn-end text after place.1 (series_end series)
+      (EndsIn-end after (after_spaces after) place.1 (spaces_end after) (pair_ends _ _ _ (after_spaces after) place is))
+  row_ends (fatal_timestamp line last side number r stamp) place is =
+      rw is (EndsIn-end text last (after_spaces last) (fields_end r) (spaces_end last))
+  row_ends (left line last b more r stamp) place is =
+      rw is.0 (EndsIn-end text last (b ∷ more) (fields_end r) (time_end last line.timestamp (b ∷ more) stamp))
+  row_ends (all_read line last r stamp) place is = rw is.0 (EndsIn-end text last [] (fields_end r) (time_end last line.timestamp [] stamp))
 
 -- what is left is an end
 pub stops_are_in_text : StopsAreInText
 stops_are_in_text dialect text =
     let row = (answer_is_by_rows dialect text (answer dialect text)).0 refl in
-    let end = row_ends row (reading_stop dialect text).1 (stops_are_by_rows dialect text (answer dialect text) row) in
+    let end = row_ends row (reading_stop dialect text) (stops_are_by_rows dialect text (answer dialect text) row) in
     (end.front, end.is)
 
 -- what is left at a stop
