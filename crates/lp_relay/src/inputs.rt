@@ -2,21 +2,8 @@
 ghost use Rattle.std.specs.Io.{ReadsAtMost};
 
 use std::cell::Cell;
-use std::fs::{self, File, OpenOptions};
-use std::io::{self, ErrorKind, Read, Stdin};
-use std::os::unix::fs::MetadataExt;
-
-/// The names of inputs if no word names an input.
-pub(crate) const STANDARD_INPUT: &[&str] = &["-"];
-
-// Where the system has standard input.
-const STDIN: &str = "/proc/self/fd/0";
-
-/// Where the system has standard output.
-pub(crate) const STDOUT: &str = "/proc/self/fd/1";
-
-// Where the system has standard error.
-const STDERR: &str = "/proc/self/fd/2";
+use std::fs::File;
+use std::io::{self, Read, Stdin};
 
 // An input that is open.
 #[derive(Drop)]
@@ -113,88 +100,4 @@ impl<'a, 'n> Read for Inputs<'a, 'n> {
         }
         Ok(0)
     }
-}
-
-// Takes the number of a stream, if it is closed, by a file that can be read or written, but not both.
-fn hold(rt: &HostRuntime, path: &str, is_read: bool) -> Option<File> {
-    match fs::metadata(rt, path) {
-        Err(error) if error.kind() == ErrorKind::NotFound => {
-            let mut options = OpenOptions::new();
-            options.read(is_read).write(!is_read);
-            options.open(rt, "/dev/null").ok()
-        }
-        _ => None,
-    }
-}
-
-/// Standard streams that are closed: files in their places, so that no file that is opened later is taken for one. What the
-/// program does with a stream fails as if it were closed.
-#[derive(Drop)]
-pub(crate) struct Closed {
-    stdin: Option<File>,
-    stdout: Option<File>,
-    stderr: Option<File>,
-}
-
-impl Closed {
-    /// Takes the place of each stream that is closed, the lowest first, since the system gives the lowest number that is free.
-    pub(crate) fn hold(rt: &HostRuntime) -> Self {
-        let stdin = hold(rt, STDIN, false);
-        let stdout = hold(rt, STDOUT, true);
-        let stderr = hold(rt, STDERR, true);
-        Closed {
-            stdin,
-            stdout,
-            stderr,
-        }
-    }
-}
-
-// The path of an input.
-fn path_of<'a>(name: &'a str) -> &'a str {
-    if name == "-" { STDIN } else { name }
-}
-
-// The device and the number of the regular file to which a path leads, if it does.
-fn file_at(rt: &HostRuntime, path: &str) -> Option<(u64, u64)> {
-    match fs::metadata(rt, path) {
-        Ok(file) if file.is_file() => Some((file.dev(), file.ino())),
-        _ => None,
-    }
-}
-
-/// The name of an input that is the file to which the lines go, or standard output if no file is named.
-pub(crate) fn input_written_to<'a>(
-    rt: &HostRuntime,
-    names: &'a [&'a str],
-    output: Option<&str>,
-) -> Option<&'a str> {
-    let written = file_at(rt, output.unwrap_or(STDOUT))?;
-    for at in 0..names.len() {
-        if file_at(rt, path_of(names[at])) == Some(written) {
-            return Some(names[at]);
-        }
-    }
-    None
-}
-
-/// Whether two paths lead to one regular file.
-pub(crate) fn are_one_file(rt: &HostRuntime, one: &str, other: &str) -> bool {
-    match file_at(rt, one) {
-        Some(file) => file_at(rt, other) == Some(file),
-        None => false,
-    }
-}
-
-/// How many bytes all inputs have, if each is a regular file.
-pub(crate) fn total_len(rt: &HostRuntime, names: &[&str]) -> Option<u64> {
-    let mut total = 0u64;
-    for at in 0..names.len() {
-        let file = fs::metadata(rt, path_of(names[at])).ok()?;
-        if !file.is_file() {
-            return None;
-        }
-        total = total.saturating_add(file.len());
-    }
-    Some(total)
 }
