@@ -1,6 +1,8 @@
 pub mod Asked
+pub mod Destinations
 pub mod Endings
 pub mod Files
+pub mod Inputs
 pub mod Named
 pub mod Refusals
 pub mod Summaries

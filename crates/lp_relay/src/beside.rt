@@ -1,4 +1,5 @@
 //! Where the lines and the refused pieces go: to standard output, to a file that comes to its place whole or not at all, or nowhere.
+ghost use Rattle.lp_relay.specs.Destinations.{LinesGoTo, RefusedGoTo};
 
 use crate::files::{FileState, Files, Maker, Output, Stage};
 use std::fs::{self, File, OpenOptions};
@@ -184,7 +185,10 @@ impl<'a> Destinations<'a> {
 
 impl<'a, 'n> Files<FileBeside<'a, 'n>> {
     /// Where lines and refused pieces are written: those that have no file to standard output, and nowhere.
-    pub(crate) fn destinations(&self, rt: &HostRuntime) -> Destinations<'_> {
+    pub(crate) fn destinations(&self, rt: &HostRuntime) -> Destinations<'_>
+        ensures lines { LinesGoTo self.now.lines result.lines }
+        ensures refused { RefusedGoTo self.now.refused result.refused }
+    {
         Destinations {
             lines: match &self.lines {
                 Some(output) => Destination::File(&output.file),

@@ -2,6 +2,8 @@
 //!
 //! The fault of a run says which side failed, and no more. So the program puts a [`Watched`] before each reader and writer of
 //! std: it hands on each call, and keeps the error that comes, for the message.
+ghost use Rattle.std.specs.Prelude.{◌≡◌};
+
 use crate::endings::{Device, Devices};
 use std::cell::Cell;
 use std::io::{self, Read, Write};
@@ -64,7 +66,10 @@ pub(crate) struct Watched<'a, D> {
 }
 
 impl<'a, D> Watched<'a, D> {
-    pub(crate) fn new(error: &'a Cell<Option<io::Error>>, inner: D) -> Self {
+    /// A reader or a writer that hands on each call to another.
+    pub(crate) fn new(error: &'a Cell<Option<io::Error>>, inner: D) -> Self
+        ensures { result.inner ≡ inner }
+    {
         Watched { error, inner }
     }
 }

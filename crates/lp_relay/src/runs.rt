@@ -7,7 +7,7 @@ use crate::beside::Destinations;
 use crate::endings::{Device, Ending, Failure, ending_of_cut, ending_of_relay, status_of_print};
 use crate::errors::{LastErrors, Watched};
 use crate::files::Files;
-use crate::inputs::Inputs;
+use crate::inputs::{Inputs, Joined, SystemOpener};
 use crate::meter::{Counted, Meter, MeteredSink, MeteredSource};
 use crate::named::Named;
 use crate::places::{refusal_at, total_len};
@@ -35,7 +35,7 @@ fn relay_inputs<'n>(
     };
     let shown = meter.as_ref();
     let is_out_shown = destinations.is_on_terminal();
-    let inputs = Inputs::new(rt, names, &errors.input_name, true);
+    let inputs = Inputs::new(SystemOpener::new(rt, &errors.input_name), names);
     let reader = Reading::new(Watched::new(&errors.input, inputs));
     let lines = Writing::new(Watched::new(&errors.output, destinations.lines));
     let faults = Writing::new(Watched::new(&errors.faults, rt.stderr()));
@@ -98,8 +98,8 @@ fn print_ends<'n>(
     names: &'n [&'n str],
     errors: &LastErrors<'n>,
 ) -> Result<(), RunFault> {
-    let inputs = Inputs::new(rt, names, &errors.input_name, false);
-    let mut reader = Reading::new(Watched::new(&errors.input, inputs));
+    let inputs = Inputs::new(SystemOpener::new(rt, &errors.input_name), names);
+    let mut reader = Reading::new(Watched::new(&errors.input, Joined::new(inputs)));
     for end in part_ends_of(rt.alloc(), dialect, count, &mut reader)? {
         if let Err(error) = println!(rt; "{end}") {
             errors.output.set(Some(error));
