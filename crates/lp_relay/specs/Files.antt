@@ -4,6 +4,7 @@ use Rattle.std.specs.Borrow.{Bor}
 use Rattle.std.specs.declared.io.Error.{Error}
 use Rattle.lp_rebuild.specs.declared.program.RunFault.TheVariants.{Write}
 use Rattle.lp_relay.specs.declared.endings.Failure.{Failure}
+use Rattle.lp_relay.specs.declared.files.Files.{Files}
 use Rattle.lp_relay.specs.declared.files.FileState.{FileState}
 use Rattle.lp_relay.specs.declared.files.Stage.{Stage}
 use Rattle.lp_relay.specs.declared.files.Stage.TheVariants.{Beside, InPlace, Removed}
@@ -32,9 +33,19 @@ stage_removed Removed = Removed
 abbrev pub after_remove : FileState → FileState
 after_remove file = record file { stage = stage_removed file.stage }
 
--- this holds of each of two files that there is
-abbrev pub Each : (FileState → Type 0) → (lines refused : Option FileState) → Type 0
-Each P lines refused = IfSome lines P × IfSome refused P
+-- this holds of each of these files that there is
+abbrev pub Each : {F : Type 0} → (F → FileState) → (FileState → Type 0) → Files F → Type 0
+Each state P files = IfSome (option_map state files.lines) P × IfSome (option_map state files.refused) P
+
+-- the name of the place of a file, if there is one
+abbrev pub name_of_each : Option FileState → Option (Bor (List ℕ))
+name_of_each file = option_map (λ state. state.name) file
+
+-- these files are those of before, as their names are
+abbrev pub HasNames : {F : Type 0} → (F → FileState) → (old new : Files F) → Type 0
+HasNames state old new =
+    (name_of_each (option_map state new.lines) ≡ name_of_each (option_map state old.lines))
+    × (name_of_each (option_map state new.refused) ≡ name_of_each (option_map state old.refused))
 
 -- the same, if there is one
 abbrev pub after_sync_each : Option FileState → Bool → Option FileState
@@ -65,9 +76,9 @@ abbrev pub IsInPlace : FileState → Type 0
 IsInPlace file = file.stage ≡ InPlace
 
 -- if one of two files is in its place, all of both is on the device
-abbrev pub ArePutWhole : (lines refused : Option FileState) → Type 0
-ArePutWhole lines refused =
-    Each (λ file. file.stage ≡ InPlace → Each (λ other. other.is_synced ≡ true) lines refused) lines refused
+abbrev pub ArePutWhole : {F : Type 0} → (F → FileState) → Files F → Type 0
+ArePutWhole state files =
+    Each state (λ file. file.stage ≡ InPlace → Each state (λ other. other.is_synced ≡ true) files) files
 
 -- why a run failed whose file of this name could not be written, of which the system said this
 abbrev pub file_failure : Bor (List ℕ) → Error → Failure

@@ -1,9 +1,9 @@
 //! The files that a relay writes, each beside its place until all of both is on the device.
-ghost use Rattle.std.specs.Prelude.{◌≡◌, ◌≢◌, ◌↔◌, Bool, List, ℕ, Option, true, is_ok, option_map, IfErr, IfOk, IfSome, OnErr, OnOk};
+ghost use Rattle.std.specs.Prelude.{◌≡◌, ◌≢◌, Bool, List, ℕ, Option, true, is_ok, option_map, IfErr, IfOk, IfSome, OnErr, OnOk};
 ghost use Rattle.std.specs.Borrow.{Bor};
 ghost use Rattle.std.specs.declared.io.Error.{Error};
 ghost use Rattle.lp_relay.specs.declared.files.FileState.{FileState};
-ghost use Rattle.lp_relay.specs.Files.{ArePutWhole, Each, IsBeside, IsInPlace, IsRemoved, IsSettled, IsTold, IsWhole, after_put, after_put_each, after_remove, after_sync, after_sync_each, file_failure, new_file};
+ghost use Rattle.lp_relay.specs.Files.{ArePutWhole, Each, HasNames, IsBeside, IsInPlace, IsRemoved, IsSettled, IsTold, IsWhole, after_put, after_put_each, after_remove, after_sync, after_sync_each, file_failure, new_file};
 
 use crate::endings::{Device, Failure};
 use lp_rebuild::RunFault;
@@ -230,10 +230,10 @@ impl<'n, F: Output<'n>> Files<F> {
 
     // Puts each file in its place, once all of both is on the device. After an error the first may be there already.
     fn put(&mut self) -> Result<(), Failure<'n>>
-        requires lines { IfSome (option_map F.state self.old.lines) IsBeside }
-        requires refused { IfSome (option_map F.state self.old.refused) IsBeside }
-        ensures placed { OnOk result (Each IsInPlace (option_map F.state self.new.lines) (option_map F.state self.new.refused)) }
-        ensures whole { ArePutWhole (option_map F.state self.new.lines) (option_map F.state self.new.refused) }
+        requires { Each F.state IsBeside self.old }
+        ensures kept { HasNames F.state self.old self.new }
+        ensures placed { OnOk result (Each F.state IsInPlace self.new) }
+        ensures whole { ArePutWhole F.state self.new }
         ensures told { IfErr result (λ failure. IsTold F.says failure) }
     {
         sync_file(&mut self.lines)?;
@@ -249,13 +249,12 @@ impl<'n, F: Output<'n>> Files<F> {
     ///
     /// The failure of the run; `Write` if a file cannot be put in its place.
     pub fn finish<T: Drop>(&mut self, answer: Result<T, Failure<'n>>) -> Result<T, Failure<'n>>
-        requires lines { IfSome (option_map F.state self.old.lines) IsBeside }
-        requires refused { IfSome (option_map F.state self.old.refused) IsBeside }
-        ensures placed { OnOk result (Each IsInPlace (option_map F.state self.new.lines) (option_map F.state self.new.refused)) }
-        ensures whole { ArePutWhole (option_map F.state self.new.lines) (option_map F.state self.new.refused) }
-        ensures settled { Each IsSettled (option_map F.state self.new.lines) (option_map F.state self.new.refused) }
-        ensures failed { IfErr answer.entry (λ failure. (result ≡ Err failure)
-            × Each IsRemoved (option_map F.state self.new.lines) (option_map F.state self.new.refused)) }
+        requires { Each F.state IsBeside self.old }
+        ensures kept { HasNames F.state self.old self.new }
+        ensures placed { OnOk result (Each F.state IsInPlace self.new) }
+        ensures whole { ArePutWhole F.state self.new }
+        ensures settled { Each F.state IsSettled self.new }
+        ensures failed { IfErr answer.entry (λ failure. (result ≡ Err failure) × Each F.state IsRemoved self.new) }
         ensures value { IfOk answer.entry (λ value. IfOk result (λ other. other ≡ value)) }
         ensures told { OnOk answer.entry (IfErr result (λ failure. IsTold F.says failure)) }
     {
@@ -286,7 +285,7 @@ impl<'n, F: Output<'n>> Files<F> {
 
     /// Lets them go.
     pub fn let_go(self)
-        requires { Each IsSettled (option_map F.state self.lines) (option_map F.state self.refused) }
+        requires { Each F.state IsSettled self }
     {
         let Files { lines, refused } = self;
         let_file_go(lines);
