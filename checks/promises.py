@@ -3,8 +3,9 @@
 
     checks/promises.py    prints each public call with a clause that docs/TRUST.md does not name, each with a `requires` that its
                           table of conditions does not have, what that table has and no call asks for, each clause that a row names
-                          and no call of the row has, and each name in `code` on a page that nothing in the tree has; status 1 if
-                          there is any
+                          and no call of the row has, each function of `lp_relay` without an `ensures` that the table of these does
+                          not have, and what that has and no such function is, and each name in `code` on a page that nothing in the
+                          tree has; status 1 if there is any
 
 A call is public if the root or a public module of the library, `lp_rebuild` or `lp_relay_core` hands it on, or its type and trait,
 or if it is `extern "C"` in `lp_c`. A line names a method if it has the names of the method, of its type and of its trait.
@@ -19,12 +20,13 @@ import re
 import sys
 from pathlib import Path
 
-from clauses import surface
+from clauses import bare, function, members, surface
 from definitions import LIBRARIES, handed_on
 
 TOP = Path(__file__).resolve().parent.parent
 TRUST = TOP / "docs" / "TRUST.md"
 CONDITIONS = "## Conditions"
+UNPROMISED = "### Functions of `lp_relay` without a clause"
 PAGES = ["*.md", "docs/*.md", "bench/*.md", "bindings/**/*.md", "crates/*/*.md"]
 # The crates that hand names on, and the crates whose code these are in.
 ROOTS = {
@@ -121,6 +123,25 @@ def wrong_conditions(calls):
             yield f"docs/TRUST.md: the table of conditions has `{span}`, which has no `requires`"
 
 
+def unpromised_functions():
+    """The functions of `lp_relay` without an `ensures`, but for those of an impl of a trait: the type of each, and its name."""
+    for path in sorted((TOP / "crates" / "lp_relay" / "src").rglob("*.rt")):
+        text = bare(read(path))
+        for name, _, what, here in members(text):
+            if what == "fn" and " for " not in name and not any(line.startswith("ensures") for line in function(text[here:])[1]):
+                yield without_types(name)
+
+
+def wrong_functions():
+    """The functions without an `ensures` that their table in docs/TRUST.md does not have, and what that has beside them."""
+    table = read(TRUST).partition(f"\n{UNPROMISED}\n")[2].partition("\n## ")[0]
+    told = {name for line in table.splitlines() if line.startswith("| `") for name in re.findall(r"`([^`]+)`", line.split("|")[1])}
+    due = {name if name in told else name.rpartition("::")[2] for name in unpromised_functions()}
+    for name in sorted(due ^ told):
+        has = "does not have" if name in due else "has"
+        yield f"docs/TRUST.md: the table of functions without a clause {has} {name}"
+
+
 def wrong_clauses():
     """The rows of docs/TRUST.md that name a clause which no public function of the row has."""
     clauses = {}
@@ -193,7 +214,7 @@ def unknown_names(path, tree):
 def main():
     calls, tree = public_calls(), Tree()
     pages = sorted({path for place in PAGES for path in TOP.glob(place) if "out" not in path.parts})
-    found = [*unnamed_calls(calls), *wrong_conditions(calls), *wrong_clauses()]
+    found = [*unnamed_calls(calls), *wrong_conditions(calls), *wrong_clauses(), *wrong_functions()]
     found += [line for path in pages for line in unknown_names(path, tree)]
     if found:
         print("\n".join(f"promises: {line}" for line in found), file=sys.stderr)

@@ -1,200 +1,193 @@
-//! The inputs, which are read one after another, as one or each by itself.
+//! The inputs, which are read one after another: each by itself, or all as one.
+ghost use Rattle.std.specs.Prelude.{◌≡◌, ◌<◌, List, [], ℕ, Option, None, false, is_some, nat_lt, true, length, IfOk, OnOk};
 ghost use Rattle.std.specs.Io.{ReadsAtMost};
+ghost use Rattle.std.specs.Io.KnownBytes.{ReadConsumes};
+ghost use Rattle.lp_relay.specs.Inputs.{ReadsOn, ReadsOne, joined_left, texts_left};
 
 use std::cell::Cell;
-use std::fs::{self, File, OpenOptions};
-use std::io::{self, ErrorKind, Read, Stdin};
-use std::os::unix::fs::MetadataExt;
+use std::fs::File;
+use std::io::{self, Read, Stdin};
 
-/// The names of inputs if no word names an input.
-pub(crate) const STANDARD_INPUT: &[&str] = &["-"];
+/// What opens inputs.
+///
+/// For contracts it has one member: `bytes`, those of the input of a name, if they are known.
+pub trait Opener<'n> {
+    type Input: Read + Drop;
 
-// Where the system has standard input.
-const STDIN: &str = "/proc/self/fd/0";
+    ghost bytes: { Self → List ℕ → Option (List ℕ) };
 
-/// Where the system has standard output.
-pub(crate) const STDOUT: &str = "/proc/self/fd/1";
-
-// Where the system has standard error.
-const STDERR: &str = "/proc/self/fd/2";
-
-// An input that is open.
-#[derive(Drop)]
-enum Open {
-    Standard(Stdin),
-    File(File),
+    /// Opens the input of a name.
+    ///
+    /// # Errors
+    ///
+    /// What the system says if it cannot be opened.
+    fn open(&self, name: &'n str) -> io::Result<Self::Input>
+        ensures { IfOk result (λ input. Self.Input.remaining input ≡ bytes self.now name.now) };
 }
 
 /// The inputs that are left: the rest of the one that is open, and those that names name after it.
-///
-/// If they are read as one, an input that does not end in a newline is followed by one, if another input comes after it. If each is
-/// read by itself, a read gives nothing at the end of each, and the read after that begins the next.
 #[derive(Drop)]
-pub(crate) struct Inputs<'a, 'n> {
-    rt: &'a HostRuntime,
-    open: Option<Open>,
+pub struct Inputs<'n, O, I> {
+    opener: O,
+    current: Option<I>,
     names: &'n [&'n str],
-    /// The file that was opened last; none if it was standard input.
-    name: &'a Cell<Option<&'n str>>,
-    /// Whether each is read by itself.
-    is_apart: bool,
-    /// Whether bytes were given, and the last one is no newline.
-    is_in_line: bool,
 }
 
-impl<'a, 'n> Inputs<'a, 'n> {
+impl<'n, O: Opener<'n>> Inputs<'n, O, O::Input> {
     /// All inputs of these names, none of them open.
-    pub(crate) fn new(
-        rt: &'a HostRuntime,
-        names: &'n [&'n str],
-        name: &'a Cell<Option<&'n str>>,
-        is_apart: bool,
-    ) -> Self {
-        Inputs {
-            rt,
-            open: None,
-            names,
-            name,
-            is_apart,
-            is_in_line: false,
-        }
-    }
-
-    // Reads from the input that is open: nothing if none is.
-    fn read_open(&mut self, buf: &mut [u8]) -> io::Result<usize>
-        ensures { ReadsAtMost result buf.new }
+    pub fn new(opener: O, names: &'n [&'n str]) -> Self
+        ensures { result ≡ record { opener = opener; current = None; names = names.entry } }
     {
-        match &mut self.open {
-            Some(Open::Standard(stdin)) => stdin.read(buf),
-            Some(Open::File(file)) => file.read(buf),
-            None => Ok(0),
+        Inputs {
+            opener,
+            current: None,
+            names,
         }
     }
 
-    // Opens the input of a name.
-    fn open_input(&mut self, name: &'n str) -> io::Result<()> {
-        if name == "-" {
-            self.name.set(None);
-            self.open = Some(Open::Standard(self.rt.stdin()));
-        } else {
-            self.name.set(Some(name));
-            self.open = Some(Open::File(File::open(self.rt, name)?));
+    // Whether an input is open.
+    fn is_open(&self) -> bool
+        ensures { result ≡ is_some self.now.current }
+    {
+        self.current.is_some()
+    }
+
+    // Whether an input is left, be it at its end.
+    fn is_left(&self) -> bool
+        ensures { result ≡ nat_lt 0 (length (texts_left O.bytes O.Input.remaining self.now)) }
+    {
+        self.current.is_some() || !self.names.is_empty()
+    }
+
+    // Opens the next input, if none is open.
+    fn open_next(&mut self) -> io::Result<()>
+        ensures texts { texts_left O.bytes O.Input.remaining self.new ≡ texts_left O.bytes O.Input.remaining self.old }
+        ensures last { OnOk result (is_some self.new.current ≡ false → texts_left O.bytes O.Input.remaining self.new ≡ []) }
+        ensures current { is_some self.old.current ≡ true → is_some self.new.current ≡ true }
+    {
+        if self.current.is_some() {
+            return Ok(());
         }
+        let [name, names @ ..] = self.names else {
+            return Ok(());
+        };
+        self.current = Some(self.opener.open(name)?);
+        self.names = names;
         Ok(())
     }
 }
 
-impl<'a, 'n> Read for Inputs<'a, 'n> {
+/// Each is read by itself: a read gives nothing at the end of each, and the read after that begins the next.
+impl<'n, O: Opener<'n>> Read for Inputs<'n, O, O::Input> {
+    fn read(&mut self, buf: &mut [u8]) -> io::Result<usize>
+        ensures bound { ReadsAtMost result buf.new }
+        ensures bytes { ReadConsumes None None result buf.new }
+        ensures current { 0 < length buf.old → ReadsOn (is_some self.old.current) (is_some self.new.current) result }
+        ensures one { 0 < length buf.old → ReadsOne (texts_left O.bytes O.Input.remaining self.old)
+            (texts_left O.bytes O.Input.remaining self.new) result buf.new }
+    {
+        if buf.is_empty() {
+            return Ok(0);
+        }
+        self.open_next()?;
+        let Some(input) = &mut self.current else {
+            return Ok(0);
+        };
+        let n = input.read(buf)?;
+        if n == 0 {
+            self.current = None;
+        }
+        Ok(n)
+    }
+}
+
+/// Inputs that are read as one: one that does not end in a newline is followed by one, if another comes after it.
+#[derive(Drop)]
+pub struct Joined<'n, O, I> {
+    inputs: Inputs<'n, O, I>,
+    /// Whether bytes were given, and the last one is no newline.
+    is_in_line: bool,
+}
+
+impl<'n, O: Opener<'n>> Joined<'n, O, O::Input> {
+    /// All of these, of which nothing was read.
+    pub fn new(inputs: Inputs<'n, O, O::Input>) -> Self
+        ensures { result ≡ record { inputs = inputs.entry; is_in_line = false } }
+    {
+        Joined {
+            inputs,
+            is_in_line: false,
+        }
+    }
+}
+
+impl<'n, O: Opener<'n>> Read for Joined<'n, O, O::Input> {
+    ghost remaining = { λ all. joined_left O.bytes O.Input.remaining all };
+
     fn read(&mut self, buf: &mut [u8]) -> io::Result<usize> {
         if buf.is_empty() {
             return Ok(0);
         }
-        for _ in 0..u64::MAX {
-            let n = self.read_open(buf)?;
-            if n > 0 {
-                self.is_in_line = buf[n - 1] != b'\n';
-                return Ok(n);
-            }
-            let is_ended = self.open.is_some();
-            self.open = None;
-            let [name, names @ ..] = self.names else {
-                return Ok(0);
-            };
-            if is_ended && self.is_apart {
-                return Ok(0);
-            }
-            if self.is_in_line && !self.is_apart {
+        while self.inputs.is_left() {
+            if self.is_in_line && !self.inputs.is_open() {
                 self.is_in_line = false;
                 buf[0] = b'\n';
                 return Ok(1);
             }
-            self.names = names;
-            self.open_input(name)?;
+            let n = self.inputs.read(buf)?;
+            if n > 0 {
+                self.is_in_line = buf[n - 1] != b'\n';
+                return Ok(n);
+            }
         }
         Ok(0)
     }
 }
 
-// Takes the number of a stream, if it is closed, by a file that can be read or written, but not both.
-fn hold(rt: &HostRuntime, path: &str, is_read: bool) -> Option<File> {
-    match fs::metadata(rt, path) {
-        Err(error) if error.kind() == ErrorKind::NotFound => {
-            let mut options = OpenOptions::new();
-            options.read(is_read).write(!is_read);
-            options.open(rt, "/dev/null").ok()
-        }
-        _ => None,
-    }
-}
-
-/// Standard streams that are closed: files in their places, so that no file that is opened later is taken for one. What the
-/// program does with a stream fails as if it were closed.
+/// An input of the system that is open.
 #[derive(Drop)]
-pub(crate) struct Closed {
-    stdin: Option<File>,
-    stdout: Option<File>,
-    stderr: Option<File>,
+pub enum SystemInput {
+    /// Standard input.
+    Standard(Stdin),
+    /// A file.
+    File(File),
 }
 
-impl Closed {
-    /// Takes the place of each stream that is closed, the lowest first, since the system gives the lowest number that is free.
-    pub(crate) fn hold(rt: &HostRuntime) -> Self {
-        let stdin = hold(rt, STDIN, false);
-        let stdout = hold(rt, STDOUT, true);
-        let stderr = hold(rt, STDERR, true);
-        Closed {
-            stdin,
-            stdout,
-            stderr,
+impl Read for SystemInput {
+    fn read(&mut self, buf: &mut [u8]) -> io::Result<usize> {
+        match self {
+            SystemInput::Standard(stdin) => stdin.read(buf),
+            SystemInput::File(file) => file.read(buf),
         }
     }
 }
 
-// The path of an input.
-fn path_of<'a>(name: &'a str) -> &'a str {
-    if name == "-" { STDIN } else { name }
+/// What opens inputs of the system: files, and standard input, whose name is `-`.
+#[derive(Drop)]
+pub struct SystemOpener<'a, 'n> {
+    rt: &'a HostRuntime,
+    /// The file that was opened last; none if it was standard input.
+    name: &'a Cell<Option<&'n str>>,
 }
 
-// The device and the number of the regular file to which a path leads, if it does.
-fn file_at(rt: &HostRuntime, path: &str) -> Option<(u64, u64)> {
-    match fs::metadata(rt, path) {
-        Ok(file) if file.is_file() => Some((file.dev(), file.ino())),
-        _ => None,
+impl<'a, 'n> SystemOpener<'a, 'n> {
+    /// It puts the name of each file that it opens into a cell.
+    pub(crate) fn new(rt: &'a HostRuntime, name: &'a Cell<Option<&'n str>>) -> Self {
+        SystemOpener { rt, name }
     }
 }
 
-/// The name of an input that is the file to which the lines go, or standard output if no file is named.
-pub(crate) fn input_written_to<'a>(
-    rt: &HostRuntime,
-    names: &'a [&'a str],
-    output: Option<&str>,
-) -> Option<&'a str> {
-    let written = file_at(rt, output.unwrap_or(STDOUT))?;
-    for at in 0..names.len() {
-        if file_at(rt, path_of(names[at])) == Some(written) {
-            return Some(names[at]);
+impl<'a, 'n> Opener<'n> for SystemOpener<'a, 'n> {
+    type Input = SystemInput;
+
+    ghost bytes = { λ _ _. None };
+
+    fn open(&self, name: &'n str) -> io::Result<SystemInput> {
+        if name == "-" {
+            self.name.set(None);
+            return Ok(SystemInput::Standard(self.rt.stdin()));
         }
+        self.name.set(Some(name));
+        Ok(SystemInput::File(File::open(self.rt, name)?))
     }
-    None
-}
-
-/// Whether two paths lead to one regular file.
-pub(crate) fn are_one_file(rt: &HostRuntime, one: &str, other: &str) -> bool {
-    match file_at(rt, one) {
-        Some(file) => file_at(rt, other) == Some(file),
-        None => false,
-    }
-}
-
-/// How many bytes all inputs have, if each is a regular file.
-pub(crate) fn total_len(rt: &HostRuntime, names: &[&str]) -> Option<u64> {
-    let mut total = 0u64;
-    for at in 0..names.len() {
-        let file = fs::metadata(rt, path_of(names[at])).ok()?;
-        if !file.is_file() {
-            return None;
-        }
-        total = total.saturating_add(file.len());
-    }
-    Some(total)
 }

@@ -137,7 +137,10 @@ pub(crate) struct MeteredSource<'a, R, S> {
 }
 
 impl<'a, R: Clock + Eprint, S: Source> MeteredSource<'a, R, S> {
-    pub(crate) fn new(meter: Option<&'a Meter<'a, R>>, inner: S) -> Self {
+    /// A source that hands on the reads of another.
+    pub(crate) fn new(meter: Option<&'a Meter<'a, R>>, inner: S) -> Self
+        ensures { result.inner ≡ inner }
+    {
         MeteredSource { meter, inner }
     }
 }
@@ -176,12 +179,15 @@ pub(crate) struct MeteredSink<'a, R, S> {
 }
 
 impl<'a, R: Clock + Eprint, S: Sink> MeteredSink<'a, R, S> {
+    /// A sink that hands on the writes to another.
     pub(crate) fn new(
         meter: Option<&'a Meter<'a, R>>,
         counted: Counted,
         is_on_terminal: bool,
         inner: S,
-    ) -> Self {
+    ) -> Self
+        ensures { result.inner ≡ inner }
+    {
         MeteredSink {
             meter,
             counted,
