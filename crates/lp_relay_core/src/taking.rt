@@ -69,8 +69,8 @@ pub struct Settings<'n> {
     pub puts_refused: bool,
     /// Whether it is counted for which kind of fault each item is refused.
     pub counts_kinds: bool,
-    /// The name of the input, if its faults are to name it. The writers have it as the input begins (`begin` of
-    /// [`ThreeWriters`](crate::ThreeWriters)); a relay itself puts it into no fault.
+    /// The name of the input, if its faults are to name it: [`relay_inputs`](crate::relay_inputs) hands it to the writers as the
+    /// input begins. A relay puts it into no fault.
     pub file: Option<&'n str>,
 }
 

@@ -25,6 +25,7 @@ struct Relays;
 // The words for what a row asks of its text.
 const KINDS: &[&str] = &[
     "relay",
+    "inputs",
     "rebuilt",
     "run",
     "as_rebuilt",
@@ -49,6 +50,9 @@ fn is_as_asked(
     let dialect = asked.settings.dialect;
     match (kind, cells) {
         ("relay", [_, ..]) => wanted::relay_gives(alloc, asked, text, cells),
+        ("inputs", [other, cells @ ..]) => {
+            wanted::inputs_give(alloc, asked, &[text, other.as_slice()], cells)
+        }
         ("rebuilt", [_, ..]) => {
             wanted::rebuild_gives(alloc, asked, text, cells)?;
             wanted::run_gives(alloc, asked, text, cells)?;

@@ -2,7 +2,7 @@
 
 use crate::asked::Asked;
 use crate::unlike::{Unlike, same};
-use crate::ways::{Blocks, Wrote, relayed, ways};
+use crate::ways::{Blocks, Wrote, relayed, relayed_each, ways};
 use lp_rebuild::{Kept, Rebuilt, RunFault, rebuild_in, run_in, status};
 use lp_relay_core::{KINDS, Relayed};
 use lp_vectors_shared::rows::text_of;
@@ -84,6 +84,22 @@ pub fn relay_gives(
         compare(alloc, by.as_str(), &answer, written, cells)?;
     }
     Ok(())
+}
+
+/// A relay of these texts, one after another, gives what the cells want.
+pub fn inputs_give(
+    alloc: Global,
+    asked: &Asked,
+    texts: &[&[u8]],
+    cells: &[Vec<u8>],
+) -> Result<(), Unlike> {
+    let Wrote { answer, outputs } = relayed_each(alloc, asked.settings, texts);
+    let written = [
+        outputs.lines.as_slice(),
+        outputs.faults.as_slice(),
+        outputs.refused.as_slice(),
+    ];
+    compare(alloc, "relayed one after another", &answer, written, cells)
 }
 
 // The counts of a rebuild.

@@ -1,7 +1,7 @@
 //! The ways by which a text comes to a relay, and what the relay gives.
 
 use lp_rebuild::{DeviceFault, Kept, RunFault, Source};
-use lp_relay_core::{Outputs, Relayed, Settings, relay};
+use lp_relay_core::{Inputs, Outputs, Relayed, Settings, relay, relay_inputs};
 use lp_vectors_shared::cuts::CutSource;
 use std::alloc::{AllocError, Global};
 
@@ -46,13 +46,30 @@ pub struct Wrote {
     pub outputs: Outputs<Kept, Kept, Kept>,
 }
 
-// Relays what a source gives.
-fn relayed_from<R: Source>(alloc: Global, settings: Settings<'_>, reader: &mut R) -> Wrote {
-    let mut outputs = Outputs {
+// Three writers that keep what they are given.
+fn kept(alloc: Global) -> Outputs<Kept, Kept, Kept> {
+    Outputs {
         lines: Kept::new(alloc),
         faults: Kept::new(alloc),
         refused: Kept::new(alloc),
+    }
+}
+
+/// Relays texts, one after another.
+pub fn relayed_each(alloc: Global, settings: Settings<'_>, texts: &[&[u8]]) -> Wrote {
+    let reader: &[u8] = b"";
+    let mut inputs = Inputs {
+        reader,
+        next: texts,
     };
+    let mut outputs = kept(alloc);
+    let answer = relay_inputs(alloc, settings, &["a", "b"], &mut inputs, &mut outputs);
+    Wrote { answer, outputs }
+}
+
+// Relays what a source gives.
+fn relayed_from<R: Source>(alloc: Global, settings: Settings<'_>, reader: &mut R) -> Wrote {
+    let mut outputs = kept(alloc);
     let answer = relay(alloc, settings, reader, &mut outputs);
     Wrote { answer, outputs }
 }
