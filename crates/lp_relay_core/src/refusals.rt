@@ -7,7 +7,7 @@ ghost use Rattle.lp_values.specs.code.SpelledParts.{spelled_fault};
 use crate::kinds::Kind;
 use influxdb_line_protocol::SpelledFault;
 use lp_rebuild::LineRefusal;
-use std::fmt;
+use std::fmt::{self, Display};
 
 /// Why an item is refused. It is made once, where the item is.
 #[derive(Drop)]
@@ -67,7 +67,7 @@ impl<'a> fmt::Display for Refusal<'a> {
 
     fn fmt<W: fmt::Write>(&self, f: &mut fmt::Formatter<W>) -> fmt::Result {
         match self {
-            Refusal::Line(refusal) => write!(f, "{refusal}"),
+            Refusal::Line(refusal) => refusal.fmt(f),
             Refusal::NotAsWritten(wrong) => f.write_str(wrong.as_str()),
             Refusal::NotUtf8 => f.write_str("the line is not UTF-8"),
             Refusal::TooLong(None) => f.write_str("the line is too long"),

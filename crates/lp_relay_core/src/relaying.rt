@@ -111,7 +111,7 @@ fn relay_pieces<O: ThreeWriters>(
     ensures counts { CountsWriteFault result (O.told outputs.old) (O.told outputs.new) }
 {
     while let Some(piece) = stream.next() {
-        if take_given(settings, pending, piece).is_err() {
+        if take_given(&settings, pending, piece).is_err() {
             return Err(RunFault::OutOfMemory);
         }
         pour_full(pending, outputs)?;
@@ -156,7 +156,7 @@ fn relay_lines<O: ThreeWriters>(
         if lines.remainder().is_none() || piece.len() > settings.limit {
             return Ok(taken);
         }
-        if take_piece(settings, pending, &mut reader, Piece::Text(piece)).is_err() {
+        if take_piece(&settings, pending, &mut reader, Piece::Text(piece)).is_err() {
             return Err(RunFault::OutOfMemory);
         }
         pour_full(pending, outputs)?;
@@ -208,7 +208,7 @@ fn relay_begun<O: ThreeWriters>(
     let Some(piece) = stream.next() else {
         return Ok(end);
     };
-    if take_given(settings, pending, piece).is_err() {
+    if take_given(&settings, pending, piece).is_err() {
         return Err(RunFault::OutOfMemory);
     }
     pour_full(pending, outputs)?;
@@ -270,7 +270,7 @@ fn finish<O: ThreeWriters>(
     ensures counts { CountsWriteFault result (O.told outputs.old) (O.told outputs.new) }
     ensures flushed { OnOk result (AreFlushed (O.told outputs.new)) }
 {
-    if take_given(settings, pending, stream.finish()).is_err() {
+    if take_given(&settings, pending, stream.finish()).is_err() {
         return Err(RunFault::OutOfMemory);
     }
     pour_and_flush(pending, outputs)

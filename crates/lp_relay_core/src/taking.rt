@@ -1,5 +1,5 @@
 //! What a relay takes of a piece of its input.
-ghost use Rattle.std.specs.Prelude.{◌≡◌, ◌+◌, ◌<◌, ◌≤◌, ◌++◌, List, false, ℕ, option_map, string_bytes, IfOk, OnOk};
+ghost use Rattle.std.specs.Prelude.{◌≡◌, ◌+◌, ◌<◌, ◌≤◌, ◌++◌, List, false, ℕ, option_map, string_bytes, IfOk, Ok, OnOk};
 ghost use Rattle.influxdb_line_protocol.specs.code.Rules.{rules_of};
 ghost use Rattle.influxdb_line_protocol.specs.format.Lines.{answer};
 ghost use Rattle.influxdb_line_protocol.specs.format.Trimming.{trimmed};
@@ -186,6 +186,7 @@ pub(crate) fn nothing_made(alloc: Global, settings: Settings<'_>) -> Pending
 }
 
 // Takes a line as it came, with what its piece has before it.
+#[inline(always)]
 fn take_verbatim<'a>(
     batch: &mut Vec<u8>,
     dialect: Dialect,
@@ -206,6 +207,7 @@ fn take_verbatim<'a>(
 
 // Takes a line as it came, if it is as the builder writes it. Another one is written again, to find the part that is not so, and
 // taken back.
+#[inline(always)]
 fn take_canonical<'a>(
     batch: &mut Vec<u8>,
     reader: &mut LineReader<'a>,
@@ -233,6 +235,7 @@ fn take_canonical<'a>(
 }
 
 // Takes a line: it is written again.
+#[inline(always)]
 fn take_rebuilt<'a>(
     batch: &mut Vec<u8>,
     reader: &mut LineReader<'a>,
@@ -250,17 +253,16 @@ fn take_rebuilt<'a>(
     }
 }
 
-// Takes the line of a piece, if it has one: it goes out by the settings, or is refused. It is called for each line, so that the test
-// whether a line is as written is compiled once, in line here.
-#[inline(never)]
-fn take_text<'a>(
-    settings: Settings<'_>,
+// Takes the line of a piece, if it has one: it goes out by the settings, or is refused.
+#[inline(always)]
+fn take_line<'a>(
+    settings: &Settings<'_>,
     batch: &mut Vec<u8>,
     reader: &mut LineReader<'a>,
     piece: &'a str,
 ) -> Result<Taken<'a>, AllocError>
-    requires dialect { reader.old.dialect ≡ settings.dialect }
-    ensures taken { IfOk result (λ taken. TakesPiece settings.entry (Piece.Text piece.entry) taken batch.old.items batch.new.items) }
+    requires dialect { reader.old.dialect ≡ settings.now.dialect }
+    ensures taken { IfOk result (λ taken. TakesPiece settings.now (Piece.Text piece.entry) taken batch.old.items batch.new.items) }
     ensures dialect { reader.new.dialect ≡ reader.old.dialect }
 {
     let text = trimmed(piece);
@@ -275,8 +277,8 @@ fn take_text<'a>(
 }
 
 // How many bytes are kept of a piece that is too long, if any are.
-fn kept_of(settings: Settings<'_>) -> Option<usize>
-    ensures { result ≡ kept_of settings.entry }
+fn kept_of(settings: &Settings<'_>) -> Option<usize>
+    ensures { result ≡ kept_of settings.now }
 {
     if settings.puts_refused {
         Some(settings.limit)
@@ -285,27 +287,8 @@ fn kept_of(settings: Settings<'_>) -> Option<usize>
     }
 }
 
-// Takes the item of a piece.
-#[inline(always)]
-fn take_item<'a>(
-    settings: Settings<'_>,
-    batch: &mut Vec<u8>,
-    reader: &mut LineReader<'a>,
-    piece: Piece<'a>,
-) -> Result<Taken<'a>, AllocError>
-    requires dialect { reader.old.dialect ≡ settings.dialect }
-    requires known { IsKnown piece }
-    ensures taken { IfOk result (λ taken. TakesPiece settings.entry piece.entry taken batch.old.items batch.new.items) }
-    ensures dialect { reader.new.dialect ≡ reader.old.dialect }
-{
-    match piece {
-        Piece::Text(text) => take_text(settings, batch, reader, text),
-        Piece::NoText(_) => Ok(Taken::Refused(Refusal::NotUtf8)),
-        Piece::TooLong(_) => Ok(Taken::Refused(Refusal::TooLong(kept_of(settings)))),
-    }
-}
-
 // The line of the next piece, if fault lines name lines. It is refused if it, or the number of an item more, would not fit.
+#[inline(always)]
 fn line_after(so_far: &Progress, piece: Piece<'_>) -> Result<Option<usize>, AllocError>
     requires fits { so_far.now.carried + so_far.now.refused ≤ usize.MAX }
     ensures room { OnOk result (so_far.now.carried + so_far.now.refused < usize.MAX) }
@@ -322,6 +305,7 @@ fn line_after(so_far: &Progress, piece: Piece<'_>) -> Result<Option<usize>, Allo
 }
 
 // How many bytes come before the piece after this one, which comes after so many. They are refused if that would not fit.
+#[inline(always)]
 fn offset_after(offset: usize, piece: Piece<'_>) -> Result<usize, AllocError>
     ensures { IfOk result (λ next. next ≡ offset + len_given (given_of piece.entry) + 1) }
 {
@@ -341,14 +325,14 @@ fn count(kinds: &mut Option<KindCounts>, kind: Kind) -> Result<(), AllocError>
 
 // Tells why an item is refused, as the settings say.
 fn tell(
-    settings: Settings<'_>,
+    settings: &Settings<'_>,
     faults: &mut String,
     place: Place,
     refusal: &Refusal<'_>,
     piece: Piece<'_>,
 ) -> Result<(), AllocError>
     ensures { OnOk result (string_bytes faults.new
-        ≡ string_bytes faults.old ++ told_by settings.entry.faults (rules_of settings.entry.dialect) place piece.entry refusal.now) }
+        ≡ string_bytes faults.old ++ told_by settings.now.faults (rules_of settings.now.dialect) place piece.entry refusal.now) }
 {
     match settings.faults {
         Faults::Raw => put_fault_line(faults, place, refusal),
@@ -362,14 +346,14 @@ fn tell(
 #[cold]
 #[inline(never)]
 fn refuse(
-    settings: Settings<'_>,
+    settings: &Settings<'_>,
     pending: &mut Pending,
     refusal: &Refusal<'_>,
     piece: Piece<'_>,
 ) -> Result<(), AllocError>
     requires { pending.old.so_far.carried + pending.old.so_far.refused < usize.MAX }
-    ensures taken { OnOk result ((item : Item) → RefusesPiece settings.entry piece.entry refusal.now item
-        → TakesGiven settings.entry (unwritten_of pending.old) (given_of piece.entry) (unwritten_of pending.new)) }
+    ensures taken { OnOk result ((item : Item) → RefusesPiece settings.now piece.entry refusal.now item
+        → TakesGiven settings.now (unwritten_of pending.old) (given_of piece.entry) (unwritten_of pending.new)) }
     ensures counted { OnOk result
         ((pending.new.so_far.carried ≡ pending.old.so_far.carried) × (pending.new.so_far.refused ≡ pending.old.so_far.refused + 1)) }
 {
@@ -390,13 +374,13 @@ fn refuse(
 // Ends a piece: what came of it is counted, or refused.
 #[inline(always)]
 fn end_piece(
-    settings: Settings<'_>,
+    settings: &Settings<'_>,
     pending: &mut Pending,
     taken: Taken<'_>,
     piece: Piece<'_>,
 ) -> Result<(), AllocError>
     requires { pending.old.so_far.carried + pending.old.so_far.refused < usize.MAX }
-    ensures ends { OnOk result (EndsPiece settings.entry piece.entry taken.entry (unwritten_of pending.old) (unwritten_of pending.new)) }
+    ensures ends { OnOk result (EndsPiece settings.now piece.entry taken.entry (unwritten_of pending.old) (unwritten_of pending.new)) }
     ensures counted { OnOk result (pending.new.so_far.carried + pending.new.so_far.refused ≤ usize.MAX) }
 {
     match taken {
@@ -409,19 +393,62 @@ fn end_piece(
     }
 }
 
-// Takes a piece, by way of a line that is used again. It is refused if its number, or the line after it, would not fit.
+// Takes a piece that is text. It is called for each line, so that the test whether a line is as written is compiled once, in line here.
+#[inline(never)]
+fn take_text<'a>(
+    settings: &Settings<'_>,
+    pending: &mut Pending,
+    reader: &mut LineReader<'a>,
+    piece: &'a str,
+) -> Result<(), AllocError>
+    requires dialect { reader.old.dialect ≡ settings.now.dialect }
+    requires fits { pending.old.so_far.carried + pending.old.so_far.refused < usize.MAX }
+    ensures taken { OnOk result (TakesGiven settings.now (unwritten_of pending.old) (Ok piece.entry) (unwritten_of pending.new)) }
+    ensures counted { OnOk result (pending.new.so_far.carried + pending.new.so_far.refused ≤ usize.MAX) }
+    ensures dialect { reader.new.dialect ≡ reader.old.dialect }
+{
+    let taken = take_line(settings, &mut pending.so_far.batch, reader, piece)?;
+    end_piece(settings, pending, taken, Piece::Text(piece))
+}
+
+// Takes the item of a piece.
 #[inline(always)]
-pub(crate) fn take_piece<'a>(
-    settings: Settings<'_>,
+fn take_item<'a>(
+    settings: &Settings<'_>,
     pending: &mut Pending,
     reader: &mut LineReader<'a>,
     piece: Piece<'a>,
 ) -> Result<(), AllocError>
-    requires dialect { reader.old.dialect ≡ settings.dialect }
+    requires dialect { reader.old.dialect ≡ settings.now.dialect }
+    requires known { IsKnown piece }
+    requires fits { pending.old.so_far.carried + pending.old.so_far.refused < usize.MAX }
+    ensures taken { OnOk result (TakesGiven settings.now (unwritten_of pending.old) (given_of piece.entry) (unwritten_of pending.new)) }
+    ensures counted { OnOk result (pending.new.so_far.carried + pending.new.so_far.refused ≤ usize.MAX) }
+    ensures dialect { reader.new.dialect ≡ reader.old.dialect }
+{
+    match piece {
+        Piece::Text(text) => take_text(settings, pending, reader, text),
+        Piece::NoText(_) => refuse(settings, pending, &Refusal::NotUtf8, piece),
+        Piece::TooLong(_) => {
+            let refusal = Refusal::TooLong(kept_of(settings));
+            refuse(settings, pending, &refusal, piece)
+        }
+    }
+}
+
+// Takes a piece, by way of a line that is used again. It is refused if its number, or the line after it, would not fit.
+#[inline(always)]
+pub(crate) fn take_piece<'a>(
+    settings: &Settings<'_>,
+    pending: &mut Pending,
+    reader: &mut LineReader<'a>,
+    piece: Piece<'a>,
+) -> Result<(), AllocError>
+    requires dialect { reader.old.dialect ≡ settings.now.dialect }
     requires known { IsKnown piece }
     requires fits { pending.old.so_far.carried + pending.old.so_far.refused ≤ usize.MAX }
     requires few { HoldsLess BLOCK pending.old }
-    ensures taken { OnOk result (TakesGiven settings.entry (unwritten_of pending.old) (given_of piece.entry) (unwritten_of pending.new)) }
+    ensures taken { OnOk result (TakesGiven settings.now (unwritten_of pending.old) (given_of piece.entry) (unwritten_of pending.new)) }
     ensures start { OnOk result (start_of (unwritten_of pending.new) ≡ start_after (start_of (unwritten_of pending.old))
         (newlines_given (given_of piece.entry)) (len_given (given_of piece.entry))) }
     ensures fits { OnOk result (pending.new.so_far.carried + pending.new.so_far.refused ≤ usize.MAX) }
@@ -429,8 +456,7 @@ pub(crate) fn take_piece<'a>(
 {
     let next = line_after(&pending.so_far, piece)?;
     let end = offset_after(pending.offset, piece)?;
-    let taken = take_item(settings, &mut pending.so_far.batch, reader, piece)?;
-    end_piece(settings, pending, taken, piece)?;
+    take_item(settings, pending, reader, piece)?;
     pending.so_far.line = next;
     pending.offset = end;
     Ok(())
@@ -439,13 +465,13 @@ pub(crate) fn take_piece<'a>(
 // Takes what the stream gave, by way of a line of its own, which is freed by its parts.
 #[inline(never)]
 pub(crate) fn take_given(
-    settings: Settings<'_>,
+    settings: &Settings<'_>,
     pending: &mut Pending,
     given: Result<&[u8], PieceTooLong<'_>>,
 ) -> Result<(), AllocError>
     requires fits { pending.old.so_far.carried + pending.old.so_far.refused ≤ usize.MAX }
     requires few { HoldsLess BLOCK pending.old }
-    ensures taken { OnOk result (TakesGiven settings.entry (unwritten_of pending.old) given.entry (unwritten_of pending.new)) }
+    ensures taken { OnOk result (TakesGiven settings.now (unwritten_of pending.old) given.entry (unwritten_of pending.new)) }
     ensures start { OnOk result (start_of (unwritten_of pending.new)
         ≡ start_after (start_of (unwritten_of pending.old)) (newlines_given given.entry) (len_given given.entry)) }
     ensures fits { OnOk result (pending.new.so_far.carried + pending.new.so_far.refused ≤ usize.MAX) }

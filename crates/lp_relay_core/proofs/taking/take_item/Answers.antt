@@ -1,4 +1,5 @@
 use Rattle.std.proofs.Common.{subst, sym}
+use Rattle.std.proofs.lemmas.Result.{on_ok_weaker}
 use Rattle.lp_relay_core.specs.declared.refusals.Refusal.TheVariants as why
 use Rattle.lp_relay_core.specs.declared.taking.Taken.TheVariants as took
 use Rattle.lp_relay_core.specs.Refusals.{IsKnown, TakesPiece}
@@ -7,12 +8,14 @@ use Rattle.lp_relay_core.proofs.taking.take_item.Goals as goal
 
 pub returns-in-NoText-clause-taken : goal.returns-in-NoText-clause-taken
 returns-in-NoText-clause-taken c =
-    let before = c.args.batch.now.items in
-    subst (λ p. TakesPiece c.args.settings p (took.Refused why.NotUtf8) before before) (sym c.in-NoText.is)
-    (takes_no_text c.args.settings c.in-NoText.field-0 before (subst IsKnown c.in-NoText.is c.requires.known))
+    let before = c.args.pending.now.so_far.batch.items in
+    let one = subst (λ p. TakesPiece c.args.settings.now p (took.Refused why.NotUtf8) before before) (sym c.in-NoText.is)
+    (takes_no_text c.args.settings.now c.in-NoText.field-0 before (subst IsKnown c.in-NoText.is c.requires.known)) in
+    on_ok_weaker c.refuse.result (λ takes. takes one.0.0 one.0.1) c.refuse.ensures.taken
 
 pub returns-in-TooLong-clause-taken : goal.returns-in-TooLong-clause-taken
 returns-in-TooLong-clause-taken c =
-    let before = c.args.batch.now.items in
-    subst (λ p. TakesPiece c.args.settings p (took.Refused (why.TooLong c.kept_of.result)) before before) (sym c.in-TooLong.is)
-    (takes_too_long c.args.settings c.in-TooLong.field-0 c.kept_of.result before c.kept_of.ensures)
+    let before = c.args.pending.now.so_far.batch.items in
+    let one = subst (λ p. TakesPiece c.args.settings.now p (took.Refused (why.TooLong c.kept_of.result)) before before) (sym c.in-TooLong.is)
+    (takes_too_long c.args.settings.now c.in-TooLong.field-0 c.kept_of.result before c.kept_of.ensures) in
+    on_ok_weaker c.refuse-in-TooLong.result (λ takes. takes one.0.0 one.0.1) c.refuse-in-TooLong.ensures.taken
