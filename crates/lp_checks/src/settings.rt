@@ -10,7 +10,7 @@
 //! | `k` | kinds of faults are counted |
 
 use influxdb_line_protocol::Dialect;
-use lp_relay_core::{Faults, Lines, Numbering, Settings};
+use lp_relay_core::{Faults, LineForm, Numbering, Settings};
 
 /// The settings that these letters spell, with this limit. Other letters spell nothing.
 pub fn spelled(letters: &[u8], limit: usize) -> Settings<'static> {
@@ -21,8 +21,8 @@ pub fn spelled(letters: &[u8], limit: usize) -> Settings<'static> {
     for letter in letters {
         match *letter {
             b's' => settings.dialect = Dialect::Strict,
-            b'v' => settings.lines = Lines::Verbatim,
-            b'c' => settings.lines = Lines::Canonical,
+            b'v' => settings.lines = LineForm::Verbatim,
+            b'c' => settings.lines = LineForm::Canonical,
             b'l' => settings.numbering = Numbering::Lines,
             b'o' => settings.faults = Faults::OneLine,
             b'j' => settings.faults = Faults::Json { first_line: 1 },

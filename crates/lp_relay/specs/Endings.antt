@@ -11,7 +11,7 @@ use Rattle.lp_relay.specs.Summaries.{asked_summary}
 use Rattle.lp_relay.specs.Words.{fault_status, relay_status}
 use Rattle.lp_relay.specs.declared.endings.{Device.Device, Devices.Devices, Ending.Ending, Failure.Failure}
 use Rattle.lp_relay.specs.declared.summary.Totals.{Totals}
-use Rattle.lp_relay.specs.declared.words.Settings.{Settings}
+use Rattle.lp_relay.specs.declared.words.RunSettings.{RunSettings}
 
 -- whether an error says that nothing reads what is written
 abbrev pub is_broken_pipe : ErrorKind → Bool
@@ -63,7 +63,7 @@ failed_ending failure = record {
 }
 
 -- how a relay ends
-abbrev pub relay_ending : Settings → Result Totals Failure → Ending
+abbrev pub relay_ending : RunSettings → Result Totals Failure → Ending
 relay_ending settings (Ok totals) = record {
   failure = None;
   summary = asked_summary settings (Ok totals);

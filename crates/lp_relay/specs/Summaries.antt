@@ -6,7 +6,7 @@ use Rattle.lp_relay_core.specs.declared.kinds.{Kind.Kind, KindCounts.KindCounts,
 use Rattle.lp_relay_core.specs.Kinds.{Counts, counts_of}
 use Rattle.lp_relay_core.specs.Objects.{kind_name}
 use Rattle.lp_relay.specs.declared.summary.{Summary.Summary, Totals.Totals}
-use Rattle.lp_relay.specs.declared.words.Settings.{Settings}
+use Rattle.lp_relay.specs.declared.words.RunSettings.{RunSettings}
 
 -- the kinds of these of which some are counted, each with its count, and before the first of them a mark
 abbrev pub kinds_from : (mark : List ℕ) → (kinds : List Kind) → Counts → List ℕ
@@ -32,6 +32,6 @@ summary_text totals =
     decimal totals.bytes ++ codes " bytes, " ++ decimal totals.lines ++ codes " lines, " ++ items_text totals.counts
 
 -- the summary of a relay: none if its settings ask for none, and none after a fault
-abbrev pub asked_summary : Settings → Result Totals RunFault → Option Summary
+abbrev pub asked_summary : RunSettings → Result Totals RunFault → Option Summary
 asked_summary settings (Ok totals) = if settings.summary then Some (record { totals = totals }) else None
 asked_summary settings (Err fault) = None

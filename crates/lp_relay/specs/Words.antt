@@ -13,13 +13,13 @@ use Rattle.lp_rebuild.specs.declared.program.RunFault.{RunFault}
 use Rattle.lp_rebuild.specs.declared.program.RunFault.TheVariants.{Read, NotUtf8, OutOfMemory, Write}
 use Rattle.lp_relay_core.specs.declared.telling.Faults.{Faults}
 use Rattle.lp_relay_core.specs.declared.telling.Faults.TheVariants.{Raw, OneLine, Json}
-use Rattle.lp_relay_core.specs.declared.taking.Lines.{Lines}
-use Rattle.lp_relay_core.specs.declared.taking.Lines.TheVariants.{Rebuilt, Verbatim, Canonical}
+use Rattle.lp_relay_core.specs.declared.taking.LineForm.{LineForm}
+use Rattle.lp_relay_core.specs.declared.taking.LineForm.TheVariants.{Rebuilt, Verbatim, Canonical}
 use Rattle.lp_relay_core.specs.declared.taking.Numbering.TheVariants as named
 use Rattle.lp_relay_core.specs.declared.relaying.Relayed.{Relayed}
 use Rattle.lp_relay.specs.declared.words.Given.{Given}
 use Rattle.lp_relay.specs.declared.words.Request.{Request}
-use Rattle.lp_relay.specs.declared.words.Settings.{Settings}
+use Rattle.lp_relay.specs.declared.words.RunSettings.{RunSettings}
 use Rattle.lp_relay.specs.declared.words.Task.{Task}
 use Rattle.lp_relay.specs.declared.words.Task.TheVariants.{Relay, Cut, Help, Version}
 
@@ -65,11 +65,11 @@ abbrev pub first_named : Given → ℕ
 first_named given = if names_lines given then unwrap_or given.first_line 1 else unwrap_or given.first_item 1
 
 -- how lines go out
-abbrev pub lines_form : Given → Lines
+abbrev pub lines_form : Given → LineForm
 lines_form given = if given.verbatim then Verbatim else (if given.canonical then Canonical else Rebuilt)
 
 -- the settings of the options that were given: those that were not have their defaults
-abbrev pub given_settings : Given → Settings
+abbrev pub given_settings : Given → RunSettings
 given_settings given = record {
   relay = record {
     dialect = if given.strict then Strict else Crate;

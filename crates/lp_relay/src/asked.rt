@@ -10,7 +10,7 @@ ghost use Rattle.lp_relay.specs.Asked.{ChecksBy};
 use crate::counted::CountedSource;
 use crate::named::{Named, NamedOutputs};
 use crate::summary::Totals;
-use crate::words::Settings;
+use crate::words::RunSettings;
 use influxdb_line_protocol::Dialect;
 use lp_rebuild::{DeviceFault, RunFault, Sink, Source, read_all};
 use lp_relay_core::{
@@ -45,7 +45,7 @@ fn relay_named<'n, R: Source, N: NextInput<R>, L: Sink, F: Sink, P: Sink>(
 /// Those of [`relay_inputs`].
 pub fn relay_as_asked<'n, R: Source, N: NextInput<R>, L: Sink, F: Sink, P: Sink>(
     alloc: Global,
-    settings: Settings<'n>,
+    settings: RunSettings<'n>,
     names: &[&'n str],
     inputs: &mut Inputs<R, N>,
     outputs: Outputs<L, Named<F>, P>,
@@ -107,7 +107,7 @@ impl<R: Source> NextInput<R> for ReadsOn {
 /// Those of [`relay_inputs`].
 pub fn relay_each<'n, R: Source + Drop, L: Sink + Drop, F: Sink + Drop, P: Sink + Drop>(
     alloc: Global,
-    settings: Settings<'n>,
+    settings: RunSettings<'n>,
     names: &[&'n str],
     reader: R,
     outputs: Outputs<L, Named<F>, P>,

@@ -4,7 +4,7 @@ ghost use Rattle.lp_relay.specs.Endings.{failed_device, failed_ending, is_broken
 ghost use Rattle.std.specs.IoError.{error_kind};
 
 use crate::summary::{Summary, Totals, summary_of};
-use crate::words::{Settings, status_of_fault, status_of_relay};
+use crate::words::{RunSettings, status_of_fault, status_of_relay};
 use lp_rebuild::RunFault;
 use std::fmt;
 use std::io::{self, ErrorKind};
@@ -147,7 +147,7 @@ fn ending_of_failure<'n>(failure: Failure<'n>) -> Ending<'n>
 }
 
 /// How a relay ends.
-pub fn ending_of_relay<'n>(settings: Settings<'_>, answer: Result<Totals, Failure<'n>>) -> Ending<'n>
+pub fn ending_of_relay<'n>(settings: RunSettings<'_>, answer: Result<Totals, Failure<'n>>) -> Ending<'n>
     ensures { result ≡ relay_ending settings.entry answer.entry }
 {
     match answer {

@@ -13,7 +13,7 @@ use crate::named::Named;
 use crate::places::{refusal_at, total_len};
 use crate::refusals::names_of;
 use crate::summary::Totals;
-use crate::words::{HELP, Request, Settings, Task, USAGE, VERSION, task_of};
+use crate::words::{HELP, Request, RunSettings, Task, USAGE, VERSION, task_of};
 use influxdb_line_protocol::Dialect;
 use lp_rebuild::{Reading, RunFault, Writing};
 use lp_relay_core::Outputs;
@@ -22,7 +22,7 @@ use std::io::IsTerminal;
 // Relays the inputs of these names, one after another, and shows on the terminal how far it is, if that is asked for.
 fn relay_inputs<'n>(
     rt: &HostRuntime,
-    settings: Settings<'_>,
+    settings: RunSettings<'_>,
     names: &'n [&'n str],
     destinations: Destinations<'_>,
     errors: &LastErrors<'n>,

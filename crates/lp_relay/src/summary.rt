@@ -4,7 +4,7 @@ ghost use Rattle.std.specs.Fmt.{DisplaysOnOk};
 ghost use Rattle.lp_relay.specs.Summaries.{asked_summary, kinds_from};
 ghost use Rattle.lp_relay_core.specs.Kinds.{counts_of};
 
-use crate::words::Settings;
+use crate::words::RunSettings;
 use lp_rebuild::RunFault;
 use lp_relay_core::{KINDS, Kind, KindCounts, Relayed};
 use std::fmt;
@@ -110,7 +110,7 @@ impl fmt::Display for Summary {
 }
 
 /// The summary of a relay that gave this answer: none if its settings ask for none, and none after a fault.
-pub fn summary_of(settings: Settings<'_>, answer: &Result<Totals, RunFault>) -> Option<Summary>
+pub fn summary_of(settings: RunSettings<'_>, answer: &Result<Totals, RunFault>) -> Option<Summary>
     ensures { result ≡ asked_summary settings.entry answer.now }
 {
     match answer {

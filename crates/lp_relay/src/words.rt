@@ -7,7 +7,7 @@ ghost use Rattle.lp_relay.specs.Words.{with_flag, with_value};
 
 use influxdb_line_protocol::Dialect;
 use lp_rebuild::RunFault;
-use lp_relay_core::{Faults, Lines, Numbering, Relayed};
+use lp_relay_core::{Faults, LineForm, Numbering, Relayed};
 
 /// How the program is called: the lines that it prints if its words ask for nothing, without the last newline.
 pub const USAGE: &str =
@@ -79,7 +79,7 @@ pub const MOST_PARTS: usize = 1_000_000;
 
 /// How the relay is to run.
 #[derive(Clone, Copy, Debug, PartialEq, Eq)]
-pub struct Settings<'n> {
+pub struct RunSettings<'n> {
     /// How lines are read and written, and what the fault lines name.
     pub relay: lp_relay_core::Settings<'n>,
     /// Whether progress is shown.
@@ -94,7 +94,7 @@ pub struct Settings<'n> {
 #[derive(Clone, Copy)]
 pub struct Request<'a> {
     /// How it is to run.
-    pub settings: Settings<'a>,
+    pub settings: RunSettings<'a>,
     /// The file that the lines go to, or none: standard output. A check has none.
     pub output: Option<&'a str>,
     /// The file that the refused pieces go to, if they go out.
@@ -185,19 +185,19 @@ impl<'a> Given<'a> {
     }
 
     // How lines go out.
-    fn lines_form(self) -> Lines
+    fn lines_form(self) -> LineForm
         ensures { result ≡ lines_form self.entry }
     {
         if self.verbatim {
-            Lines::Verbatim
+            LineForm::Verbatim
         } else if self.canonical {
-            Lines::Canonical
+            LineForm::Canonical
         } else {
-            Lines::Rebuilt
+            LineForm::Rebuilt
         }
     }
 
-    fn settings(self) -> Settings<'a>
+    fn settings(self) -> RunSettings<'a>
         ensures { result ≡ given_settings self.entry }
     {
         let dialect = if self.strict {
@@ -221,7 +221,7 @@ impl<'a> Given<'a> {
             counts_kinds: self.summary,
             file: None,
         };
-        Settings {
+        RunSettings {
             relay,
             progress: self.progress,
             summary: self.summary,

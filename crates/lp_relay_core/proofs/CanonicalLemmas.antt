@@ -16,7 +16,7 @@ use Rattle.influxdb_line_protocol.specs.laws.PointsOfLines.{LinesThatStayAreWrit
 use Rattle.lp_rebuild.specs.declared.refusals.LineRefusal.{LineRefusal}
 use Rattle.lp_rebuild.specs.declared.refusals.LineRefusal.TheVariants as line
 use Rattle.lp_rebuild.specs.RebuildSteps.{IsRefusedFor, TakesLine}
-use Rattle.lp_relay_core.specs.declared.taking.Lines.TheVariants.{Canonical}
+use Rattle.lp_relay_core.specs.declared.taking.LineForm.TheVariants.{Canonical}
 use Rattle.lp_relay_core.specs.declared.taking.Taken.TheVariants as took
 use Rattle.lp_relay_core.specs.declared.refusals.Refusal.TheVariants as why
 use Rattle.lp_relay_core.specs.declared.differing.Part.{Part}

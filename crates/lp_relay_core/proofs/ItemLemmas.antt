@@ -12,7 +12,7 @@ use Rattle.influxdb_line_protocol.specs.format.Items.{answers_of_piece}
 use Rattle.influxdb_line_protocol.specs.code.Bounded.{IsTooLong}
 use Rattle.lp_relay_core.specs.declared.taking.Settings.{Settings}
 use Rattle.influxdb_line_protocol.specs.code.Rules.{rules_of}
-use Rattle.lp_relay_core.specs.declared.taking.Lines.{Lines}
+use Rattle.lp_relay_core.specs.declared.taking.LineForm.{LineForm}
 use Rattle.lp_relay_core.specs.declared.telling.Faults.{Faults}
 use Rattle.lp_relay_core.specs.Told.{told}
 use Rattle.lp_relay_core.specs.Objects.{stop_of_bytes, stop_of_piece}
@@ -59,13 +59,13 @@ items_add_up (x ∷ xs) =
     omega (arith, carried_first x xs, refused_first x xs, one_of_two (is_carried_item x), items_add_up xs)
 
 -- the items of a piece that is UTF-8
-pub items_of_text : (lines : Lines) (dialect : Dialect) (piece : List ℕ) → IsUtf8 piece
+pub items_of_text : (lines : LineForm) (dialect : Dialect) (piece : List ℕ) → IsUtf8 piece
     → items_of_bytes lines dialect piece ≡ map (item_of lines piece) (answers_of_piece dialect piece)
 unfolding items_of_bytes
 items_of_text lines dialect piece h = rw (is_utf8-from_IsUtf8 piece h) refl
 
 -- the item of a piece that is not
-pub item_of_no_text : (lines : Lines) (dialect : Dialect) (piece : List ℕ) → (¬ IsUtf8 piece) → items_of_bytes lines dialect piece ≡ not_utf8 ∷ []
+pub item_of_no_text : (lines : LineForm) (dialect : Dialect) (piece : List ℕ) → (¬ IsUtf8 piece) → items_of_bytes lines dialect piece ≡ not_utf8 ∷ []
 unfolding items_of_bytes
 item_of_no_text lines dialect piece h =
     elim (cases_Bool (is_utf8 piece)) [

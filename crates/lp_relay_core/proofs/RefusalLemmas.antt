@@ -22,8 +22,8 @@ use Rattle.lp_values.specs.code.SpelledParts.{spelled_fault}
 use Rattle.lp_values.specs.declared.spelled.SpelledFault.{SpelledFault}
 use Rattle.lp_relay_core.specs.declared.pieces.Piece.{TheVariants.Text, TheVariants.NoText, TheVariants.TooLong}
 use Rattle.lp_relay_core.specs.declared.refusals.Refusal.TheVariants as why
-use Rattle.lp_relay_core.specs.declared.taking.Lines.{Lines}
-use Rattle.lp_relay_core.specs.declared.taking.Lines.TheVariants.{Rebuilt, Verbatim, Canonical}
+use Rattle.lp_relay_core.specs.declared.taking.LineForm.{LineForm}
+use Rattle.lp_relay_core.specs.declared.taking.LineForm.TheVariants.{Rebuilt, Verbatim, Canonical}
 use Rattle.lp_relay_core.specs.declared.taking.Settings.{Settings}
 use Rattle.lp_relay_core.specs.declared.taking.Taken.{Taken}
 use Rattle.lp_relay_core.specs.declared.taking.Taken.TheVariants as took
@@ -106,7 +106,7 @@ canonical_is_of front text l refused =
     ]
 
 -- and with each item
-item_is_of : (lines : Lines) (piece : List ℕ) (a : Result Line Fault) → is_carried_item (item_of lines piece a) ≡ false
+item_is_of : (lines : LineForm) (piece : List ℕ) (a : Result Line Fault) → is_carried_item (item_of lines piece a) ≡ false
     → IsOf (front_of piece) a (item_of lines piece a)
 item_is_of Rebuilt piece (Ok l) refused = (refl, refl)
 item_is_of Rebuilt piece (Err fault) refused = (refl, refl)
@@ -176,7 +176,7 @@ takes_text s piece text (took.Refused refusal) before after u is some takes =
     )
 
 -- so it is by the settings
-pub takes_by : (s : Settings) (piece : Bor (List ℕ)) (text : List ℕ) (taken : Taken) (before after : List ℕ) (lines : Lines) (dialect : TheDialect)
+pub takes_by : (s : Settings) (piece : Bor (List ℕ)) (text : List ℕ) (taken : Taken) (before after : List ℕ) (lines : LineForm) (dialect : TheDialect)
     → s.lines ≡ lines → dialect ≡ s.dialect → IsUtf8 piece.now → text ≡ trimmed piece.now → 0 < length (trimmed piece.now)
     → TakesItem taken (item_of lines piece.now (answer (rules_of dialect) text)) before after → TakesPiece s (Text piece) taken before after
 takes_by s piece text taken before after lines dialect its same u is some takes =

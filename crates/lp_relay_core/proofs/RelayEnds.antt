@@ -8,7 +8,7 @@ use Rattle.lp_relay_core.specs.Relaying.{limit_of}
 use Rattle.lp_relay_core.specs.declared.relaying.Relayed.{Relayed}
 use Rattle.lp_rebuild.specs.Running.{CountsReadFault, ReaderTold}
 use Rattle.lp_relay_core.specs.Writers.{AreFlushed, CountsNone, CountsOne, CountsWriteFault, Known, Told, Writers, bytes_of, failures_of}
-use Rattle.lp_relay_core.specs.declared.taking.Lines.TheVariants as going
+use Rattle.lp_relay_core.specs.declared.taking.LineForm.TheVariants as going
 use Rattle.lp_relay_core.specs.Relays.{IfRebuilt, Relays, RelaysAll, RelaysFronts, RelaysRebuilt, RelaysRebuiltFronts}
 use Rattle.influxdb_line_protocol.specs.laws.Laws.{PiecesAreUnique}
 use Rattle.influxdb_line_protocol.specs.laws.StreamLaws.{Utf8ByPieces}

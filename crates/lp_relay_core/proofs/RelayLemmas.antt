@@ -10,7 +10,7 @@ use Rattle.influxdb_line_protocol.specs.format.Readings.{Fault}
 use Rattle.influxdb_line_protocol.specs.format.Lines.{Line, answer}
 use Rattle.influxdb_line_protocol.specs.format.Trimming.{trimmed}
 use Rattle.lp_rebuild.specs.Running.{AppendsFront}
-use Rattle.lp_relay_core.specs.declared.taking.Lines.{Lines}
+use Rattle.lp_relay_core.specs.declared.taking.LineForm.{LineForm}
 use Rattle.lp_relay_core.specs.Kinds.{kinds_after}
 use Rattle.lp_relay_core.specs.Relaying.{Item, item_of, items_of_bytes, items_batch}
 use Rattle.influxdb_line_protocol.specs.types.PieceTooLong.{PieceTooLong}
@@ -30,13 +30,13 @@ takes_nothing : (old : Made) → TakesItems as_raw old [] old
 takes_nothing old = grind (arith, append-nil)
 
 -- a blank text has no item
-pub blank_items : (lines : Lines) (dialect : Dialect) (piece : List ℕ) → IsUtf8 piece → length (trimmed piece) ≡ 0
+pub blank_items : (lines : LineForm) (dialect : Dialect) (piece : List ℕ) → IsUtf8 piece → length (trimmed piece) ≡ 0
     → items_of_bytes lines dialect piece ≡ []
 blank_items lines dialect piece u blank =
     items_of_text lines dialect piece u ∙ ap (λ (l : List (Result Line Fault)). map (item_of lines piece) l) (blank_answers dialect piece blank)
 
 -- another text has the item of its answer
-pub text_item : (lines : Lines) (dialect : Dialect) (piece : List ℕ) → IsUtf8 piece → 0 < length (trimmed piece)
+pub text_item : (lines : LineForm) (dialect : Dialect) (piece : List ℕ) → IsUtf8 piece → 0 < length (trimmed piece)
     → items_of_bytes lines dialect piece ≡ item_of lines piece (answer dialect (trimmed piece)) ∷ []
 text_item lines dialect piece u some =
     items_of_text lines dialect piece u

@@ -23,7 +23,7 @@ use Rattle.lp_relay_core.specs.Relaying.{Item, answered, first_of, front_of, is_
 use Rattle.lp_relay_core.specs.Relaying.{carried_items, refused_items}
 use Rattle.lp_relay_core.specs.Writers.{Known}
 use Rattle.lp_relay_core.specs.Relays.{IfRebuilt, named_faults, told_faults, RelaysAll, RelaysFronts, RelaysRebuilt, RelaysRebuiltFronts}
-use Rattle.lp_relay_core.specs.declared.taking.Lines.TheVariants as going
+use Rattle.lp_relay_core.specs.declared.taking.LineForm.TheVariants as going
 use Rattle.lp_relay_core.specs.declared.taking.Numbering.TheVariants as named
 use Rattle.lp_relay_core.specs.declared.taking.Settings.{Settings}
 use Rattle.lp_relay_core.specs.declared.telling.Faults.TheVariants.{Raw}

@@ -13,8 +13,8 @@ use Rattle.influxdb_line_protocol.specs.format.Items.{answers_of_piece}
 use Rattle.influxdb_line_protocol.specs.format.Trimming.{trimmed}
 use Rattle.lp_rebuild.specs.Rebuilding.{carried_point, fault_line, fault_of, is_carried_answer}
 use Rattle.influxdb_line_protocol.specs.code.Rules.{rules_of}
-use Rattle.lp_relay_core.specs.declared.taking.Lines.{Lines}
-use Rattle.lp_relay_core.specs.declared.taking.Lines.TheVariants.{Rebuilt, Verbatim, Canonical}
+use Rattle.lp_relay_core.specs.declared.taking.LineForm.{LineForm}
+use Rattle.lp_relay_core.specs.declared.taking.LineForm.TheVariants.{Rebuilt, Verbatim, Canonical}
 use Rattle.lp_relay_core.specs.declared.taking.Settings.{Settings}
 use Rattle.lp_relay_core.specs.declared.telling.Faults.{Faults}
 use Rattle.lp_relay_core.specs.Differing.{differing_part, part_text}
@@ -45,7 +45,7 @@ canonical_item front text line =
 
 -- the item of an answer for a piece: where lines go out as they came, that of a line is its piece, whatever its names are; where
 -- only lines go out that are as they would be written, that of the line that is left of the piece once it is trimmed
-abbrev pub item_of : Lines → List ℕ → Result Line Fault → Item
+abbrev pub item_of : LineForm → List ℕ → Result Line Fault → Item
 item_of Rebuilt piece answer = answered (front_of piece) answer
 item_of Verbatim piece (Ok line) = as_it_came piece
 item_of Verbatim piece (Err fault) = answered (front_of piece) (Err fault)
@@ -66,7 +66,7 @@ is_too_long None piece = false
 is_too_long (Some limit) piece = nat_lt limit (length piece)
 
 -- the items of a piece that is not too long: those of its answers if it is UTF-8, and else one item without an answer
-unfoldable pub items_of_bytes : Lines → Dialect → List ℕ → List Item
+unfoldable pub items_of_bytes : LineForm → Dialect → List ℕ → List Item
 items_of_bytes lines dialect piece = if is_utf8 piece then map (item_of lines piece) (answers_of_piece dialect piece) else not_utf8 ∷ []
 
 -- how many bytes are kept of a piece that is too long: as many as the limit, if refused pieces go out

@@ -18,7 +18,7 @@ use Rattle.lp_relay_core.specs.Relaying.{refused_pieces}
 use Rattle.lp_relay_core.specs.Kinds.{counts_if, counts_of, refused_kinds, sum_of}
 use Rattle.lp_relay_core.specs.Writers.{Known, Writers, bytes_of}
 use Rattle.lp_relay_core.specs.LineFaults.{line_faults}
-use Rattle.lp_relay_core.specs.declared.taking.Lines.TheVariants as going
+use Rattle.lp_relay_core.specs.declared.taking.LineForm.TheVariants as going
 use Rattle.lp_relay_core.specs.declared.taking.Numbering.{Numbering}
 use Rattle.lp_relay_core.specs.declared.taking.Numbering.TheVariants as named
 use Rattle.lp_relay_core.specs.declared.taking.Settings.{Settings}

@@ -166,7 +166,7 @@ fn relay_lines<O: ThreeWriters>(
 }
 
 // The place of the first newline.
-fn first_newline(bytes: &[u8]) -> Option<usize>
+fn end_of_line(bytes: &[u8]) -> Option<usize>
     ensures { IfSome result (λ at. (at < length bytes.now) × (take (at + 1) bytes.now ≡ take at bytes.now ++ newline ∷ [])
         × All (λ b. b ≢ newline) (take at bytes.now)) }
 {
@@ -198,7 +198,7 @@ fn relay_begun<O: ThreeWriters>(
     ensures counts { CountsWriteFault result (O.told outputs.old) (O.told outputs.new) }
 {
     laws::pieces_join();
-    let Some(at) = first_newline(part) else {
+    let Some(at) = end_of_line(part) else {
         return Ok(0);
     };
     let end = at + 1;
@@ -277,7 +277,7 @@ fn finish<O: ThreeWriters>(
 }
 
 /// Relays the lines that `reader` gives, as they come: each that [`rebuild`](lp_rebuild::rebuild) would write again goes to the
-/// lines of `outputs`, and the fault of every other item to its faults, with what `settings.numbering` says. By `Lines::Verbatim`
+/// lines of `outputs`, and the fault of every other item to its faults, with what `settings.numbering` says. By `LineForm::Verbatim`
 /// each line that can be read goes out as it came, also one that a rebuild would refuse for a name.
 ///
 /// If `settings.puts_refused` says so, the refused pieces of `outputs` gain the piece of each item that has a fault line, byte for
@@ -288,7 +288,7 @@ fn finish<O: ThreeWriters>(
 ///
 /// What each read completes is written and flushed before the next read is asked for, and the rest at the end. What is held of
 /// the input is the line that has not ended yet and two blocks at most, and of each output less than a block and what one line
-/// makes, since it is written too if it fills a block. So by `Lines::Rebuilt` the lines are what [`run`](lp_rebuild::run) writes, and
+/// makes, since it is written too if it fills a block. So by `LineForm::Rebuilt` the lines are what [`run`](lp_rebuild::run) writes, and
 /// by `Faults::Raw`, if items are named from 1 on, the faults are too, but not in its order.
 ///
 /// Input that is not UTF-8 does not end it: each piece that is not is one item, whose fault line is `item N: the line is not

@@ -25,7 +25,7 @@ use std::alloc::{AllocError, Global};
 
 /// How the lines of a relay go out.
 #[derive(Clone, Copy, Debug, PartialEq, Eq)]
-pub enum Lines {
+pub enum LineForm {
     /// A line is written again, in one spelling, if its names are admitted, and else it is refused.
     Rebuilt,
     /// A line goes out byte for byte as it came, whatever its names are, with what its piece has before it, and a newline.
@@ -58,7 +58,7 @@ pub struct Settings<'n> {
     /// What the fault lines name.
     pub numbering: Numbering,
     /// How lines go out.
-    pub lines: Lines,
+    pub lines: LineForm,
     /// The number of the first item, or of the first line, that fault lines name: 2,001 if the input comes after 2,000 others. 0 is
     /// taken as 1.
     pub first: usize,
@@ -80,7 +80,7 @@ impl<'n> Default for Settings<'n> {
           dialect = Dialect.Crate;
           limit = usize.MAX;
           numbering = Numbering.Items;
-          lines = Lines.Rebuilt;
+          lines = LineForm.Rebuilt;
           first = 1;
           faults = Faults.Raw;
           puts_refused = false;
@@ -92,7 +92,7 @@ impl<'n> Default for Settings<'n> {
             dialect: Dialect::Crate,
             limit: usize::MAX,
             numbering: Numbering::Items,
-            lines: Lines::Rebuilt,
+            lines: LineForm::Rebuilt,
             first: 1,
             faults: Faults::Raw,
             puts_refused: false,
@@ -193,7 +193,7 @@ fn take_verbatim<'a>(
     piece: &'a str,
     text: &'a str,
 ) -> Result<Taken<'a>, AllocError>
-    ensures { IfOk result (λ taken. TakesItem taken (item_of Lines.Verbatim piece.now (answer (rules_of dialect) text.now))
+    ensures { IfOk result (λ taken. TakesItem taken (item_of LineForm.Verbatim piece.now (answer (rules_of dialect) text.now))
         batch.old.items batch.new.items) }
 {
     match fault_of(dialect, text) {
@@ -216,7 +216,7 @@ fn take_canonical<'a>(
 ) -> Result<Taken<'a>, AllocError>
     requires { text.now ≡ trimmed piece.now }
     ensures taken { IfOk result (λ taken. TakesItem taken
-        (item_of Lines.Canonical piece.now (answer (rules_of reader.old.dialect) text.now)) batch.old.items batch.new.items) }
+        (item_of LineForm.Canonical piece.now (answer (rules_of reader.old.dialect) text.now)) batch.old.items batch.new.items) }
     ensures dialect { reader.new.dialect ≡ reader.old.dialect }
 {
     laws::written_lines_stay();
@@ -244,7 +244,7 @@ fn take_rebuilt<'a>(
 ) -> Result<Taken<'a>, AllocError>
     requires { text.now ≡ trimmed piece.now }
     ensures taken { IfOk result (λ taken. TakesItem taken
-        (item_of Lines.Rebuilt piece.now (answer (rules_of reader.old.dialect) text.now)) batch.old.items batch.new.items) }
+        (item_of LineForm.Rebuilt piece.now (answer (rules_of reader.old.dialect) text.now)) batch.old.items batch.new.items) }
     ensures dialect { reader.new.dialect ≡ reader.old.dialect }
 {
     match put_line(batch, reader, text)? {
@@ -270,9 +270,9 @@ fn take_line<'a>(
         return Ok(Taken::Blank);
     }
     match settings.lines {
-        Lines::Rebuilt => take_rebuilt(batch, reader, piece, text),
-        Lines::Verbatim => take_verbatim(batch, reader.dialect, piece, text),
-        Lines::Canonical => take_canonical(batch, reader, piece, text),
+        LineForm::Rebuilt => take_rebuilt(batch, reader, piece, text),
+        LineForm::Verbatim => take_verbatim(batch, reader.dialect, piece, text),
+        LineForm::Canonical => take_canonical(batch, reader, piece, text),
     }
 }
 

@@ -1,7 +1,7 @@
 //! What the first cell of a row asks for: by which settings its text is relayed, and how it comes.
 
 use influxdb_line_protocol::Dialect;
-use lp_relay_core::{Faults, Lines, Numbering, Settings};
+use lp_relay_core::{Faults, LineForm, Numbering, Settings};
 use lp_vectors_shared::rows::number_of;
 
 const BOTH: &[Dialect] = &[Dialect::Crate, Dialect::Strict];
@@ -37,8 +37,8 @@ impl Asked {
             "strict" => self.dialects = STRICT,
             "both" => self.dialects = BOTH,
             "lines" => self.settings.numbering = Numbering::Lines,
-            "verbatim" => self.settings.lines = Lines::Verbatim,
-            "canonical" => self.settings.lines = Lines::Canonical,
+            "verbatim" => self.settings.lines = LineForm::Verbatim,
+            "canonical" => self.settings.lines = LineForm::Canonical,
             "one_line" => self.settings.faults = Faults::OneLine,
             "refused" => self.settings.puts_refused = true,
             "kinds" => self.settings.counts_kinds = true,

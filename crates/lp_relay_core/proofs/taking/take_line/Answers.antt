@@ -1,5 +1,5 @@
 use Rattle.std.proofs.lemmas.Result.{IfOk-weaker}
-use Rattle.lp_relay_core.specs.declared.taking.Lines.TheVariants.{Rebuilt, Verbatim, Canonical}
+use Rattle.lp_relay_core.specs.declared.taking.LineForm.TheVariants.{Rebuilt, Verbatim, Canonical}
 use Rattle.lp_relay_core.proofs.RefusalLemmas.{is_blank, not_blank, takes_blank, takes_by}
 use Rattle.lp_relay_core.proofs.taking.take_line.Goals as goal
 
