@@ -49,8 +49,8 @@ beside_gate() {
     LP_LIB_DIR=$made part bindings/rust bindings/rust/test.sh
 }
 beside_programs() {
-    LP_RELAY=$made/lp_relay part bindings/python bindings/python/test.sh "$made/liblp_c.a"
-    part checks/apart.sh checks/apart.sh "$made/lp_relay"
+    LP_RELAY=$made/lp_relay_program part bindings/python bindings/python/test.sh "$made/liblp_c.a"
+    part checks/apart.sh checks/apart.sh "$made/lp_relay_program"
 }
 # beside FUNCTION: starts one of them. `joined` waits for it, where `failed` names what failed.
 beside() {
@@ -60,10 +60,10 @@ joined() {
     wait "$!" || echo "checks that were cut off" >>"$made/failed"
 }
 check_programs() {
-    part checks/arguments.sh checks/arguments.sh "$made/lp_rebuild_program" "$made/lp_relay"
-    part checks/losses.sh checks/losses.sh "$made/lp_relay"
-    part checks/inputs.sh checks/inputs.sh "$made/lp_rebuild_program" "$made/lp_relay"
-    part checks/posting.sh checks/posting.sh "$made/lp_relay"
+    part checks/arguments.sh checks/arguments.sh "$made/lp_rebuild_program" "$made/lp_relay_program"
+    part checks/losses.sh checks/losses.sh "$made/lp_relay_program"
+    part checks/inputs.sh checks/inputs.sh "$made/lp_rebuild_program" "$made/lp_relay_program"
+    part checks/posting.sh checks/posting.sh "$made/lp_relay_program"
 }
 
 # Hands on the lines of the gate but the last, which comes to a file.
@@ -108,7 +108,7 @@ part misuses/check.sh misuses/check.sh
 part "rt ci" checks/times.py run "$made/crates" rt ci | hold_last
 gate=${PIPESTATUS[0]}
 joined
-if cp crates/lp_rebuild_program/out/lp_rebuild_program crates/lp_relay/out/lp_relay "$made"; then
+if cp crates/lp_rebuild_program/out/lp_rebuild_program crates/lp_relay_program/out/lp_relay_program "$made"; then
     beside beside_programs
     check_programs
     joined

@@ -73,7 +73,7 @@ crate=lp_rebuild_program
 program=$rebuild
 wanted_of_both "usage: lp_rebuild$(options '\nlp_rebuild:' | sed 's/.*/ [&]/' | tr -d '\n')$newline"
 
-crate=lp_relay
+crate=lp_relay_program
 program=$relay
 # As checks/blocks.py makes it of packaging/options.txt.
 usage=$(sed -n '/^usage: lp_relay /,/^```$/p' "$top/README.md" | sed '$d')$newline

@@ -21,7 +21,7 @@ TOP = Path(__file__).resolve().parent.parent
 DOCS = TOP / "docs"
 LIBRARIES = [
     "lp_format", "lp_scan", "lp_split", "lp_values", "lp_events", "lp_lines", "lp_build", "lp_written",
-    "influxdb_line_protocol", "lp_rebuild", "lp_relay_core", "lp_relay", "lp_c",
+    "influxdb_line_protocol", "lp_rebuild", "lp_relay", "lp_relay_program", "lp_c",
 ]
 
 HEAD = """\
@@ -46,8 +46,8 @@ Definitions of `specs/` that the contract of no public call cites: the code and 
 """
 
 # Crates of which a caller names what their roots hand on, and crates all of whose public functions are for callers.
-HANDED_ON = ["influxdb_line_protocol", "lp_rebuild", "lp_relay_core"]
-PUBLIC = ["influxdb_line_protocol", "lp_c", "lp_relay"]
+HANDED_ON = ["influxdb_line_protocol", "lp_rebuild", "lp_relay"]
+PUBLIC = ["influxdb_line_protocol", "lp_c", "lp_relay_program"]
 
 # The rooms of specs/, and what is in them.
 PARTS = {
@@ -55,13 +55,13 @@ PARTS = {
     "code": ("What the code holds, finds and returns", "They tie the code's types and searches to the format."),
     "laws": ("The laws", "What the definitions say of one another, and the words of these statements."),
     "program": ("Rebuilt texts", "The definitions of `lp_rebuild`."),
-    "relay": ("The relay", "The definitions of `lp_relay_core` and `lp_relay`."),
+    "relay": ("The relay", "The definitions of `lp_relay` and `lp_relay_program`."),
     "callers": ("Callers in C", "The definitions of `lp_c`."),
 }
 
 
 # The parts of the crates above the library.
-ROOMS = {"lp_rebuild": "program", "lp_relay_core": "relay", "lp_relay": "relay", "lp_c": "callers"}
+ROOMS = {"lp_rebuild": "program", "lp_relay": "relay", "lp_relay_program": "relay", "lp_c": "callers"}
 
 
 @dataclass

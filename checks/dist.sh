@@ -29,8 +29,8 @@ fail() {
 # The built files come into a folder of this check.
 mkdir "$work/built"
 if [ $# = 0 ]; then
-    build_if_changed dist lp_rebuild_program lp_relay lp_c || exit 1
-    cp "$top"/crates/{lp_rebuild_program/out/lp_rebuild_program,lp_relay/out/lp_relay,lp_c/out/liblp_c.a} "$work/built"
+    build_if_changed dist lp_rebuild_program lp_relay_program lp_c || exit 1
+    cp "$top"/crates/{lp_rebuild_program/out/lp_rebuild_program,lp_relay_program/out/lp_relay_program,lp_c/out/liblp_c.a} "$work/built"
 else
     cp "$1"/{lp_rebuild_program,lp_relay,liblp_c.a} "$work/built"
 fi
@@ -102,8 +102,8 @@ install_from_sources() {
     (cd "$top" && cp -R bin include man packaging launch.sh CHANGELOG.md LICENSE-* "$copy")
     mkdir -p "$copy/bindings"
     cp -R "$top/bindings/build.sh" "$top/bindings/c" "$copy/bindings"
-    mkdir -p "$copy"/crates/{lp_rebuild_program,lp_relay,lp_c}/src
-    touch "$copy"/crates/{lp_rebuild_program,lp_relay}/src/main.rt "$copy/crates/lp_c/src/lib.rt"
+    mkdir -p "$copy"/crates/{lp_rebuild_program,lp_relay_program,lp_c}/src
+    touch "$copy"/crates/{lp_rebuild_program,lp_relay_program}/src/main.rt "$copy/crates/lp_c/src/lib.rt"
     printf 'lp_rebuild_program:\nlp_relay:\nlp_c staticlib:\n' >"$copy/crates.txt"
     cat >"$work/stub/rt" <<'STUB'
 #!/bin/sh
@@ -121,9 +121,9 @@ STUB
         diff -r --no-dereference "$prefix" "$work/from sources" || fail "bin/install gives other files from sources"
     done
     equal "what rt was called for" $'lp_c lib\nlp_rebuild_program run\nlp_relay run' "$(sort "$CALLS")"
-    touch "$copy/crates/lp_relay/src/more.rt"
-    echo "// more" >"$copy/crates/lp_relay/src/more.rt"
-    PATH=$work/stub:$PATH FAILS=lp_relay refused "install: lp_relay was not built" 1 "$copy/bin/install" "$work/nowhere"
+    touch "$copy/crates/lp_relay_program/src/more.rt"
+    echo "// more" >"$copy/crates/lp_relay_program/src/more.rt"
+    PATH=$work/stub:$PATH FAILS=lp_relay_program refused "install: lp_relay_program was not built" 1 "$copy/bin/install" "$work/nowhere"
     [ ! -e "$work/nowhere" ] || fail "a build failed, and something is installed"
 }
 
@@ -148,7 +148,7 @@ refuse_arguments() {
         refused "usage: bin/$script *" 2 "$top/bin/$script" --built
         refused "usage: bin/$script *" 2 "$top/bin/$script" a b
         refused "usage: bin/$script *" 2 "$top/bin/$script" --help
-        for file in lp_rebuild_program lp_relay liblp_c.a; do
+        for file in lp_rebuild_program lp_relay_program liblp_c.a; do
             mv "$work/built/$file" "$work/kept"
             refused "install: $work/built/$file: there is no such file" 1 "$top/bin/$script" --built "$work/built" "$work/no"
             touch "$work/built/$file"

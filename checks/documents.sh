@@ -18,7 +18,7 @@ for copy in "$here"/../crates/*/LICENSE-*; do
     cmp "$copy" "$here/../$(basename "$copy")"
 done
 . "$here/../launch.sh"
-told=$(sed -n 's/^pub const VERSION: &str = "\(.*\)";$/\1/p' "$here/../crates/lp_relay/src/words.rt")
+told=$(sed -n 's/^pub const VERSION: &str = "\(.*\)";$/\1/p' "$here/../crates/lp_relay_program/src/words.rt")
 if [ "$told" != "$(version)" ]; then
     echo "documents: lp_relay --version tells $told, where CHANGELOG.md has $(version)"
     exit 1

@@ -18,7 +18,7 @@ from pathlib import Path
 from promises import MADE, TOP
 
 TEXTS = "crates/lp_values/specs/code/Faults.antt", re.compile(r'^fault_text \(?format\.(\w+)[^=]*= codes "(.*?)"', re.M)
-KINDS = "crates/lp_relay_core/specs/Objects.antt", re.compile(r"^fault_kind \(?fault\.(\w+)[^=]*= (\w+)$", re.M)
+KINDS = "crates/lp_relay/specs/Objects.antt", re.compile(r"^fault_kind \(?fault\.(\w+)[^=]*= (\w+)$", re.M)
 PAGE, HEAD = "CONTRIBUTING.md", "**A new fault**"
 
 

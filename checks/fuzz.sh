@@ -45,7 +45,7 @@ done
     --extern "std=$kit/rlibs/std.rlib" -L "dependency=$kit/rlibs" \
     --extern "influxdb_line_protocol=$top/crates/influxdb_line_protocol/out/rlib/influxdb_line_protocol.rlib" \
     --extern "lp_rebuild=$top/crates/lp_rebuild/out/rlib/lp_rebuild.rlib" \
-    --extern "lp_relay_core=$top/crates/lp_relay_core/out/rlib/lp_relay_core.rlib" \
+    --extern "lp_relay=$top/crates/lp_relay/out/rlib/lp_relay.rlib" \
     "${libraries[@]}" \
     --antt-project "$kit/rattle/logic/antt-project.json" --logic-built "$kit/logic_built" --links lp_checks= \
     --incremental out/incremental --backend llvm --toolchain "$built/toolchain" -o "$built/liblp_checks.a") \

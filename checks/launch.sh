@@ -9,14 +9,14 @@ made=$(mktemp -d)
 trap 'rm -rf "$made"' EXIT
 mkdir -p "$made"/{kit/bin,rattle-kept,elsewhere,rooms,kept}
 copy="$made/a copy"
-for crate in lp_low lp_relay lp_rebuild_program lp_other lp_left lp_right lp_both lp_c; do
+for crate in lp_low lp_relay_program lp_rebuild_program lp_other lp_left lp_right lp_both lp_c; do
     mkdir -p "$copy/crates/$crate"/{src,specs,proofs/f}
     touch "$copy/crates/$crate"/{src/lib.rt,specs/Lib.antt,proofs/f/Answers.antt}
 done
-for crate in lp_relay lp_rebuild_program lp_both; do mv "$copy/crates/$crate/src"/{lib,main}.rt; done
+for crate in lp_relay_program lp_rebuild_program lp_both; do mv "$copy/crates/$crate/src"/{lib,main}.rt; done
 cat >"$copy/crates.txt" <<'LINES'
 lp_rebuild_program: lp_low
-lp_relay: lp_low std_lib
+lp_relay_program: lp_low std_lib
 lp_other:
 lp_low:
 lp_both: lp_right std_lib lp_left
@@ -100,33 +100,33 @@ ended() {
     exit 1
 }
 given=$'--strict\na  b\n\nin'
-relay=$'lp_low lib\nlp_relay run'
-wanted 7 "lp_relay"$'\n'"$given" "$relay" "$copy/lp_relay"
+relay=$'lp_low lib\nlp_relay_program run'
+wanted 7 "lp_relay_program"$'\n'"$given" "$relay" "$copy/lp_relay"
 wanted 7 "lp_rebuild_program"$'\n'"$given" $'lp_low lib\nlp_rebuild_program run' "$copy/lp_rebuild"
 # What was built is run as it is, also by a link and from another folder, and after a change of a crate that it is not built from.
 cd "$made/elsewhere"
 touch "$copy/crates/lp_other/src/more.rt"
 echo '// more' >>"$copy/crates/lp_other/src/lib.rt"
-wanted 7 "lp_relay"$'\n'"$given" "" ./relay
+wanted 7 "lp_relay_program"$'\n'"$given" "" ./relay
 # A change of what it is built from, of its own or of a crate below, and a program that is gone.
-for file in crates/lp_relay/src/main.rt crates/lp_low/src/lib.rt crates/lp_low/specs/Lib.antt crates/lp_low/proofs/f/Answers.antt \
-    crates/lp_relay/proofs/f/Answers.antt crates.txt; do
+for file in crates/lp_relay_program/src/main.rt crates/lp_low/src/lib.rt crates/lp_low/specs/Lib.antt crates/lp_low/proofs/f/Answers.antt \
+    crates/lp_relay_program/proofs/f/Answers.antt crates.txt; do
     echo "# more" >>"$copy/$file"
-    wanted 7 "lp_relay"$'\n'"$given" "$relay" ./relay
-    wanted 7 "lp_relay"$'\n'"$given" "" ./relay
+    wanted 7 "lp_relay_program"$'\n'"$given" "$relay" ./relay
+    wanted 7 "lp_relay_program"$'\n'"$given" "" ./relay
 done
-rm "$copy/crates/lp_relay/out/lp_relay"
-wanted 7 "lp_relay"$'\n'"$given" "$relay" ./relay
+rm "$copy/crates/lp_relay_program/out/lp_relay_program"
+wanted 7 "lp_relay_program"$'\n'"$given" "$relay" ./relay
 # A build that fails, each time that it is tried; the program that was built before is not run. Then a build that does not.
 echo '// wrong' >>"$copy/crates/lp_low/src/lib.rt"
 for _ in 1 2; do
     FAILS=lp_low wanted 2 "" "lp_low lib" ./relay
     said "lp_relay: lp_low was not built" "$WHY"
-    FAILS=lp_relay wanted 2 "" "$relay" ./relay
-    said "lp_relay: lp_relay was not built" "$WHY"
+    FAILS=lp_relay_program wanted 2 "" "$relay" ./relay
+    said "lp_relay: lp_relay_program was not built" "$WHY"
 done
-wanted 7 "lp_relay"$'\n'"$given" "$relay" ./relay
-wanted 7 "lp_relay"$'\n'"$given" "" ./relay
+wanted 7 "lp_relay_program"$'\n'"$given" "$relay" ./relay
+wanted 7 "lp_relay_program"$'\n'"$given" "" ./relay
 
 # Several crates at once: those that do not stand on one another are built side by side, where that can be done, and each once.
 several=$'lp_both run\nlp_c lib\nlp_left lib\nlp_low lib\nlp_right lib'

@@ -10,7 +10,7 @@ here=$(cd "$(dirname "$0")" && pwd)
 "$here/dist.sh"
 "$here/../lp_rebuild" </dev/null
 "$here/../lp_relay" </dev/null
-relay=$here/../crates/lp_relay/out/lp_relay
+relay=$here/../crates/lp_relay_program/out/lp_relay_program
 "$here/large.sh" "$here/../crates/lp_rebuild_program/out/lp_rebuild_program" "$relay"
 "$here/interop.sh" "$relay"
 "$here/engines.sh" "$relay"

@@ -3,11 +3,11 @@
 
     checks/promises.py    prints each public call with a clause that docs/TRUST.md does not name, each with a `requires` that its
                           table of conditions does not have, what that table has and no call asks for, each clause that a row names
-                          and no call of the row has, each function of `lp_relay` without an `ensures` that the table of these does
+                          and no call of the row has, each function of `lp_relay_program` without an `ensures` that the table of these does
                           not have, and what that has and no such function is, and each name in `code` on a page that nothing in the
                           tree has; status 1 if there is any
 
-A call is public if the root or a public module of the library, `lp_rebuild` or `lp_relay_core` hands it on, or its type and trait,
+A call is public if the root or a public module of the library, `lp_rebuild` or `lp_relay` hands it on, or its type and trait,
 or if it is `extern "C"` in `lp_c`. A line names a method if it has the names of the method, of its type and of its trait.
 
 A name on a page is an identifier, a path of identifiers, a file or an option. The tree has an identifier if it is a word of a file
@@ -26,13 +26,13 @@ from definitions import LIBRARIES, handed_on
 TOP = Path(__file__).resolve().parent.parent
 TRUST = TOP / "docs" / "TRUST.md"
 CONDITIONS = "## Conditions"
-UNPROMISED = "### Functions of `lp_relay` without a clause"
+UNPROMISED = "### Functions of `lp_relay_program` without a clause"
 PAGES = ["*.md", "docs/*.md", "bench/*.md", "bindings/**/*.md", "crates/*/*.md"]
 # The crates that hand names on, and the crates whose code these are in.
 ROOTS = {
     "influxdb_line_protocol": LIBRARIES[:LIBRARIES.index("influxdb_line_protocol") + 1],
     "lp_rebuild": ["lp_rebuild"],
-    "lp_relay_core": ["lp_relay_core"],
+    "lp_relay": ["lp_relay"],
 }
 MADE = {"out", "target", "dist", "__pycache__", ".git"}  # folders that are not looked into
 
@@ -124,8 +124,8 @@ def wrong_conditions(calls):
 
 
 def unpromised_functions():
-    """The functions of `lp_relay` without an `ensures`, but for those of an impl of a trait: the type of each, and its name."""
-    for path in sorted((TOP / "crates" / "lp_relay" / "src").rglob("*.rt")):
+    """The functions of `lp_relay_program` without an `ensures`, but for those of an impl of a trait: the type of each, and its name."""
+    for path in sorted((TOP / "crates" / "lp_relay_program" / "src").rglob("*.rt")):
         text = bare(read(path))
         for name, _, what, here in members(text):
             if what == "fn" and " for " not in name and not any(line.startswith("ensures") for line in function(text[here:])[1]):

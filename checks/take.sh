@@ -44,8 +44,8 @@ touch "$made/to/crates/lp_scan/out/mine" "$made/to/crates/lp_lines/out/mine"
 take 1 "$made/to"
 echo "// mine" >>"$made/to/crates/lp_scan/src/lib.rt"
 # One of its crates is not there, and the others are.
-take 1 "$made/to" lp_relay_core
-[ ! -e "$made/to/crates/lp_relay_core" ]
+take 1 "$made/to" lp_relay
+[ ! -e "$made/to/crates/lp_relay" ]
 grep -q '^// mine$' "$made/to/crates/lp_scan/src/lib.rt"
 # A file that the crate does not have here goes with the old copy.
 touch "$made/to/crates/lp_scan/src/of_an_older_state.rt"
@@ -55,7 +55,7 @@ for _ in 1 2; do
     compare "${library[@]}" lp_rebuild lp_print lp_c
 done
 [ -e "$made/to/crates/lp_scan/out/mine" ] && [ -e "$made/to/crates/lp_lines/out/mine" ]
-[ ! -e "$made/to/crates/lp_relay_core" ]
+[ ! -e "$made/to/crates/lp_relay" ]
 # A copy that fails, after three that do not.
 mkdir "$made/broken" "$made/half"
 printf '#!/bin/sh\ncase "$*" in *-xf*/lp_values) cat >/dev/null; exit 1 ;; esac\nexec %s "$@"\n' "$(command -v tar)" >"$made/broken/tar"
@@ -64,7 +64,7 @@ PATH=$made/broken:$PATH take 1 "$made/half"
 [ -z "$(ls -A "$made/half/crates")" ] && [ ! -e "$made/half/crates.txt" ]
 take 1 "$made/nowhere"
 take 1 "$made/to" no_such_crate
-take 1 "$made/to" lp_relay_core no_such_crate
+take 1 "$made/to" lp_relay no_such_crate
 take 2
 take 2 --all "$made/to"
 [ -z "$(find "$made/to/crates" -name '.take.*')" ]

@@ -35,7 +35,7 @@ if [ ! -f "$include/Python.h" ]; then
 fi
 "$bindings/build.sh" "$@" >/dev/null
 ARCHIVE=$(realpath "${1:-$(dirname "$bindings")/crates/lp_c/out/liblp_c.a}")
-LP_RELAY=$(realpath -m "${LP_RELAY:-$(dirname "$bindings")/crates/lp_relay/out/lp_relay}")
+LP_RELAY=$(realpath -m "${LP_RELAY:-$(dirname "$bindings")/crates/lp_relay_program/out/lp_relay_program}")
 export ARCHIVE LP_RELAY PYTHONDONTWRITEBYTECODE=1
 [ -x "$LP_RELAY" ] || echo "left out: bindings/python beside lp_relay: there is no $LP_RELAY" | tee -a "${LEFT_OUT:-/dev/null}"
 built=$(mktemp -d)

@@ -6,7 +6,7 @@ ghost use Rattle.influxdb_line_protocol.specs.format.Pieces.{IsLastPiece};
 use influxdb_line_protocol::LineStream;
 use lp_rebuild::program::BLOCK;
 use lp_rebuild::{DeviceFault, Sink, Source};
-use lp_relay_core::{Nowhere, Outputs, Settings, relay};
+use lp_relay::{Nowhere, Outputs, Settings, relay};
 use std::alloc::Global;
 
 // Takes the pieces that a stream can give, and counts them.

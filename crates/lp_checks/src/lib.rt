@@ -24,7 +24,7 @@ use influxdb_line_protocol::{
     parse_lines_in, read_events_in, split_lines_in, write_line,
 };
 use lp_rebuild::{RunFault, rebuild_in, run_in};
-use lp_relay_core::{KINDS, Outputs, relay};
+use lp_relay::{KINDS, Outputs, relay};
 use report::Report;
 use std::alloc::Global;
 use std::fmt::Write;

@@ -10,7 +10,7 @@
 //! | `k` | kinds of faults are counted |
 
 use influxdb_line_protocol::Dialect;
-use lp_relay_core::{Faults, LineForm, Numbering, Settings};
+use lp_relay::{Faults, LineForm, Numbering, Settings};
 
 /// The settings that these letters spell, with this limit. Other letters spell nothing.
 pub fn spelled(letters: &[u8], limit: usize) -> Settings<'static> {

@@ -1,10 +1,10 @@
 //! Rebuilds the lines of a text: those that can be written again go to one output, and every other
 //! one is a fault, numbered, in another.
 //!
-//! [`rebuild`] does it for a text, and [`run`] from a reader to two writers. `lp_relay_core` does it as the lines come.
+//! [`rebuild`] does it for a text, and [`run`] from a reader to two writers. `lp_relay` does it as the lines come.
 #![tactic(auto)]
 
-// The public modules are shared with `lp_relay_core`.
+// The public modules are shared with `lp_relay`.
 pub mod batch;
 mod devices;
 mod failures;

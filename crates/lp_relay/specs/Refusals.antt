@@ -1,44 +1,131 @@
--- What is refused before anything is opened.
-use Rattle.std.specs.Prelude.{ℕ, ◌==◌, ◌&&◌, Bool, false, List, [], ◌∷◌, ◌++◌, bytes_eq, codes, Option, Some, None, if◌then◌else◌}
-use Rattle.std.specs.Prelude.{option_and_then, option_map}
-use Rattle.std.specs.Option.{option_or}
+-- Why items are refused, and what is known of a piece whose item is.
+use Rattle.std.specs.Prelude.{◌≡◌, ◌++◌, ℕ, Bool, true, false, List, [], ◌∷◌, codes, string_bytes, Some, Result, Ok, Err}
 use Rattle.std.specs.Borrow.{Bor}
-use Rattle.lp_relay.specs.declared.refusals.{FileId.FileId, Located.Located, Refusal.Refusal}
-use Rattle.lp_relay.specs.declared.refusals.Refusal.TheVariants.{OutputIsInput, RefusedIsInput, RefusedIsOutput}
+use Rattle.std.specs.Str.{IsUtf8}
+use Rattle.influxdb_line_protocol.specs.format.Dialects.{Dialect}
+use Rattle.influxdb_line_protocol.specs.format.Lines.{front_before}
+use Rattle.influxdb_line_protocol.specs.format.Trimming.{trimmed}
+use Rattle.influxdb_line_protocol.specs.types.PieceTooLong.{PieceTooLong}
+use Rattle.influxdb_line_protocol.specs.code.Rules.{rules_of}
+use Rattle.lp_rebuild.specs.declared.refusals.LineRefusal.TheVariants as line
+use Rattle.lp_rebuild.specs.RebuildSteps.{line_refusal_text}
+use Rattle.lp_values.specs.code.SpelledParts.{spelled_fault}
+use Rattle.lp_relay.specs.declared.kinds.Kind.{Kind}
+use Rattle.lp_relay.specs.declared.kinds.Kind.TheVariants as kind
+use Rattle.lp_relay.specs.declared.pieces.Piece.{Piece}
+use Rattle.lp_relay.specs.declared.pieces.Piece.TheVariants.{Text, NoText, TooLong}
+use Rattle.lp_relay.specs.declared.refusals.Refusal.{Refusal}
+use Rattle.lp_relay.specs.declared.refusals.Refusal.TheVariants as why
+use Rattle.lp_relay.specs.declared.taking.Settings.{Settings}
+use Rattle.lp_relay.specs.declared.taking.Taken.{Taken}
+use Rattle.lp_relay.specs.declared.taking.Taken.TheVariants as took
+use Rattle.lp_relay.specs.declared.telling.{Faults.Faults, Place.Place}
+use Rattle.lp_relay.specs.declared.telling.Faults.TheVariants as form
+use Rattle.lp_relay.specs.LineFaults.{fault_line_at, item_text}
+use Rattle.lp_relay.specs.Objects.{fault_kind, item_front, item_kind, object, stop_given, stop_members}
+use Rattle.lp_events.specs.code.Stops.{reading_stop}
+use Rattle.lp_relay.specs.Relaying.{Item, answered, front_of, is_carried_item, item_line, long_text}
+use Rattle.lp_relay.specs.RelaySteps.{TakesGiven, Unwritten, items_given, line_or_none}
+use Rattle.lp_relay.specs.Told.{told}
 
--- whether both are files, and one
-abbrev pub are_one : Option FileId → Option FileId → Bool
-are_one None other = false
-are_one (Some file) None = false
-are_one (Some file) (Some other) = file.device == other.device && file.number == other.number
+-- what is wrong with an item that is refused for this
+abbrev pub wrong_of : Refusal → List ℕ
+wrong_of (why.Line refusal) = line_refusal_text refusal
+wrong_of (why.NotAsWritten wrong) = string_bytes wrong
+wrong_of why.NotUtf8 = codes "the line is not UTF-8"
+wrong_of (why.TooLong kept) = long_text kept
 
--- the name of the first input that is this file
-abbrev pub input_at : List Located → Option FileId → Option (Bor (List ℕ))
-input_at [] file = None
-input_at (input ∷ inputs) file = if are_one input.file file then Some input.name else input_at inputs file
+-- the kind of its fault
+abbrev pub refusal_kind : Refusal → Kind
+refusal_kind (why.Line (line.Fault fault)) = fault_kind (spelled_fault fault)
+refusal_kind (why.Line line.NotAdmitted) = kind.NameNotAdmitted
+refusal_kind (why.NotAsWritten wrong) = kind.NotAsWritten
+refusal_kind why.NotUtf8 = kind.NotUtf8
+refusal_kind (why.TooLong kept) = kind.TooLong
 
--- why the refused pieces cannot go to a file: it is an input, or the output
-abbrev pub refused_refusal : List Located → (output : Option FileId) → Located → Option Refusal
-refused_refusal inputs output refused =
-    option_or (option_map RefusedIsInput (input_at inputs refused.file))
-    (if are_one output refused.file then Some (RefusedIsOutput refused.name) else None)
+-- whether it is a fault of the text
+abbrev pub is_fault : Refusal → Bool
+is_fault (why.Line (line.Fault fault)) = true
+is_fault other = false
 
--- why a run is refused over these inputs: its output is one of them, or the file of its refused pieces is one or the output
-abbrev pub refusal : List Located → (output : Option FileId) → Option Located → Option Refusal
-refusal inputs output refused =
-    option_or (option_map OutputIsInput (input_at inputs output))
-    (option_and_then (λ file. refused_refusal inputs output file) refused)
+-- whether an item is a fault of a text
+abbrev pub has_fault : Item → Bool
+has_fault (answered front (Err fault)) = true
+has_fault other = false
 
--- the path of an input
-abbrev pub input_path : List ℕ → List ℕ
-input_path name = if bytes_eq name (codes "-") then codes "/proc/self/fd/0" else name
+-- an item is refused for this
+pub record IsRefusal (refusal : Refusal) (item : Item) : Type 0 where
+  pub refused : is_carried_item item ≡ false
+  pub wrong : item_text item ≡ wrong_of refusal
+  pub kind : item_kind item ≡ Some (refusal_kind refusal)
+  pub fault : has_fault item ≡ is_fault refusal
 
--- how an input is named
-abbrev pub input_text : List ℕ → List ℕ
-input_text name = if bytes_eq name (codes "-") then codes "standard input" else name
+-- what came of the item of a text: its line was added, or it is refused for this
+abbrev pub TakesItem : Taken → Item → (before after : List ℕ) → Type 0
+TakesItem took.Blank item before after = ⊥
+TakesItem took.Carried item before after = (is_carried_item item ≡ true) × (after ≡ before ++ item_line item)
+TakesItem (took.Refused refusal) item before after = IsRefusal refusal item × (after ≡ before)
 
--- what is said of a refusal
-abbrev pub refusal_text : Refusal → List ℕ
-refusal_text (OutputIsInput name) = codes "the output is an input too: " ++ input_text name.now
-refusal_text (RefusedIsInput name) = codes "the file of --refused is an input too: " ++ input_text name.now
-refusal_text (RefusedIsOutput name) = codes "the file of --refused is the output too: " ++ name.now
+-- what a call gave, as which a piece is known
+abbrev pub given_of : Piece → Result (Bor (List ℕ)) PieceTooLong
+given_of (Text text) = Ok text
+given_of (NoText bytes) = Ok bytes
+given_of (TooLong fault) = Err fault
+
+-- what comes before its text
+abbrev pub front_in : Piece → List ℕ
+front_in (Text text) = front_of text.now
+front_in other = []
+
+-- the members that tell where reading stops in it, if its text is at fault
+abbrev pub stop_in : (fault : Bool) → Dialect → (line : ℕ) → Piece → List ℕ
+stop_in false dialect line piece = []
+stop_in true dialect line (Text text) = stop_members line (front_before text.now (reading_stop dialect (trimmed text.now)).1)
+stop_in true dialect line other = []
+
+-- the object of a piece at this place that is refused for this
+abbrev pub object_of : Dialect → Place → Piece → Refusal → List ℕ
+object_of dialect place piece refusal =
+    object place.number (line_or_none place.line) place.offset (front_in piece) (refusal_kind refusal) (wrong_of refusal)
+    (stop_in (is_fault refusal) dialect (line_or_none place.line) piece)
+
+-- what is told of it, in this form
+abbrev pub told_by : Faults → Dialect → Place → Piece → Refusal → List ℕ
+told_by form.Raw dialect place piece refusal = fault_line_at place.line place.number (wrong_of refusal)
+told_by form.OneLine dialect place piece refusal = told form.OneLine (fault_line_at place.line place.number (wrong_of refusal))
+told_by (form.Json first_line) dialect place piece refusal = object_of dialect place piece refusal
+
+-- it is known for what it is
+abbrev pub IsKnown : Piece → Type 0
+IsKnown (Text text) = IsUtf8 text.now
+IsKnown (NoText bytes) = ¬ IsUtf8 bytes.now
+IsKnown (TooLong fault) = Unit {0}
+
+-- two calls gave the same bytes
+abbrev pub GaveSame : Result (Bor (List ℕ)) PieceTooLong → Result (Bor (List ℕ)) PieceTooLong → Type 0
+GaveSame (Ok bytes) (Ok others) = bytes.now ≡ others.now
+GaveSame (Err fault) (Err other) = fault ≡ other
+GaveSame given other = ⊥
+
+-- this is the piece that a call gave
+abbrev pub IsPieceOf : Result (Bor (List ℕ)) PieceTooLong → Piece → Type 0
+IsPieceOf given piece = GaveSame (given_of piece) given × IsKnown piece
+
+-- a piece has one item, which is refused for this
+pub record RefusesPiece (s : Settings) (piece : Piece) (refusal : Refusal) (item : Item) : Type 0 where
+  pub is : items_given s (given_of piece) ≡ item ∷ []
+  pub refused : IsRefusal refusal item
+  pub front : item_front item ≡ front_in piece
+  pub stop : (line : ℕ) → stop_given (rules_of s.dialect) line (given_of piece) ≡ stop_in (is_fault refusal) (rules_of s.dialect) line piece
+
+-- what came of a piece
+abbrev pub TakesPiece : Settings → Piece → Taken → (before after : List ℕ) → Type 0
+TakesPiece s piece took.Blank before after = (items_given s (given_of piece) ≡ []) × (after ≡ before)
+TakesPiece s piece took.Carried before after =
+    (item : Item) × (items_given s (given_of piece) ≡ item ∷ []) × (is_carried_item item ≡ true) × (after ≡ before ++ item_line item)
+TakesPiece s piece (took.Refused refusal) before after = ((item : Item) × RefusesPiece s piece refusal item) × (after ≡ before)
+
+-- if that came of a piece after these lines, the piece was taken once it ended so
+abbrev pub EndsPiece : Settings → Piece → Taken → (mid new : Unwritten) → Type 0
+EndsPiece s piece taken mid new = (before : List ℕ) → TakesPiece s piece taken before mid.made.batch
+    → TakesGiven s (record mid { made = record mid.made { batch = before } }) (given_of piece) new

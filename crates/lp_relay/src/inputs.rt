@@ -1,193 +1,170 @@
-//! The inputs, which are read one after another: each by itself, or all as one.
-ghost use Rattle.std.specs.Prelude.{◌≡◌, ◌<◌, List, [], ℕ, Option, None, false, is_some, nat_lt, true, length, IfOk, OnOk};
-ghost use Rattle.std.specs.Io.{ReadsAtMost};
-ghost use Rattle.std.specs.Io.KnownBytes.{ReadConsumes};
-ghost use Rattle.lp_relay.specs.Inputs.{ReadsOn, ReadsOne, joined_left, texts_left};
+//! Several inputs, which are relayed one after another, each by itself.
+//!
+//! One reader reads them all, and a [`NextInput`] turns it to the next one. So what is put before a reader, as a count of its bytes, is
+//! put there once.
+ghost use Rattle.std.specs.Prelude.{◌≡◌, Option, Some, List, ℕ, map, OnOk};
+ghost use Rattle.lp_rebuild.specs.Devices.{CountsFailure};
+ghost use Rattle.lp_relay.specs.Inputs.{AddsUp, Opens, RelaysInputs, RelaysNext, inputs_told, settings_after, settings_for};
 
-use std::cell::Cell;
-use std::fs::File;
-use std::io::{self, Read, Stdin};
+use crate::outputs::ThreeWriters;
+use crate::relaying::{Relayed, relay};
+use crate::taking::{Numbering, Settings};
+use crate::telling::Faults;
+use influxdb_line_protocol::laws;
+use lp_rebuild::{DeviceFault, RunFault, Source};
+use std::alloc::Global;
 
-/// What opens inputs.
+/// What turns a reader to one input after another.
 ///
-/// For contracts it has one member: `bytes`, those of the input of a name, if they are known.
-pub trait Opener<'n> {
-    type Input: Read + Drop;
+/// For contracts it has one member, `left`: the texts of the inputs that are left, in order, if they are known.
+pub trait NextInput<R: Source> {
+    ghost left: { Self → Option (List (List ℕ)) };
 
-    ghost bytes: { Self → List ℕ → Option (List ℕ) };
-
-    /// Opens the input of a name.
+    /// Turns `reader` to the next input, which has this name: what the reader has left is the text of that then, and no bytes if
+    /// no input is left.
     ///
     /// # Errors
     ///
-    /// What the system says if it cannot be opened.
-    fn open(&self, name: &'n str) -> io::Result<Self::Input>
-        ensures { IfOk result (λ input. Self.Input.remaining input ≡ bytes self.now name.now) };
+    /// A fault of the reader: the input cannot be opened.
+    fn open(&mut self, reader: &mut R, name: &str) -> Result<(), DeviceFault>
+        ensures opened { OnOk result (Opens (left self.old) (left self.new) (R.bytes reader.new)) }
+        ensures counts { CountsFailure result (R.failures reader.old) (R.failures reader.new) };
 }
 
-/// The inputs that are left: the rest of the one that is open, and those that names name after it.
+/// Inputs that are read one after another.
 #[derive(Drop)]
-pub struct Inputs<'n, O, I> {
-    opener: O,
-    current: Option<I>,
-    names: &'n [&'n str],
+pub struct Inputs<R, N> {
+    /// What reads the input that is open.
+    pub reader: R,
+    /// What turns the reader to the next one.
+    pub next: N,
 }
 
-impl<'n, O: Opener<'n>> Inputs<'n, O, O::Input> {
-    /// All inputs of these names, none of them open.
-    pub fn new(opener: O, names: &'n [&'n str]) -> Self
-        ensures { result ≡ record { opener = opener; current = None; names = names.entry } }
-    {
-        Inputs {
-            opener,
-            current: None,
-            names,
-        }
-    }
+/// The texts of a slice, one after another, whatever their names are. It never fails.
+impl<'a> NextInput<&'a [u8]> for &'a [&'a [u8]] {
+    ghost left = { λ texts. Some (map (λ text. text.now) texts.now) };
 
-    // Whether an input is open.
-    fn is_open(&self) -> bool
-        ensures { result ≡ is_some self.now.current }
-    {
-        self.current.is_some()
-    }
-
-    // Whether an input is left, be it at its end.
-    fn is_left(&self) -> bool
-        ensures { result ≡ nat_lt 0 (length (texts_left O.bytes O.Input.remaining self.now)) }
-    {
-        self.current.is_some() || !self.names.is_empty()
-    }
-
-    // Opens the next input, if none is open.
-    fn open_next(&mut self) -> io::Result<()>
-        ensures texts { texts_left O.bytes O.Input.remaining self.new ≡ texts_left O.bytes O.Input.remaining self.old }
-        ensures last { OnOk result (is_some self.new.current ≡ false → texts_left O.bytes O.Input.remaining self.new ≡ []) }
-        ensures current { is_some self.old.current ≡ true → is_some self.new.current ≡ true }
-    {
-        if self.current.is_some() {
+    fn open(&mut self, reader: &mut &'a [u8], _name: &str) -> Result<(), DeviceFault> {
+        let texts: &'a [&'a [u8]] = *self;
+        if texts.is_empty() {
+            *reader = &[];
             return Ok(());
         }
-        let [name, names @ ..] = self.names else {
-            return Ok(());
-        };
-        self.current = Some(self.opener.open(name)?);
-        self.names = names;
+        *reader = texts[0];
+        *self = &texts[1..];
         Ok(())
     }
 }
 
-/// Each is read by itself: a read gives nothing at the end of each, and the read after that begins the next.
-impl<'n, O: Opener<'n>> Read for Inputs<'n, O, O::Input> {
-    fn read(&mut self, buf: &mut [u8]) -> io::Result<usize>
-        ensures bound { ReadsAtMost result buf.new }
-        ensures bytes { ReadConsumes None None result buf.new }
-        ensures current { 0 < length buf.old → ReadsOn (is_some self.old.current) (is_some self.new.current) result }
-        ensures one { 0 < length buf.old → ReadsOne (texts_left O.bytes O.Input.remaining self.old)
-            (texts_left O.bytes O.Input.remaining self.new) result buf.new }
-    {
-        if buf.is_empty() {
-            return Ok(0);
+// The settings for an input that comes after items that were counted so: its items are counted on, its lines from 1 on.
+fn settings_after<'n>(settings: Settings<'n>, so_far: Relayed) -> Settings<'n>
+    ensures { result ≡ settings_after settings.entry so_far }
+{
+    let first = match settings.numbering {
+        Numbering::Items => {
+            let items = so_far.carried.saturating_add(so_far.refused);
+            settings.first.max(1).saturating_add(items)
         }
-        self.open_next()?;
-        let Some(input) = &mut self.current else {
-            return Ok(0);
-        };
-        let n = input.read(buf)?;
-        if n == 0 {
-            self.current = None;
-        }
-        Ok(n)
+        Numbering::Lines => 1,
+    };
+    let faults = match settings.faults {
+        Faults::Json { .. } => Faults::Json { first_line: 1 },
+        faults => faults,
+    };
+    Settings {
+        first,
+        faults,
+        ..settings
     }
 }
 
-/// Inputs that are read as one: one that does not end in a newline is followed by one, if another comes after it.
-#[derive(Drop)]
-pub struct Joined<'n, O, I> {
-    inputs: Inputs<'n, O, I>,
-    /// Whether bytes were given, and the last one is no newline.
-    is_in_line: bool,
+// The settings for the input of this name: of several inputs faults name theirs.
+fn settings_for<'n>(several: bool, name: &'n str, settings: Settings<'n>) -> Settings<'n>
+    ensures { result ≡ settings_for several name.entry settings.entry }
+{
+    let file = if several { Some(name) } else { settings.file };
+    Settings { file, ..settings }
 }
 
-impl<'n, O: Opener<'n>> Joined<'n, O, O::Input> {
-    /// All of these, of which nothing was read.
-    pub fn new(inputs: Inputs<'n, O, O::Input>) -> Self
-        ensures { result ≡ record { inputs = inputs.entry; is_in_line = false } }
-    {
-        Joined {
+// The counts of an input and of what came before it. A sum that no `usize` holds becomes `usize::MAX`.
+fn sum_of(so_far: Relayed, counts: Relayed) -> Relayed
+    ensures { AddsUp so_far counts result }
+{
+    let kinds = match (so_far.kinds, counts.kinds) {
+        (Some(mut kinds), Some(more)) => {
+            kinds.add(&more);
+            Some(kinds)
+        }
+        (_, more) => more,
+    };
+    Relayed {
+        carried: so_far.carried.saturating_add(counts.carried),
+        refused: so_far.refused.saturating_add(counts.refused),
+        kinds,
+    }
+}
+
+// Relays the next input, which has this name.
+fn relay_next<R: Source, N: NextInput<R>, O: ThreeWriters>(
+    alloc: Global,
+    settings: Settings<'_>,
+    name: &str,
+    inputs: &mut Inputs<R, N>,
+    outputs: &mut O,
+) -> Result<Relayed, RunFault>
+    ensures { RelaysNext settings.entry result
+        (inputs_told N.left R.failures inputs.old.next inputs.old.reader)
+        (inputs_told N.left R.failures inputs.new.next inputs.new.reader) (O.told outputs.old) (O.told outputs.new) }
+{
+    laws::pieces_join();
+    if outputs.begin(alloc, settings).is_err() {
+        return Err(RunFault::OutOfMemory);
+    }
+    if inputs.next.open(&mut inputs.reader, name).is_err() {
+        return Err(RunFault::Read);
+    }
+    relay(alloc, settings, &mut inputs.reader, outputs)
+}
+
+/// Relays the inputs of these names, one after another and each by itself, as [`relay`] does, and adds up their counts.
+///
+/// The first input is relayed by `settings`. Each other one is too, but its items are counted on from those before it, and its lines
+/// from 1 on. If there are several, `settings.file` is the name of each in turn. A sum that no `usize` holds becomes `usize::MAX`.
+///
+/// # Errors
+///
+/// After each of them, the inputs before one are written whole, and of that one each writer has a beginning of what was meant for it.
+///
+/// * `Read` if an input could not be opened or read, and only there.
+/// * `OutOfMemory` and `Write` as [`relay`] answers them.
+pub fn relay_inputs<'n, R: Source, N: NextInput<R>, O: ThreeWriters>(
+    alloc: Global,
+    settings: Settings<'n>,
+    names: &[&'n str],
+    inputs: &mut Inputs<R, N>,
+    outputs: &mut O,
+) -> Result<Relayed, RunFault>
+    ensures { RelaysInputs settings.entry names.entry.now result
+        (inputs_told N.left R.failures inputs.old.next inputs.old.reader)
+        (inputs_told N.left R.failures inputs.new.next inputs.new.reader) (O.told outputs.old) (O.told outputs.new) }
+{
+    let several = names.len() > 1;
+    let mut total = Relayed {
+        carried: 0,
+        refused: 0,
+        kinds: None,
+    };
+    let mut own = settings;
+    for name in names {
+        let counts = relay_next(
+            alloc,
+            settings_for(several, name, own),
+            name,
             inputs,
-            is_in_line: false,
-        }
+            outputs,
+        )?;
+        total = sum_of(total, counts);
+        own = settings_after(settings, total);
     }
-}
-
-impl<'n, O: Opener<'n>> Read for Joined<'n, O, O::Input> {
-    ghost remaining = { λ all. joined_left O.bytes O.Input.remaining all };
-
-    fn read(&mut self, buf: &mut [u8]) -> io::Result<usize> {
-        if buf.is_empty() {
-            return Ok(0);
-        }
-        while self.inputs.is_left() {
-            if self.is_in_line && !self.inputs.is_open() {
-                self.is_in_line = false;
-                buf[0] = b'\n';
-                return Ok(1);
-            }
-            let n = self.inputs.read(buf)?;
-            if n > 0 {
-                self.is_in_line = buf[n - 1] != b'\n';
-                return Ok(n);
-            }
-        }
-        Ok(0)
-    }
-}
-
-/// An input of the system that is open.
-#[derive(Drop)]
-pub enum SystemInput {
-    /// Standard input.
-    Standard(Stdin),
-    /// A file.
-    File(File),
-}
-
-impl Read for SystemInput {
-    fn read(&mut self, buf: &mut [u8]) -> io::Result<usize> {
-        match self {
-            SystemInput::Standard(stdin) => stdin.read(buf),
-            SystemInput::File(file) => file.read(buf),
-        }
-    }
-}
-
-/// What opens inputs of the system: files, and standard input, whose name is `-`.
-#[derive(Drop)]
-pub struct SystemOpener<'a, 'n> {
-    rt: &'a HostRuntime,
-    /// The file that was opened last; none if it was standard input.
-    name: &'a Cell<Option<&'n str>>,
-}
-
-impl<'a, 'n> SystemOpener<'a, 'n> {
-    /// It puts the name of each file that it opens into a cell.
-    pub(crate) fn new(rt: &'a HostRuntime, name: &'a Cell<Option<&'n str>>) -> Self {
-        SystemOpener { rt, name }
-    }
-}
-
-impl<'a, 'n> Opener<'n> for SystemOpener<'a, 'n> {
-    type Input = SystemInput;
-
-    ghost bytes = { λ _ _. None };
-
-    fn open(&self, name: &'n str) -> io::Result<SystemInput> {
-        if name == "-" {
-            self.name.set(None);
-            return Ok(SystemInput::Standard(self.rt.stdin()));
-        }
-        self.name.set(Some(name));
-        Ok(SystemInput::File(File::open(self.rt, name)?))
-    }
+    Ok(total)
 }

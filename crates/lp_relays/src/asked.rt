@@ -1,7 +1,7 @@
 //! What the first cell of a row asks for: by which settings its text is relayed, and how it comes.
 
 use influxdb_line_protocol::Dialect;
-use lp_relay_core::{Faults, LineForm, Numbering, Settings};
+use lp_relay::{Faults, LineForm, Numbering, Settings};
 use lp_vectors_shared::rows::number_of;
 
 const BOTH: &[Dialect] = &[Dialect::Crate, Dialect::Strict];

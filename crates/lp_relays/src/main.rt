@@ -11,7 +11,7 @@ mod wanted;
 mod ways;
 
 use asked::{Asked, asked_by};
-use lp_relay_core::Settings;
+use lp_relay::Settings;
 use lp_vectors_shared::rows::{Table, compare, number_of, text_of};
 use numbers::with_numbers;
 use std::alloc::{AllocError, Global};

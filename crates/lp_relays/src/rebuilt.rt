@@ -4,7 +4,7 @@ use crate::unlike::{Unlike, same, told};
 use crate::ways::{Way, relayed, ways};
 use influxdb_line_protocol::Dialect;
 use lp_rebuild::{Rebuilt, rebuild_in};
-use lp_relay_core::{Settings, part_ends};
+use lp_relay::{Settings, part_ends};
 use lp_vectors_shared::random::Random;
 use lp_vectors_shared::short_texts::{COUNTS, short_text};
 use std::alloc::{AllocError, Global};

@@ -4,7 +4,7 @@ use crate::asked::Asked;
 use crate::unlike::{Unlike, same};
 use crate::ways::{Blocks, Wrote, relayed, relayed_each, ways};
 use lp_rebuild::{Kept, Rebuilt, RunFault, rebuild_in, run_in, status};
-use lp_relay_core::{KINDS, Relayed};
+use lp_relay::{KINDS, Relayed};
 use lp_vectors_shared::rows::text_of;
 use std::alloc::{AllocError, Global};
 

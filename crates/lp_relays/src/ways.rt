@@ -1,7 +1,7 @@
 //! The ways by which a text comes to a relay, and what the relay gives.
 
 use lp_rebuild::{DeviceFault, Kept, RunFault, Source};
-use lp_relay_core::{Inputs, Outputs, Relayed, Settings, relay, relay_inputs};
+use lp_relay::{Inputs, Outputs, Relayed, Settings, relay, relay_inputs};
 use lp_vectors_shared::cuts::CutSource;
 use std::alloc::{AllocError, Global};
 

@@ -3,7 +3,7 @@
 use crate::programs::{ERR, Ended, OUT, Program, TEXT, end_of, fault_of, outputs_of};
 use influxdb_line_protocol::Dialect;
 use lp_rebuild::{Kept, Reading, RunFault, Writing};
-use lp_relay_core::Outputs;
+use lp_relay::Outputs;
 use lp_vectors_shared::small_devices::{Basin, Trickle};
 use std::alloc::{AllocError, Global};
 use std::cell::Cell;

@@ -3,7 +3,7 @@
 
 use influxdb_line_protocol::Dialect;
 use lp_rebuild::{RunFault, Sink, Source, run};
-use lp_relay_core::{Nowhere, Outputs, Settings, relay};
+use lp_relay::{Nowhere, Outputs, Settings, relay};
 use lp_vectors_shared::small_devices::Basin;
 use std::alloc::Global;
 

@@ -1,0 +1,82 @@
+//! Pieces of the input.
+ghost use Rattle.std.specs.Prelude.{◌≡◌, length};
+ghost use Rattle.lp_relay.specs.Refusals.{IsPieceOf, front_in, given_of};
+ghost use Rattle.lp_relay.specs.RelaySteps.{bytes_given, len_given, newlines_given};
+
+use crate::texts::text_of;
+use influxdb_line_protocol::PieceTooLong;
+use lp_scan::newlines::newlines_in;
+use lp_scan::trim::trimmed;
+
+/// A piece of the input, and whether it is text.
+#[derive(Clone, Copy)]
+pub(crate) enum Piece<'a> {
+    Text(&'a str),
+    /// It is not UTF-8.
+    NoText(&'a [u8]),
+    TooLong(PieceTooLong<'a>),
+}
+
+// The piece that a stream gave.
+pub(crate) fn piece_of<'a>(given: Result<&'a [u8], PieceTooLong<'a>>) -> Piece<'a>
+    ensures { IsPieceOf given.entry result }
+{
+    match given {
+        Ok(bytes) => match text_of(bytes) {
+            Ok(text) => Piece::Text(text),
+            Err(_) => Piece::NoText(bytes),
+        },
+        Err(fault) => Piece::TooLong(fault),
+    }
+}
+
+impl<'a> Piece<'a> {
+    // Its bytes, or the first ones if it is too long.
+    #[inline(always)]
+    pub(crate) fn bytes(self) -> &'a [u8]
+        ensures { result.now ≡ bytes_given (given_of self.entry) }
+    {
+        match self {
+            Piece::Text(text) => text.as_bytes(),
+            Piece::NoText(bytes) => bytes,
+            Piece::TooLong(fault) => fault.front,
+        }
+    }
+
+    // How many newlines it has.
+    #[inline(always)]
+    pub(crate) fn newlines(self) -> usize
+        ensures { result ≡ newlines_given (given_of self.entry) }
+    {
+        match self {
+            Piece::Text(text) => newlines_in(text.as_bytes()),
+            Piece::NoText(bytes) => newlines_in(bytes),
+            Piece::TooLong(fault) => fault.newlines,
+        }
+    }
+
+    // How many bytes it has.
+    #[inline(always)]
+    pub(crate) fn len(self) -> usize
+        ensures { result ≡ len_given (given_of self.entry) }
+    {
+        match self {
+            Piece::Text(text) => text.len(),
+            Piece::NoText(bytes) => bytes.len(),
+            Piece::TooLong(fault) => fault.len,
+        }
+    }
+
+    // What comes before its text.
+    pub(crate) fn front(self) -> &'a [u8]
+        ensures { result.now ≡ front_in self.entry }
+    {
+        match self {
+            Piece::Text(text) => {
+                let front = text.len().saturating_sub(trimmed(text).len());
+                &text.as_bytes()[..front]
+            }
+            _ => b"",
+        }
+    }
+}

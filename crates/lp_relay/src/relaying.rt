@@ -1,0 +1,342 @@
+//! From a reader to three writers, line by line as they come.
+ghost use Rattle.std.specs.Prelude.{◌≡◌, ◌≢◌, ◌+◌, ◌<◌, ◌≤◌, ◌++◌, ◌∷◌, List, [], ℕ, drop, length, take, true, IfOk, IfSome, OnOk, OnErr};
+ghost use Rattle.std.specs.List.{All};
+ghost use Rattle.influxdb_line_protocol.specs.format.Bytes.{newline};
+ghost use Rattle.influxdb_line_protocol.specs.code.Bounded.{Holds, KeepsRules};
+ghost use Rattle.influxdb_line_protocol.specs.code.Rules.{rules_of};
+ghost use Rattle.influxdb_line_protocol.specs.format.Pieces.{IsLastPiece};
+ghost use Rattle.lp_relay.specs.RelaySteps.{HoldsLess, HoldsNone, RelaysAllPieces, RelaysBegun, RelaysItems};
+ghost use Rattle.lp_relay.specs.RelaySteps.{RelaysLast, RelaysLastPart, RelaysPart, RelaysSome, RelaysTo, start_of, unwritten_of};
+ghost use Rattle.lp_relay.specs.Relays.{Relays};
+ghost use Rattle.lp_relay.specs.Writers.{AreFlushed, CountsWriteFault};
+ghost use Rattle.lp_rebuild.specs.Running.{reader_told};
+
+use crate::kinds::KindCounts;
+use crate::outputs::ThreeWriters;
+use crate::pieces::Piece;
+use crate::taking::{Pending, Settings, items_before, nothing_made, take_given, take_piece};
+use crate::texts::text_of;
+use influxdb_line_protocol::{BoundedLineStream, laws, split_lines_in};
+use lp_rebuild::batch::LineReader;
+use lp_rebuild::program::{BLOCK, read_block};
+use lp_rebuild::{RunFault, Source};
+use memchr::{memchr, memrchr};
+use std::alloc::Global;
+
+/// How many items of a relay went out, and how many it refused.
+#[derive(Clone, Copy, Debug, PartialEq, Eq)]
+pub struct Relayed {
+    /// How many items went out.
+    pub carried: usize,
+    /// How many items have a fault line.
+    pub refused: usize,
+    /// How many items were refused for each kind of fault, if the settings ask for that.
+    pub kinds: Option<KindCounts>,
+}
+
+// Writes all that is held.
+#[tactic(auto, using(crate::proofs::KindLemmas::kinds_of_nothing))]
+fn pour<O: ThreeWriters>(pending: &mut Pending, outputs: &mut O) -> Result<(), RunFault>
+    ensures start { start_of (unwritten_of pending.new) ≡ start_of (unwritten_of pending.old) }
+    ensures ok { OnOk result (RelaysItems (unwritten_of pending.old) (unwritten_of pending.new)
+        (O.told outputs.old) (O.told outputs.new) [] [] []) }
+    ensures none { OnOk result (HoldsNone pending.new) }
+    ensures part { OnErr result (RelaysPart (unwritten_of pending.old) (O.told outputs.old) (O.told outputs.new) [] [] []) }
+    ensures counts { CountsWriteFault result (O.told outputs.old) (O.told outputs.new) }
+{
+    let so_far = &pending.so_far;
+    outputs.put(
+        so_far.batch.as_slice(),
+        so_far.faults.as_bytes(),
+        pending.pieces.as_slice(),
+    )?;
+    pending.so_far.batch.clear();
+    pending.so_far.faults.clear();
+    pending.pieces.clear();
+    Ok(())
+}
+
+// Writes all that is held, if it fills a block.
+fn pour_full<O: ThreeWriters>(pending: &mut Pending, outputs: &mut O) -> Result<(), RunFault>
+    ensures start { start_of (unwritten_of pending.new) ≡ start_of (unwritten_of pending.old) }
+    ensures ok { OnOk result (RelaysItems (unwritten_of pending.old) (unwritten_of pending.new)
+        (O.told outputs.old) (O.told outputs.new) [] [] []) }
+    ensures held { OnOk result (HoldsLess BLOCK pending.new) }
+    ensures part { OnErr result (RelaysPart (unwritten_of pending.old) (O.told outputs.old) (O.told outputs.new) [] [] []) }
+    ensures counts { CountsWriteFault result (O.told outputs.old) (O.told outputs.new) }
+{
+    if pending.so_far.batch.len() < BLOCK
+        && pending.so_far.faults.len() < BLOCK
+        && pending.pieces.len() < BLOCK
+    {
+        return Ok(());
+    }
+    pour(pending, outputs)
+}
+
+// Writes all that is held, and flushes.
+fn pour_and_flush<O: ThreeWriters>(pending: &mut Pending, outputs: &mut O) -> Result<(), RunFault>
+    ensures start { start_of (unwritten_of pending.new) ≡ start_of (unwritten_of pending.old) }
+    ensures ok { OnOk result (RelaysItems (unwritten_of pending.old) (unwritten_of pending.new)
+        (O.told outputs.old) (O.told outputs.new) [] [] []) }
+    ensures none { OnOk result (HoldsNone pending.new) }
+    ensures part { OnErr result (RelaysPart (unwritten_of pending.old) (O.told outputs.old) (O.told outputs.new) [] [] []) }
+    ensures counts { CountsWriteFault result (O.told outputs.old) (O.told outputs.new) }
+    ensures flushed { OnOk result (AreFlushed (O.told outputs.new)) }
+{
+    pour(pending, outputs)?;
+    outputs.flush()
+}
+
+// Takes each piece that the stream can give.
+fn relay_pieces<O: ThreeWriters>(
+    settings: Settings<'_>,
+    stream: &mut BoundedLineStream,
+    pending: &mut Pending,
+    outputs: &mut O,
+) -> Result<(), RunFault>
+    requires dialect { stream.old.held.dialect ≡ rules_of settings.dialect }
+    requires limit { stream.old.limit ≡ settings.limit }
+    requires holds { (text : List ℕ) × Holds stream.old text }
+    requires fits { pending.old.so_far.carried + pending.old.so_far.refused ≤ usize.MAX }
+    requires few { HoldsLess BLOCK pending.old }
+    ensures rules { OnOk result (KeepsRules stream.old stream.new) }
+    ensures ok { OnOk result ((text : List ℕ) → Holds stream.old text
+        → RelaysAllPieces settings.entry text stream.new
+        (unwritten_of pending.old) (unwritten_of pending.new) (O.told outputs.old) (O.told outputs.new)) }
+    ensures held { OnOk result (HoldsLess BLOCK pending.new) }
+    ensures fits { OnOk result (pending.new.so_far.carried + pending.new.so_far.refused ≤ usize.MAX) }
+    ensures part { OnErr result ((text : List ℕ) → Holds stream.old text
+        → RelaysSome settings.entry text (unwritten_of pending.old) (O.told outputs.old) (O.told outputs.new)) }
+    ensures counts { CountsWriteFault result (O.told outputs.old) (O.told outputs.new) }
+{
+    while let Some(piece) = stream.next() {
+        if take_given(&settings, pending, piece).is_err() {
+            return Err(RunFault::OutOfMemory);
+        }
+        pour_full(pending, outputs)?;
+    }
+    Ok(())
+}
+
+// The whole lines at the start of bytes, as text: none if the bytes up to the last newline are not UTF-8.
+fn whole_lines(bytes: &[u8]) -> &str
+    ensures { result.now ≡ take (length result.now) bytes.now }
+{
+    let Some(last) = memrchr(b'\n', bytes) else {
+        return "";
+    };
+    text_of(&bytes[..last + 1]).unwrap_or("")
+}
+
+// Takes the whole lines at the start of bytes as a rebuild does, up to one that is too long. Gives how many bytes were taken.
+fn relay_lines<O: ThreeWriters>(
+    settings: Settings<'_>,
+    pending: &mut Pending,
+    bytes: &[u8],
+    outputs: &mut O,
+) -> Result<usize, RunFault>
+    requires fits { pending.old.so_far.carried + pending.old.so_far.refused ≤ usize.MAX }
+    requires few { HoldsLess BLOCK pending.old }
+    ensures within { IfOk result (λ taken. taken ≤ length bytes.now) }
+    ensures ok { IfOk result (λ taken. RelaysTo settings.entry bytes.now (drop taken bytes.now)
+        (unwritten_of pending.old) (unwritten_of pending.new) (O.told outputs.old) (O.told outputs.new)) }
+    ensures held { OnOk result (HoldsLess BLOCK pending.new) }
+    ensures fits { OnOk result (pending.new.so_far.carried + pending.new.so_far.refused ≤ usize.MAX) }
+    ensures part { OnErr result (RelaysSome settings.entry bytes.now (unwritten_of pending.old)
+        (O.told outputs.old) (O.told outputs.new)) }
+    ensures counts { CountsWriteFault result (O.told outputs.old) (O.told outputs.new) }
+{
+    laws::pieces_join();
+    let mut lines = split_lines_in(settings.dialect, whole_lines(bytes));
+    let mut reader = LineReader::new(pending.alloc, settings.dialect);
+    let mut taken = 0;
+    while let Some(piece) = lines.next() {
+        // The last piece has no newline.
+        if lines.remainder().is_none() || piece.len() > settings.limit {
+            return Ok(taken);
+        }
+        if take_piece(&settings, pending, &mut reader, Piece::Text(piece)).is_err() {
+            return Err(RunFault::OutOfMemory);
+        }
+        pour_full(pending, outputs)?;
+        taken += piece.len() + 1;
+    }
+    Ok(taken)
+}
+
+// The place of the first newline.
+fn end_of_line(bytes: &[u8]) -> Option<usize>
+    ensures { IfSome result (λ at. (at < length bytes.now) × (take (at + 1) bytes.now ≡ take at bytes.now ++ newline ∷ [])
+        × All (λ b. b ≢ newline) (take at bytes.now)) }
+{
+    memchr(b'\n', bytes)
+}
+
+// Takes the line that ends in a part, if its first newline ends it, and the whole lines after it, which the stream is not
+// given. Gives how many bytes of the part were taken, or given to the stream.
+fn relay_begun<O: ThreeWriters>(
+    settings: Settings<'_>,
+    stream: &mut BoundedLineStream,
+    pending: &mut Pending,
+    part: &[u8],
+    outputs: &mut O,
+) -> Result<usize, RunFault>
+    requires dialect { stream.old.held.dialect ≡ rules_of settings.dialect }
+    requires limit { stream.old.limit ≡ settings.limit }
+    requires fits { pending.old.so_far.carried + pending.old.so_far.refused ≤ usize.MAX }
+    requires few { HoldsLess BLOCK pending.old }
+    ensures within { IfOk result (λ given. given ≤ length part.now) }
+    ensures rules { OnOk result (KeepsRules stream.old stream.new) }
+    ensures ok { IfOk result (λ given. (text : List ℕ) → Holds stream.old text → IsLastPiece (rules_of settings.entry.dialect) text
+        → RelaysBegun settings.entry text part.now given stream.new
+        (unwritten_of pending.old) (unwritten_of pending.new) (O.told outputs.old) (O.told outputs.new)) }
+    ensures held { OnOk result (HoldsLess BLOCK pending.new) }
+    ensures fits { OnOk result (pending.new.so_far.carried + pending.new.so_far.refused ≤ usize.MAX) }
+    ensures part { OnErr result ((text : List ℕ) → Holds stream.old text → IsLastPiece (rules_of settings.entry.dialect) text
+        → RelaysSome settings.entry (text ++ part.now) (unwritten_of pending.old) (O.told outputs.old) (O.told outputs.new)) }
+    ensures counts { CountsWriteFault result (O.told outputs.old) (O.told outputs.new) }
+{
+    laws::pieces_join();
+    let Some(at) = end_of_line(part) else {
+        return Ok(0);
+    };
+    let end = at + 1;
+    if stream.push(&part[..end]).is_err() {
+        return Err(RunFault::OutOfMemory);
+    }
+    let Some(piece) = stream.next() else {
+        return Ok(end);
+    };
+    if take_given(&settings, pending, piece).is_err() {
+        return Err(RunFault::OutOfMemory);
+    }
+    pour_full(pending, outputs)?;
+    let taken = relay_lines(settings, pending, &part[end..], outputs)?;
+    Ok(end + taken)
+}
+
+// Takes a part of the text, and each piece that is there then. All that these make is written and flushed.
+fn relay_part<O: ThreeWriters>(
+    settings: Settings<'_>,
+    stream: &mut BoundedLineStream,
+    pending: &mut Pending,
+    part: &[u8],
+    outputs: &mut O,
+) -> Result<(), RunFault>
+    requires dialect { stream.old.held.dialect ≡ rules_of settings.dialect }
+    requires limit { stream.old.limit ≡ settings.limit }
+    requires holds { (text : List ℕ) × Holds stream.old text × IsLastPiece (rules_of settings.dialect) text }
+    requires fits { pending.old.so_far.carried + pending.old.so_far.refused ≤ usize.MAX }
+    requires empty { HoldsNone pending.old }
+    requires block { length part.now ≤ BLOCK }
+    ensures rules { OnOk result (KeepsRules stream.old stream.new) }
+    ensures ok { OnOk result ((text : List ℕ) → Holds stream.old text → IsLastPiece (rules_of settings.entry.dialect) text
+        → RelaysAllPieces settings.entry (text ++ part.now) stream.new
+        (unwritten_of pending.old) (unwritten_of pending.new) (O.told outputs.old) (O.told outputs.new)) }
+    ensures none { OnOk result (HoldsNone pending.new) }
+    ensures fits { OnOk result (pending.new.so_far.carried + pending.new.so_far.refused ≤ usize.MAX) }
+    ensures part { OnErr result ((text : List ℕ) → Holds stream.old text → IsLastPiece (rules_of settings.entry.dialect) text
+        → RelaysSome settings.entry (text ++ part.now) (unwritten_of pending.old) (O.told outputs.old) (O.told outputs.new)) }
+    ensures counts { CountsWriteFault result (O.told outputs.old) (O.told outputs.new) }
+    ensures flushed { OnOk result (AreFlushed (O.told outputs.new)) }
+{
+    let given = relay_begun(settings, stream, pending, part, outputs)?;
+    if stream.push(&part[given..]).is_err() {
+        return Err(RunFault::OutOfMemory);
+    }
+    relay_pieces(settings, stream, pending, outputs)?;
+    pour_and_flush(pending, outputs)
+}
+
+// Takes the last piece, writes all that is held, and flushes.
+fn finish<O: ThreeWriters>(
+    settings: Settings<'_>,
+    stream: &mut BoundedLineStream,
+    pending: &mut Pending,
+    outputs: &mut O,
+) -> Result<(), RunFault>
+    requires dialect { stream.old.held.dialect ≡ rules_of settings.dialect }
+    requires limit { stream.old.limit ≡ settings.limit }
+    requires holds { (text : List ℕ) × Holds stream.old text × IsLastPiece (rules_of settings.dialect) text }
+    requires fits { pending.old.so_far.carried + pending.old.so_far.refused ≤ usize.MAX }
+    requires empty { HoldsNone pending.old }
+    ensures ok { OnOk result ((text : List ℕ) → Holds stream.old text → IsLastPiece (rules_of settings.entry.dialect) text
+        → RelaysLast settings.entry text
+        (unwritten_of pending.old) (unwritten_of pending.new) (O.told outputs.old) (O.told outputs.new)) }
+    ensures none { OnOk result (HoldsNone pending.new) }
+    ensures part { OnErr result ((text : List ℕ) → Holds stream.old text → IsLastPiece (rules_of settings.entry.dialect) text
+        → RelaysLastPart settings.entry text (unwritten_of pending.old) (O.told outputs.old) (O.told outputs.new)) }
+    ensures counts { CountsWriteFault result (O.told outputs.old) (O.told outputs.new) }
+    ensures flushed { OnOk result (AreFlushed (O.told outputs.new)) }
+{
+    if take_given(&settings, pending, stream.finish()).is_err() {
+        return Err(RunFault::OutOfMemory);
+    }
+    pour_and_flush(pending, outputs)
+}
+
+/// Relays the lines that `reader` gives, as they come: each that [`rebuild`](lp_rebuild::rebuild) would write again goes to the
+/// lines of `outputs`, and the fault of every other item to its faults, with what `settings.numbering` says. By `LineForm::Verbatim`
+/// each line that can be read goes out as it came, also one that a rebuild would refuse for a name.
+///
+/// If `settings.puts_refused` says so, the refused pieces of `outputs` gain the piece of each item that has a fault line, byte for
+/// byte as it came, and a newline; of a piece that is too long its first bytes, as many as the limit. Else they gain nothing.
+///
+/// If `settings.counts_kinds` says so, the answer tells how many items were refused for each kind of fault; they add up to all that
+/// were.
+///
+/// What each read completes is written and flushed before the next read is asked for, and the rest at the end. What is held of
+/// the input is the line that has not ended yet and two blocks at most, and of each output less than a block and what one line
+/// makes, since it is written too if it fills a block. So by `LineForm::Rebuilt` the lines are what [`run`](lp_rebuild::run) writes, and
+/// by `Faults::Raw`, if items are named from 1 on, the faults are too, but not in its order.
+///
+/// Input that is not UTF-8 does not end it: each piece that is not is one item, whose fault line is `item N: the line is not
+/// UTF-8`, and the pieces before and after it are read as ever. So is a piece that is longer than `settings.limit`, whose
+/// fault is `the line is too long`, also if it is a comment, blank or not UTF-8; if refused pieces go out, `: its first N
+/// bytes are kept` comes then, with the limit. Its other bytes are passed over up to its end. With a limit, that many bytes
+/// and two blocks of the input are held at most: of the line that has not ended yet no more than the limit, the block that
+/// comes after them, and that block as it was read. The buffer of the first two grows by doubling, and has lines too that
+/// were taken already, so it may have room for four times as many.
+///
+/// # Errors
+///
+/// After each of them, each writer of `outputs` has a beginning of what was meant for it.
+///
+/// * `Read` if `reader` failed, and only there.
+/// * `OutOfMemory` if memory was refused, or if no `usize` holds the number of the next item, how many bytes come before the next
+///   piece, or, if faults name lines, the line on which that would begin.
+/// * `Write` if a writer of `outputs` failed, and only there.
+pub fn relay<R: Source, O: ThreeWriters>(
+    alloc: Global,
+    settings: Settings<'_>,
+    reader: &mut R,
+    outputs: &mut O,
+) -> Result<Relayed, RunFault>
+    ensures { Relays settings.entry result
+        (reader_told R.bytes R.failures reader.old) (reader_told R.bytes R.failures reader.new)
+        (O.told outputs.old) (O.told outputs.new) }
+{
+    laws::pieces_join();
+    laws::runs_give_pieces();
+    laws::utf8_by_pieces();
+    let mut stream = BoundedLineStream::new_in(alloc, settings.dialect, settings.limit);
+    let mut pending = nothing_made(alloc, settings);
+    let mut block = Vec::new(alloc);
+    for _ in 0..u64::MAX {
+        let n = read_block(reader, &mut block, 0)?;
+        if n == 0 {
+            finish(settings, &mut stream, &mut pending, outputs)?;
+            return Ok(Relayed {
+                carried: pending
+                    .so_far
+                    .carried
+                    .saturating_sub(items_before(settings)),
+                refused: pending.so_far.refused,
+                kinds: pending.kinds,
+            });
+        }
+        relay_part(settings, &mut stream, &mut pending, &block[..n], outputs)?;
+    }
+    Err(RunFault::OutOfMemory)
+}

@@ -1,0 +1,483 @@
+//! What a relay takes of a piece of its input.
+ghost use Rattle.std.specs.Prelude.{◌≡◌, ◌+◌, ◌<◌, ◌≤◌, ◌++◌, List, false, ℕ, option_map, string_bytes, IfOk, Ok, OnOk};
+ghost use Rattle.influxdb_line_protocol.specs.code.Rules.{rules_of};
+ghost use Rattle.influxdb_line_protocol.specs.format.Lines.{answer};
+ghost use Rattle.influxdb_line_protocol.specs.format.Trimming.{trimmed};
+ghost use Rattle.lp_relay.specs.Kinds.{counts_if, with_fault};
+ghost use Rattle.lp_relay.specs.Refusals.{EndsPiece, GaveSame, IsKnown, RefusesPiece, TakesItem, TakesPiece, given_of, refusal_kind, told_by};
+ghost use Rattle.lp_relay.specs.Relaying.{Item, canonical_item, front_of, item_of, kept_of};
+ghost use Rattle.lp_relay.specs.RelaySteps.{HoldsLess, TakesGiven, first_line, items_before, len_given, line_after, made, newlines_given};
+ghost use Rattle.lp_relay.specs.RelaySteps.{start_after, start_of, unwritten_of, unwritten_of_none};
+
+use crate::differing::{differing_part, part_text};
+use crate::kinds::{Kind, KindCounts};
+use crate::objects::tell_as_object;
+use crate::pieces::{Piece, piece_of};
+use crate::refusals::Refusal;
+use crate::telling::{Faults, Place, put_fault_line, put_on_one_line};
+use crate::verdict::fault_of;
+use influxdb_line_protocol::{Dialect, PieceTooLong, is_as_written, laws};
+use lp_rebuild::LineRefusal;
+use lp_rebuild::batch::{self, LineReader, copy_line, put_line};
+use lp_rebuild::program::BLOCK;
+use lp_scan::trim::trimmed;
+use std::alloc::{AllocError, Global};
+
+/// How the lines of a relay go out.
+#[derive(Clone, Copy, Debug, PartialEq, Eq)]
+pub enum LineForm {
+    /// A line is written again, in one spelling, if its names are admitted, and else it is refused.
+    Rebuilt,
+    /// A line goes out byte for byte as it came, whatever its names are, with what its piece has before it, and a newline.
+    Verbatim,
+    /// A line goes out byte for byte as it came, without what its piece has before it, if it is as it would be written again, and
+    /// else it is refused: for a name that is not admitted, or with the first part of it that is not so, as in
+    /// `not as written: the value of tag 2`.
+    Canonical,
+}
+
+/// What the fault lines of a relay name.
+#[derive(Clone, Copy, Debug, PartialEq, Eq)]
+pub enum Numbering {
+    /// The number of the item, as in `item 5: ..`. Items are counted from `first` of the settings.
+    Items,
+    /// The line of the input on which the piece of the item begins, as in `line 17: ..`. Lines are counted from `first`
+    /// of the settings, one after each newline, also after those within strings and within pieces that are too long or not UTF-8.
+    Lines,
+}
+
+/// How a relay reads lines and puts them out, and what its fault lines name: by default, it reads them by the rules of the crate,
+/// however long they are, writes them again, and names items from 1 on, in fault lines as they are.
+#[derive(Clone, Copy, Debug, PartialEq, Eq)]
+pub struct Settings<'n> {
+    /// The dialect whose rules hold.
+    pub dialect: Dialect,
+    /// How many bytes a line may have, those of the newlines within its strings too, but without the one that ends it.
+    /// `usize::MAX` is no limit.
+    pub limit: usize,
+    /// What the fault lines name.
+    pub numbering: Numbering,
+    /// How lines go out.
+    pub lines: LineForm,
+    /// The number of the first item, or of the first line, that fault lines name: 2,001 if the input comes after 2,000 others. 0 is
+    /// taken as 1.
+    pub first: usize,
+    /// How fault lines are told.
+    pub faults: Faults,
+    /// Whether each piece that is refused goes out too, to a writer of its own: of one that is too long its first bytes, as many as
+    /// the limit.
+    pub puts_refused: bool,
+    /// Whether it is counted for which kind of fault each item is refused.
+    pub counts_kinds: bool,
+    /// The name of the input, if its faults are to name it: [`relay_inputs`](crate::relay_inputs) hands it to the writers as the
+    /// input begins. A relay puts it into no fault.
+    pub file: Option<&'n str>,
+}
+
+impl<'n> Default for Settings<'n> {
+    fn default() -> Self
+        ensures { result ≡ record {
+          dialect = Dialect.Crate;
+          limit = usize.MAX;
+          numbering = Numbering.Items;
+          lines = LineForm.Rebuilt;
+          first = 1;
+          faults = Faults.Raw;
+          puts_refused = false;
+          counts_kinds = false;
+          file = None;
+        } }
+    {
+        Settings {
+            dialect: Dialect::Crate,
+            limit: usize::MAX,
+            numbering: Numbering::Items,
+            lines: LineForm::Rebuilt,
+            first: 1,
+            faults: Faults::Raw,
+            puts_refused: false,
+            counts_kinds: false,
+            file: None,
+        }
+    }
+}
+
+/// What was made so far, and what the fault line of the next item names.
+#[derive(Drop)]
+pub(crate) struct Progress {
+    pub(crate) batch: Vec<u8>,
+    pub(crate) faults: String,
+    pub(crate) carried: usize,
+    pub(crate) refused: usize,
+    /// The line of the input on which the piece of the next item begins, if fault lines name lines.
+    pub(crate) line: Option<usize>,
+}
+
+/// What a relay made and has not written yet.
+#[derive(Drop)]
+pub(crate) struct Pending {
+    /// Where memory for what is taken comes from.
+    pub(crate) alloc: Global,
+    /// The lines and the fault lines, with the counts of all items so far.
+    pub(crate) so_far: Progress,
+    /// The refused pieces that go out, each with a newline.
+    pub(crate) pieces: Vec<u8>,
+    /// How many bytes come before the next piece.
+    pub(crate) offset: usize,
+    /// How many items were refused for each kind of fault, if that is counted.
+    pub(crate) kinds: Option<KindCounts>,
+}
+
+/// What came of a piece.
+#[derive(Drop)]
+pub(crate) enum Taken<'a> {
+    /// It has no item.
+    Blank,
+    /// Its line was added to those that go out.
+    Carried,
+    Refused(Refusal<'a>),
+}
+
+// How many items are counted before the first item: if fault lines name items, as many as give it its number.
+pub(crate) fn items_before(settings: Settings<'_>) -> usize
+    ensures { result ≡ items_before settings.entry.numbering settings.entry.first }
+{
+    match settings.numbering {
+        Numbering::Items => settings.first.saturating_sub(1),
+        Numbering::Lines => 0,
+    }
+}
+
+// The line on which the first piece begins, if lines are named.
+fn first_line(settings: Settings<'_>) -> Option<usize>
+    ensures { result ≡ first_line settings.entry.faults settings.entry.numbering settings.entry.first }
+{
+    match (settings.faults, settings.numbering) {
+        (Faults::Json { first_line }, _) => Some(first_line.max(1)),
+        (_, Numbering::Items) => None,
+        (_, Numbering::Lines) => Some(settings.first.max(1)),
+    }
+}
+
+// Before the first item. It takes no memory.
+pub(crate) fn nothing_made(alloc: Global, settings: Settings<'_>) -> Pending
+    ensures made { unwritten_of result ≡ unwritten_of_none settings.entry }
+    ensures fits { result.so_far.carried + result.so_far.refused ≤ usize.MAX }
+{
+    let so_far = Progress {
+        batch: Vec::new(alloc),
+        faults: String::new(alloc),
+        carried: items_before(settings),
+        refused: 0,
+        line: first_line(settings),
+    };
+    let pieces = Vec::new(alloc);
+    Pending {
+        alloc,
+        so_far,
+        pieces,
+        offset: 0,
+        kinds: if settings.counts_kinds {
+            Some(KindCounts::none())
+        } else {
+            None
+        },
+    }
+}
+
+// Takes a line as it came, with what its piece has before it.
+#[inline(always)]
+fn take_verbatim<'a>(
+    batch: &mut Vec<u8>,
+    dialect: Dialect,
+    piece: &'a str,
+    text: &'a str,
+) -> Result<Taken<'a>, AllocError>
+    ensures { IfOk result (λ taken. TakesItem taken (item_of LineForm.Verbatim piece.now (answer (rules_of dialect) text.now))
+        batch.old.items batch.new.items) }
+{
+    match fault_of(dialect, text) {
+        None => {
+            copy_line(batch, piece.as_bytes())?;
+            Ok(Taken::Carried)
+        }
+        Some(fault) => Ok(Taken::Refused(Refusal::Line(LineRefusal::Fault(fault)))),
+    }
+}
+
+// Takes a line as it came, if it is as the builder writes it. Another one is written again, to find the part that is not so, and
+// taken back.
+#[inline(always)]
+fn take_canonical<'a>(
+    batch: &mut Vec<u8>,
+    reader: &mut LineReader<'a>,
+    piece: &'a str,
+    text: &'a str,
+) -> Result<Taken<'a>, AllocError>
+    requires { text.now ≡ trimmed piece.now }
+    ensures taken { IfOk result (λ taken. TakesItem taken
+        (item_of LineForm.Canonical piece.now (answer (rules_of reader.old.dialect) text.now)) batch.old.items batch.new.items) }
+    ensures dialect { reader.new.dialect ≡ reader.old.dialect }
+{
+    laws::written_lines_stay();
+    if is_as_written(text) {
+        copy_line(batch, text.as_bytes())?;
+        return Ok(Taken::Carried);
+    }
+    let start = batch.len();
+    if let Some(refusal) = batch::take_text(batch, reader, text)? {
+        return Ok(Taken::Refused(Refusal::Line(refusal)));
+    }
+    let part = differing_part(text, &batch[start..]);
+    batch.truncate(start);
+    let wrong = part_text(reader.alloc, part)?;
+    Ok(Taken::Refused(Refusal::NotAsWritten(wrong)))
+}
+
+// Takes a line: it is written again.
+#[inline(always)]
+fn take_rebuilt<'a>(
+    batch: &mut Vec<u8>,
+    reader: &mut LineReader<'a>,
+    piece: &'a str,
+    text: &'a str,
+) -> Result<Taken<'a>, AllocError>
+    requires { text.now ≡ trimmed piece.now }
+    ensures taken { IfOk result (λ taken. TakesItem taken
+        (item_of LineForm.Rebuilt piece.now (answer (rules_of reader.old.dialect) text.now)) batch.old.items batch.new.items) }
+    ensures dialect { reader.new.dialect ≡ reader.old.dialect }
+{
+    match put_line(batch, reader, text)? {
+        None => Ok(Taken::Carried),
+        Some(refusal) => Ok(Taken::Refused(Refusal::Line(refusal))),
+    }
+}
+
+// Takes the line of a piece, if it has one: it goes out by the settings, or is refused.
+#[inline(always)]
+fn take_line<'a>(
+    settings: &Settings<'_>,
+    batch: &mut Vec<u8>,
+    reader: &mut LineReader<'a>,
+    piece: &'a str,
+) -> Result<Taken<'a>, AllocError>
+    requires dialect { reader.old.dialect ≡ settings.now.dialect }
+    ensures taken { IfOk result (λ taken. TakesPiece settings.now (Piece.Text piece.entry) taken batch.old.items batch.new.items) }
+    ensures dialect { reader.new.dialect ≡ reader.old.dialect }
+{
+    let text = trimmed(piece);
+    if text.is_empty() {
+        return Ok(Taken::Blank);
+    }
+    match settings.lines {
+        LineForm::Rebuilt => take_rebuilt(batch, reader, piece, text),
+        LineForm::Verbatim => take_verbatim(batch, reader.dialect, piece, text),
+        LineForm::Canonical => take_canonical(batch, reader, piece, text),
+    }
+}
+
+// How many bytes are kept of a piece that is too long, if any are.
+fn kept_of(settings: &Settings<'_>) -> Option<usize>
+    ensures { result ≡ kept_of settings.now }
+{
+    if settings.puts_refused {
+        Some(settings.limit)
+    } else {
+        None
+    }
+}
+
+// The line of the next piece, if fault lines name lines. It is refused if it, or the number of an item more, would not fit.
+#[inline(always)]
+fn line_after(so_far: &Progress, piece: Piece<'_>) -> Result<Option<usize>, AllocError>
+    requires fits { so_far.now.carried + so_far.now.refused ≤ usize.MAX }
+    ensures room { OnOk result (so_far.now.carried + so_far.now.refused < usize.MAX) }
+    ensures line { IfOk result (λ next. next ≡ line_after so_far.now.line (newlines_given (given_of piece.entry))) }
+{
+    if so_far.carried + so_far.refused == usize::MAX {
+        return Err(AllocError);
+    }
+    let Some(line) = so_far.line else {
+        return Ok(None);
+    };
+    let end = line.checked_add(piece.newlines()).ok_or(AllocError)?;
+    Ok(Some(end.checked_add(1).ok_or(AllocError)?))
+}
+
+// How many bytes come before the piece after this one, which comes after so many. They are refused if that would not fit.
+#[inline(always)]
+fn offset_after(offset: usize, piece: Piece<'_>) -> Result<usize, AllocError>
+    ensures { IfOk result (λ next. next ≡ offset + len_given (given_of piece.entry) + 1) }
+{
+    let newline_at = offset.checked_add(piece.len()).ok_or(AllocError)?;
+    newline_at.checked_add(1).ok_or(AllocError)
+}
+
+// Counts a fault of this kind, if kinds are counted.
+fn count(kinds: &mut Option<KindCounts>, kind: Kind) -> Result<(), AllocError>
+    ensures { OnOk result (counts_if kinds.new ≡ option_map (with_fault kind) (counts_if kinds.old)) }
+{
+    match kinds {
+        Some(counts) => counts.count(kind),
+        None => Ok(()),
+    }
+}
+
+// Tells why an item is refused, as the settings say.
+fn tell(
+    settings: &Settings<'_>,
+    faults: &mut String,
+    place: Place,
+    refusal: &Refusal<'_>,
+    piece: Piece<'_>,
+) -> Result<(), AllocError>
+    ensures { OnOk result (string_bytes faults.new
+        ≡ string_bytes faults.old ++ told_by settings.now.faults (rules_of settings.now.dialect) place piece.entry refusal.now) }
+{
+    match settings.faults {
+        Faults::Raw => put_fault_line(faults, place, refusal),
+        Faults::OneLine => put_on_one_line(faults, place, refusal),
+        Faults::Json { .. } => tell_as_object(faults, settings.dialect, place, refusal, piece),
+    }
+}
+
+// Refuses the item of a piece: the kind of its fault is counted, it is told, and the piece, or its first bytes if it is too long, goes
+// out, if refused pieces do.
+#[cold]
+#[inline(never)]
+fn refuse(
+    settings: &Settings<'_>,
+    pending: &mut Pending,
+    refusal: &Refusal<'_>,
+    piece: Piece<'_>,
+) -> Result<(), AllocError>
+    requires { pending.old.so_far.carried + pending.old.so_far.refused < usize.MAX }
+    ensures taken { OnOk result ((item : Item) → RefusesPiece settings.now piece.entry refusal.now item
+        → TakesGiven settings.now (unwritten_of pending.old) (given_of piece.entry) (unwritten_of pending.new)) }
+    ensures counted { OnOk result
+        ((pending.new.so_far.carried ≡ pending.old.so_far.carried) × (pending.new.so_far.refused ≡ pending.old.so_far.refused + 1)) }
+{
+    pending.so_far.refused += 1;
+    count(&mut pending.kinds, refusal.kind())?;
+    let place = Place {
+        number: pending.so_far.carried + pending.so_far.refused,
+        line: pending.so_far.line,
+        offset: pending.offset,
+    };
+    tell(settings, &mut pending.so_far.faults, place, refusal, piece)?;
+    if !settings.puts_refused {
+        return Ok(());
+    }
+    copy_line(&mut pending.pieces, piece.bytes())
+}
+
+// Ends a piece: what came of it is counted, or refused.
+#[inline(always)]
+fn end_piece(
+    settings: &Settings<'_>,
+    pending: &mut Pending,
+    taken: Taken<'_>,
+    piece: Piece<'_>,
+) -> Result<(), AllocError>
+    requires { pending.old.so_far.carried + pending.old.so_far.refused < usize.MAX }
+    ensures ends { OnOk result (EndsPiece settings.now piece.entry taken.entry (unwritten_of pending.old) (unwritten_of pending.new)) }
+    ensures counted { OnOk result (pending.new.so_far.carried + pending.new.so_far.refused ≤ usize.MAX) }
+{
+    match taken {
+        Taken::Blank => Ok(()),
+        Taken::Carried => {
+            pending.so_far.carried += 1;
+            Ok(())
+        }
+        Taken::Refused(refusal) => refuse(settings, pending, &refusal, piece),
+    }
+}
+
+// Takes a piece that is text. It is called for each line, so that the test whether a line is as written is compiled once, in line here.
+#[inline(never)]
+fn take_text<'a>(
+    settings: &Settings<'_>,
+    pending: &mut Pending,
+    reader: &mut LineReader<'a>,
+    piece: &'a str,
+) -> Result<(), AllocError>
+    requires dialect { reader.old.dialect ≡ settings.now.dialect }
+    requires fits { pending.old.so_far.carried + pending.old.so_far.refused < usize.MAX }
+    ensures taken { OnOk result (TakesGiven settings.now (unwritten_of pending.old) (Ok piece.entry) (unwritten_of pending.new)) }
+    ensures counted { OnOk result (pending.new.so_far.carried + pending.new.so_far.refused ≤ usize.MAX) }
+    ensures dialect { reader.new.dialect ≡ reader.old.dialect }
+{
+    let taken = take_line(settings, &mut pending.so_far.batch, reader, piece)?;
+    end_piece(settings, pending, taken, Piece::Text(piece))
+}
+
+// Takes the item of a piece.
+#[inline(always)]
+fn take_item<'a>(
+    settings: &Settings<'_>,
+    pending: &mut Pending,
+    reader: &mut LineReader<'a>,
+    piece: Piece<'a>,
+) -> Result<(), AllocError>
+    requires dialect { reader.old.dialect ≡ settings.now.dialect }
+    requires known { IsKnown piece }
+    requires fits { pending.old.so_far.carried + pending.old.so_far.refused < usize.MAX }
+    ensures taken { OnOk result (TakesGiven settings.now (unwritten_of pending.old) (given_of piece.entry) (unwritten_of pending.new)) }
+    ensures counted { OnOk result (pending.new.so_far.carried + pending.new.so_far.refused ≤ usize.MAX) }
+    ensures dialect { reader.new.dialect ≡ reader.old.dialect }
+{
+    match piece {
+        Piece::Text(text) => take_text(settings, pending, reader, text),
+        Piece::NoText(_) => refuse(settings, pending, &Refusal::NotUtf8, piece),
+        Piece::TooLong(_) => {
+            let refusal = Refusal::TooLong(kept_of(settings));
+            refuse(settings, pending, &refusal, piece)
+        }
+    }
+}
+
+// Takes a piece, by way of a line that is used again. It is refused if its number, or the line after it, would not fit.
+#[inline(always)]
+pub(crate) fn take_piece<'a>(
+    settings: &Settings<'_>,
+    pending: &mut Pending,
+    reader: &mut LineReader<'a>,
+    piece: Piece<'a>,
+) -> Result<(), AllocError>
+    requires dialect { reader.old.dialect ≡ settings.now.dialect }
+    requires known { IsKnown piece }
+    requires fits { pending.old.so_far.carried + pending.old.so_far.refused ≤ usize.MAX }
+    requires few { HoldsLess BLOCK pending.old }
+    ensures taken { OnOk result (TakesGiven settings.now (unwritten_of pending.old) (given_of piece.entry) (unwritten_of pending.new)) }
+    ensures start { OnOk result (start_of (unwritten_of pending.new) ≡ start_after (start_of (unwritten_of pending.old))
+        (newlines_given (given_of piece.entry)) (len_given (given_of piece.entry))) }
+    ensures fits { OnOk result (pending.new.so_far.carried + pending.new.so_far.refused ≤ usize.MAX) }
+    ensures dialect { reader.new.dialect ≡ reader.old.dialect }
+{
+    let next = line_after(&pending.so_far, piece)?;
+    let end = offset_after(pending.offset, piece)?;
+    take_item(settings, pending, reader, piece)?;
+    pending.so_far.line = next;
+    pending.offset = end;
+    Ok(())
+}
+
+// Takes what the stream gave, by way of a line of its own, which is freed by its parts.
+#[inline(never)]
+pub(crate) fn take_given(
+    settings: &Settings<'_>,
+    pending: &mut Pending,
+    given: Result<&[u8], PieceTooLong<'_>>,
+) -> Result<(), AllocError>
+    requires fits { pending.old.so_far.carried + pending.old.so_far.refused ≤ usize.MAX }
+    requires few { HoldsLess BLOCK pending.old }
+    ensures taken { OnOk result (TakesGiven settings.now (unwritten_of pending.old) given.entry (unwritten_of pending.new)) }
+    ensures start { OnOk result (start_of (unwritten_of pending.new)
+        ≡ start_after (start_of (unwritten_of pending.old)) (newlines_given given.entry) (len_given given.entry)) }
+    ensures fits { OnOk result (pending.new.so_far.carried + pending.new.so_far.refused ≤ usize.MAX) }
+{
+    let mut reader = LineReader::new(pending.alloc, settings.dialect);
+    let taken = take_piece(settings, pending, &mut reader, piece_of(given));
+    reader.free();
+    taken
+}

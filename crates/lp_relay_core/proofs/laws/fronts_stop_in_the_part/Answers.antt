@@ -1,5 +1,0 @@
-use Rattle.lp_relay_core.proofs.DifferingLemmas.{fronts_stop_in_the_part}
-use Rattle.lp_relay_core.proofs.laws.fronts_stop_in_the_part.Goals as goal
-
-pub returns : goal.returns
-returns c = fronts_stop_in_the_part

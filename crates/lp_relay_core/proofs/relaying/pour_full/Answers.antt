@@ -1,6 +1,0 @@
-use Rattle.lp_relay_core.specs.RelaySteps.{unwritten_of}
-use Rattle.lp_relay_core.proofs.RelayLemmas.{relays_none}
-use Rattle.lp_relay_core.proofs.relaying.pour_full.Goals as goal
-
-pub returns-then-len-lt-BLOCK-3-clause-ok : goal.returns-then-len-lt-BLOCK-3-clause-ok
-returns-then-len-lt-BLOCK-3-clause-ok g c = relays_none (unwritten_of c.args.pending.now) _

@@ -1,9 +1,0 @@
-use Rattle.std.proofs.lemmas.Result.{on_ok_weaker}
-use Rattle.lp_relay_core.specs.Refusals.{given_of}
-use Rattle.lp_relay_core.proofs.ToldLemmas.{given_same}
-use Rattle.lp_relay_core.proofs.taking.take_given.Goals as goal
-
-pub returns-clause-taken : goal.returns-clause-taken
-returns-clause-taken c =
-    on_ok_weaker c.take_piece-taken.result
-    (given_same c.args.settings.now _ _ (given_of c.piece_of.result) c.args.given c.piece_of.ensures.0) c.take_piece-taken.ensures.taken

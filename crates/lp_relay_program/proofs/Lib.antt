@@ -1,0 +1,4 @@
+pub mod Decimals
+pub mod JoinedInputs
+pub mod LastWords
+pub mod NamedText

@@ -1,0 +1,82 @@
+-- How a run ends.
+use Rattle.std.specs.Prelude.{ℕ, Bool, true, false, ◌&&◌, ◌||◌, Some, None, is_some, Result, Ok, Err, if◌then◌else◌}
+use Rattle.std.specs.IoError.{error_kind}
+use Rattle.std.specs.Option.{option_map_or}
+use Rattle.std.specs.declared.io.Error.{Error}
+use Rattle.std.specs.declared.io.ErrorKind.{ErrorKind}
+use Rattle.std.specs.declared.io.ErrorKind.TheVariants.{BrokenPipe}
+use Rattle.lp_rebuild.specs.declared.program.RunFault.{RunFault}
+use Rattle.lp_rebuild.specs.declared.program.RunFault.TheVariants.{Read, NotUtf8, OutOfMemory, Write}
+use Rattle.lp_relay_program.specs.Summaries.{asked_summary}
+use Rattle.lp_relay_program.specs.Words.{fault_status, relay_status}
+use Rattle.lp_relay_program.specs.declared.endings.{Device.Device, Devices.Devices, Ending.Ending, Failure.Failure}
+use Rattle.lp_relay_program.specs.declared.summary.Totals.{Totals}
+use Rattle.lp_relay_program.specs.declared.words.RunSettings.{RunSettings}
+
+-- whether an error says that nothing reads what is written
+abbrev pub is_broken_pipe : ErrorKind → Bool
+is_broken_pipe BrokenPipe = true
+is_broken_pipe _ = false
+
+-- whether a device failed since nothing reads what is written to it
+abbrev pub is_closed : Device → Bool
+is_closed device = option_map_or (λ error. is_broken_pipe (error_kind error)) device.error false
+
+-- no device
+abbrev pub no_device : Device
+no_device = record { name = None; error = None }
+
+-- the device of which a fault tells: of the writers that of the faults before that of the refused pieces, if both failed
+abbrev pub failed_device : Devices → RunFault → Device
+failed_device devices Read = devices.input
+failed_device devices NotUtf8 = no_device
+failed_device devices OutOfMemory = no_device
+failed_device devices Write =
+    if is_some devices.faults.error then devices.faults
+    else (if is_some devices.refused.error then devices.refused else devices.output)
+
+-- whether a writer failed
+abbrev pub is_write : RunFault → Bool
+is_write Read = false
+is_write NotUtf8 = false
+is_write OutOfMemory = false
+is_write Write = true
+
+-- why a run failed: nothing reads what it wrote, if a writer failed and the lines or the faults go to a closed pipe
+abbrev pub run_failure : Devices → RunFault → Failure
+run_failure devices fault = record {
+  fault = fault;
+  device = failed_device devices fault;
+  is_pipe_closed = is_write fault && (is_closed devices.output || is_closed devices.faults);
+}
+
+-- a run failed since memory was refused
+abbrev pub memory_failure : Failure
+memory_failure = record { fault = OutOfMemory; device = no_device; is_pipe_closed = false }
+
+-- how a run ends that failed: nothing is said if nothing reads what it wrote
+abbrev pub failed_ending : Failure → Ending
+failed_ending failure = record {
+  failure = if failure.is_pipe_closed then None else Some failure;
+  summary = None;
+  status = fault_status failure.is_pipe_closed failure.fault;
+}
+
+-- how a relay ends
+abbrev pub relay_ending : RunSettings → Result Totals Failure → Ending
+relay_ending settings (Ok totals) = record {
+  failure = None;
+  summary = asked_summary settings (Ok totals);
+  status = relay_status false (Ok totals.counts);
+}
+relay_ending settings (Err failure) = failed_ending failure
+
+-- how a run ends that has no counts
+abbrev pub plain_ending : {T : Type 0} → Result T Failure → Ending
+plain_ending (Ok done) = record { failure = None; summary = None; status = 0 }
+plain_ending (Err failure) = failed_ending failure
+
+-- the exit status of a program that printed a text
+abbrev pub print_status : {T : Type 0} → Result T Error → ℕ
+print_status (Ok done) = 0
+print_status (Err error) = fault_status (is_broken_pipe (error_kind error)) Write

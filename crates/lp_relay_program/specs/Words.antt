@@ -1,0 +1,223 @@
+-- What words ask of the program for a relay, and its exit status.
+use Rattle.std.specs.Prelude.{ℕ, ◌^◌, nat_lt, Bool, true, false, not, ◌&&◌, ◌||◌, List, [], ◌∷◌, length, bytes_eq, codes}
+use Rattle.std.specs.Prelude.{Option, Some, None, is_none, is_some, option_map, option_and_then, unwrap_or, Result, Ok, Err}
+use Rattle.std.specs.Prelude.{◌==◌, if◌then◌else◌}
+use Rattle.std.specs.Borrow.{Bor}
+use Rattle.std.specs.List.{list_all}
+use Rattle.std.specs.Option.{option_map_or}
+use Rattle.std.specs.Str.{all_ascii_digits}
+use Rattle.std.specs.Str.Parse.{digits_value}
+use Rattle.influxdb_line_protocol.specs.types.Dialect.{Dialect}
+use Rattle.influxdb_line_protocol.specs.types.Dialect.TheVariants.{Crate, Strict}
+use Rattle.lp_rebuild.specs.declared.program.RunFault.{RunFault}
+use Rattle.lp_rebuild.specs.declared.program.RunFault.TheVariants.{Read, NotUtf8, OutOfMemory, Write}
+use Rattle.lp_relay.specs.declared.telling.Faults.{Faults}
+use Rattle.lp_relay.specs.declared.telling.Faults.TheVariants.{Raw, OneLine, Json}
+use Rattle.lp_relay.specs.declared.taking.LineForm.{LineForm}
+use Rattle.lp_relay.specs.declared.taking.LineForm.TheVariants.{Rebuilt, Verbatim, Canonical}
+use Rattle.lp_relay.specs.declared.taking.Numbering.TheVariants as named
+use Rattle.lp_relay.specs.declared.relaying.Relayed.{Relayed}
+use Rattle.lp_relay_program.specs.declared.words.Given.{Given}
+use Rattle.lp_relay_program.specs.declared.words.Request.{Request}
+use Rattle.lp_relay_program.specs.declared.words.RunSettings.{RunSettings}
+use Rattle.lp_relay_program.specs.declared.words.Task.{Task}
+use Rattle.lp_relay_program.specs.declared.words.Task.TheVariants.{Relay, Cut, Help, Version}
+
+-- no option was given
+abbrev pub nothing_given : Given
+nothing_given = record {
+  strict = false;
+  verbatim = false;
+  canonical = false;
+  lines = false;
+  first_item = None;
+  first_line = None;
+  max_line = None;
+  progress = false;
+  summary = false;
+  check = false;
+  faults = None;
+  output = None;
+  refused = None;
+}
+
+-- how many bytes a line may have if no option says it: 16 MiB
+abbrev pub default_max_line : ℕ
+default_max_line = 2 ^ 24
+
+-- whether faults are told as objects
+abbrev pub is_json : Option Faults → Bool
+is_json None = false
+is_json (Some Raw) = false
+is_json (Some OneLine) = false
+is_json (Some (Json first_line)) = true
+
+-- whether fault lines name lines of the input, and no items: objects name both
+abbrev pub names_lines : Given → Bool
+names_lines given = (given.lines || is_some given.first_line) && not (is_json given.faults)
+
+-- how faults are told, with the number of the first line that objects name
+abbrev pub told_form : Given → Faults
+told_form given = if is_json given.faults then Json (unwrap_or given.first_line 1) else unwrap_or given.faults OneLine
+
+-- the number of what fault lines name first
+abbrev pub first_named : Given → ℕ
+first_named given = if names_lines given then unwrap_or given.first_line 1 else unwrap_or given.first_item 1
+
+-- how lines go out
+abbrev pub lines_form : Given → LineForm
+lines_form given = if given.verbatim then Verbatim else (if given.canonical then Canonical else Rebuilt)
+
+-- the settings of the options that were given: those that were not have their defaults
+abbrev pub given_settings : Given → RunSettings
+given_settings given = record {
+  relay = record {
+    dialect = if given.strict then Strict else Crate;
+    limit = unwrap_or given.max_line default_max_line;
+    lines = lines_form given;
+    numbering = if names_lines given then named.Lines else named.Items;
+    first = first_named given;
+    faults = told_form given;
+    puts_refused = is_some given.refused;
+    counts_kinds = given.summary;
+    file = None;
+  };
+  progress = given.progress;
+  summary = given.summary;
+  check = given.check;
+}
+
+-- the number that a word writes: one digit or more and nothing else, if a usize holds it
+abbrev pub decimal : List ℕ → Option ℕ
+decimal word =
+    if nat_lt 0 (length word) && all_ascii_digits word && nat_lt (digits_value 10 word) (2 ^ 64)
+    then Some (digits_value 10 word) else None
+
+-- whether a word can be the name of a file: it has a byte, and the first is no `-`
+abbrev pub names_file : List ℕ → Bool
+names_file [] = false
+names_file (first ∷ word) = not (first == 45)
+
+-- whether a word names an input: a file, or standard input, which is `-`
+abbrev pub names_input : List ℕ → Bool
+names_input word = bytes_eq word (codes "-") || names_file word
+
+-- whether each word names an input
+abbrev pub are_inputs : List (Bor (List ℕ)) → Bool
+are_inputs words = list_all (λ word. names_input word.now) words
+
+-- whether a word is the option before the file that the lines go to
+abbrev pub asks_output : List ℕ → Bool
+asks_output word = bytes_eq word (codes "--output") || bytes_eq word (codes "-o")
+
+-- whether two options exclude each other: a check has no file for lines, the number of the first item is none of a line, and lines
+-- go out in one way
+abbrev pub are_at_odds : Given → Bool
+are_at_odds given =
+    (given.check && is_some given.output) || (is_some given.first_item && names_lines given) || (given.verbatim && given.canonical)
+
+-- the relay of the options that were given and of the inputs that words name, if each names an input and no options exclude each other
+abbrev pub request_of : Given → List (Bor (List ℕ)) → Option Request
+request_of given words =
+    if are_inputs words && not (are_at_odds given)
+    then Some (record { settings = given_settings given; output = given.output; refused = given.refused; inputs = length words })
+    else None
+
+-- the options with the one that a word names, if that was not given before and takes no word after it
+abbrev pub with_flag : Given → List ℕ → Option Given
+with_flag given word =
+    if bytes_eq word (codes "--strict") && not given.strict then Some (record given { strict = true })
+    else (if bytes_eq word (codes "--verbatim") && not given.verbatim then Some (record given { verbatim = true })
+    else (if bytes_eq word (codes "--canonical") && not given.canonical then Some (record given { canonical = true })
+    else (if bytes_eq word (codes "--lines") && not given.lines then Some (record given { lines = true })
+    else (if bytes_eq word (codes "--progress") && not given.progress then Some (record given { progress = true })
+    else (if bytes_eq word (codes "--summary") && not given.summary then Some (record given { summary = true })
+    else (if bytes_eq word (codes "--check") && not given.check then Some (record given { check = true })
+    else None))))))
+
+-- the number that a word writes, if it is at least 1
+abbrev pub first_number : List ℕ → Option ℕ
+first_number word = option_and_then (λ first. if first == 0 then None else Some first) (decimal word)
+
+-- how faults are told, as a word says: each on one line, as they are, or as objects, which name lines from 1 on
+abbrev pub faults_form : List ℕ → Option Faults
+faults_form word =
+    if bytes_eq word (codes "line") then Some OneLine
+    else (if bytes_eq word (codes "raw") then Some Raw else (if bytes_eq word (codes "json") then Some (Json 1) else None))
+
+-- the options with the one that a word names, if that was not given before and the word after it says what it takes
+abbrev pub with_value : Given → List ℕ → Bor (List ℕ) → Option Given
+with_value given word value =
+    if bytes_eq word (codes "--max-line") && is_none given.max_line
+    then option_map (λ bytes. record given { max_line = Some bytes }) (decimal value.now)
+    else (if bytes_eq word (codes "--first-item") && is_none given.first_item
+    then option_map (λ first. record given { first_item = Some first }) (first_number value.now)
+    else (if bytes_eq word (codes "--first-line") && is_none given.first_line
+    then option_map (λ first. record given { first_line = Some first }) (first_number value.now)
+    else (if bytes_eq word (codes "--faults") && is_none given.faults
+    then option_map (λ form. record given { faults = Some form }) (faults_form value.now)
+    else (if asks_output word && is_none given.output && names_file value.now
+    then Some (record given { output = Some value })
+    else (if bytes_eq word (codes "--refused") && is_none given.refused && names_file value.now
+    then Some (record given { refused = Some value }) else None)))))
+
+-- the relay that words ask for after the options given: each option is one that was not given before it, and inputs come last
+abbrev mutual
+  pub asked_request : Given → List (Bor (List ℕ)) → Option Request
+  asked_request given [] = request_of given []
+  asked_request given (word ∷ words) =
+      option_map_or (λ more. asked_request more words) (with_flag given word.now) (asked_after given word words)
+
+  -- the same if this word comes before the others, and is no option that takes no word after it
+  pub asked_after : Given → Bor (List ℕ) → List (Bor (List ℕ)) → Option Request
+  asked_after given word [] = request_of given (word ∷ [])
+  asked_after given word (value ∷ words) =
+      option_map_or (λ more. asked_request more words) (with_value given word.now value) (request_of given (word ∷ value ∷ words))
+
+-- what one word alone asks for: `--help` or `-h` the usage, `--version` the version
+abbrev pub asked_alone : List (Bor (List ℕ)) → Option Task
+asked_alone [] = None
+asked_alone (word ∷ []) =
+    if bytes_eq word.now (codes "--help") || bytes_eq word.now (codes "-h") then Some Help
+    else (if bytes_eq word.now (codes "--version") then Some Version else None)
+asked_alone (word ∷ next ∷ words) = None
+
+-- the greatest number of parts that an input is cut into
+abbrev pub most_parts : ℕ
+most_parts = 1000000
+
+-- so many parts of so many inputs, or none if the parts are too many
+abbrev pub few_parts : Dialect → ℕ → ℕ → Option Task
+few_parts dialect inputs parts = if nat_lt most_parts parts then None else Some (Cut dialect parts inputs)
+
+-- `--cut` and a number ask for the ends of so many parts of the inputs that the other words name
+abbrev pub cut_task : Dialect → List (Bor (List ℕ)) → Option Task
+cut_task dialect [] = None
+cut_task dialect (word ∷ []) = None
+cut_task dialect (word ∷ count ∷ inputs) =
+    if bytes_eq word.now (codes "--cut") && are_inputs inputs
+    then option_and_then (few_parts dialect (length inputs)) (decimal count.now) else None
+
+-- the cut that words ask for, first or after `--strict`
+abbrev pub asked_cut : List (Bor (List ℕ)) → Option Task
+asked_cut [] = None
+asked_cut (word ∷ words) =
+    if bytes_eq word.now (codes "--strict") then cut_task Strict words else cut_task Crate (word ∷ words)
+
+-- what the words after the program's name ask for
+abbrev pub asked_task : List (Bor (List ℕ)) → Option Task
+asked_task words =
+    if is_some (asked_alone words) then asked_alone words
+    else (if is_none (asked_cut words) then option_map Relay (asked_request nothing_given words) else asked_cut words)
+
+-- 141 if a writer failed since nothing reads what is written, as of a program that a closed pipe ends, 2 for any other fault
+abbrev pub fault_status : Bool → RunFault → ℕ
+fault_status is_pipe_closed Read = 2
+fault_status is_pipe_closed NotUtf8 = 2
+fault_status is_pipe_closed OutOfMemory = 2
+fault_status is_pipe_closed Write = if is_pipe_closed then 141 else 2
+
+-- 0 if every item was carried, 1 if some item was not, the status of the fault for a fault of the relay
+abbrev pub relay_status : Bool → Result Relayed RunFault → ℕ
+relay_status is_pipe_closed (Ok counts) = if counts.refused == 0 then 0 else 1
+relay_status is_pipe_closed (Err fault) = fault_status is_pipe_closed fault

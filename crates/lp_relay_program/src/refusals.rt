@@ -1,0 +1,130 @@
+//! What is refused before anything is opened: an output that is an input, and a file of refused pieces that is one of these.
+ghost use Rattle.std.specs.Prelude.{◌≡◌, ◌<◌, ◌-◌, [], ◌∷◌, codes, drop, length, map};
+ghost use Rattle.lp_relay_program.specs.Refusals.{are_one, input_at, input_text, refusal, refused_refusal};
+
+use std::fmt;
+
+/// The names of inputs if no word names an input.
+pub const STANDARD_INPUT: &[&str] = &["-"];
+
+/// A regular file of the system: its device, and its number there.
+#[derive(Clone, Copy)]
+pub struct FileId {
+    pub device: u64,
+    pub number: u64,
+}
+
+/// A name, and the regular file to which it leads, if it does.
+#[derive(Clone, Copy)]
+pub struct Located<'a> {
+    pub name: &'a str,
+    pub file: Option<FileId>,
+}
+
+/// Why a run is refused before anything is opened, with the name of the file that it would spoil.
+#[derive(Clone, Copy)]
+pub enum Refusal<'a> {
+    /// The lines would go to an input.
+    OutputIsInput(&'a str),
+    /// The refused pieces would go to an input.
+    RefusedIsInput(&'a str),
+    /// The refused pieces would go where the lines go.
+    RefusedIsOutput(&'a str),
+}
+
+// Whether both are files, and one.
+fn are_one(one: Option<FileId>, other: Option<FileId>) -> bool
+    ensures { result ≡ are_one one other }
+{
+    match (one, other) {
+        (Some(one), Some(other)) => one.device == other.device && one.number == other.number,
+        _ => false,
+    }
+}
+
+// The name of the first input that is this file.
+fn input_at<'a>(inputs: &[Located<'a>], file: Option<FileId>) -> Option<&'a str>
+    ensures { result ≡ input_at inputs.now file }
+{
+    for at in 0..inputs.len() {
+        if are_one(inputs[at].file, file) {
+            return Some(inputs[at].name);
+        }
+    }
+    None
+}
+
+// Why the refused pieces cannot go to a file.
+fn refusal_of_refused<'a>(
+    inputs: &[Located<'a>],
+    output: Option<FileId>,
+    refused: Located<'a>,
+) -> Option<Refusal<'a>>
+    ensures { result ≡ refused_refusal inputs.now output refused.entry }
+{
+    if let Some(name) = input_at(inputs, refused.file) {
+        return Some(Refusal::RefusedIsInput(name));
+    }
+    if are_one(output, refused.file) {
+        return Some(Refusal::RefusedIsOutput(refused.name));
+    }
+    None
+}
+
+/// Why a run over these inputs is refused, whose lines go to this file, and its refused pieces to that, if they do.
+pub fn refusal_of<'a>(
+    inputs: &[Located<'a>],
+    output: Option<FileId>,
+    refused: Option<Located<'a>>,
+) -> Option<Refusal<'a>>
+    ensures { result ≡ refusal inputs.now output refused.entry }
+{
+    if let Some(name) = input_at(inputs, output) {
+        return Some(Refusal::OutputIsInput(name));
+    }
+    match refused {
+        Some(refused) => refusal_of_refused(inputs, output, refused),
+        None => None,
+    }
+}
+
+// How an input is named.
+fn input_text<'a>(name: &'a str) -> &'a str
+    ensures { result.now ≡ input_text name.now }
+{
+    if name == "-" { "standard input" } else { name }
+}
+
+impl<'a> fmt::Display for Refusal<'a> {
+    ghost use Rattle.std.specs.Prelude.{Some};
+    ghost use Rattle.lp_relay_program.specs.Refusals.{refusal_text};
+
+    ghost output = { λ refusal. Some (refusal_text refusal) };
+
+    fn fmt<W: fmt::Write>(&self, f: &mut fmt::Formatter<W>) -> fmt::Result {
+        match self {
+            Refusal::OutputIsInput(name) => {
+                let name = input_text(name);
+                write!(f, "the output is an input too: {name}")
+            }
+            Refusal::RefusedIsInput(name) => {
+                let name = input_text(name);
+                write!(f, "the file of --refused is an input too: {name}")
+            }
+            Refusal::RefusedIsOutput(name) => {
+                write!(f, "the file of --refused is the output too: {name}")
+            }
+        }
+    }
+}
+
+/// The names of the inputs, of which so many words are the last: standard input if there is none.
+pub fn names_of<'a>(words: &'a [&'a str], count: usize) -> &'a [&'a str]
+    ensures named { 0 < count → result.now ≡ drop (length words.now - count) words.now }
+    ensures standard { count ≡ 0 → map (λ name. name.now) result.now ≡ codes "-" ∷ [] }
+{
+    if count == 0 {
+        return STANDARD_INPUT;
+    }
+    &words[words.len().saturating_sub(count)..]
+}

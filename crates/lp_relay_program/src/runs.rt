@@ -1,0 +1,171 @@
+//! Does what the words ask for.
+ghost use Rattle.std.specs.Prelude.{◌≡◌, IfNone, IfSome};
+ghost use Rattle.lp_relay_program.specs.Words.{asked_task};
+
+use crate::asked::{part_ends_of, relay_each};
+use crate::beside::Destinations;
+use crate::endings::{Device, Ending, Failure, ending_of_cut, ending_of_relay, status_of_print};
+use crate::errors::{LastErrors, Watched};
+use crate::files::Files;
+use crate::inputs::{Inputs, Joined, SystemOpener};
+use crate::meter::{Counted, Meter, MeteredSink, MeteredSource};
+use crate::named::Named;
+use crate::places::{refusal_at, total_len};
+use crate::refusals::names_of;
+use crate::summary::Totals;
+use crate::words::{HELP, Request, RunSettings, Task, USAGE, VERSION, task_of};
+use influxdb_line_protocol::Dialect;
+use lp_rebuild::{Reading, RunFault, Writing};
+use lp_relay::Outputs;
+use std::io::IsTerminal;
+
+// Relays the inputs of these names, one after another, and shows on the terminal how far it is, if that is asked for.
+fn relay_inputs<'n>(
+    rt: &HostRuntime,
+    settings: RunSettings<'_>,
+    names: &'n [&'n str],
+    destinations: Destinations<'_>,
+    errors: &LastErrors<'n>,
+) -> Result<Totals, RunFault> {
+    let meter = if settings.progress && rt.stderr().is_terminal() {
+        Some(Meter::new(rt, total_len(rt, names)))
+    } else {
+        None
+    };
+    let shown = meter.as_ref();
+    let is_out_shown = destinations.is_on_terminal();
+    let inputs = Inputs::new(SystemOpener::new(rt, &errors.input_name), names);
+    let reader = Reading::new(Watched::new(&errors.input, inputs));
+    let lines = Writing::new(Watched::new(&errors.output, destinations.lines));
+    let faults = Writing::new(Watched::new(&errors.faults, rt.stderr()));
+    let reader = MeteredSource::new(shown, reader);
+    let faults = MeteredSink::new(shown, Counted::Faults, true, faults);
+    let outputs = Outputs {
+        lines: MeteredSink::new(shown, Counted::Lines, is_out_shown, lines),
+        faults: Named::new(rt.alloc(), faults),
+        refused: Writing::new(Watched::new(&errors.refused, destinations.refused)),
+    };
+    let answer = relay_each(rt.alloc(), settings, names, reader, outputs);
+    if let Some(meter) = shown {
+        meter.finish();
+    }
+    answer
+}
+
+// Relays the inputs of these names to the files that a request names, and puts these in their places.
+fn relay_to_files<'n>(
+    rt: &HostRuntime,
+    request: Request<'n>,
+    names: &'n [&'n str],
+) -> Result<Totals, Failure<'n>> {
+    let mut files = Files::open(&rt, request.output, request.refused)?;
+    let errors = LastErrors::new(request.output, request.refused);
+    let destinations = files.destinations(rt);
+    let answer = match relay_inputs(rt, request.settings, names, destinations, &errors) {
+        Ok(totals) => Ok(totals),
+        Err(fault) => Err(errors.devices().failure(fault)),
+    };
+    let answer = files.finish(answer);
+    files.let_go();
+    answer
+}
+
+// Says how a run ends, and answers with its exit status.
+fn end(rt: &HostRuntime, ending: Ending<'_>) -> u8
+    ensures { result ≡ ending.entry.status }
+{
+    if let Some(failure) = ending.failure {
+        let _ = eprintln!(rt; "lp_relay: {failure}");
+    }
+    if let Some(summary) = ending.summary {
+        let _ = eprintln!(rt; "{summary}");
+    }
+    ending.status
+}
+
+// Relays what a request names, and answers with the exit status.
+fn relay<'n>(rt: &HostRuntime, request: Request<'n>, names: &'n [&'n str]) -> u8 {
+    let answer = relay_to_files(rt, request, names);
+    end(rt, ending_of_relay(request.settings, answer))
+}
+
+// Prints where the inputs of these names can be cut into parts, a line for each end.
+fn print_ends<'n>(
+    rt: &HostRuntime,
+    dialect: Dialect,
+    count: usize,
+    names: &'n [&'n str],
+    errors: &LastErrors<'n>,
+) -> Result<(), RunFault> {
+    let inputs = Inputs::new(SystemOpener::new(rt, &errors.input_name), names);
+    let mut reader = Reading::new(Watched::new(&errors.input, Joined::new(inputs)));
+    for end in part_ends_of(rt.alloc(), dialect, count, &mut reader)? {
+        if let Err(error) = println!(rt; "{end}") {
+            errors.output.set(Some(error));
+            return Err(RunFault::Write);
+        }
+    }
+    Ok(())
+}
+
+// Says where the inputs of these names can be cut into parts, and answers with the exit status.
+fn cut(rt: &HostRuntime, dialect: Dialect, count: usize, names: &[&str]) -> u8 {
+    let errors = LastErrors::new(None, None);
+    let answer = match print_ends(rt, dialect, count, names, &errors) {
+        Ok(()) => Ok(()),
+        Err(fault) => Err(errors.devices().failure(fault)),
+    };
+    end(rt, ending_of_cut(answer))
+}
+
+/// Prints how the program is called, since its words ask for nothing, and answers with the exit status.
+pub(crate) fn refuse_words(rt: &HostRuntime) -> u8
+    ensures { result ≡ 2 }
+{
+    let _ = eprintln!(rt; "{USAGE}");
+    2
+}
+
+// Says why a run over the inputs of these names is refused, and answers with the exit status, if it is.
+fn refuse_files(
+    rt: &HostRuntime,
+    names: &[&str],
+    output: Option<&str>,
+    refused: Option<&str>,
+) -> Option<u8>
+    ensures { IfSome result (λ status. status ≡ 2) }
+{
+    match refusal_at(rt, names, output, refused) {
+        Ok(Some(refusal)) => {
+            let _ = eprintln!(rt; "lp_relay: {refusal}");
+            Some(2)
+        }
+        Ok(None) => None,
+        Err(_) => Some(end(rt, ending_of_cut(Err(Failure::out_of_memory())))),
+    }
+}
+
+/// Does what the words ask for, and answers with the exit status.
+pub(crate) fn run_words(rt: &HostRuntime, words: &[&str]) -> u8
+    ensures { IfNone (asked_task words.now) (result ≡ 2) }
+{
+    match task_of(words) {
+        Some(Task::Relay(request)) => {
+            let names = names_of(words, request.inputs);
+            match refuse_files(rt, names, request.output, request.refused) {
+                Some(status) => status,
+                None => relay(rt, request, names),
+            }
+        }
+        Some(Task::Cut(dialect, parts, inputs)) => {
+            let names = names_of(words, inputs);
+            match refuse_files(rt, names, None, None) {
+                Some(status) => status,
+                None => cut(rt, dialect, parts, names),
+            }
+        }
+        Some(Task::Help) => status_of_print(println!(rt; "{USAGE}\n{HELP}")),
+        Some(Task::Version) => status_of_print(println!(rt; "lp_relay {VERSION}")),
+        None => refuse_words(rt),
+    }
+}

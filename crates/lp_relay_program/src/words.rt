@@ -1,0 +1,507 @@
+//! What the words after the program's name ask for, and its exit status.
+ghost use Rattle.std.specs.Prelude.{◌≡◌};
+ghost use Rattle.lp_relay_program.specs.Words.{are_at_odds, are_inputs, asked_cut, asked_request, asked_task, asks_output, cut_task, decimal, fault_status, faults_form};
+ghost use Rattle.lp_relay_program.specs.Words.{first_named, first_number, given_settings, is_json, lines_form, names_file, names_input, names_lines, told_form};
+ghost use Rattle.lp_relay_program.specs.Words.{nothing_given, relay_status, request_of};
+ghost use Rattle.lp_relay_program.specs.Words.{with_flag, with_value};
+
+use influxdb_line_protocol::Dialect;
+use lp_rebuild::RunFault;
+use lp_relay::{Faults, LineForm, Numbering, Relayed};
+
+/// How the program is called: the lines that it prints if its words ask for nothing, without the last newline.
+pub const USAGE: &str =
+    "usage: lp_relay [--strict] [--verbatim | --canonical] [--faults line|raw|json]
+                [--max-line BYTES] [--first-item N | [--lines] [--first-line N]] [--progress]
+                [--summary] [--check | --output FILE] [--refused FILE] [FILE..]
+       lp_relay [--strict] --cut PARTS [FILE..]
+       lp_relay --help | --version";
+
+/// The version of this state, which `--version` prints: the newest of CHANGELOG.md.
+pub const VERSION: &str = "3.0.0";
+
+/// What `--help` prints after that, without the last newline.
+pub const HELP: &str =
+    "Relays lines of InfluxDB line protocol from each FILE, one after another, or from standard input,
+to standard output as they come, and writes `item N: FAULT` to standard error for each item that
+it refuses, with the name of its FILE before it if there are several, but not by --faults raw. A
+FILE that is - is standard input; ./-x names a file -x.
+
+  --strict           reads the strict dialect
+  --verbatim         writes each line that can be read as it came, byte for byte; if it is not
+                     given, lines are written again in one spelling, which some servers read as
+                     other points if a name has a backslash
+  --canonical        writes each line as it came that is as it would be written again, byte for
+                     byte, and refuses each other line, for a name that is not admitted or else for
+                     its first part that is not so
+  --lines            names the line of the input in each fault, instead of the number of the item
+  --first-item N     the number of the first item, in faults: 1 if it is not given
+  --first-line N     the number of the first line, in faults, which name lines then
+  --faults FORM      line, as if it is not given: each fault on one line, with \\n, \\t, \\r, \\\\ and
+                     \\x.. for what ASCII does not print, cut after 200 bytes; raw: as lp_rebuild
+                     writes it, with newlines within; json: each as an object on one line, which
+                     names its FILE if there are several, the item, where its text and its piece
+                     begin, the kind of the fault, what is wrong, and where reading stopped
+  --max-line BYTES   a longer line is passed over, and is a fault: 16777216 if it is not given
+  --progress         shows on standard error, if that is a terminal, how far the relay is: bytes
+                     read, percent if all inputs are files, lines written, faults, and MB/s,
+                     each second while input comes, and once more at the end
+  --summary          says at the end on standard error, if the status is 0 or 1, how many bytes,
+                     lines and items there were, and how many were refused for each kind of
+                     fault, as objects name it:
+                     `B bytes, L lines, N items: C carried, R refused: K KIND, ..`
+  --check            writes no line, but the faults and the status are as ever
+  --output FILE, -o  writes the lines to FILE, which is there, and whole, once the status is 0 or 1;
+                     until then a FILE that was there stays as it was
+  --refused FILE     writes each piece that is refused to FILE as it came, with its newline, and of a
+                     line that is too long its first BYTES; FILE is there as that of --output is
+  --cut PARTS        prints where the input, which is held whole, can be cut into so many parts of
+                     about one length, 1000000 at most, to be relayed apart: the end of each, in
+                     bytes, a line each
+  --help, -h         prints this
+  --version          prints the version
+
+The options of a relay come in any order, each at most once, before the files; not both --check
+and --output, not both --verbatim and --canonical, nor --first-item with --lines or --first-line,
+but with --faults json, which names items and lines.
+--cut PARTS comes first, or after --strict.
+
+Status 0: every item was carried; 1: some item was not; 2: the input could not be read, memory
+ran out, an output could not be written, or is an input too, or the arguments are wrong; 141:
+nothing reads the output, which is said by no message.";
+
+/// The greatest length of a line, in bytes, if the words give none: 16 MiB.
+pub const DEFAULT_MAX_LINE: usize = 16_777_216;
+
+/// The greatest number of parts that an input is cut into, since the ends of all are held: those of so many take 8 MB. No
+/// machine runs as many processes at once.
+pub const MOST_PARTS: usize = 1_000_000;
+
+/// How the relay is to run.
+#[derive(Clone, Copy, Debug, PartialEq, Eq)]
+pub struct RunSettings<'n> {
+    /// How lines are read and written, and what the fault lines name.
+    pub relay: lp_relay::Settings<'n>,
+    /// Whether progress is shown.
+    pub progress: bool,
+    /// Whether the counts of items are told at the end.
+    pub summary: bool,
+    /// Whether the lines are only checked, and none is written.
+    pub check: bool,
+}
+
+/// A relay that words ask for.
+#[derive(Clone, Copy)]
+pub struct Request<'a> {
+    /// How it is to run.
+    pub settings: RunSettings<'a>,
+    /// The file that the lines go to, or none: standard output. A check has none.
+    pub output: Option<&'a str>,
+    /// The file that the refused pieces go to, if they go out.
+    pub refused: Option<&'a str>,
+    /// How many words name inputs: so many of the last. 0: standard input.
+    pub inputs: usize,
+}
+
+/// What the program is to do.
+#[derive(Clone, Copy)]
+pub enum Task<'a> {
+    /// Relay the inputs.
+    Relay(Request<'a>),
+    /// Print where the inputs can be cut, by the rules of a dialect, into so many parts. So many of the last words name them.
+    Cut(Dialect, usize, usize),
+    /// Print how the program is called.
+    Help,
+    /// Print the version.
+    Version,
+}
+
+/// The options that words gave so far.
+#[derive(Clone, Copy)]
+pub(crate) struct Given<'a> {
+    strict: bool,
+    verbatim: bool,
+    canonical: bool,
+    lines: bool,
+    first_item: Option<usize>,
+    first_line: Option<usize>,
+    max_line: Option<usize>,
+    progress: bool,
+    summary: bool,
+    check: bool,
+    faults: Option<Faults>,
+    output: Option<&'a str>,
+    refused: Option<&'a str>,
+}
+
+impl<'a> Given<'a> {
+    fn nothing() -> Self
+        ensures { result ≡ nothing_given }
+    {
+        Given {
+            strict: false,
+            verbatim: false,
+            canonical: false,
+            lines: false,
+            first_item: None,
+            first_line: None,
+            max_line: None,
+            progress: false,
+            summary: false,
+            check: false,
+            faults: None,
+            output: None,
+            refused: None,
+        }
+    }
+
+    // Whether fault lines name lines of the input, and no items: objects name both.
+    fn names_lines(self) -> bool
+        ensures { result ≡ names_lines self.entry }
+    {
+        (self.lines || self.first_line.is_some()) && !is_json(self.faults)
+    }
+
+    // How faults are told, with the number of the first line that objects name.
+    fn told_form(self) -> Faults
+        ensures { result ≡ told_form self.entry }
+    {
+        if is_json(self.faults) {
+            let first_line = self.first_line.unwrap_or(1);
+            return Faults::Json { first_line };
+        }
+        self.faults.unwrap_or(Faults::OneLine)
+    }
+
+    // The number of what fault lines name first.
+    fn first_named(self) -> usize
+        ensures { result ≡ first_named self.entry }
+    {
+        if self.names_lines() {
+            self.first_line.unwrap_or(1)
+        } else {
+            self.first_item.unwrap_or(1)
+        }
+    }
+
+    // How lines go out.
+    fn lines_form(self) -> LineForm
+        ensures { result ≡ lines_form self.entry }
+    {
+        if self.verbatim {
+            LineForm::Verbatim
+        } else if self.canonical {
+            LineForm::Canonical
+        } else {
+            LineForm::Rebuilt
+        }
+    }
+
+    fn settings(self) -> RunSettings<'a>
+        ensures { result ≡ given_settings self.entry }
+    {
+        let dialect = if self.strict {
+            Dialect::Strict
+        } else {
+            Dialect::Crate
+        };
+        let numbering = if self.names_lines() {
+            Numbering::Lines
+        } else {
+            Numbering::Items
+        };
+        let relay = lp_relay::Settings {
+            dialect,
+            limit: self.max_line.unwrap_or(DEFAULT_MAX_LINE),
+            lines: self.lines_form(),
+            numbering,
+            first: self.first_named(),
+            faults: self.told_form(),
+            puts_refused: self.refused.is_some(),
+            counts_kinds: self.summary,
+            file: None,
+        };
+        RunSettings {
+            relay,
+            progress: self.progress,
+            summary: self.summary,
+            check: self.check,
+        }
+    }
+
+    // These options and the one that a word names, if that was not given before and takes no word after it.
+    fn with_flag(self, word: &str) -> Option<Self>
+        ensures { result ≡ with_flag self.entry word.now }
+    {
+        if word == "--strict" && !self.strict {
+            let strict = true;
+            return Some(Given { strict, ..self });
+        }
+        if word == "--verbatim" && !self.verbatim {
+            let verbatim = true;
+            return Some(Given { verbatim, ..self });
+        }
+        if word == "--canonical" && !self.canonical {
+            let canonical = true;
+            return Some(Given { canonical, ..self });
+        }
+        if word == "--lines" && !self.lines {
+            let lines = true;
+            return Some(Given { lines, ..self });
+        }
+        if word == "--progress" && !self.progress {
+            let progress = true;
+            return Some(Given { progress, ..self });
+        }
+        if word == "--summary" && !self.summary {
+            let summary = true;
+            return Some(Given { summary, ..self });
+        }
+        if word == "--check" && !self.check {
+            let check = true;
+            return Some(Given { check, ..self });
+        }
+        None
+    }
+
+    // These options and the one that a word names, if that was not given before and the word after it says what it takes.
+    fn with_value(self, word: &str, value: &'a str) -> Option<Self>
+        ensures { result ≡ with_value self.entry word.now value.entry }
+    {
+        if word == "--max-line" && self.max_line.is_none() {
+            let max_line = Some(decimal_of(value)?);
+            return Some(Given { max_line, ..self });
+        }
+        if word == "--first-item" && self.first_item.is_none() {
+            let first_item = Some(first_number_of(value)?);
+            return Some(Given { first_item, ..self });
+        }
+        if word == "--first-line" && self.first_line.is_none() {
+            let first_line = Some(first_number_of(value)?);
+            return Some(Given { first_line, ..self });
+        }
+        if word == "--faults" && self.faults.is_none() {
+            let faults = Some(faults_form_of(value)?);
+            return Some(Given { faults, ..self });
+        }
+        if is_output(word) && self.output.is_none() && is_file(value) {
+            let output = Some(value);
+            return Some(Given { output, ..self });
+        }
+        if word == "--refused" && self.refused.is_none() && is_file(value) {
+            let refused = Some(value);
+            return Some(Given { refused, ..self });
+        }
+        None
+    }
+
+    // Whether two options exclude each other: a check has no file for lines, the number of the first item is none of a line, and
+    // lines go out in one way.
+    fn are_at_odds(self) -> bool
+        ensures { result ≡ are_at_odds self.entry }
+    {
+        self.check && self.output.is_some()
+            || self.first_item.is_some() && self.names_lines()
+            || self.verbatim && self.canonical
+    }
+
+    // The request of these options and inputs, if each word names an input and no options exclude each other.
+    fn request(self, words: &[&str]) -> Option<Request<'a>>
+        ensures { result ≡ request_of self.entry words.now }
+    {
+        if !are_inputs(words) || self.are_at_odds() {
+            return None;
+        }
+        Some(Request {
+            settings: self.settings(),
+            output: self.output,
+            refused: self.refused,
+            inputs: words.len(),
+        })
+    }
+}
+
+// The number that a word writes in decimal digits, and nothing else; `None` if there is none, or no usize holds it.
+fn decimal_of(word: &str) -> Option<usize>
+    ensures { result ≡ decimal word.now }
+{
+    if word.as_bytes().starts_with(b"+") {
+        return None;
+    }
+    word.parse::<usize>().ok()
+}
+
+// The number that a word writes, if it is at least 1.
+fn first_number_of(word: &str) -> Option<usize>
+    ensures { result ≡ first_number word.now }
+{
+    match decimal_of(word) {
+        Some(0) => None,
+        first => first,
+    }
+}
+
+// Whether faults are told as objects.
+fn is_json(faults: Option<Faults>) -> bool
+    ensures { result ≡ is_json faults }
+{
+    matches!(faults, Some(Faults::Json { .. }))
+}
+
+// How faults are told, as a word says.
+fn faults_form_of(word: &str) -> Option<Faults>
+    ensures { result ≡ faults_form word.now }
+{
+    match word {
+        "line" => Some(Faults::OneLine),
+        "raw" => Some(Faults::Raw),
+        "json" => Some(Faults::Json { first_line: 1 }),
+        _ => None,
+    }
+}
+
+// Whether a word can be the name of a file: it has a byte, and the first is no `-`.
+fn is_file(word: &str) -> bool
+    ensures { result ≡ names_file word.now }
+{
+    match word.as_bytes() {
+        [] => false,
+        [first, ..] => *first != b'-',
+    }
+}
+
+// Whether a word is the option before the file that the lines go to.
+fn is_output(word: &str) -> bool
+    ensures { result ≡ asks_output word.now }
+{
+    word == "--output" || word == "-o"
+}
+
+// Whether a word names an input: a file, or standard input.
+fn is_input(word: &str) -> bool
+    ensures { result ≡ names_input word.now }
+{
+    word == "-" || is_file(word)
+}
+
+// Whether each word names an input.
+fn are_inputs(words: &[&str]) -> bool
+    ensures { result ≡ are_inputs words.now }
+{
+    for at in 0..words.len() {
+        if !is_input(words[at]) {
+            return false;
+        }
+    }
+    true
+}
+
+// The request that words ask for after the options given. No option is taken twice, so it calls itself a few times at most.
+fn request_after<'a>(given: Given<'a>, words: &[&'a str]) -> Option<Request<'a>>
+    ensures { result ≡ asked_request given.entry words.now }
+{
+    let [word, rest @ ..] = words else {
+        return given.request(words);
+    };
+    if let Some(more) = given.with_flag(word) {
+        return request_after(more, rest);
+    }
+    let [value, rest @ ..] = rest else {
+        return given.request(words);
+    };
+    match given.with_value(word, value) {
+        Some(more) => request_after(more, rest),
+        None => given.request(words),
+    }
+}
+
+// The cut that words ask for: of the inputs that the last ones name.
+fn cut_task_of<'a>(dialect: Dialect, words: &[&str]) -> Option<Task<'a>>
+    ensures { result ≡ cut_task dialect words.now }
+{
+    match words {
+        [word, count, inputs @ ..] if *word == "--cut" && are_inputs(inputs) => {
+            let parts = decimal_of(count)?;
+            if parts > MOST_PARTS {
+                return None;
+            }
+            Some(Task::Cut(dialect, parts, inputs.len()))
+        }
+        _ => None,
+    }
+}
+
+// The cut that words ask for.
+fn cut_of<'a>(words: &[&str]) -> Option<Task<'a>>
+    ensures { result ≡ asked_cut words.now }
+{
+    match words {
+        [strict, rest @ ..] if *strict == "--strict" => cut_task_of(Dialect::Strict, rest),
+        _ => cut_task_of(Dialect::Crate, words),
+    }
+}
+
+/// What the words after the program's name ask for, or `None` if they are not as [`USAGE`] says.
+///
+/// The options of a relay come in any order, each at most once, but not both `--check` and `--output`, not both
+/// `--verbatim` and `--canonical`, nor `--first-item` with `--lines` or `--first-line`, whose numbers are at least 1, but with
+/// `--faults json`; `--cut` and a number, [`MOST_PARTS`] at most, come first or after `--strict`. The words after these name inputs. `--help`, `-h` or `--version` comes alone. A number, as after
+/// `--max-line`, is a decimal one that a `usize` holds: digits alone, of which the first may be zeros. A word with no byte, or
+/// that begins with `-`, names no file, and `-` alone names standard input. It takes no memory.
+///
+/// ```text
+/// task_of(&[])                          gives  a relay of the crate's dialect with the default length
+/// task_of(&["--progress", "--strict"])  gives  a relay of the strict dialect that shows progress
+/// task_of(&["--lines"])                 gives  a relay of the crate's dialect whose fault lines name lines
+/// task_of(&["--lines", "a", "-"])       gives  the same of the file `a`, and of standard input after it
+/// task_of(&["-o", "b", "a"])            gives  a relay of the file `a` to the file `b`
+/// task_of(&["a", "-o", "b"])            gives  None
+/// task_of(&["--check", "a"])            gives  a relay of the file `a` that writes no line
+/// task_of(&["--check", "-o", "b"])      gives  None
+/// task_of(&["--refused", "b", "a"])     gives  a relay of the file `a` whose refused pieces go to the file `b`
+/// task_of(&["--canonical"])             gives  a relay that lets out only lines that are as they would be written
+/// task_of(&["--strict", "--strict"])    gives  None
+/// task_of(&["--max-line", "+80"])       gives  None
+/// task_of(&["--first-line", "5"])       gives  a relay whose fault lines name lines, of which the first is 5
+/// task_of(&["--first-item", "0"])       gives  None
+/// task_of(&["--faults", "raw"])         gives  a relay whose fault lines are as lp_rebuild writes them
+/// task_of(&["--faults", "json"])        gives  a relay whose faults are objects, which name items and lines from 1 on
+/// task_of(&["--faults", "none"])        gives  None
+/// task_of(&["--cut", "4"])              gives  the ends of 4 parts of the input
+/// task_of(&["--cut", "1000001"])        gives  None
+/// task_of(&["--cut", "4", "--strict"])  gives  None
+/// task_of(&["-h"])                      gives  the usage
+/// task_of(&["--help", "--strict"])      gives  None
+/// ```
+pub fn task_of<'a>(words: &[&'a str]) -> Option<Task<'a>>
+    ensures { result ≡ asked_task words.now }
+{
+    match words {
+        [word] if *word == "--help" || *word == "-h" => Some(Task::Help),
+        [word] if *word == "--version" => Some(Task::Version),
+        _ => match cut_of(words) {
+            Some(task) => Some(task),
+            None => Some(Task::Relay(request_after(Given::nothing(), words)?)),
+        },
+    }
+}
+
+/// The exit status of a run that failed: 141, as of a program that a closed pipe ends, if nothing reads what it wrote, else 2.
+pub fn status_of_fault(fault: RunFault, is_pipe_closed: bool) -> u8
+    ensures { result ≡ fault_status is_pipe_closed fault }
+{
+    match fault {
+        RunFault::Write if is_pipe_closed => 141,
+        _ => 2,
+    }
+}
+
+/// The exit status of a relay: 0 if every item was carried, 1 if some item was not, and that of the fault for a fault.
+pub fn status_of_relay(answer: &Result<Relayed, RunFault>, is_pipe_closed: bool) -> u8
+    ensures { result ≡ relay_status is_pipe_closed answer.now }
+{
+    match answer {
+        Ok(relayed) => { if relayed.refused == 0 { 0 } else { 1 } }
+        Err(fault) => status_of_fault(*fault, is_pipe_closed),
+    }
+}
