@@ -1,7 +1,9 @@
 //! What a relay takes of a piece of its input.
-ghost use Rattle.std.specs.Prelude.{◌≡◌, ◌+◌, ◌<◌, ◌≤◌, ◌++◌, List, false, ℕ, option_map, string_bytes, IfOk, Ok, OnOk};
+ghost use Rattle.std.specs.Prelude.{◌≡◌, ◌+◌, ◌<◌, ◌≤◌, ◌++◌, List, false, ℕ, length, option_map, string_bytes, IfOk, Ok, OnOk};
 ghost use Rattle.influxdb_line_protocol.specs.code.Rules.{rules_of};
+ghost use Rattle.influxdb_line_protocol.specs.format.Dialects.{Dialect as AnyDialect};
 ghost use Rattle.influxdb_line_protocol.specs.format.Lines.{answer};
+ghost use Rattle.influxdb_line_protocol.specs.format.Points.{IsAsWritten};
 ghost use Rattle.influxdb_line_protocol.specs.format.Trimming.{trimmed};
 ghost use Rattle.lp_relay.specs.Kinds.{counts_if, with_fault};
 ghost use Rattle.lp_relay.specs.Refusals.{EndsPiece, GaveSame, IsKnown, RefusesPiece, TakesItem, TakesPiece, given_of, refusal_kind, told_by};
@@ -18,7 +20,7 @@ use crate::telling::{Faults, Place, put_fault_line, put_on_one_line};
 use crate::verdict::fault_of;
 use influxdb_line_protocol::{Dialect, PieceTooLong, is_as_written, laws};
 use lp_rebuild::LineRefusal;
-use lp_rebuild::batch::{self, LineReader, copy_line, put_line};
+use lp_rebuild::batch::{self, LineReader, copy_line};
 use lp_rebuild::program::BLOCK;
 use lp_scan::trim::trimmed;
 use std::alloc::{AllocError, Global};
@@ -205,8 +207,28 @@ fn take_verbatim<'a>(
     }
 }
 
-// Takes a line as it came, if it is as the builder writes it. Another one is written again, to find the part that is not so, and
-// taken back.
+// Takes a line that is as the builder writes it: it goes out as it came, and by `Verbatim` with what its piece has before it.
+#[inline(always)]
+fn take_written(
+    lines: LineForm,
+    batch: &mut Vec<u8>,
+    piece: &str,
+    text: &str,
+) -> Result<(), AllocError>
+    requires text { text.now ≡ trimmed piece.now }
+    requires written { IsAsWritten text.now }
+    ensures { OnOk result ((dialect : AnyDialect) →
+        TakesItem Taken.Carried (item_of lines piece.now (answer dialect text.now)) batch.old.items batch.new.items) }
+{
+    laws::written_lines_stay();
+    match lines {
+        LineForm::Rebuilt => copy_line(batch, text.as_bytes()),
+        LineForm::Verbatim => copy_line(batch, piece.as_bytes()),
+        LineForm::Canonical => copy_line(batch, text.as_bytes()),
+    }
+}
+
+// Takes a line that is not as the builder writes it: it is written again, to find the part that is not so, and taken back.
 #[inline(always)]
 fn take_canonical<'a>(
     batch: &mut Vec<u8>,
@@ -214,16 +236,13 @@ fn take_canonical<'a>(
     piece: &'a str,
     text: &'a str,
 ) -> Result<Taken<'a>, AllocError>
-    requires { text.now ≡ trimmed piece.now }
+    requires text { text.now ≡ trimmed piece.now }
+    requires unwritten { ¬ (IsAsWritten text.now) }
     ensures taken { IfOk result (λ taken. TakesItem taken
         (item_of LineForm.Canonical piece.now (answer (rules_of reader.old.dialect) text.now)) batch.old.items batch.new.items) }
     ensures dialect { reader.new.dialect ≡ reader.old.dialect }
 {
     laws::written_lines_stay();
-    if is_as_written(text) {
-        copy_line(batch, text.as_bytes())?;
-        return Ok(Taken::Carried);
-    }
     let start = batch.len();
     if let Some(refusal) = batch::take_text(batch, reader, text)? {
         return Ok(Taken::Refused(Refusal::Line(refusal)));
@@ -247,13 +266,13 @@ fn take_rebuilt<'a>(
         (item_of LineForm.Rebuilt piece.now (answer (rules_of reader.old.dialect) text.now)) batch.old.items batch.new.items) }
     ensures dialect { reader.new.dialect ≡ reader.old.dialect }
 {
-    match put_line(batch, reader, text)? {
+    match batch::take_text(batch, reader, text)? {
         None => Ok(Taken::Carried),
         Some(refusal) => Ok(Taken::Refused(Refusal::Line(refusal))),
     }
 }
 
-// Takes the line of a piece, if it has one: it goes out by the settings, or is refused.
+// Takes the line of a piece, if it has one that is not as the builder writes it: it goes out by the settings, or is refused.
 #[inline(always)]
 fn take_line<'a>(
     settings: &Settings<'_>,
@@ -262,6 +281,7 @@ fn take_line<'a>(
     piece: &'a str,
 ) -> Result<Taken<'a>, AllocError>
     requires dialect { reader.old.dialect ≡ settings.now.dialect }
+    requires unwritten { 0 < length (trimmed piece.now) → ¬ (IsAsWritten (trimmed piece.now)) }
     ensures taken { IfOk result (λ taken. TakesPiece settings.now (Piece.Text piece.entry) taken batch.old.items batch.new.items) }
     ensures dialect { reader.new.dialect ≡ reader.old.dialect }
 {
@@ -393,7 +413,27 @@ fn end_piece(
     }
 }
 
-// Takes a piece that is text. It is called for each line, so that the test whether a line is as written is compiled once, in line here.
+// Takes a piece that is text and whose line is not as the builder writes it.
+#[inline(never)]
+fn take_unwritten<'a>(
+    settings: &Settings<'_>,
+    pending: &mut Pending,
+    reader: &mut LineReader<'a>,
+    piece: &'a str,
+) -> Result<(), AllocError>
+    requires dialect { reader.old.dialect ≡ settings.now.dialect }
+    requires unwritten { 0 < length (trimmed piece.now) → ¬ (IsAsWritten (trimmed piece.now)) }
+    requires fits { pending.old.so_far.carried + pending.old.so_far.refused < usize.MAX }
+    ensures taken { OnOk result (TakesGiven settings.now (unwritten_of pending.old) (Ok piece.entry) (unwritten_of pending.new)) }
+    ensures counted { OnOk result (pending.new.so_far.carried + pending.new.so_far.refused ≤ usize.MAX) }
+    ensures dialect { reader.new.dialect ≡ reader.old.dialect }
+{
+    let taken = take_line(settings, &mut pending.so_far.batch, reader, piece)?;
+    end_piece(settings, pending, taken, Piece::Text(piece))
+}
+
+// Takes a piece that is text. It is called for each line, so that the test whether a line is as written is compiled once, in line here;
+// such a line is copied here, and makes no value of what came of it.
 #[inline(never)]
 fn take_text<'a>(
     settings: &Settings<'_>,
@@ -407,8 +447,12 @@ fn take_text<'a>(
     ensures counted { OnOk result (pending.new.so_far.carried + pending.new.so_far.refused ≤ usize.MAX) }
     ensures dialect { reader.new.dialect ≡ reader.old.dialect }
 {
-    let taken = take_line(settings, &mut pending.so_far.batch, reader, piece)?;
-    end_piece(settings, pending, taken, Piece::Text(piece))
+    let text = trimmed(piece);
+    if !text.is_empty() && is_as_written(text) {
+        take_written(settings.lines, &mut pending.so_far.batch, piece, text)?;
+        return end_piece(settings, pending, Taken::Carried, Piece::Text(piece));
+    }
+    take_unwritten(settings, pending, reader, piece)
 }
 
 // Takes the item of a piece.

@@ -147,7 +147,10 @@ fn ending_of_failure<'n>(failure: Failure<'n>) -> Ending<'n>
 }
 
 /// How a relay ends.
-pub fn ending_of_relay<'n>(settings: RunSettings<'_>, answer: Result<Totals, Failure<'n>>) -> Ending<'n>
+pub fn ending_of_relay<'n>(
+    settings: RunSettings<'_>,
+    answer: Result<Totals, Failure<'n>>,
+) -> Ending<'n>
     ensures { result ≡ relay_ending settings.entry answer.entry }
 {
     match answer {
