@@ -1,8 +1,8 @@
 #!/usr/bin/env python3
 """Wrong bodies that the prover must refuse, of checks/bodies/CRATE.edits.
 
-    checks/bodies.py                   prints each body whose `old` text is not just once in its file, and where must-fail/ has more
-                                       edits than the gate has time for; status 1 if there is anything to print
+    checks/bodies.py                   prints each body, and each edit of must-fail/, whose `old` text is not just once in its file,
+                                       and where must-fail/ has more edits than the gate has time for; status 1 if there is any
     checks/bodies.py --write FOLDER    writes the bodies of each crate as edits into FOLDER/CRATE/must-fail
 
 A file has the bodies of a crate, each after a line `== NAME`, in the form of an edit of must-fail/.
@@ -53,6 +53,8 @@ def too_many():
 
 def main(arguments):
     told, count = too_many(), 0
+    for path in sorted(TOP.glob("crates/*/must-fail/*.edit")):
+        told += misses(path.parts[-3], path.stem, path.read_text())
     for path in sorted((TOP / "checks" / "bodies").glob("*.edits")):
         edits = {it.stem for it in (TOP / "crates" / path.stem / "must-fail").glob("*.edit")}
         for name, text in bodies_of(path):
