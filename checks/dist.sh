@@ -32,7 +32,7 @@ if [ $# = 0 ]; then
     build_if_changed dist lp_rebuild_program lp_relay_program lp_c || exit 1
     cp "$top"/crates/{lp_rebuild_program/out/lp_rebuild_program,lp_relay_program/out/lp_relay_program,lp_c/out/liblp_c.a} "$work/built"
 else
-    cp "$1"/{lp_rebuild_program,lp_relay,liblp_c.a} "$work/built"
+    cp "$1"/{lp_rebuild_program,lp_relay_program,liblp_c.a} "$work/built"
 fi
 version=$(version)
 name=influxdb-line-protocol-$version-x86_64-linux
@@ -104,7 +104,7 @@ install_from_sources() {
     cp -R "$top/bindings/build.sh" "$top/bindings/c" "$copy/bindings"
     mkdir -p "$copy"/crates/{lp_rebuild_program,lp_relay_program,lp_c}/src
     touch "$copy"/crates/{lp_rebuild_program,lp_relay_program}/src/main.rt "$copy/crates/lp_c/src/lib.rt"
-    printf 'lp_rebuild_program:\nlp_relay:\nlp_c staticlib:\n' >"$copy/crates.txt"
+    printf 'lp_rebuild_program:\nlp_relay_program:\nlp_c staticlib:\n' >"$copy/crates.txt"
     cat >"$work/stub/rt" <<'STUB'
 #!/bin/sh
 crate=$(basename "$PWD")
@@ -120,7 +120,7 @@ STUB
         PATH=$work/stub:$PATH "$copy/bin/install" "$work/from sources" >"$work/said"
         diff -r --no-dereference "$prefix" "$work/from sources" || fail "bin/install gives other files from sources"
     done
-    equal "what rt was called for" $'lp_c lib\nlp_rebuild_program run\nlp_relay run' "$(sort "$CALLS")"
+    equal "what rt was called for" $'lp_c lib\nlp_rebuild_program run\nlp_relay_program run' "$(sort "$CALLS")"
     touch "$copy/crates/lp_relay_program/src/more.rt"
     echo "// more" >"$copy/crates/lp_relay_program/src/more.rt"
     PATH=$work/stub:$PATH FAILS=lp_relay_program refused "install: lp_relay_program was not built" 1 "$copy/bin/install" "$work/nowhere"
