@@ -112,20 +112,30 @@ fn fill<'a>(
     Ok(())
 }
 
-// Makes the tag set of a line ready to be filled: it is there, and keeps its room. If there is none, it is the one at `spare`, or
-// a new one.
-#[inline(always)]
-fn ready_tags<'a>(alloc: Global, set: &mut Option<TagSet<'a>>, spare: &mut Option<TagSet<'a>>)
-    ensures { max inline_tags (room_of set.old) ≤ room_of set.new }
+// Gives a line without a tag set the one at `spare`, or a new one. It stands apart, since the room for a set that is moved is cleared first.
+#[inline(never)]
+fn give_tags<'a>(alloc: Global, set: &mut Option<TagSet<'a>>, spare: &mut Option<TagSet<'a>>)
+    ensures { inline_tags ≤ room_of set.new }
 {
-    if set.is_none() && spare.is_some() {
-        *set = spare.take();
-    }
+    *set = spare.take();
     match set {
         Some(tags) => {
             let _at_least_inline = tags.capacity();
         }
         None => *set = Some(SmallVec::new(alloc)),
+    }
+}
+
+// Makes the tag set of a line ready to be filled: it is there, and keeps its room.
+#[inline(always)]
+fn ready_tags<'a>(alloc: Global, set: &mut Option<TagSet<'a>>, spare: &mut Option<TagSet<'a>>)
+    ensures { max inline_tags (room_of set.old) ≤ room_of set.new }
+{
+    match set {
+        Some(tags) => {
+            let _at_least_inline = tags.capacity();
+        }
+        None => give_tags(alloc, set, spare),
     }
 }
 

@@ -7,7 +7,7 @@ ghost use Rattle.lp_relay.specs.Refusals.{object_of, refusal_kind, stop_in, wron
 
 use crate::pieces::Piece;
 use crate::refusals::Refusal;
-use crate::telling::{Place, hex_digit};
+use crate::telling::{Place, hex_digit, put_number};
 use influxdb_line_protocol::Dialect;
 use lp_events::stops::reading_stop;
 use lp_scan::newlines::newlines_in;
@@ -70,7 +70,8 @@ fn put_start(
 {
     let text_line = line.checked_add(newlines_in(front)).ok_or(AllocError)?;
     let text_offset = offset.checked_add(front.len()).ok_or(AllocError)?;
-    write!(faults, "{{\"item\":{number}")?;
+    faults.push_str("{\"item\":")?;
+    put_number(faults, number)?;
     put_member(faults, "line", text_line)?;
     put_member(faults, "offset", text_offset)?;
     put_member(faults, "piece_line", line)?;
@@ -78,10 +79,14 @@ fn put_start(
 }
 
 // Adds a member that tells a number.
+#[inline(always)]
 fn put_member(members: &mut String, name: &str, value: usize) -> Result<(), AllocError>
     ensures { OnOk result (string_bytes members.new ≡ string_bytes members.old ++ member name.now value) }
 {
-    write!(members, ",\"{name}\":{value}")
+    members.push_str(",\"")?;
+    members.push_str(name)?;
+    members.push_str("\":")?;
+    put_number(members, value)
 }
 
 // The column after these bytes, from the first one on.
@@ -169,8 +174,9 @@ fn put_fault(faults: &mut String, refusal: &Refusal<'_>) -> Result<(), AllocErro
     ensures { OnOk result (string_bytes faults.new
         ≡ string_bytes faults.old ++ fault_members (refusal_kind refusal.now) (wrong_of refusal.now)) }
 {
-    let kind = refusal.kind().name();
-    write!(faults, ",\"kind\":\"{kind}\",\"text\":\"")?;
+    faults.push_str(",\"kind\":\"")?;
+    faults.push_str(refusal.kind().name())?;
+    faults.push_str("\",\"text\":\"")?;
     put_wrong(faults, refusal)?;
     faults.push_str("\"")
 }

@@ -1,7 +1,7 @@
 //! How fault lines are told, and each on one line.
 //!
 //! A fault line is added as it is, and most are on one line then.
-ghost use Rattle.std.specs.Prelude.{◌≡◌, ◌<◌, ◌++◌, ◌∷◌, [], drop, length, string_bytes, take, true, IsUtf8, OnOk};
+ghost use Rattle.std.specs.Prelude.{◌≡◌, ◌<◌, ◌++◌, ◌∷◌, [], decimal, drop, length, string_bytes, take, true, IsUtf8, OnOk};
 ghost use Rattle.lp_relay.specs.LineFaults.{fault_line_at};
 ghost use Rattle.lp_relay.specs.Refusals.{wrong_of};
 ghost use Rattle.std.specs.List.{flat_map};
@@ -146,6 +146,15 @@ fn tell_on_one_line(faults: &mut String, from: usize) -> Result<(), AllocError>
     faults.push('\n')
 }
 
+// Adds a number.
+#[inline(always)]
+pub(crate) fn put_number(faults: &mut String, number: usize) -> Result<(), AllocError>
+    ensures { OnOk result (string_bytes faults.new ≡ string_bytes faults.old ++ decimal number) }
+{
+    let mut digits = itoa::Buffer::new();
+    faults.push_str(digits.format(number))
+}
+
 // Adds the fault line of an item that is refused.
 pub(crate) fn put_fault_line(
     faults: &mut String,
@@ -157,11 +166,16 @@ pub(crate) fn put_fault_line(
 {
     match place.line {
         None => {
-            let number = place.number;
-            writeln!(faults, "item {number}: {refusal}")?;
+            faults.push_str("item ")?;
+            put_number(faults, place.number)?;
         }
-        Some(line) => writeln!(faults, "line {line}: {refusal}")?,
+        Some(line) => {
+            faults.push_str("line ")?;
+            put_number(faults, line)?;
+        }
     }
+    faults.push_str(": ")?;
+    writeln!(faults, "{refusal}")?;
     Ok(())
 }
 
