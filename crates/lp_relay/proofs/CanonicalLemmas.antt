@@ -1,5 +1,5 @@
 -- Lines that go out only if they are as they would be written.
-use Rattle.std.proofs.Common.{◌≡◌, ◌-◌, ℕ, false, true, List, [], ◌∷◌, ◌++◌, length, take, drop, string_bytes}
+use Rattle.std.proofs.Common.{◌≡◌, ◌≢◌, ◌-◌, ℕ, false, true, List, [], ◌∷◌, ◌++◌, length, take, drop, string_bytes}
 use Rattle.std.proofs.Common.{None, Option, Some, Result, Ok, append-nil, refl, sym, ap, subst, ◌∙◌, arith, inl, inr}
 use Rattle.std.proofs.Math.Seq.{drop-append_seam, take-append_seam}
 use Rattle.std.proofs.lemmas.Bool.{cases_Bool}
@@ -17,6 +17,7 @@ use Rattle.lp_rebuild.specs.declared.refusals.LineRefusal.{LineRefusal}
 use Rattle.lp_rebuild.specs.declared.refusals.LineRefusal.TheVariants as line
 use Rattle.lp_rebuild.specs.RebuildSteps.{IsRefusedFor, TakesLine}
 use Rattle.lp_rebuild.specs.Rebuilding.{carried_point}
+use Rattle.lp_relay.specs.declared.taking.LineForm.{LineForm}
 use Rattle.lp_relay.specs.declared.taking.LineForm.TheVariants.{Rebuilt, Verbatim, Canonical}
 use Rattle.lp_relay.specs.declared.taking.Taken.TheVariants as took
 use Rattle.lp_relay.specs.declared.refusals.Refusal.TheVariants as why
@@ -38,33 +39,24 @@ otherwise : (front text : List ℕ) (line : Line) → is_admitted_point (point_o
     → canonical_item front text line ≡ not_as_written front (part_text (differing_part text (built (point_of line))))
 otherwise front text line admitted other = rw (admitted, other) refl
 
--- a text that is as written goes out as it came
-pub takes_written : (dialect : Dialect) (piece text before after : List ℕ) → text ≡ trimmed piece → WrittenLinesStay → IsAsWritten text
-    → after ≡ before ++ (text ++ newline ∷ []) → TakesItem took.Carried (item_of Canonical piece (answer dialect text)) before after
-takes_written dialect piece text before after is stay written copied =
-    let stays = stay dialect text written in
-    let item : item_of Canonical piece (answer dialect text) ≡ as_it_came text =
-    ap (item_of Canonical piece) stays.1 ∙ ap (λ (l : List ℕ). canonical_item (front_of piece) l stays.0) (sym is)
-    ∙ as_it_is (front_of piece) text stays.0 stays.2.0 stays.2.1 in
-    subst (λ (i : Item). TakesItem took.Carried i before after) (sym item) (refl, copied)
-
--- so it does if lines are written again
-pub written_again : (dialect : Dialect) (piece text before after : List ℕ) → WrittenLinesStay → IsAsWritten text
-    → after ≡ before ++ (text ++ newline ∷ []) → TakesItem took.Carried (item_of Rebuilt piece (answer dialect text)) before after
-written_again dialect piece text before after stay written copied =
+-- a text that is as written goes out as it came if lines are written again, or go out only if they are as written
+pub takes_copied : (lines : LineForm) (dialect : Dialect) (piece text before after : List ℕ) → lines ≢ Verbatim → text ≡ trimmed piece
+    → WrittenLinesStay → IsAsWritten text → after ≡ before ++ (text ++ newline ∷ [])
+    → TakesItem took.Carried (item_of lines piece (answer dialect text)) before after
+takes_copied Rebuilt dialect piece text before after other is stay written copied =
     let stays = stay dialect text written in
     let point : carried_point (Ok stays.0) ≡ point_of stays.0 ∷ [] = rw stays.2.0 refl in
     let same : text ++ newline ∷ [] ≡ built_all (carried_point (Ok stays.0)) =
     sym stays.2.1 ∙ sym (append-nil (built (point_of stays.0))) ∙ ap built_all (sym point) in
     subst (λ (a : Result Line Fault). TakesItem took.Carried (item_of Rebuilt piece a) before after) (sym stays.1)
     (stays.2.0, copied ∙ ap (λ (l : List ℕ). before ++ l) same)
-
--- and if lines go out as they came, with what its piece has before it
-pub written_verbatim : (dialect : Dialect) (piece text before after : List ℕ) → WrittenLinesStay → IsAsWritten text
-    → after ≡ before ++ (piece ++ newline ∷ []) → TakesItem took.Carried (item_of Verbatim piece (answer dialect text)) before after
-written_verbatim dialect piece text before after stay written copied =
-    subst (λ (a : Result Line Fault). TakesItem took.Carried (item_of Verbatim piece a) before after) (sym (stay dialect text written).1)
-    (refl, copied)
+takes_copied Verbatim dialect piece text before after other is stay written copied = absurd (other refl)
+takes_copied Canonical dialect piece text before after other is stay written copied =
+    let stays = stay dialect text written in
+    let item : item_of Canonical piece (answer dialect text) ≡ as_it_came text =
+    ap (item_of Canonical piece) stays.1 ∙ ap (λ (l : List ℕ). canonical_item (front_of piece) l stays.0) (sym is)
+    ∙ as_it_is (front_of piece) text stays.0 stays.2.0 stays.2.1 in
+    subst (λ (i : Item). TakesItem took.Carried i before after) (sym item) (refl, copied)
 
 -- what is refused as a rebuild does is that item
 refused_item : (piece : List ℕ) (refusal : LineRefusal) (a : Result Line Fault) → IsRefusedFor (Some refusal) a

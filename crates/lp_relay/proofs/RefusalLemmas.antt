@@ -175,14 +175,13 @@ takes_text s piece text (took.Refused refusal) before after u is some takes =
       takes.1,
     )
 
--- so it is by the settings
-pub takes_by : (s : Settings) (piece : Bor (List ℕ)) (text : List ℕ) (taken : Taken) (before after : List ℕ) (lines : LineForm) (dialect : TheDialect)
-    → s.lines ≡ lines → dialect ≡ s.dialect → IsUtf8 piece.now → text ≡ trimmed piece.now → 0 < length (trimmed piece.now)
-    → TakesItem taken (item_of lines piece.now (answer (rules_of dialect) text)) before after → TakesPiece s (Text piece) taken before after
-takes_by s piece text taken before after lines dialect its same u is some takes =
-    takes_text s piece text taken before after u is some
-    (subst (λ l. TakesItem taken (item_of l piece.now (answer (rules_of s.dialect) text)) before after) (sym its)
-    (subst (λ e. TakesItem taken (item_of lines piece.now (answer (rules_of e) text)) before after) same takes))
+-- what came of the item of a line came of it by the settings
+pub takes_by : (s : Settings) (piece text : List ℕ) (taken : Taken) (before after : List ℕ) (lines : LineForm) (dialect : TheDialect)
+    → s.lines ≡ lines → dialect ≡ s.dialect → TakesItem taken (item_of lines piece (answer (rules_of dialect) text)) before after
+    → TakesItem taken (item_of s.lines piece (answer (rules_of s.dialect) text)) before after
+takes_by s piece text taken before after lines dialect its same takes =
+    subst (λ l. TakesItem taken (item_of l piece (answer (rules_of s.dialect) text)) before after) (sym its)
+    (subst (λ e. TakesItem taken (item_of lines piece (answer (rules_of e) text)) before after) same takes)
 
 -- a piece that is too long is refused
 pub takes_too_long : (s : Settings) (fault : PieceTooLong) (kept : Option ℕ) (before : List ℕ) → kept ≡ kept_of s

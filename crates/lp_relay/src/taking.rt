@@ -1,5 +1,5 @@
 //! What a relay takes of a piece of its input.
-ghost use Rattle.std.specs.Prelude.{◌≡◌, ◌+◌, ◌<◌, ◌≤◌, ◌++◌, List, false, ℕ, length, option_map, string_bytes, IfOk, Ok, OnOk};
+ghost use Rattle.std.specs.Prelude.{◌≡◌, ◌≢◌, ◌+◌, ◌<◌, ◌≤◌, ◌++◌, List, false, true, ℕ, length, option_map, string_bytes, IfOk, Ok, OnOk};
 ghost use Rattle.influxdb_line_protocol.specs.code.Rules.{rules_of};
 ghost use Rattle.influxdb_line_protocol.specs.format.Dialects.{Dialect as AnyDialect};
 ghost use Rattle.influxdb_line_protocol.specs.format.Lines.{answer};
@@ -207,27 +207,6 @@ fn take_verbatim<'a>(
     }
 }
 
-// Takes a line that is as the builder writes it: it goes out as it came, and by `Verbatim` with what its piece has before it.
-#[inline(always)]
-fn take_written(
-    lines: LineForm,
-    batch: &mut Vec<u8>,
-    piece: &str,
-    text: &str,
-) -> Result<(), AllocError>
-    requires text { text.now ≡ trimmed piece.now }
-    requires written { IsAsWritten text.now }
-    ensures { OnOk result ((dialect : AnyDialect) →
-        TakesItem Taken.Carried (item_of lines piece.now (answer dialect text.now)) batch.old.items batch.new.items) }
-{
-    laws::written_lines_stay();
-    match lines {
-        LineForm::Rebuilt => copy_line(batch, text.as_bytes()),
-        LineForm::Verbatim => copy_line(batch, piece.as_bytes()),
-        LineForm::Canonical => copy_line(batch, text.as_bytes()),
-    }
-}
-
 // Takes a line that is not as the builder writes it: it is written again, to find the part that is not so, and taken back.
 #[inline(always)]
 fn take_canonical<'a>(
@@ -272,23 +251,22 @@ fn take_rebuilt<'a>(
     }
 }
 
-// Takes the line of a piece, if it has one that is not as the builder writes it: it goes out by the settings, or is refused.
+// Takes a line: it goes out by the settings, or is refused.
 #[inline(always)]
 fn take_line<'a>(
     settings: &Settings<'_>,
     batch: &mut Vec<u8>,
     reader: &mut LineReader<'a>,
     piece: &'a str,
+    text: &'a str,
 ) -> Result<Taken<'a>, AllocError>
+    requires text { text.now ≡ trimmed piece.now }
     requires dialect { reader.old.dialect ≡ settings.now.dialect }
-    requires unwritten { 0 < length (trimmed piece.now) → ¬ (IsAsWritten (trimmed piece.now)) }
-    ensures taken { IfOk result (λ taken. TakesPiece settings.now (Piece.Text piece.entry) taken batch.old.items batch.new.items) }
+    requires unwritten { settings.now.lines ≡ LineForm.Canonical → ¬ (IsAsWritten text.now) }
+    ensures taken { IfOk result (λ taken. TakesItem taken
+        (item_of settings.now.lines piece.now (answer (rules_of settings.now.dialect) text.now)) batch.old.items batch.new.items) }
     ensures dialect { reader.new.dialect ≡ reader.old.dialect }
 {
-    let text = trimmed(piece);
-    if text.is_empty() {
-        return Ok(Taken::Blank);
-    }
     match settings.lines {
         LineForm::Rebuilt => take_rebuilt(batch, reader, piece, text),
         LineForm::Verbatim => take_verbatim(batch, reader.dialect, piece, text),
@@ -413,22 +391,40 @@ fn end_piece(
     }
 }
 
-// Takes a piece that is text and whose line is not as the builder writes it.
+// Whether a line is copied if it is as the builder writes it. One that goes out as it came is read alone, since that takes no longer.
+#[inline(always)]
+fn copies(lines: LineForm) -> bool
+    ensures copied { result ≡ true → lines ≢ LineForm.Verbatim }
+    ensures canonical { lines ≡ LineForm.Canonical → result ≡ true }
+{
+    !matches!(lines, LineForm::Verbatim)
+}
+
+// Takes a piece that is text and whose line is not copied.
 #[inline(never)]
-fn take_unwritten<'a>(
+fn take_uncopied<'a>(
     settings: &Settings<'_>,
     pending: &mut Pending,
     reader: &mut LineReader<'a>,
     piece: &'a str,
+    text: &'a str,
 ) -> Result<(), AllocError>
+    requires text { text.now ≡ trimmed piece.now }
+    requires some { 0 < length text.now }
     requires dialect { reader.old.dialect ≡ settings.now.dialect }
-    requires unwritten { 0 < length (trimmed piece.now) → ¬ (IsAsWritten (trimmed piece.now)) }
+    requires unwritten { settings.now.lines ≡ LineForm.Canonical → ¬ (IsAsWritten text.now) }
     requires fits { pending.old.so_far.carried + pending.old.so_far.refused < usize.MAX }
     ensures taken { OnOk result (TakesGiven settings.now (unwritten_of pending.old) (Ok piece.entry) (unwritten_of pending.new)) }
     ensures counted { OnOk result (pending.new.so_far.carried + pending.new.so_far.refused ≤ usize.MAX) }
     ensures dialect { reader.new.dialect ≡ reader.old.dialect }
 {
-    let taken = take_line(settings, &mut pending.so_far.batch, reader, piece)?;
+    let taken = take_line(
+        settings,
+        &mut pending.so_far.batch,
+        reader,
+        piece,
+        text,
+    )?;
     end_piece(settings, pending, taken, Piece::Text(piece))
 }
 
@@ -447,12 +443,16 @@ fn take_text<'a>(
     ensures counted { OnOk result (pending.new.so_far.carried + pending.new.so_far.refused ≤ usize.MAX) }
     ensures dialect { reader.new.dialect ≡ reader.old.dialect }
 {
+    laws::written_lines_stay();
     let text = trimmed(piece);
-    if !text.is_empty() && is_as_written(text) {
-        take_written(settings.lines, &mut pending.so_far.batch, piece, text)?;
+    if text.is_empty() {
+        return end_piece(settings, pending, Taken::Blank, Piece::Text(piece));
+    }
+    if copies(settings.lines) && is_as_written(text) {
+        copy_line(&mut pending.so_far.batch, text.as_bytes())?;
         return end_piece(settings, pending, Taken::Carried, Piece::Text(piece));
     }
-    take_unwritten(settings, pending, reader, piece)
+    take_uncopied(settings, pending, reader, piece, text)
 }
 
 // Takes the item of a piece.

@@ -1,33 +1,22 @@
 use Rattle.std.proofs.lemmas.Result.{IfOk-weaker}
 use Rattle.lp_relay.specs.declared.taking.LineForm.TheVariants.{Rebuilt, Verbatim, Canonical}
-use Rattle.lp_relay.proofs.RefusalLemmas.{is_blank, not_blank, takes_blank, takes_by}
+use Rattle.lp_relay.proofs.RefusalLemmas.{takes_by}
 use Rattle.lp_relay.proofs.taking.take_line.Goals as goal
-
-pub returns-then-is_empty-clause-taken : goal.returns-then-is_empty-clause-taken
-returns-then-is_empty-clause-taken c =
-    takes_blank c.args.settings.now c.args.piece c.args.batch.now.items c.utf8.piece
-    (is_blank c.trimmed-text.result.now c.args.piece.now c.is_empty.result c.trimmed-text.ensures c.is_empty.ensures c.if-is_empty.true)
 
 pub returns-in-Rebuilt-clause-taken : goal.returns-in-Rebuilt-clause-taken
 returns-in-Rebuilt-clause-taken c =
     IfOk-weaker c.take_rebuilt.result _ _
-    (λ taken. takes_by c.args.settings.now c.args.piece c.trimmed-text.result.now taken _ _ Rebuilt _ c.in-Rebuilt.is c.requires.dialect c.utf8.piece
-    c.trimmed-text.ensures
-    (not_blank c.trimmed-text.result.now c.args.piece.now c.is_empty.result c.trimmed-text.ensures c.is_empty.ensures c.if-is_empty.false))
+    (λ taken. takes_by c.args.settings.now c.args.piece.now c.args.text.now taken _ _ Rebuilt _ c.in-Rebuilt.is c.requires.dialect)
     c.take_rebuilt.ensures.taken
 
 pub returns-in-Verbatim-clause-taken : goal.returns-in-Verbatim-clause-taken
 returns-in-Verbatim-clause-taken c =
     IfOk-weaker c.take_verbatim.result _ _
-    (λ taken. takes_by c.args.settings.now c.args.piece c.trimmed-text.result.now taken _ _ Verbatim _ c.in-Verbatim.is c.requires.dialect c.utf8.piece
-    c.trimmed-text.ensures
-    (not_blank c.trimmed-text.result.now c.args.piece.now c.is_empty.result c.trimmed-text.ensures c.is_empty.ensures c.if-is_empty.false))
+    (λ taken. takes_by c.args.settings.now c.args.piece.now c.args.text.now taken _ _ Verbatim _ c.in-Verbatim.is c.requires.dialect)
     c.take_verbatim.ensures
 
 pub returns-in-Canonical-clause-taken : goal.returns-in-Canonical-clause-taken
 returns-in-Canonical-clause-taken c =
     IfOk-weaker c.take_canonical.result _ _
-    (λ taken. takes_by c.args.settings.now c.args.piece c.trimmed-text.result.now taken _ _ Canonical _ c.in-Canonical.is c.requires.dialect c.utf8.piece
-    c.trimmed-text.ensures
-    (not_blank c.trimmed-text.result.now c.args.piece.now c.is_empty.result c.trimmed-text.ensures c.is_empty.ensures c.if-is_empty.false))
+    (λ taken. takes_by c.args.settings.now c.args.piece.now c.args.text.now taken _ _ Canonical _ c.in-Canonical.is c.requires.dialect)
     c.take_canonical.ensures.taken
