@@ -191,6 +191,7 @@ fn refuse(alloc: Global, item: &mut Result<ParsedLine<'_>>, fault: Error)
 }
 
 /// Reads a trimmed text into a line that is used again, as [`read_into`] does, but hands the fault of the text up as it is spelled.
+/// After an error the line is filled in part, and may be filled again.
 ///
 /// # Errors
 ///
@@ -205,7 +206,6 @@ pub fn read_spelled_into<'a>(
     spare: &mut Option<TagSet<'a>>,
 ) -> std::result::Result<(), Unread<'a>>
     ensures value { FillsSpelled line.new result (answer (rules_of dialect) text.now) }
-    ensures fault { OnErr result (IsEmptyLine line.new) }
     ensures tag_room { KeepsTagRoom line.old line.new }
     ensures field_room { line.old.field_set.capacity ≤ line.new.field_set.capacity }
     ensures light { is_light_in (max inline_tags (room_of line.old.series.tag_set)) (max inline_fields line.old.field_set.capacity)
@@ -213,13 +213,7 @@ pub fn read_spelled_into<'a>(
 {
     let _at_least_inline = line.field_set.capacity();
     ready_tags(alloc, &mut line.series.tag_set, spare);
-    match fill(alloc, dialect, text, line, Some(spare)) {
-        Ok(()) => Ok(()),
-        Err(unread) => {
-            empty(line);
-            Err(unread)
-        }
-    }
+    fill(alloc, dialect, text, line, Some(spare))
 }
 
 /// Reads a trimmed text into a line that is used again: the line is then what the text says, or empty if that is at fault.
@@ -243,7 +237,10 @@ pub fn read_into<'a>(
 {
     match read_spelled_into(alloc, dialect, text, line, spare) {
         Ok(()) => Ok(()),
-        Err(unread) => Err(unread.to_error(alloc)),
+        Err(unread) => {
+            empty(line);
+            Err(unread.to_error(alloc))
+        }
     }
 }
 
