@@ -12,10 +12,10 @@ use Rattle.lp_format.specs.laws.MeaningsOfAnswers.IsAnswer.{fatal_timestamp, lef
 use Rattle.lp_format.proofs.lemmas.meanings.ShorterRests.{field_no_longer, tag_no_longer}
 use Rattle.lp_lines.proofs.lemmas.meanings.AnswerMeaning.{answer_is_by_rows}
 use Rattle.lp_values.proofs.lemmas.fields.ReadingLemmas.{byte_parts}
-use Rattle.lp_events.specs.code.Stops.{Place, end_stop, field_stop, fields_stop, is_fatal, last_stop, most, pair_stop, reading_stop, series_part, series_stop}
+use Rattle.lp_events.specs.code.Stops.{DoesNotRead, Place, end_stop, field_stop, fields_stop, is_fatal, last_stop, most, pair_stop, reading_stop, series_part, series_stop}
 use Rattle.lp_events.specs.declared.stops.LinePart.{LinePart}
 use Rattle.lp_events.specs.declared.stops.LinePart.TheVariants.{FieldValue, Timestamp}
-use Rattle.lp_events.proofs.lemmas.fields.ManyLemmas.{DoesNotRead, comma_cases}
+use Rattle.lp_events.proofs.lemmas.fields.ManyLemmas.{comma_cases}
 use Rattle.influxdb_line_protocol.specs.laws.StopLaws.{IsPartAfter, IsStopByRow, IsStopInField, IsStopInNext, IsStopInPair, IsStopInPair.at_key}
 use Rattle.influxdb_line_protocol.specs.laws.StopLaws.{IsStopInPair.at_sign, IsStopInPair.at_value, IsStopInTag, LinesAreReadWhole, StopsAreByRows}
 

@@ -9,7 +9,8 @@ use Rattle.lp_values.proofs.lemmas.fields.ReadingLemmas.{bind_reads, byte_parts,
 use Rattle.lp_values.specs.declared.spelled.SpelledFault.{SpelledFault}
 use Rattle.lp_events.specs.code.Events.{AreAtStart, AreBeforeFault, AreFields, AreTags, AreFrontEvents, AreLongestFront, AreMost, AreRead}
 use Rattle.lp_events.specs.code.Events.{Event, after_spaces, front_events}
-use Rattle.lp_events.proofs.lemmas.fields.ManyLemmas.{DoesNotRead, comma_cases, none_most}
+use Rattle.lp_events.specs.code.Stops.{DoesNotRead}
+use Rattle.lp_events.proofs.lemmas.fields.ManyLemmas.{comma_cases, none_most}
 
 -- where a comma is, no space is
 pub comma_no_space : (text place : List ℕ) → byte comma text ≡ reads comma place → byte space text ≡ miss
@@ -53,7 +54,7 @@ set_told text place tags rest mark read most =
     (Some tags, rw (mark, read) refl, refl, tags_after text place tags rest.now mark some most)
 
 -- the fields that the code told are the most
-fields_told : (result : Result (Option (Bor (List ℕ))) SpelledFault) (dialect : Dialect) (text : List ℕ)
+pub fields_told : (result : Result (Option (Bor (List ℕ))) SpelledFault) (dialect : Dialect) (text : List ℕ)
     (fields : List (Pair Text (Value Text))) → AreFields result dialect text fields
     → (end : List ℕ) × AreMost field (after_comma field) text fields end
 fields_told (Ok None) dialect text fields h = rw h.1 (text, none_most field (after_comma field) text (rw h.0 (tt {0})))
@@ -81,11 +82,6 @@ pub set_malformed : (text place : List ℕ) → byte comma text ≡ reads comma 
 set_malformed text place mark none =
     (rw (mark, none) refl, text, none_most (after_comma tag) (after_comma tag) text (rw (mark, none) (tt {0})), comma_no_space text place mark)
 
--- the fault of a field is that of the field set
-pub fields_fatal_is : (dialect : Dialect) (text : List ℕ) (fields : List (Pair Text (Value Text))) (e : Fault)
-    → AreBeforeFault field text fields e → field_set dialect text ≡ fatal e
-fields_fatal_is dialect text fields e h = rw h.given refl
-
 -- of two fronts of tags, a space comes only after the longer one
 after_longer : (xs ys : List (Pair Text Text)) (text a b gap : List ℕ) → AreRead (after_comma tag) (after_comma tag) xs text a
     → AreRead (after_comma tag) (after_comma tag) ys text b → length ys ≤ length xs → byte space b ≡ reads space gap → b ≡ a
@@ -94,19 +90,9 @@ after_longer [] (y ∷ ys) text a b gap h k fewer s = absurd (omega arith)
 after_longer (x ∷ xs) [] text a b gap h k fewer s = let none = space_no_tag b gap s in absurd (cc)
 after_longer (x ∷ xs) (y ∷ ys) text a b gap h k fewer s = grind (arith, after_longer xs ys h.0 a b gap h.2)
 
--- so many events
-front_length : (m : Text) (tags : List (Pair Text Text)) (fields : List (Pair Text (Value Text)))
-    → length (front_events m tags fields) ≡ length tags + length fields + 1
-front_length m tags fields = grind (arith, length-append, length-map)
-
 -- if no measurement reads, nothing does
 pub front_none : (line : List ℕ) → DoesNotRead (name a_measurement line) → AreLongestFront line []
-front_none line none = record { front = inl refl; longest = longest }
-  where
-    -- no front has any
-    longest : (others : List Event) → AreFrontEvents line others → length others ≤ 0
-    longest others (inl is) = rw is (omega arith)
-    longest others (inr (m, tags, fields, at, is)) = absurd (rw at.named at none)
+front_none line none = record { front = inl refl; longest = λ others are. grind (arith) }
 
 -- fields come after a space
 space_there : (text : List ℕ) (x : Pair Text (Value Text)) (rest : List ℕ) → after_spaces field text ≡ reads x rest
@@ -142,7 +128,7 @@ module _ (line : List ℕ) (m : Text) (start : List ℕ) (read : name a_measurem
           let ts_are : AreRead (after_comma tag) (after_comma tag) ts start at.after_tags = rw same at at.tags_are in
           let fewer = most.most ts at.after_tags ts_are in
           let few = few_fields tags ts fields fs start rest end at.after_tags at.rest most.are ts_are fewer last at.fields_are in
-          rw (is, front_length n ts fs, front_length m tags fields) (omega (arith, fewer, few))
+          rw is (grind (arith, length-append, length-map, fewer, few))
 
   -- if no space comes after the tags, they are its last parts
   pub front_names : byte space rest ≡ miss → AreLongestFront line (front_events m tags [])
@@ -154,12 +140,3 @@ module _ (line : List ℕ) (m : Text) (start : List ℕ) (read : name a_measurem
   front_fields gap end fields s h =
       let there = most_at (after_spaces field) field (after_comma field) rest (drop (spaces rest) rest) (rw s refl) fields end h in
       front_longest fields there.0 there.1
-
--- what the code told before a fault, after a space, is the longest front
-pub told_front : (line start : List ℕ) (m : Text) (tags : List (Pair Text Text)) (rest : Bor (List ℕ)) (gap text : List ℕ)
-    (result : Result (Option (Bor (List ℕ))) SpelledFault) (dialect : Dialect) (fields : List (Pair Text (Value Text)))
-    → name a_measurement line ≡ reads m start → AreTags (Ok rest) start tags → byte space rest.now ≡ reads space gap
-    → text ≡ drop (spaces rest.now) rest.now → AreFields result dialect text fields → AreLongestFront line (front_events m tags fields)
-told_front line start m tags rest gap text result dialect fields read tags_are s is are =
-    let last = rw is at (fields_told result dialect text fields are) in
-    front_fields line m start read tags rest.now tags_are.3 gap last.0 fields s last.1

@@ -8,6 +8,7 @@ use Rattle.lp_format.specs.laws.Meanings.{SeparatedBy, SeparatedAfterComma}
 use Rattle.lp_format.proofs.lemmas.meanings.{JoinedMeaning.the_most_is_read, ShorterRests.tag_no_longer}
 use Rattle.lp_values.proofs.lemmas.fields.ReadingLemmas.{EndsIn, EndsIn-end, EndsIn-self, bind_reads, byte_ends, byte_parts, name_ends}
 use Rattle.lp_values.proofs.lemmas.fields.ReadingLemmas.{tag_ends}
+use Rattle.lp_events.specs.code.Stops.{DoesNotRead}
 use Rattle.lp_events.specs.code.{Events.AreBeforeFault, Events.AreMost, Events.AreRead, Events.reader_after, EventsLeft.SoFar}
 
 -- those that are read after others
@@ -26,11 +27,6 @@ pub record AtNext {A : Type 0} (one : List ℕ → Reading A) (text : List ℕ) 
 -- where the next one may be: at the start of all, or after those that were read and a comma
 abbrev pub Reached : {A : Type 0} → (List ℕ → Reading A) → List ℕ → List A → List ℕ → List ℕ → Type 0
 Reached one text done rest place = ((done ≡ []) × (place ≡ text)) ⊎ AtNext one text done rest place
-
--- a reading that does not read: it misses, or is fatal
-abbrev pub DoesNotRead : {A : Type 0} → Reading A → Type 0
-DoesNotRead (reads x rest) = ⊥
-DoesNotRead other = Unit {0}
 
 module _ {A : Type 0} (one : List ℕ → Reading A) where
   -- one more after those that come after others

@@ -13,7 +13,8 @@ use Rattle.lp_values.specs.declared.spelled.SpelledFault.{SpelledFault}
 use Rattle.lp_events.specs.code.Events.{AreEventsOf, AreLongestFront, AreMost, Event, ended, failed, front_events, tagged, valued}
 use Rattle.lp_events.specs.code.EventsLeft.{AreEventsLeft, Completes, FieldsRead, NamesRead, SeriesRead, Steps, most_of_line}
 use Rattle.lp_events.specs.declared.{place.LinePlace.LinePlace}
-use Rattle.lp_events.proofs.lemmas.fields.ManyLemmas.{DoesNotRead, comma_cases, none_most, so_far_end, so_far_fatal, so_far_more}
+use Rattle.lp_events.specs.code.Stops.{DoesNotRead}
+use Rattle.lp_events.proofs.lemmas.fields.ManyLemmas.{comma_cases, none_most, so_far_end, so_far_fatal, so_far_more}
 use Rattle.lp_events.proofs.lemmas.fields.ManyLemmas.{so_far_most, so_far_start}
 use Rattle.lp_events.proofs.lemmas.fields.FrontLemmas.{comma_no_space, front_fields, front_names, front_none, tags_after}
 use Rattle.lp_events.proofs.lemmas.events.LineEvents.{complete_none, complete_some}

@@ -1,8 +1,7 @@
 -- The most parts that read at the start of a text, one after another.
 use Rattle.std.proofs.Common.{◌≡◌, ℕ, zero, suc, ◌+◌, ◌<◌, ◌≤◌, List, [], ◌∷◌, ◌++◌, length, length-append, append-nil, refl, ◌∙◌, arith, append_assoc}
 use Rattle.lp_format.specs.format.{Read, Reading, reads}
-use Rattle.lp_events.specs.code.Stops.{before, most}
-use Rattle.lp_events.proofs.lemmas.fields.ManyLemmas.{DoesNotRead}
+use Rattle.lp_events.specs.code.Stops.{DoesNotRead, before, most}
 
 -- so many parts were read, and this is left; the most are these and those that are at the start of the rest
 pub record MostSoFar {A : Type 0} (one : List ℕ → Reading A) (text : List ℕ) (count : ℕ) (rest : List ℕ) : Type 0 where
@@ -53,3 +52,6 @@ module _ {A : Type 0} (one : List ℕ → Reading A) where
       → (count ≡ length (most one (length text) text).value) × (rest ≡ (most one (length text) text).rest)
   most_end text rest count so_far none =
       rw (so_far.is, most_none so_far.fuel rest none) (grind (arith, so_far.counted, append-nil))
+
+-- the steps of a reader of the most parts
+pub ruleset most_steps = (most_start, most_more, most_end)
