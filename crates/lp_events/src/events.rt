@@ -92,7 +92,6 @@ pub(crate) fn field<'a>(text: &'a str) -> Front<'a, (Spelled<'a>, SpelledValue<'
 }
 
 // Tells the tags at the start of `text`, joined by commas, and gives their number and the rest.
-#[tactic(auto, using(crate::proofs::lemmas::events::LineEvents::told_all))]
 #[inline(always)]
 fn tags<'a, S: EventSink<'a>>(text: &'a str, sink: &mut S) -> Front<'a, usize>
     ensures { WasToldParts S.takes tagged sink.old sink.new (AreCounted result tag text.now) }
@@ -116,7 +115,6 @@ fn tags<'a, S: EventSink<'a>>(text: &'a str, sink: &mut S) -> Front<'a, usize>
 }
 
 // Tells the fields at the start of `text`, joined by commas, and gives their number and the rest.
-#[tactic(auto, using(crate::proofs::lemmas::events::LineEvents::told_all))]
 #[inline(always)]
 fn fields<'a, S: EventSink<'a>>(text: &'a str, sink: &mut S) -> Front<'a, usize>
     ensures { WasToldParts S.takes valued sink.old sink.new (AreCounted result field text.now) }

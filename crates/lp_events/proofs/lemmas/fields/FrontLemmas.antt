@@ -1,16 +1,16 @@
 -- What the longest front of the parts of a line is, from what was read of it.
-use Rattle.std.proofs.Common.{◌≡◌, ℕ, ◌+◌, ◌≤◌, ◌<◌, List, [], ◌∷◌, length, length-append, drop, refl, sym, ◌∙◌}
+use Rattle.std.proofs.Common.{◌≡◌, ℕ, ◌≤◌, ◌<◌, List, [], ◌∷◌, length, length-append, drop, refl, sym, ◌∙◌}
 use Rattle.std.proofs.Common.{arith, inl, inr, Option, Some, None, Ok, Err, Result, Bor}
 use Rattle.std.proofs.lemmas.List.{length-map}
 use Rattle.lp_format.specs.format.{comma, space, Dialect, Fault, Text, Reading, miss, fatal, reads, name, a_measurement, Pair, Value, after_comma}
-use Rattle.lp_format.specs.format.{byte, field, field_set, separated_list, spaces, tag, tag_set, tag_set_malformed}
+use Rattle.lp_format.specs.format.{byte, field, separated_list, spaces, tag, tag_set, tag_set_malformed}
 use Rattle.lp_format.proofs.lemmas.meanings.{JoinedMeaning.the_most_is_read, ShorterRests.tag_no_longer}
 use Rattle.lp_values.proofs.lemmas.fields.ReadingLemmas.{bind_reads, byte_parts, reads_parts}
 use Rattle.lp_values.specs.declared.spelled.SpelledFault.{SpelledFault}
 use Rattle.lp_events.specs.code.Events.{AreAtStart, AreBeforeFault, AreFields, AreTags, AreFrontEvents, AreLongestFront, AreMost, AreRead}
 use Rattle.lp_events.specs.code.Events.{Event, after_spaces, front_events}
 use Rattle.lp_events.specs.code.Stops.{DoesNotRead}
-use Rattle.lp_events.proofs.lemmas.fields.ManyLemmas.{comma_cases, none_most}
+use Rattle.lp_events.proofs.lemmas.fields.ManyLemmas.{comma_cases, none_most, read_all, read_fault}
 
 -- where a comma is, no space is
 pub comma_no_space : (text place : List ℕ) → byte comma text ≡ reads comma place → byte space text ≡ miss
@@ -45,6 +45,28 @@ module _ {A : Type 0} (first one next : List ℕ → Reading A) (text place : Li
 pub tags_after : (text place : List ℕ) (tags : List (Pair Text Text)) (rest : List ℕ) → byte comma text ≡ reads comma place
     → 0 < length tags → AreMost tag (after_comma tag) place tags rest → AreMost (after_comma tag) (after_comma tag) text tags rest
 tags_after text place tags rest mark some h = most_from (after_comma tag) tag (after_comma tag) text place (rw mark refl) tags rest some h
+
+-- tags after commas are, after the first comma, tags that commas join
+after_first : (t : Pair Text Text) (tags : List (Pair Text Text)) (text rest : List ℕ) → AreRead (after_comma tag) (after_comma tag) (t ∷ tags) text rest
+    → (place : List ℕ) × (byte comma text ≡ reads comma place) × AreRead tag (after_comma tag) (t ∷ tags) place rest
+after_first t tags text rest h =
+    let p = bind_reads (byte comma text) (λ after. tag after.rest) t h.0 h.1 in
+    (p.mid, grind (arith, byte_parts), (h.0, p.next, h.2))
+
+-- what is fatal after tags is the fault of their set
+pub set_fatal : (tags : List (Pair Text Text)) (text rest : List ℕ) (e : Fault) → AreRead (after_comma tag) (after_comma tag) tags text rest
+    → after_comma tag rest ≡ fatal e → tag_set text ≡ Err e
+set_fatal [] text rest e h is = grind (arith, comma_cases)
+set_fatal (t ∷ tags) text rest e h is =
+    let first = after_first t tags text rest h in
+    rw (first.1, (read_fault tag tag_no_longer (t ∷ tags) first.0 rest e first.2 is).given) refl
+
+-- if no tag follows, they are all of the set
+pub set_all : (t : Pair Text Text) (tags : List (Pair Text Text)) (text rest : List ℕ) → AreRead (after_comma tag) (after_comma tag) (t ∷ tags) text rest
+    → after_comma tag rest ≡ miss → tag_set text ≡ Ok (record { value = Some (t ∷ tags); rest = rest })
+set_all t tags text rest h is =
+    let first = after_first t tags text rest h in
+    rw (first.1, (read_all tag tag_no_longer (t ∷ tags) first.0 rest (omega arith) first.2 is).0) refl
 
 -- the tags that the code told after a comma are those of the tag set
 pub set_told : (text place : List ℕ) (tags : List (Pair Text Text)) (rest : Bor (List ℕ)) → byte comma text ≡ reads comma place

@@ -1,5 +1,5 @@
 -- The pieces that a call of `next_line` skips, and how many bytes, pieces and items are left after it.
-use Rattle.std.proofs.Common.{◌≡◌, ℕ, ◌+◌, ◌<◌, ◌≤◌, List, [], ◌∷◌, ◌++◌, length, Bool, true, false, ap, refl, sym, arith}
+use Rattle.std.proofs.Common.{◌≡◌, ℕ, ◌+◌, ◌<◌, ◌≤◌, List, [], ◌∷◌, ◌++◌, length, Bool, true, false, refl, sym, arith}
 use Rattle.std.proofs.Common.{append_assoc, length-append, Option, Some, None, Bor, All}
 use Rattle.std.proofs.lemmas.{Bool.cases_Bool, List.Elements.All-push}
 use Rattle.lp_format.specs.format.{newline, Dialect, Left, PiecesLeft, most_pieces, trimmed}

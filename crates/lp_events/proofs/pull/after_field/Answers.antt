@@ -21,7 +21,7 @@ returns-in-Some-clause-steps c = λ left others later d line m tags fs h.
     (rw (← field_after m tags fs x)
     (later line m tags (fs ++ x ∷ [])
     (fields_more h x c.in-Some.rest.now
-    (rw c.in-Some.is at c.in_ok-key.ensures.value) (rw c.in-Some.is at c.in_ok-key.ensures.less))))
+    (rw c.in-Some.is at c.in_ok-key.ensures.value))))
 
 pub returns-in_err-timestamp-clause-steps : goal.returns-in_err-timestamp-clause-steps
 returns-in_err-timestamp-clause-steps c =

@@ -56,4 +56,4 @@ returns-clause-steps c = λ left others later m tags h.
     (rw (← tag_after m tags t)
     (later m (tags ++ t ∷ [])
     (names_more _ m tags c.args.names.rest.now c.args.names.is_first t c.in-Some.rest.now h
-    (rw c.in-Some.is at c.in_ok-key.ensures.value) (rw c.in-Some.is at c.in_ok-key.ensures.less))))
+    (rw c.in-Some.is at c.in_ok-key.ensures.value))))
