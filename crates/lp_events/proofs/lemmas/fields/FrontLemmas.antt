@@ -1,8 +1,8 @@
 -- What the longest front of the parts of a line is, from what was read of it.
 use Rattle.std.proofs.Common.{◌≡◌, ℕ, ◌≤◌, ◌<◌, List, [], ◌∷◌, length, length-append, drop, refl, sym, ◌∙◌}
-use Rattle.std.proofs.Common.{arith, inl, inr, Option, Some, None, Ok, Err, Result, Bor}
+use Rattle.std.proofs.Common.{arith, ◌==◌, true, inl, inr, Option, Some, None, Ok, Err, Result, Bor}
 use Rattle.std.proofs.lemmas.List.{length-map}
-use Rattle.lp_format.specs.format.{comma, space, Dialect, Fault, Text, Reading, miss, fatal, reads, name, a_measurement, Pair, Value, after_comma}
+use Rattle.lp_format.specs.format.{comma, some_tags, space, Dialect, Fault, Text, Reading, miss, fatal, reads, name, a_measurement, Pair, Value, after_comma}
 use Rattle.lp_format.specs.format.{byte, field, separated_list, spaces, tag, tag_set, tag_set_malformed}
 use Rattle.lp_format.proofs.lemmas.meanings.{JoinedMeaning.the_most_is_read, ShorterRests.tag_no_longer}
 use Rattle.lp_values.proofs.lemmas.fields.ReadingLemmas.{bind_reads, byte_parts, reads_parts}
@@ -46,6 +46,12 @@ pub tags_after : (text place : List ℕ) (tags : List (Pair Text Text)) (rest : 
     → 0 < length tags → AreMost tag (after_comma tag) place tags rest → AreMost (after_comma tag) (after_comma tag) text tags rest
 tags_after text place tags rest mark some h = most_from (after_comma tag) tag (after_comma tag) text place (rw mark refl) tags rest some h
 
+-- no tags are read without what is left of the text
+pub none_read : (tags : List (Pair Text Text)) (text rest : List ℕ) → (length tags == 0) ≡ true → AreRead (after_comma tag) (after_comma tag) tags text rest
+    → text ≡ rest
+none_read [] text rest none h = h
+none_read (t ∷ tags) text rest none h = absurd (grind arith)
+
 -- tags after commas are, after the first comma, tags that commas join
 after_first : (t : Pair Text Text) (tags : List (Pair Text Text)) (text rest : List ℕ) → AreRead (after_comma tag) (after_comma tag) (t ∷ tags) text rest
     → (place : List ℕ) × (byte comma text ≡ reads comma place) × AreRead tag (after_comma tag) (t ∷ tags) place rest
@@ -61,12 +67,14 @@ set_fatal (t ∷ tags) text rest e h is =
     let first = after_first t tags text rest h in
     rw (first.1, (read_fault tag tag_no_longer (t ∷ tags) first.0 rest e first.2 is).given) refl
 
--- if no tag follows, they are all of the set
-pub set_all : (t : Pair Text Text) (tags : List (Pair Text Text)) (text rest : List ℕ) → AreRead (after_comma tag) (after_comma tag) (t ∷ tags) text rest
-    → after_comma tag rest ≡ miss → tag_set text ≡ Ok (record { value = Some (t ∷ tags); rest = rest })
-set_all t tags text rest h is =
+-- if no tag follows, they are all of the set; and if there is none, no comma does
+pub set_all : (tags : List (Pair Text Text)) (text rest : List ℕ) → AreRead (after_comma tag) (after_comma tag) tags text rest
+    → after_comma tag rest ≡ miss → ((length tags == 0) ≡ true → byte comma rest ≡ miss)
+    → (set : Option (List (Pair Text Text))) × (tag_set text ≡ Ok (record { value = set; rest = rest })) × (some_tags set ≡ tags)
+set_all [] text rest h is bare = (None, rw (h, bare refl) refl, refl)
+set_all (t ∷ tags) text rest h is bare =
     let first = after_first t tags text rest h in
-    rw (first.1, (read_all tag tag_no_longer (t ∷ tags) first.0 rest (omega arith) first.2 is).0) refl
+    (Some (t ∷ tags), rw (first.1, (read_all tag tag_no_longer (t ∷ tags) first.0 rest (omega arith) first.2 is).0) refl, refl)
 
 -- the tags that the code told after a comma are those of the tag set
 pub set_told : (text place : List ℕ) (tags : List (Pair Text Text)) (rest : Bor (List ℕ)) → byte comma text ≡ reads comma place
