@@ -1,5 +1,5 @@
 -- Tags, fields, timestamps and lines as the builder writes them.
-use Rattle.std.proofs.Common.{◌≡◌, ℕ, ◌<◌, ◌≤◌, Bool, true, false, List, [], ◌∷◌, ◌++◌, length, drop, slice_index, refl, sym, ap, subst}
+use Rattle.std.proofs.Common.{◌≡◌, ℕ, ◌<◌, ◌≤◌, Bool, true, false, List, [], ◌∷◌, ◌++◌, length, slice_index, refl, sym, ap, subst}
 use Rattle.std.proofs.Common.{◌∙◌, arith, append_assoc, append-nil, length-append, Option, Some, None, ◌↔◌, ℤ, IfSome, MatchOption, codes}
 use Rattle.std.proofs.Common.{Bor, flat_map, take_all}
 use Rattle.std.specs.{Fmt.signed_decimal, List.AllByRecursion, List.list_all}
@@ -156,10 +156,8 @@ pub fields_after : (text fields : List ℕ) → byte comma text ≡ miss → byt
     → AreWrittenFields fields ↔ IsWrittenAfterName text
 fields_after text fields no_comma read =
     let left = byte_left space text fields read in
-    let gap = all_tags.last text no_comma in (
-      (λ w. gap.0 (record { rest = fields; front = left; after = w })),
-      (λ w. let f = gap.1 w in subst AreWrittenFields (ap (λ (xs : List ℕ). drop 1 xs) (sym f.front ∙ left)) f.after),
-    )
+    let gap = all_tags.last text no_comma in
+    (λ w. gap.0 (record { rest = fields; front = left; after = w }), λ w. let f = gap.1 w in subst AreWrittenFields (cc (f.front, left)) f.after)
 
 -- a timestamp after its space
 timestamp_number : (number : List ℕ) → IsWrittenTimestamp (space ∷ number) → (z : ℤ) × (fits_i64 z ≡ true) × (signed_decimal z ≡ number)

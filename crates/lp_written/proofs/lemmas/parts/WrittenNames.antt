@@ -1,7 +1,7 @@
 -- Names and strings that are spelled as the builder spells them, and how far such a token goes.
-use Rattle.std.proofs.Common.{◌≡◌, ℕ, ◌&&◌, Bool, true, false, not, List, [], ◌∷◌, length, take, drop, slice_index, refl, sym, ap, subst}
+use Rattle.std.proofs.Common.{◌≡◌, ℕ, Bool, true, false, not, List, [], ◌∷◌, length, take, drop, slice_index, refl, sym, ap, subst}
 use Rattle.std.proofs.Common.{◌∙◌, arith, ◌≢◌, Option, Some, None, ◌==◌, MatchOption, Bor, ne_eqb, eq-eqb, eqb-true, drop_at, take_at, append_assoc}
-use Rattle.std.proofs.Common.{take-append-drop, suc, zero, ◌+◌, ◌-◌, ◌<◌, ◌≤◌, ◌||◌, ◌++◌, inl, inr, one-add, zero-add, drop-drop}
+use Rattle.std.proofs.Common.{take-append-drop, suc, zero, ◌+◌, ◌-◌, ◌<◌, ◌≤◌, ◌||◌, ◌++◌, one-add}
 use Rattle.std.proofs.Common.{get_or-drop, length-drop}
 use Rattle.std.specs.List.{list_all}
 use Rattle.std.proofs.lemmas.Bool.{cases_Bool, and_parts, or_parts, not-true, not-false}
@@ -112,13 +112,6 @@ run_passed kind bytes (suc n) at end is within passes =
     let plain = not-true (is_mark kind (slice_index bytes at)) (passes at (omega arith) (omega arith)) in
     grind (arith, drop_more, written_unmarked)
 
--- it goes on after a backslash and a byte that gets one
-escape_passed : (kind : TokenKind) (bytes : List ℕ) (at : ℕ) → at + 1 < length bytes → slice_index bytes at ≡ backslash
-    → is_one_of (known_of kind) (slice_index bytes (at + 1)) ≡ true
-    → written_len (known_of kind) (stops_of kind) (drop at bytes)
-    ≡ 2 + written_len (known_of kind) (stops_of kind) (drop (at + 2) bytes)
-escape_passed kind bytes at inside here found = grind (arith, drop_more, written_escape)
-
 -- a run ends at a mark
 pub run_mark : (kind : TokenKind) (bytes : List ℕ) (at end : ℕ) → IsRunAt (λ b. not (is_mark kind b)) bytes at end
     → end < length bytes → is_mark kind (slice_index bytes end) ≡ true
@@ -135,9 +128,8 @@ pub next_run : (kind : TokenKind) (bytes : List ℕ) (at end : ℕ) (found : Boo
     → at + 1 < length bytes → slice_index bytes at ≡ backslash → found ≡ is_one_of (known_of kind) (slice_index bytes (at + 1)) → found ≡ true
     → end + written_len (known_of kind) (stops_of kind) (drop end bytes) ≡ written_len (known_of kind) (stops_of kind) bytes
 next_run kind bytes at end found run so_far inside here is accepted =
-    let escape = escape_passed kind bytes at inside here (sym is ∙ accepted) in
     let passed = run_passed kind bytes (end - (at + 2)) (at + 2) end (omega (arith, run.ordered)) run.within run.passes in
-    omega (arith, escape, passed, run.ordered, so_far)
+    grind (arith, passed, drop_more, written_escape, run.ordered)
 
 -- it ends at any other mark, and at the end of the text
 pub ends_here : (kind : TokenKind) (bytes : List ℕ) (at : ℕ) → at ≤ length bytes
@@ -198,9 +190,8 @@ name_found kind text bytes known rest stops len ok left is tells passes same_tex
     let front = written_spelled (escapable kind) (is_stop kind) text in
     let spelled : spelling kind front.name ++ rest ≡ text = rw (left, is) front.spelled in
     let same : take len text ≡ spelling kind front.name =
-    sym (append_cancel_right (spelling kind front.name) (take len text) rest (spelled ∙ rw left (sym (take-append-drop len text)))) in
-    let may : list_all (may_hold kind) front.name ≡ true = sym (all_same kind front.name) ∙ front.holds in (
-      record { thing = front.name; is = grind (arith, spelling_tells); written = spelled },
+    sym (append_cancel_right (spelling kind front.name) (take len text) rest (spelled ∙ rw left (sym (take-append-drop len text)))) in (
+      record { thing = front.name; is = grind (arith, all_same kind front.name, front.holds, spelling_tells); written = spelled },
       λ other w ends. grind (arith, drop_at, name_passed),
     )
 

@@ -113,7 +113,7 @@ unsigned_numeral ds never plain = grind (arith, eqb-false, eqb-true, false≢tru
 -- digits begin with no sign
 no_minus : (ds : List ℕ) → IsNumeral 10 ds → (slice_index ds 0 == minus) ≡ false
 no_minus [] numeral = refl
-no_minus (d ∷ ds) numeral = let range = digit_from_value d numeral.1.0 in ne_eqb d minus (λ e. absurd (omega (arith, range, e)))
+no_minus (d ∷ ds) numeral = grind (arith, digit_from_value, ne_eqb)
 
 -- an integer that is written so is that of its number
 pub integer_told : (number : List ℕ) → IsSigned (codes "-") number → is_written_integer number ≡ true
@@ -168,13 +168,13 @@ module _ (text number : List ℕ) (whole : ℕ) (len : whole ≡ integer_len tex
     integer_answer read tells = mark_answer letter_i (is_written_integer number) read tells
         (λ ok. let t = integer_told number signed_number ok in (integer t.0, t.1, ap (λ (xs : List ℕ). xs ++ letter_i ∷ []) t.2))
         (λ marked rest s.
-            elim s [
-              | an_integer z fits t ↦ grind (arith, integer_tells)
-              | an_unsigned n fits t ↦ absurd (omega (arith, ap (λ (xs : List ℕ). slice_index xs 0) (sym marked ∙ t.after)))
-              | a_float x f ↦ absurd (f.no_i (byte_at_drop text r.now (integer_len text) letter_i marked).0)
-              | a_string none quote x ↦ absurd (omega (arith, len, some, none))
-              | a_word b none word ↦ absurd (omega (arith, len, some, none))
-            ])
+        elim s [
+          | an_integer z fits t ↦ grind (arith, integer_tells)
+          | an_unsigned n fits t ↦ absurd (omega (arith, ap (λ (xs : List ℕ). slice_index xs 0) (sym marked ∙ t.after)))
+          | a_float x f ↦ absurd (f.no_i (byte_at_drop text r.now (integer_len text) letter_i marked).0)
+          | a_string none quote x ↦ absurd (omega (arith, len, some, none))
+          | a_word b none word ↦ absurd (omega (arith, len, some, none))
+        ])
 
     -- and after `u` it is an unsigned number
     pub unsigned_answer : byte letter_u after ≡ reads letter_u r.now → ok ≡ is_written_unsigned number
@@ -182,14 +182,14 @@ module _ (text number : List ℕ) (whole : ℕ) (len : whole ≡ integer_len tex
     unsigned_answer read tells = mark_answer letter_u (is_written_unsigned number) read tells
         (λ ok. let t = unsigned_told number signed_number ok in (unsigned t.0, t.1, ap (λ (xs : List ℕ). xs ++ letter_u ∷ []) t.2))
         (λ marked rest s.
-            elim s [
-              | an_integer z fits t ↦ absurd (omega (arith, ap (λ (xs : List ℕ). slice_index xs 0) (sym marked ∙ t.after)))
-              | an_unsigned n fits t ↦
-                  grind (arith, decimal_is_IsNumeral, no_minus, decimal_digit, first_digit, first_decimal, lt-ltb)
-              | a_float x f ↦ absurd (f.no_u (byte_at_drop text r.now (integer_len text) letter_u marked).0)
-              | a_string none quote x ↦ absurd (omega (arith, len, some, none))
-              | a_word b none word ↦ absurd (omega (arith, len, some, none))
-            ])
+        elim s [
+          | an_integer z fits t ↦ absurd (omega (arith, ap (λ (xs : List ℕ). slice_index xs 0) (sym marked ∙ t.after)))
+          | an_unsigned n fits t ↦
+              grind (arith, decimal_is_IsNumeral, no_minus, decimal_digit, first_digit, first_decimal, lt-ltb)
+          | a_float x f ↦ absurd (f.no_u (byte_at_drop text r.now (integer_len text) letter_u marked).0)
+          | a_string none quote x ↦ absurd (omega (arith, len, some, none))
+          | a_word b none word ↦ absurd (omega (arith, len, some, none))
+        ])
 
 -- the steps of a reader of a number
 pub ruleset number_steps = (signed_number, integer_answer, unsigned_answer)
@@ -220,11 +220,7 @@ module _ (text : List ℕ) (whole : ℕ) (len : whole ≡ integer_len text) (som
 -- the steps of a reader of a float
 pub ruleset float_steps = (no_float, float_answer)
 
--- a string is a value
-pub string_value : (text rest : List ℕ) → IsWrittenString text rest → IsWrittenValue text rest
-string_value text rest w = record { thing = string w.thing; is = tt; written = w.written }
-
--- and after a quote the builder writes no other
+-- after a quote the builder writes no value but a string
 pub value_string : (text rest : List ℕ) → integer_len text ≡ 0 → slice_index text 0 ≡ quote → IsWrittenValue text rest → EndsValue rest
     → IsWrittenString text rest
 value_string text rest whole first w ends = grind (arith, shape)
@@ -233,10 +229,6 @@ value_string text rest whole first w ends = grind (arith, shape)
 pub value_word : (text rest : List ℕ) → integer_len text ≡ 0 → slice_index text 0 ≢ quote → IsWrittenValue text rest → EndsValue rest
     → (b : Bool) × (text ≡ built_value (boolean b) ++ rest)
 value_word text rest whole first w ends = let t = shape text rest w ends in grind (arith)
-
--- a word before a rest is a value
-word_value : (text rest : List ℕ) (b : Bool) → text ≡ built_value (boolean b) ++ rest → IsWrittenValue text rest
-word_value text rest b e = record { thing = boolean b; is = tt; written = sym e }
 
 -- two words at the start of a text are the same, and so is what follows them
 word_same : (a b : Bool) (rest left : List ℕ) → built_value (boolean a) ++ rest ≡ built_value (boolean b) ++ left → rest ≡ left
@@ -248,7 +240,7 @@ pub word_answer : (b : Bool) (text left : List ℕ) → integer_len text ≡ 0 �
     → IsWrittenValue text left × ((rest : List ℕ) → IsWrittenValue text rest → EndsValue rest → rest ≡ left)
 word_answer b text left whole first s =
     let e : text ≡ built_value (boolean b) ++ left = s.1.1 ∙ ap (λ (xs : List ℕ). built_value (boolean b) ++ xs) (sym s.2) in (
-      word_value text left b e,
+      record { thing = boolean b; is = tt; written = sym e },
       λ rest w ends. let x = value_word text rest whole first w ends in word_same x.0 b rest left (sym x.1 ∙ e),
     )
 
@@ -264,5 +256,7 @@ last_word text None whole first no_true no_false = λ rest w ends. let x = value
 pub string_only_value : (text : List ℕ) (o : Option (Bor (List ℕ))) → integer_len text ≡ 0 → slice_index text 0 ≡ quote
     → IsOnlyRest (IsWrittenString text) (λ rest. Unit) o → IsOnlyRest (IsWrittenValue text) EndsValue o
 string_only_value text None whole first none = λ rest w ends. none rest (value_string text rest whole first w ends) tt
-string_only_value text (Some left) whole first only =
-    (string_value text left.now only.0, λ rest w ends. only.1 rest (value_string text rest whole first w ends) tt)
+string_only_value text (Some left) whole first only = (
+  record { thing = string only.0.thing; is = tt; written = only.0.written },
+  λ rest w ends. only.1 rest (value_string text rest whole first w ends) tt,
+)
