@@ -100,7 +100,7 @@ module _ {S : Type 0} (takes : S → Event → S → Type 0) {before begun mid :
   tags_fault {rest = rest} tags fault is most none = record {
     events = front_events m tags.parts [];
     told = (begun, first, rw (sym (append-nil (map tagged tags.parts))) at tags.told);
-    are = (is, front_names line m start read tags.parts rest most none);
+    are = (is, front_names read most none);
   }
 
   -- and then fields, after spaces
@@ -120,7 +120,7 @@ module _ {S : Type 0} (takes : S → Event → S → Type 0) {before begun mid :
         record {
           events = _;
           told = front_told;
-          are = (is, front_fields line m start read tags.parts rest.now tags.are.3 gap last.0 fields.parts is_gap last.1);
+          are = (is, front_fields read tags.are.3 gap last.0 fields.parts is_gap last.1);
         }
 
     -- the line ends after them

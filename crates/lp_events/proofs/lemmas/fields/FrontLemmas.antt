@@ -139,8 +139,8 @@ few_fields tags others fields (f ∷ these) start rest end after last h k fewer 
     let there = space_there after f are.0 are.1 in
     most.most (f ∷ these) last (rw (after_longer tags others start rest after there.0 h k fewer there.1) at are)
 
-module _ (line : List ℕ) (m : Text) (start : List ℕ) (read : name a_measurement line ≡ reads m start) (tags : List (Pair Text Text))
-    (rest : List ℕ) (most : AreMost (after_comma tag) (after_comma tag) start tags rest) where
+module _ {line : List ℕ} {m : Text} {start : List ℕ} (read : name a_measurement line ≡ reads m start) {tags : List (Pair Text Text)}
+    {rest : List ℕ} (most : AreMost (after_comma tag) (after_comma tag) start tags rest) where
   -- the most tags, and after them the most fields, are the longest front
   front_longest : (fields : List (Pair Text (Value Text))) (end : List ℕ) → AreMost (after_spaces field) (after_comma field) rest fields end
       → AreLongestFront line (front_events m tags fields)
@@ -170,3 +170,8 @@ module _ (line : List ℕ) (m : Text) (start : List ℕ) (read : name a_measurem
   front_fields gap end fields s h =
       let there = most_at (after_spaces field) field (after_comma field) rest (drop (spaces rest) rest) (rw s refl) fields end h in
       front_longest fields there.0 there.1
+
+  -- also if none is there
+  pub front_gap : (gap : List ℕ) → byte space rest ≡ reads space gap → DoesNotRead (field (drop (spaces rest) rest))
+      → AreLongestFront line (front_events m tags [])
+  front_gap gap s none = front_fields gap _ [] s (none_most field (after_comma field) (drop (spaces rest) rest) none)

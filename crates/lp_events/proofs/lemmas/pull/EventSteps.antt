@@ -14,7 +14,7 @@ use Rattle.lp_events.specs.code.Events.{reader_after, AreEventsOf, AreLongestFro
 use Rattle.lp_events.specs.code.EventsLeft.{AreEventsLeft, Completes, FieldsRead, NamesRead, SeriesRead, Steps, most_of_line}
 use Rattle.lp_events.specs.declared.{place.LinePlace.LinePlace}
 use Rattle.lp_events.specs.code.Stops.{DoesNotRead}
-use Rattle.lp_events.proofs.lemmas.fields.ManyLemmas.{after_some, are_most, none_most, read_all, read_fault, read_more, same_reader}
+use Rattle.lp_events.proofs.lemmas.fields.ManyLemmas.{after_some, are_most, read_all, read_fault, read_more, same_reader}
 use Rattle.lp_format.proofs.lemmas.meanings.ShorterRests.{field_no_longer}
 use Rattle.lp_events.proofs.lemmas.fields.FrontLemmas.{comma_no_space, front_fields, front_names, front_none, none_read, set_all, set_fatal}
 use Rattle.lp_events.proofs.lemmas.events.LineEvents.{complete_none, complete_some}
@@ -35,13 +35,7 @@ completes_more {line} {front} {event} {left} h =
 pub completes_fault : {line : List ℕ} {front : List Event} {fault : Fault} {left : Left} {others : List Event} → AreLongestFront line front
     → answer left.dialect line ≡ Err fault → AreEventsLeft left others → Completes line front left (failed fault ∷ others)
 completes_fault {front = front} {fault = fault} {others = others} is_front is h =
-    record {
-      first = failed fault ∷ [];
-      others = others;
-      events_are = refl;
-      line_is = rw is (front, is_front, refl);
-      others_are = h;
-    }
+    record { first = failed fault ∷ []; others = others; events_are = refl; line_is = rw is (front, is_front, refl); others_are = h }
 
 -- what is left after a name is shorter than the text
 pub name_shorter : (kind : NameKind) (text : List ℕ) (t : Text) (rest : List ℕ) → name kind text ≡ reads t rest → length rest < length text
@@ -85,7 +79,7 @@ module _ {line : List ℕ} {m : Text} {tags : List (Pair Text Text)} {rest : Lis
   -- and if a comma is there, what was read is the longest front of the line
   pub names_front : {place : List ℕ} → byte comma rest ≡ reads comma place → DoesNotRead (after_comma tag rest)
       → AreLongestFront line (front_events m tags [])
-  names_front {place} mark none = front_names line m h.start h.name_is tags rest (names_most none) (comma_no_space rest place mark)
+  names_front {place} mark none = front_names h.name_is (names_most none) (comma_no_space rest place mark)
 
   -- what is fatal after a comma is the fault of the line
   pub names_fatal : (dialect : Dialect) (fault : Fault) → after_comma tag rest ≡ fatal fault → answer dialect line ≡ Err fault
@@ -104,29 +98,7 @@ module _ {line : List ℕ} {m : Text} {tags : List (Pair Text Text)} {rest : Lis
   pub names_end : (is_first ≡ true → byte comma rest ≡ miss) → after_comma tag rest ≡ miss → SeriesRead line m tags rest
   names_end bare is =
       let set = set_all tags h.start rest h.tags_are is (λ none. bare (h.first_is ∙ none)) in
-      record {
-        start = h.start;
-        set = set.0;
-        name_is = h.name_is;
-        most = names_most (rw is (tt {0}));
-        set_is = set.1;
-        tags_are = set.2;
-      }
-
-module _ {line : List ℕ} {m : Text} {tags : List (Pair Text Text)} {rest : List ℕ} (h : SeriesRead line m tags rest) where
-  -- without a space after it, what was read is the longest front of the line
-  pub series_front : byte space rest ≡ miss → AreLongestFront line (front_events m tags [])
-  series_front none = front_names line m h.start h.name_is tags rest h.most none
-
-  -- with a space and these fields, the most that are there, too
-  pub valued_front : (gap end : List ℕ) (fields : List (Pair Text (Value Text))) → byte space rest ≡ reads space gap
-      → AreMost field (after_comma field) (drop (spaces rest) rest) fields end → AreLongestFront line (front_events m tags fields)
-  valued_front gap end fields s most = front_fields line m h.start h.name_is tags rest h.most gap end fields s most
-
-  -- and with a space after which no field reads
-  pub first_front : (gap : List ℕ) → byte space rest ≡ reads space gap → DoesNotRead (field (drop (spaces rest) rest))
-      → AreLongestFront line (front_events m tags [])
-  first_front gap s none = valued_front gap _ [] s (none_most field (after_comma field) (drop (spaces rest) rest) none)
+      record { start = h.start; set = set.0; name_is = h.name_is; most = names_most (rw is (tt {0})); set_is = set.1; tags_are = set.2 }
 
 -- the first field after the tags
 pub first_read : {line : List ℕ} {m : Text} {tags : List (Pair Text Text)} {rest : List ℕ} → SeriesRead line m tags rest
@@ -150,15 +122,14 @@ module _ {line series : List ℕ} {m : Text} {tags : List (Pair Text Text)} {fie
 
   -- if no field reads after a comma, what was read is the longest front of the line
   pub fields_front : DoesNotRead (after_comma field rest) → AreLongestFront line (front_events m tags fields)
-  fields_front none = valued_front h.series_read h.gap rest fields h.gap_is
+  fields_front none = front_fields h.series_read.name_is h.series_read.most h.gap rest fields h.gap_is
       (are_most field (after_comma field) fields _ rest h.fields_are (rw next_is none))
 
   -- a field that is fatal
   pub fields_fatal : (dialect : Dialect) (fault : Fault) → after_comma field rest ≡ fatal fault → answer dialect line ≡ Err fault
   unfolding answer
   fields_fatal dialect fault is =
-      let given =
-      (read_fault field field_no_longer fields _ rest fault h.fields_are (rw next_is is)).given in
+      let given = (read_fault field field_no_longer fields _ rest fault h.fields_are (rw next_is is)).given in
       rw (h.series_read.name_is, h.series_read.set_is, h.gap_is, given) refl
 
   -- no field follows
