@@ -1,7 +1,7 @@
 //! Lines, told to a sink part by part, with no memory.
 
-ghost use Rattle.std.specs.Prelude.{◌≡◌, ◌<◌, ◌++◌, ℕ, List, length, slice_index, IfOk, IfSome};
-ghost use Rattle.lp_format.specs.format.{space, answer, field, front_before, tag};
+ghost use Rattle.std.specs.Prelude.{◌≡◌, ◌<◌, ◌++◌, ◌==◌, ℕ, List, length, slice_index, IfOk, IfSome};
+ghost use Rattle.lp_format.specs.format.{space, answer, field, front_before, tag, without_comma, Pair, Text, Value};
 ghost use Rattle.lp_split.specs.code.{rules_of};
 ghost use Rattle.lp_values.specs.code.SpelledParts.{GivesSpelled, spelled_fault, spelled_text};
 ghost use Rattle.lp_events.specs.code.Events.{AreCounted, AreEventsOf, AreEventsOfText, AreFields, AreTags, AreToldBefore, Event};
@@ -92,7 +92,6 @@ pub(crate) fn field<'a>(text: &'a str) -> Front<'a, (Spelled<'a>, SpelledValue<'
 }
 
 // Tells the tags at the start of `text`, joined by commas, and gives their number and the rest.
-#[tactic(auto, using(crate::proofs::lemmas::events::LineEvents::told_all))]
 #[inline(always)]
 fn tags<'a, S: EventSink<'a>>(text: &'a str, sink: &mut S) -> Front<'a, usize>
     ensures { WasToldParts S.takes tagged sink.old sink.new (AreCounted result tag text.now) }
@@ -116,7 +115,6 @@ fn tags<'a, S: EventSink<'a>>(text: &'a str, sink: &mut S) -> Front<'a, usize>
 }
 
 // Tells the fields at the start of `text`, joined by commas, and gives their number and the rest.
-#[tactic(auto, using(crate::proofs::lemmas::events::LineEvents::told_all))]
 #[inline(always)]
 fn fields<'a, S: EventSink<'a>>(text: &'a str, sink: &mut S) -> Front<'a, usize>
     ensures { WasToldParts S.takes valued sink.old sink.new (AreCounted result field text.now) }
@@ -153,8 +151,19 @@ fn tag_set<'a, S: EventSink<'a>>(text: &'a str, sink: &mut S) -> Result<&'a str,
     Ok(rest)
 }
 
-// Tells the fields at the start of `text`, joined by commas, and gives the rest: in the crate's dialect without the comma
-// after a first field that is the only one. `None` if no field is there.
+// What is left after the last field: in the crate's dialect without the comma after a first field that is the only one.
+#[inline(always)]
+pub(crate) fn rest_after(dialect: Dialect, is_first: bool, rest: &str) -> &str
+    ensures { (all : List (Pair Text (Value Text))) → is_first ≡ (length all == 1)
+        → result.now ≡ without_comma (rules_of dialect) all rest.now }
+{
+    match dialect {
+        Dialect::Crate if is_first => strip_byte(b',', rest).unwrap_or(rest),
+        _ => rest,
+    }
+}
+
+// Tells the fields at the start of `text`, joined by commas, and gives the rest after them. `None` if no field is there.
 #[inline(always)]
 fn field_set<'a, S: EventSink<'a>>(
     dialect: Dialect,
@@ -166,10 +175,7 @@ fn field_set<'a, S: EventSink<'a>>(
     let Some((count, rest)) = fields(text, sink)? else {
         return Ok(None);
     };
-    match dialect {
-        Dialect::Crate if count == 1 => Ok(Some(strip_byte(b',', rest).unwrap_or(rest))),
-        _ => Ok(Some(rest)),
-    }
+    Ok(Some(rest_after(dialect, count == 1, rest)))
 }
 
 // What comes before `rest`, which ends `line` and begins with a space.

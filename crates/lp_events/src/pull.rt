@@ -1,15 +1,15 @@
 //! The parts of lines, given one after another, with no memory.
 
-ghost use Rattle.std.specs.Prelude.{◌≡◌, ◌<◌, ◌+◌, ◌==◌, ◌↔◌, [], List, None, length, IfOk, IfSome, MatchOption, MatchResult};
+ghost use Rattle.std.specs.Prelude.{◌≡◌, ◌<◌, ◌+◌, ◌↔◌, [], List, None, length, IfOk, IfSome, MatchOption, MatchResult};
 ghost use Rattle.std.specs.Iterator.{at_most};
-ghost use Rattle.lp_format.specs.format.{Crate, after_comma, field, tag, without_comma, most_pieces, Pair, Text, Value};
+ghost use Rattle.lp_format.specs.format.{Crate, after_comma, field, tag, most_pieces};
 ghost use Rattle.lp_split.specs.code.{rules_of};
 ghost use Rattle.lp_values.specs.code.SpelledParts.{GivesSpelled};
 ghost use Rattle.lp_events.specs.code.Events.{AreEventsOfText, Event as Told, WasTold, spelled_field, spelled_tag};
 ghost use Rattle.lp_events.specs.code.EventsLeft.{AreLeftAfterSeries, AreLeftFrom, Completes, GivesEvent, HasEventsLeft, Steps};
 ghost use Rattle.lp_events.specs.code.EventsLeft.{most_events, most_of_line, told};
 
-use crate::events::{self, EventSink, front_before};
+use crate::events::{self, EventSink, front_before, rest_after};
 use crate::lines::next_line;
 use crate::place::{Fields, LinePlace, Names};
 use lp_scan::trim::{strip_byte, trim_start_spaces};
@@ -153,18 +153,6 @@ fn after_name<'a>(names: Names<'a>) -> Step<'a>
         is_first: false,
     };
     Ok((Event::Tag(key, value), LinePlace::Names(names)))
-}
-
-// What is left after the last field: in the crate's dialect without the comma after a first field that is the only one.
-#[inline(always)]
-pub(crate) fn rest_after(dialect: Dialect, is_first: bool, rest: &str) -> &str
-    ensures { (all : List (Pair Text (Value Text))) → is_first ≡ (length all == 1)
-        → result.now ≡ without_comma (rules_of dialect) all rest.now }
-{
-    match dialect {
-        Dialect::Crate if is_first => strip_byte(b',', rest).unwrap_or(rest),
-        _ => rest,
-    }
 }
 
 // The next field of a line, or its end.

@@ -1,14 +1,13 @@
 //! Where reading a line stops.
 
-ghost use Rattle.std.specs.Prelude.{◌≡◌, ◌+◌, ◌<◌, ◌≤◌, List, length};
-ghost use Rattle.lp_format.specs.format.{after_comma, field, tag, timestamp, Pair, Text, Value};
+ghost use Rattle.std.specs.Prelude.{◌≡◌, ◌+◌, ◌<◌, ◌≤◌, List, length, IfSome};
+ghost use Rattle.lp_format.specs.format.{timestamp, Pair, Text, Value};
 ghost use Rattle.lp_split.specs.code.{rules_of};
-ghost use Rattle.lp_values.specs.code.Outcomes.{kind_of};
-ghost use Rattle.lp_events.specs.code.Stops.{AreMany, after_time, end_stop, field_stop, fields_stop, last_stop, late_tag_stop, most};
-ghost use Rattle.lp_events.specs.code.Stops.{pair_stop, reading_stop, series_part, tag_stop};
+ghost use Rattle.lp_events.specs.code.Stops.{AreMany, Leaves, after_time, end_stop, fields_stop, last_stop, late_tag_stop, most};
+ghost use Rattle.lp_events.specs.code.Stops.{next_pair, reading_stop, series_part, stop_of};
 
-use crate::events::field;
-use crate::pull::{next_field, next_tag, rest_after};
+use crate::events::{field, rest_after};
+use crate::pull::{next_field, next_tag};
 use lp_scan::trim::{strip_byte, trim_start_spaces};
 use lp_split::Dialect;
 use lp_values::names::NameKind;
@@ -34,10 +33,29 @@ pub struct Stop<'a> {
     pub rest: &'a str,
 }
 
-// Where a tag or a field stops that does not read: its key, what should be its equals sign, or its value.
-fn pair_stop<'a>(kind: NameKind, key: LinePart, value: LinePart, text: &'a str) -> Stop<'a>
-    ensures { (result.part, result.rest.now) ≡ pair_stop (kind_of kind) key value text.now }
+/// What is a key, an equals sign and a value.
+#[derive(Clone, Copy)]
+pub(crate) enum PairKind {
+    Tag,
+    Field,
+}
+
+// Where the tag or the field of this number stops that does not read: its key, what should be its equals sign, or its value.
+fn pair_stop(kind: PairKind, number: usize, text: &str) -> Stop<'_>
+    ensures { (result.part, result.rest.now) ≡ stop_of kind number text.now }
 {
+    let (kind, key, value) = match kind {
+        PairKind::Tag => (
+            NameKind::TagKey,
+            LinePart::TagKey(number),
+            LinePart::TagValue(number),
+        ),
+        PairKind::Field => (
+            NameKind::FieldKey,
+            LinePart::FieldKey(number),
+            LinePart::FieldValue(number),
+        ),
+    };
     let Ok(Some((_, rest))) = name(kind, text) else {
         return Stop {
             part: key,
@@ -50,44 +68,26 @@ fn pair_stop<'a>(kind: NameKind, key: LinePart, value: LinePart, text: &'a str) 
     }
 }
 
-// Where the tag of this number stops, if it does not read.
-fn tag_stop(number: usize, text: &str) -> Stop<'_>
-    ensures { (result.part, result.rest.now) ≡ tag_stop number text.now }
+// What is left after a tag or a field after a comma at the start of a text.
+fn after_next(kind: PairKind, text: &str) -> Option<&str>
+    ensures left { Leaves (next_pair kind text.now) result }
+    ensures less { IfSome result (λ rest. length rest.now < length text.now) }
 {
-    let (key, value) = (LinePart::TagKey(number), LinePart::TagValue(number));
-    pair_stop(NameKind::TagKey, key, value, text)
-}
-
-// Where the field of this number stops, if it does not read.
-fn field_stop(number: usize, text: &str) -> Stop<'_>
-    ensures { (result.part, result.rest.now) ≡ field_stop number text.now }
-{
-    let (key, value) = (LinePart::FieldKey(number), LinePart::FieldValue(number));
-    pair_stop(NameKind::FieldKey, key, value, text)
-}
-
-// How many tags are at the start of a text, each after a comma, and what is left after them.
-fn most_tags(text: &str) -> (usize, &str)
-    ensures many { AreMany result (most (after_comma tag) (length text.now) text.now) }
-    ensures fits { result.0 + length result.1.now ≤ length text.now }
-{
-    let mut count = 0;
-    let mut rest = text;
-    while let Ok(Some((_, after))) = next_tag(rest) {
-        count += 1;
-        rest = after;
+    match kind {
+        PairKind::Tag => Some(next_tag(text).ok()??.1),
+        PairKind::Field => Some(next_field(text).ok()??.1),
     }
-    (count, rest)
 }
 
-// How many fields are at the start of a text, each after a comma, and what is left after them.
-fn most_fields(text: &str) -> (usize, &str)
-    ensures many { AreMany result (most (after_comma field) (length text.now) text.now) }
+// How many tags or fields are at the start of a text, each after a comma, and what is left after them.
+#[tactic(auto, using(crate::proofs::lemmas::stops::MostParts::most_steps))]
+fn most_pairs(kind: PairKind, text: &str) -> (usize, &str)
+    ensures many { AreMany result (most (next_pair kind) (length text.now) text.now) }
     ensures fits { result.0 + length result.1.now ≤ length text.now }
 {
     let mut count = 0;
     let mut rest = text;
-    while let Ok(Some((_, after))) = next_field(rest) {
+    while let Some(after) = after_next(kind, rest) {
         count += 1;
         rest = after;
     }
@@ -109,7 +109,7 @@ fn late_tag_stop<'a>(tags: usize, rest: &'a str, place: &'a str) -> Stop<'a>
     requires { tags < usize.MAX }
     ensures { (result.part, result.rest.now) ≡ late_tag_stop tags rest.now place.now }
 {
-    let stop = tag_stop(tags + 1, place);
+    let stop = pair_stop(PairKind::Tag, tags + 1, place);
     if tags == 0 || crate::events::tag(place).is_err() {
         return stop;
     }
@@ -146,7 +146,7 @@ fn last_stop(dialect: Dialect, fields: usize, rest: &str) -> Stop<'_>
     let Some(place) = strip_byte(b',', rest) else {
         return end_stop(LinePart::FieldValue(fields), left);
     };
-    let stop = field_stop(fields + 1, place);
+    let stop = pair_stop(PairKind::Field, fields + 1, place);
     if field(place).is_err() {
         return stop;
     }
@@ -158,9 +158,9 @@ fn fields_stop(dialect: Dialect, text: &str) -> Stop<'_>
     ensures { (result.part, result.rest.now) ≡ fields_stop (rules_of dialect) text.now }
 {
     let Ok(Some((_, rest))) = field(text) else {
-        return field_stop(1, text);
+        return pair_stop(PairKind::Field, 1, text);
     };
-    let (others, rest) = most_fields(rest);
+    let (others, rest) = most_pairs(PairKind::Field, rest);
     last_stop(dialect, others + 1, rest)
 }
 
@@ -183,7 +183,7 @@ pub fn reading_stop(dialect: Dialect, line: &str) -> Stop<'_>
             rest: line,
         };
     };
-    let (tags, rest) = most_tags(start);
+    let (tags, rest) = most_pairs(PairKind::Tag, start);
     if let Some(place) = strip_byte(b',', rest) {
         return late_tag_stop(tags, rest, place);
     }

@@ -32,11 +32,15 @@ abbrev pub IsStopInNext : {A : Type 0} → (ℕ → List ℕ → Place → Type 
 IsStopInNext IsStop [] last place = IsStop 1 last place
 IsStopInNext IsStop (x ∷ xs) last place = (after : List ℕ) × (last ≡ comma ∷ after) × IsStop (length (x ∷ xs) + 1) after place
 
--- the part after fields: a timestamp if a space is there, and the last value if no comma is there either
+-- if a comma is left, the part is the one in which the tag or the field of this number stops after it
+abbrev pub IsPartAtComma : (ℕ → List ℕ → Place → Type 0) → ℕ → List ℕ → LinePart → Type 0
+IsPartAtComma IsStop number last part = (after : List ℕ) → last ≡ comma ∷ after → (rest : List ℕ) × IsStop number after (part, rest)
+
+-- the part after fields: a timestamp if a space is there; and else the last value, or the part at a comma
 abbrev pub IsPartAfter : ℕ → (last rest : List ℕ) → LinePart → Type 0
 IsPartAfter fields last rest part =
     (BeginsWith space rest → part ≡ Timestamp)
-    × (¬ BeginsWith space rest → ¬ BeginsWith comma last → part ≡ FieldValue fields)
+    × (¬ BeginsWith space rest → (¬ BeginsWith comma last → part ≡ FieldValue fields) × IsPartAtComma IsStopInField (fields + 1) last part)
 
 -- where reading stops, by the row of the answer
 abbrev pub IsStopByRow : {dialect : Dialect} {text : List ℕ} {a : Result Line Fault} → IsAnswer dialect text a → Place → Type 0
@@ -46,6 +50,7 @@ IsStopByRow (fatal_tag m after tags last e named most next) place = IsStopInNext
 IsStopByRow (no_tag m after named h) place = IsStopInTag 1 after place
 IsStopByRow (no_space m tags last series gap) place =
     (place.1 ≡ last) × (¬ BeginsWith comma last → place.0 ≡ series_part (length (some_tags tags)))
+    × IsPartAtComma IsStopInTag (length (some_tags tags) + 1) last place.0
 IsStopByRow (fatal_field m tags after fields last e series gap most next) place = IsStopInNext IsStopInField fields last place
 IsStopByRow (no_field m tags after series gap h) place = IsStopInField 1 (after_spaces after) place
 IsStopByRow (fatal_timestamp line last side number r stamp) place = place ≡ (Timestamp, after_spaces last)

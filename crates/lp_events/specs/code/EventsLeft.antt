@@ -1,8 +1,8 @@
 -- The events that are left of a text, from a place in one of its lines on.
-use Rattle.std.specs.Prelude.{◌≡◌, ℕ, ◌+◌, ◌<◌, ◌≤◌, ◌==◌, Bool, true, false, List, [], ◌∷◌, ◌++◌, drop, length, Option, Some, None, Result}
+use Rattle.std.specs.Prelude.{◌≡◌, ℕ, ◌+◌, ◌<◌, ◌==◌, Bool, List, [], ◌∷◌, ◌++◌, drop, length, Option, Some, None, Result}
 use Rattle.std.specs.Prelude.{Ok, Err}
-use Rattle.lp_format.specs.format.{comma, space, after_comma, answer, byte, field, front_before, many, prepend, separated_list}
-use Rattle.lp_format.specs.format.{some_tags, spaces, tag, tag_set, a_measurement, name, Left, PiecesLeft, most_pieces, Pair, Reading, Text}
+use Rattle.lp_format.specs.format.{space, after_comma, answer, byte, field, front_before}
+use Rattle.lp_format.specs.format.{some_tags, spaces, tag, tag_set, a_measurement, name, Left, PiecesLeft, most_pieces, Pair, Text}
 use Rattle.lp_format.specs.format.{reads, Value}
 use Rattle.lp_values.specs.code.SpelledParts.{spelled_fault, spelled_text}
 use Rattle.lp_values.specs.declared.spelled.SpelledFault.{SpelledFault}
@@ -21,21 +21,12 @@ told (Field key value) = valued (spelled_field (key, value))
 told (End series timestamp) = ended series.now timestamp
 told (Fault fault) = failed (spelled_fault fault)
 
--- what is read of a text whose front was read: `done`, joined by commas, were read, `rest` is left, and the whole is done
--- and as many as are at the start of the rest
-pub record SoFar {A : Type 0} (one : List ℕ → Reading A) (text : List ℕ) (done : List A) (rest : List ℕ) : Type 0 where
-  pub some : 0 < length done
-  pub done_are : AreRead one (after_comma one) done text rest
-  pub fuel : ℕ
-  pub enough : length rest ≤ fuel
-  pub is : separated_list one text ≡ prepend done (many (after_comma one) fuel rest)
-
 -- the measurement and these tags of a line were read, and this is left; tags may follow
-abbrev pub NamesRead : List ℕ → Text → List (Pair Text Text) → List ℕ → Bool → Type 0
-NamesRead line measurement tags rest true = (name a_measurement line ≡ reads measurement rest) × (tags ≡ [])
-NamesRead line measurement tags rest false =
-    (start place : List ℕ) × (name a_measurement line ≡ reads measurement start) × (byte comma start ≡ reads comma place)
-    × SoFar tag place tags rest
+pub record NamesRead (line : List ℕ) (measurement : Text) (tags : List (Pair Text Text)) (rest : List ℕ) (is_first : Bool) : Type 0 where
+  pub start : List ℕ
+  pub name_is : name a_measurement line ≡ reads measurement start
+  pub tags_are : AreRead (after_comma tag) (after_comma tag) tags start rest
+  pub first_is : is_first ≡ (length tags == 0)
 
 -- the measurement and all tags of a line are these, and this is left
 pub record SeriesRead (line : List ℕ) (measurement : Text) (tags : List (Pair Text Text)) (rest : List ℕ) : Type 0 where
@@ -54,7 +45,8 @@ pub record FieldsRead (line series : List ℕ) (measurement : Text) (tags : List
   pub series_read : SeriesRead line measurement tags after
   pub series_is : series ≡ front_before line after
   pub gap_is : byte space after ≡ reads space gap
-  pub so_far : SoFar field (drop (spaces after) after) fields rest
+  pub some : 0 < length fields
+  pub fields_are : AreRead field (after_comma field) fields (drop (spaces after) after) rest
   pub first_is : is_first ≡ (length fields == 1)
 
 -- the events of the pieces that are left

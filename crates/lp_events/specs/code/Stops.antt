@@ -1,10 +1,12 @@
 -- Where reading a line stops: in which part of it, and what is left of it there.
 use Rattle.std.specs.Prelude.{◌≡◌, ◌+◌, ◌==◌, ◌||◌, Bool, true, false, ℕ, zero, suc, ℤ, List, [], ◌∷◌, ◌++◌, length, drop, if◌then◌else◌}
-use Rattle.std.specs.Prelude.{Option, Result, Ok, Err}
+use Rattle.std.specs.Prelude.{Option, Some, None, Result, Ok, Err}
 use Rattle.std.specs.Borrow.{Bor}
 use Rattle.lp_format.specs.format.{comma, equals, space, Dialect, Fault, Pair, Read, Reading, Text, Value, fatal, reads, NameKind, a_field_key}
 use Rattle.lp_format.specs.format.{a_measurement, a_tag_key, after_comma, byte, field, name, spaces, tag, timestamp, without_comma}
 use Rattle.lp_events.specs.declared.stops.LinePart.{LinePart}
+use Rattle.lp_events.specs.declared.stops.PairKind.{PairKind}
+use Rattle.lp_events.specs.declared.stops.PairKind.TheVariants.{Tag, Field}
 use Rattle.lp_events.specs.declared.stops.LinePart.TheVariants.{Measurement, TagKey, TagValue, FieldKey, FieldValue, Timestamp}
 
 -- a place in a line: the part there, and what is left of the line
@@ -33,6 +35,31 @@ tag_stop number text = pair_stop a_tag_key (TagKey number) (TagValue number) tex
 -- where the field of this number stops, if it does not read
 abbrev pub field_stop : ℕ → List ℕ → Place
 field_stop number text = pair_stop a_field_key (FieldKey number) (FieldValue number) text
+
+-- where the tag or the field of this number stops, if it does not read
+abbrev pub stop_of : PairKind → ℕ → List ℕ → Place
+stop_of Tag = tag_stop
+stop_of Field = field_stop
+
+-- what a tag or a field is read as
+abbrev pub PairRead : PairKind → Type 0
+PairRead Tag = Pair Text Text
+PairRead Field = Pair Text (Value Text)
+
+-- a tag or a field after a comma
+abbrev pub next_pair : (kind : PairKind) → List ℕ → Reading (PairRead kind)
+next_pair Tag = after_comma tag
+next_pair Field = after_comma field
+
+-- a reading that does not read: it misses, or is fatal
+abbrev pub DoesNotRead : {A : Type 0} → Reading A → Type 0
+DoesNotRead (reads x rest) = ⊥
+DoesNotRead other = Unit {0}
+
+-- a part reads and leaves this, or it does not read
+abbrev pub Leaves : {A : Type 0} → Reading A → Option (Bor (List ℕ)) → Type 0
+Leaves reading None = DoesNotRead reading
+Leaves {A} reading (Some rest) = (x : A) × (reading ≡ reads x rest.now)
 
 -- these parts, before those that are read after them
 abbrev pub before : {A : Type 0} → List A → Read (List A) → Read (List A)

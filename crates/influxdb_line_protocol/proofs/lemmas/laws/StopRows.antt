@@ -1,9 +1,11 @@
 -- Where reading stops, by the row of the answer.
 use Rattle.std.proofs.Common.{◌≡◌, ℕ, zero, suc, ◌≤◌, ◌==◌, ◌||◌, Bool, true, false, List, [], ◌∷◌, ◌++◌, length, refl, sym, ap, ◌∙◌, arith, inl, inr}
-use Rattle.std.proofs.Common.{Option, Result, Ok, Err, eqb-true, length-append, ◌+◌}
+use Rattle.std.proofs.Common.{Option, Result, Ok, Err, cond, eqb-true, length-append, ◌+◌, codes}
 use Rattle.std.proofs.lemmas.Bool.{cases_Bool}
 use Rattle.std.proofs.lemmas.Bool.Decides.{nat_tests}
 use Rattle.lp_format.specs.format.{comma, equals, space, Dialect, Fault, Line, NameKind, Pair, Reading, Text, Value, a_field_key, a_tag_key, fatal}
+use Rattle.lp_format.specs.format.{Crate, escaped, first_bare, is_escaped_after, without_escapes, value, integer_at, unsigned_at, float_at}
+use Rattle.lp_format.specs.format.{boolean_at, string_at}
 use Rattle.lp_format.specs.format.{after_comma, byte, field, miss, name, reads, some_tags, spaces, tag, timestamp, timestamp_value_invalid, without_comma}
 use Rattle.lp_format.specs.laws.Meanings.{LongestList, NextHasFault, SeparatedAfterComma, WholeList}
 use Rattle.lp_format.specs.laws.MeaningsOfAnswers.{after_spaces, BeginsWith, IsAnswer, ReadsFields, ReadsSeries, ReadsSeries.alone, ReadsSeries.tagged}
@@ -12,11 +14,11 @@ use Rattle.lp_format.specs.laws.MeaningsOfAnswers.IsAnswer.{fatal_timestamp, lef
 use Rattle.lp_format.proofs.lemmas.meanings.ShorterRests.{field_no_longer, tag_no_longer}
 use Rattle.lp_lines.proofs.lemmas.meanings.AnswerMeaning.{answer_is_by_rows}
 use Rattle.lp_values.proofs.lemmas.fields.ReadingLemmas.{byte_parts}
-use Rattle.lp_events.specs.code.Stops.{Place, end_stop, field_stop, fields_stop, is_fatal, last_stop, most, pair_stop, reading_stop, series_part, series_stop}
+use Rattle.lp_events.specs.code.Stops.{DoesNotRead, Place, end_stop, field_stop, fields_stop, is_fatal, last_stop, most, pair_stop, reading_stop, series_part, series_stop}
 use Rattle.lp_events.specs.declared.stops.LinePart.{LinePart}
-use Rattle.lp_events.specs.declared.stops.LinePart.TheVariants.{FieldValue, Timestamp}
-use Rattle.lp_events.proofs.lemmas.fields.ManyLemmas.{DoesNotRead, comma_cases}
-use Rattle.influxdb_line_protocol.specs.laws.StopLaws.{IsPartAfter, IsStopByRow, IsStopInField, IsStopInNext, IsStopInPair, IsStopInPair.at_key}
+use Rattle.lp_events.specs.declared.stops.LinePart.TheVariants.{FieldValue, TagKey, Timestamp}
+use Rattle.lp_events.proofs.lemmas.fields.ManyLemmas.{comma_cases}
+use Rattle.influxdb_line_protocol.specs.laws.StopLaws.{IsPartAfter, IsPartAtComma, IsStopByRow, IsStopInField, IsStopInNext, IsStopInPair, IsStopInPair.at_key}
 use Rattle.influxdb_line_protocol.specs.laws.StopLaws.{IsStopInPair.at_sign, IsStopInPair.at_value, IsStopInTag, LinesAreReadWhole, StopsAreByRows}
 
 -- this byte is not at the start of a text that does not begin with it
@@ -33,6 +35,11 @@ not_fatal : {A : Type 0} (r : Reading A) → ((e : Fault) → ¬ (r ≡ fatal e)
 not_fatal miss none = refl
 not_fatal (fatal e) none = absurd (none e refl)
 not_fatal (reads x rest) none = refl
+
+-- at a comma the part is that of the stop after it
+late_part : (b : Bool) (stop : Place) (rest : List ℕ) → (cond b stop (stop.0, rest)).0 ≡ stop.0
+late_part true stop rest = refl
+late_part false stop rest = refl
 
 -- what is read after a comma comes after one
 comma_there : {A : Type 0} {one : List ℕ → Reading A} (text : List ℕ) (x : A) (after : List ℕ) → after_comma one text ≡ reads x after
@@ -119,8 +126,8 @@ bare_part part (c ∷ rest) none = grind (arith, cases_Bool, eqb-true)
 
 -- so the part after fields is this
 part_after : (fields : ℕ) (last rest : List ℕ) (part : LinePart) → (¬ BeginsWith comma last → part ≡ FieldValue fields)
-    → IsPartAfter fields last rest (end_stop part rest).0
-part_after fields last rest part is = (space_part part rest, λ bare no. bare_part part rest bare ∙ is no)
+    → IsPartAtComma IsStopInField (fields + 1) last part → IsPartAfter fields last rest (end_stop part rest).0
+part_after fields last rest part is at = (space_part part rest, λ bare. rw (bare_part part rest bare) (is, at))
 
 -- reading stops at the number of a timestamp that is at fault
 number_stops : (part : LinePart) (rest : List ℕ) (e : Fault) → timestamp rest ≡ Err e → end_stop part rest ≡ (Timestamp, after_spaces rest)
@@ -153,15 +160,21 @@ module _ (dialect : Dialect) where
   no_gap : {text : List ℕ} {m : Text} {tags : Option (List (Pair Text Text))} {rest : List ℕ} → ReadsSeries text m tags rest
       → ¬ BeginsWith space rest
       → (let place : Place = series_stop dialect (record { value = some_tags tags; rest = rest }) in
-      (place.1 ≡ rest) × (¬ BeginsWith comma rest → place.0 ≡ series_part (length (some_tags tags))))
-  no_gap (alone m rest named bare) none = rw (no_byte comma rest bare, no_byte space rest none) (refl, λ no. refl)
+      (place.1 ≡ rest) × (¬ BeginsWith comma rest → place.0 ≡ series_part (length (some_tags tags)))
+      × IsPartAtComma IsStopInTag (length (some_tags tags) + 1) rest place.0)
+  no_gap (alone m rest named bare) none =
+      rw (no_byte comma rest bare, no_byte space rest none) (refl, λ no. refl, λ after is. absurd (bare (rw is refl)))
   no_gap (tagged m [] after rest named whole) none = absurd (let some = whole.some in omega arith)
   no_gap (tagged m (t ∷ tags) after rest named whole) none =
       elim (comma_cases rest) [
-        | inl bare ↦ rw (bare, no_byte space rest none) (refl, λ no. refl)
+        | inl bare ↦ rw (bare, no_byte space rest none) (refl, λ no. refl, λ place is. absurd (let never = rw is at bare in cc))
         | inr sign ↦
             let is = (byte_parts comma rest comma sign.0 sign.1).1 in
-            rw (sign.1, whole_fine tag tag_longer t tags after rest sign.0 whole is) (grind arith, λ no. absurd (no (rw is refl)))
+            rw (sign.1, whole_fine tag tag_longer t tags after rest sign.0 whole is) (
+              grind arith,
+              λ no. absurd (no (rw is refl)),
+              λ place at. let same : place ≡ sign.0 = cc (is, at) in rw (same, late_part) (_, pair_stops a_tag_key _ _ sign.0),
+            )
       ]
 
   -- a tag that is fatal
@@ -190,9 +203,11 @@ module _ (dialect : Dialect) where
       let parts = most_is field field_longer (length first.0) fields first.0 last first.2 end (omega arith) in
       (next.0, next.1, rw (first.1, parts, next.1, next.2) (pair_stops a_field_key _ _ next.0))
 
-  -- the timestamp comes after these fields, in a part that is the last value if no comma follows
+  -- the timestamp comes after these fields, in a part that is the last value if no comma follows, and else the one at the comma
   abbrev Ends : ℕ → (last rest : List ℕ) → Place → Type 0
-  Ends fields last rest place = (part : LinePart) × (place ≡ end_stop part rest) × (¬ BeginsWith comma last → part ≡ FieldValue fields)
+  Ends fields last rest place =
+      (part : LinePart) × (place ≡ end_stop part rest) × (¬ BeginsWith comma last → part ≡ FieldValue fields)
+      × IsPartAtComma IsStopInField (fields + 1) last part
 
   -- if the next field is not fatal, it does
   last_ends : (fields : List (Pair Text (Value Text))) (last : List ℕ)
@@ -200,10 +215,14 @@ module _ (dialect : Dialect) where
       → Ends (length fields) last (without_comma dialect fields last) (last_stop dialect fields last)
   last_ends fields last fine =
       elim (comma_cases last) [
-        | inl bare ↦ (FieldValue (length fields), rw bare refl, λ no. refl)
+        | inl bare ↦ (FieldValue (length fields), rw bare refl, λ no. refl, λ place is. absurd (let never = rw is at bare in cc))
         | inr sign ↦
-            let is = (byte_parts comma last comma sign.0 sign.1).1 in
-            ((field_stop (length fields + 1) sign.0).0, rw (sign.1, fine sign.0 is) refl, λ no. absurd (no (rw is refl)))
+            let is = (byte_parts comma last comma sign.0 sign.1).1 in (
+              (field_stop (length fields + 1) sign.0).0,
+              rw (sign.1, fine sign.0 is) refl,
+              λ no. absurd (no (rw is refl)),
+              λ place at. let same : place ≡ sign.0 = cc (is, at) in rw same (_, pair_stops a_field_key _ _ sign.0),
+            )
       ]
 
   -- after a whole list of fields it does
@@ -237,8 +256,8 @@ module _ (dialect : Dialect) where
       rw (series_is series, after_gap _ after gap, h) (pair_stops a_field_key _ _ (after_spaces after))
   row_stops text (fatal_timestamp line last side number r stamp) =
       let end = line_ends r in end.1 ∙ number_stops end.0 last (timestamp_value_invalid side number) stamp
-  row_stops text (left line last b more r stamp) = let end = line_ends r in rw end.1 (rw stamp refl, part_after _ _ last end.0 end.2)
-  row_stops text (all_read line last r stamp) = let end = line_ends r in rw end.1 (rw stamp refl, part_after _ _ last end.0 end.2)
+  row_stops text (left line last b more r stamp) = let end = line_ends r in rw end.1 (rw stamp refl, part_after _ _ last end.0 end.2 end.3)
+  row_stops text (all_read line last r stamp) = let end = line_ends r in rw end.1 (rw stamp refl, part_after _ _ last end.0 end.2 end.3)
 
 -- reading stops where the row says
 pub stops_are_by_rows : StopsAreByRows
@@ -255,3 +274,13 @@ pub lines_are_read_whole : LinesAreReadWhole
 lines_are_read_whole dialect text line is =
     let row = (answer_is_by_rows dialect text (Ok line)).0 is in
     line_left line row refl (reading_stop dialect text) (row_stops dialect text row)
+
+-- of this line reading stops at its last comma, in the key of the second tag
+a_comma_is_left : reading_stop Crate (codes "m,t=x,u a=1i") ≡ (TagKey 2, codes ",u a=1i")
+unfolding tag name without_escapes is_escaped_after escaped first_bare
+a_comma_is_left = refl
+
+-- and of this one after the comma of its first field, in the value of the second field
+a_comma_is_taken : reading_stop Crate (codes "m a=1i,b=x") ≡ (FieldValue 2, codes "b=x")
+unfolding field name without_escapes is_escaped_after escaped first_bare value integer_at unsigned_at float_at string_at boolean_at
+a_comma_is_taken = refl

@@ -1,16 +1,18 @@
 -- What a sink was told of a line, one event after another, and of the lines of a text.
-use Rattle.std.proofs.Common.{◌≡◌, ℕ, ◌+◌, ◌<◌, List, [], ◌∷◌, ◌++◌, length, length-append, map, refl, sym, arith, inr}
-use Rattle.std.proofs.Common.{append_assoc, Some, Ok, Result, ℤ, Option, Err, Bor, append-nil, All, eq-eqb, ne_eqb}
+use Rattle.std.proofs.Common.{◌≡◌, ℕ, ◌+◌, ◌<◌, List, [], ◌∷◌, ◌++◌, length, length-append, map, refl, sym, arith, ◌∙◌}
+use Rattle.std.proofs.Common.{append_assoc, Some, Ok, Result, drop, ℤ, Option, Err, Bor, append-nil, All, eq-eqb, ne_eqb}
 use Rattle.std.proofs.lemmas.{List.map_push, List.Elements.All-head, List.Elements.All-tail}
 use Rattle.lp_format.specs.format.{comma, Fault, Reading, fatal, miss, reads, Text, cannot_parse_entire_line, byte, Line}
-use Rattle.lp_format.specs.format.{answer, some_tags, complete, Dialect, answers_of_piece, Left, Pair, trimmed, Value}
+use Rattle.lp_format.specs.format.{answer, after_comma, a_measurement, name, space, spaces, tag, complete, Dialect, answers_of_piece, Left, Pair, trimmed}
 use Rattle.lp_values.specs.declared.spelled.SpelledFault.{SpelledFault}
 use Rattle.lp_values.specs.code.SpelledParts.{spelled_fault}
-use Rattle.lp_events.specs.code.Events.{AreCounted, AreLongestFront, Event, TakesAll, WasToldParts, AreEventsOf, AreEventsOfAll, AreToldBefore}
+use Rattle.lp_events.specs.code.Events.{AreCounted, AreFields, AreMost, AreRead, AreTags, reader_after, Event, TakesAll, WasToldParts, AreEventsOf, AreEventsOfAll, AreToldBefore}
 use Rattle.lp_events.specs.code.Events.{WasTold, ended, front_events, named, tagged, valued}
 use Rattle.lp_events.specs.code.EventsLeft.{AreEventsLeft, Completes}
 use Rattle.lp_events.specs.code.LineSteps.{GivesLine, IsBlankPiece}
-use Rattle.lp_events.proofs.lemmas.fields.ManyLemmas.{Reached, last_read, reached_all, reached_fatal, reached_more}
+use Rattle.lp_events.proofs.lemmas.fields.FrontLemmas.{fields_told, front_fields, front_names}
+use Rattle.lp_events.proofs.lemmas.fields.ManyLemmas.{Reached, read_all, read_fault, read_more, reached_more}
+use Rattle.lp_format.proofs.lemmas.meanings.ShorterRests.{IsNoLonger}
 
 -- some events and then others
 pub takes_append : {S : Type 0} (takes : S → Event → S → Type 0) (before mid after : S) (events others : List Event)
@@ -30,42 +32,46 @@ abbrev pub ToldSoFar : {S A : Type 0} → (S → Event → S → Type 0) → (A 
 ToldSoFar takes event one before after text count rest place =
     WasToldParts takes event before after (λ parts. (count ≡ length parts) × Reached one text parts rest place)
 
-module _ {S A : Type 0} (takes : S → Event → S → Type 0) (event : A → Event) (one : List ℕ → Reading A) where
+module _ {S A : Type 0} (takes : S → Event → S → Type 0) (event : A → Event) (one : List ℕ → Reading A)
+    (no_longer : (text : List ℕ) → IsNoLonger text (one text)) where
   module _ (before mid after : S) (x : A) (told : takes mid (event x) after) (text : List ℕ) (count : ℕ) (rest place : List ℕ)
       (so_far : ToldSoFar takes event one before mid text count rest place) (n : ℕ) (more : n ≡ count + 1) where
-    -- one event more
-    told_more : TakesAll takes before (map event (so_far.parts ++ x ∷ [])) after
-    told_more = rw (map_push event so_far.parts x)
-        (takes_more takes before mid after (map event so_far.parts) (event x) so_far.told told)
+    -- one part more was told
+    one_more : (end : List ℕ) → one place ≡ reads x end
+        → TakesAll takes before (map event (so_far.parts ++ x ∷ [])) after × (n ≡ length (so_far.parts ++ x ∷ []))
+        × AreRead one (after_comma one) (so_far.parts ++ x ∷ []) text end
+    one_more end is = (
+      rw (map_push event so_far.parts x) (takes_more takes before mid after (map event so_far.parts) (event x) so_far.told told),
+      grind (arith, so_far.are.0, length-append),
+      read_more one (after_comma one) so_far.parts text rest end x so_far.are.1.are (so_far.are.1.next ∙ is),
+    )
 
-    -- so many
-    one_more : n ≡ length (so_far.parts ++ x ∷ [])
-    one_more = let count = so_far.are.0 in omega (arith, count, length-append so_far.parts (x ∷ []))
-
-    -- one part more was told, and a comma comes after it
-    pub told_next : (end next : List ℕ) → one place ≡ reads x end → length end < length place → byte comma end ≡ reads comma next
+    -- and a comma comes after it
+    pub told_next : (end next : List ℕ) → one place ≡ reads x end → byte comma end ≡ reads comma next
         → ToldSoFar takes event one before after text n end next
-    told_next end next is less mark =
-        let read = reached_more one end x so_far.are.1 is less in
-        record {
-          parts = _;
-          told = told_more;
-          are = (one_more, inr (record { so_far = read; mark = mark }));
-        }
+    told_next end next is mark =
+        let t = one_more end is in
+        record { parts = _; told = t.0; are = (t.1, reached_more one so_far.parts text end next x t.2 mark) }
 
-    -- one part more was told, and no comma comes after it
-    pub told_last : (end : Bor (List ℕ)) → one place ≡ reads x end.now → length end.now < length place → byte comma end.now ≡ miss
+    -- and no comma comes after it
+    pub told_last : (end : Bor (List ℕ)) → one place ≡ reads x end.now → byte comma end.now ≡ miss
         → WasToldParts takes event before after (AreCounted (Ok (Some (n, end))) one text)
-    told_last end is less none =
-        let all = last_read one (reached_more one end.now x so_far.are.1 is less) none in
-        record { parts = _; told = told_more; are = (one_more, all.0, all.1) }
+    told_last end is none =
+        let t = one_more end.now is in
+        let all = read_all one no_longer _ text end.now (omega (arith, t.1, more)) t.2 (last so_far.parts) in
+        record { parts = _; told = t.0; are = (t.1, all.0, all.1) }
+      where
+        -- none comes after a comma
+        last : (done : List A) → reader_after one (after_comma one) (done ++ x ∷ []) end.now ≡ miss
+        last [] = rw none refl
+        last (y ∷ ys) = rw none refl
 
   module _ (before after : S) (text : List ℕ) (count : ℕ) (place : List ℕ) where
     -- no part reads at the place: these were all
     pub told_all : (rest : Bor (List ℕ)) → ToldSoFar takes event one before after text count rest.now place → one place ≡ miss
         → 0 < count → WasToldParts takes event before after (AreCounted (Ok (Some (count, rest))) one text)
     told_all rest so_far none some =
-        let all = reached_all one so_far.are.1 none (let count = so_far.are.0 in omega arith) in
+        let all = read_all one no_longer so_far.parts text rest.now (omega (arith, so_far.are.0)) so_far.are.1.are (so_far.are.1.next ∙ none) in
         record { parts = so_far.parts; told = so_far.told; are = (so_far.are.0, all.0, all.1) }
 
     -- what is at the place is fatal
@@ -73,7 +79,8 @@ module _ {S A : Type 0} (takes : S → Event → S → Type 0) (event : A → Ev
         → one place ≡ fatal (spelled_fault fault)
         → WasToldParts takes event before after (AreCounted (Err fault) one text)
     told_fatal rest fault so_far is =
-        record { parts = so_far.parts; told = so_far.told; are = reached_fatal one (spelled_fault fault) so_far.are.1 is }
+        let fault_is = read_fault one no_longer so_far.parts text rest (spelled_fault fault) so_far.are.1.are (so_far.are.1.next ∙ is) in
+        record { parts = so_far.parts; told = so_far.told; are = fault_is }
 
 -- a line is complete if nothing is left
 pub complete_none : (l : Line) (rest : List ℕ) → length rest ≡ 0 → complete l rest ≡ Ok l
@@ -84,40 +91,51 @@ pub complete_some : (l : Line) (rest : List ℕ) → 0 < length rest → complet
 complete_some l rest some = grind (arith)
 
 -- the measurement of a line was told, and then tags
-module _ {S : Type 0} (takes : S → Event → S → Type 0) (before begun mid : S) (m : Text) (first : takes before (named m) begun)
-    (Are : List (Pair Text Text) → Type 0) (tags : WasToldParts takes tagged begun mid Are) (line : List ℕ) (answer : Result Line Fault) where
-  -- the line is at fault after them
-  pub tags_fault : (fault : SpelledFault) → answer ≡ Err (spelled_fault fault) → AreLongestFront line (front_events m tags.parts [])
+module _ {S : Type 0} (takes : S → Event → S → Type 0) {before begun mid : S} (line : List ℕ) {start : List ℕ} {m : Text}
+    (read : name a_measurement line ≡ reads m start) (first : takes before (named m) begun) where
+  -- the line is at fault after them: no space comes there
+  pub tags_fault : {answer : Result Line Fault} {Are : List (Pair Text Text) → Type 0} {rest : List ℕ}
+      (tags : WasToldParts takes tagged begun mid Are) (fault : SpelledFault) → answer ≡ Err (spelled_fault fault) → AreMost (after_comma tag) (after_comma tag) start tags.parts rest → byte space rest ≡ miss
       → WasTold takes before mid (AreToldBefore {X = Unit {0}} (Err fault) line answer)
-  tags_fault fault is front = record {
+  tags_fault {rest = rest} tags fault is most none = record {
     events = front_events m tags.parts [];
     told = (begun, first, rw (sym (append-nil (map tagged tags.parts))) at tags.told);
-    are = (is, front);
+    are = (is, front_names read most none);
   }
 
-  -- and then fields
-  module _ (after : S) (These : List (Pair Text (Value Text)) → Type 0) (fields : WasToldParts takes valued mid after These) where
+  -- and then fields, after spaces
+  module _ (rest : Bor (List ℕ)) (tags : WasToldParts takes tagged begun mid (AreTags (Ok rest) start)) {gap text : List ℕ}
+      (is_gap : byte space rest.now ≡ reads space gap) (text_is : text ≡ drop (spaces rest.now) rest.now) {after : S} (dialect : Dialect)
+      (result : Result (Option (Bor (List ℕ))) SpelledFault) (fields : WasToldParts takes valued mid after (AreFields result dialect text)) where
     -- they are a front of events
     front_told : TakesAll takes before (front_events m tags.parts fields.parts) after
     front_told = takes_append takes before mid after (named m ∷ map tagged tags.parts) (map valued fields.parts)
         (begun, first, tags.told) fields.told
 
     -- the line is at fault after them
-    pub fields_fault : (fault : SpelledFault) → answer ≡ Err (spelled_fault fault)
-        → AreLongestFront line (front_events m tags.parts fields.parts)
+    pub fields_fault : {answer : Result Line Fault} (fault : SpelledFault) → answer ≡ Err (spelled_fault fault)
         → WasTold takes before after (AreToldBefore {X = Unit {0}} (Err fault) line answer)
-    fields_fault fault is front = record { events = _; told = front_told; are = (is, front) }
+    fields_fault fault is =
+        let last = rw text_is at (fields_told result dialect text fields.parts fields.are) in
+        record {
+          events = _;
+          told = front_told;
+          are = (is, front_fields read tags.are.3 gap last.0 fields.parts is_gap last.1);
+        }
 
     -- the line ends after them
-    pub line_told : (last : S) (series : List ℕ) (time : Option ℤ) (set : Option (List (Pair Text Text)))
-        → takes after (ended series time) last → some_tags set ≡ tags.parts
-        → answer ≡ Ok (record { series = series; measurement = m; tags = set; fields = fields.parts; timestamp = time })
+    pub line_told : {answer : Result Line Fault} (last : S) (series : List ℕ) (time : Option ℤ) → takes after (ended series time) last
+        → answer ≡ Ok (record { series = series; measurement = m; tags = tags.are.0; fields = fields.parts; timestamp = time })
         → WasTold takes before last (AreToldBefore {X = Unit {0}} (Ok (tt {0})) line answer)
-    line_told last series time set done tags_are is =
+    line_told last series time done is =
         record {
           events = front_events m tags.parts fields.parts ++ ended series time ∷ [];
           told = takes_more takes before after last (front_events m tags.parts fields.parts) (ended series time) front_told done;
-          are = (record { series = series; measurement = m; tags = set; fields = fields.parts; timestamp = time }, is, rw tags_are refl);
+          are = (
+            record { series = series; measurement = m; tags = tags.are.0; fields = fields.parts; timestamp = time },
+            is,
+            rw tags.are.2 refl,
+          );
         }
 
 -- blank pieces have no events

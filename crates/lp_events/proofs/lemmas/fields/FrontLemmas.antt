@@ -1,15 +1,16 @@
 -- What the longest front of the parts of a line is, from what was read of it.
-use Rattle.std.proofs.Common.{◌≡◌, ℕ, ◌+◌, ◌≤◌, ◌<◌, List, [], ◌∷◌, length, length-append, drop, refl, sym, ◌∙◌}
-use Rattle.std.proofs.Common.{arith, inl, inr, Option, Some, None, Ok, Err, Result, Bor}
+use Rattle.std.proofs.Common.{◌≡◌, ℕ, ◌≤◌, ◌<◌, List, [], ◌∷◌, length, length-append, drop, refl, sym, ◌∙◌}
+use Rattle.std.proofs.Common.{arith, ◌==◌, true, inl, inr, Option, Some, None, Ok, Err, Result, Bor}
 use Rattle.std.proofs.lemmas.List.{length-map}
-use Rattle.lp_format.specs.format.{comma, space, Dialect, Fault, Text, Reading, miss, fatal, reads, name, a_measurement, Pair, Value, after_comma}
-use Rattle.lp_format.specs.format.{byte, field, field_set, separated_list, spaces, tag, tag_set, tag_set_malformed}
+use Rattle.lp_format.specs.format.{comma, some_tags, space, Dialect, Fault, Text, Reading, miss, fatal, reads, name, a_measurement, Pair, Value, after_comma}
+use Rattle.lp_format.specs.format.{byte, field, separated_list, spaces, tag, tag_set, tag_set_malformed}
 use Rattle.lp_format.proofs.lemmas.meanings.{JoinedMeaning.the_most_is_read, ShorterRests.tag_no_longer}
 use Rattle.lp_values.proofs.lemmas.fields.ReadingLemmas.{bind_reads, byte_parts, reads_parts}
 use Rattle.lp_values.specs.declared.spelled.SpelledFault.{SpelledFault}
 use Rattle.lp_events.specs.code.Events.{AreAtStart, AreBeforeFault, AreFields, AreTags, AreFrontEvents, AreLongestFront, AreMost, AreRead}
 use Rattle.lp_events.specs.code.Events.{Event, after_spaces, front_events}
-use Rattle.lp_events.proofs.lemmas.fields.ManyLemmas.{DoesNotRead, comma_cases, none_most}
+use Rattle.lp_events.specs.code.Stops.{DoesNotRead}
+use Rattle.lp_events.proofs.lemmas.fields.ManyLemmas.{comma_cases, none_most, read_all, read_fault}
 
 -- where a comma is, no space is
 pub comma_no_space : (text place : List ℕ) → byte comma text ≡ reads comma place → byte space text ≡ miss
@@ -45,6 +46,36 @@ pub tags_after : (text place : List ℕ) (tags : List (Pair Text Text)) (rest : 
     → 0 < length tags → AreMost tag (after_comma tag) place tags rest → AreMost (after_comma tag) (after_comma tag) text tags rest
 tags_after text place tags rest mark some h = most_from (after_comma tag) tag (after_comma tag) text place (rw mark refl) tags rest some h
 
+-- no tags are read without what is left of the text
+pub none_read : (tags : List (Pair Text Text)) (text rest : List ℕ) → (length tags == 0) ≡ true → AreRead (after_comma tag) (after_comma tag) tags text rest
+    → text ≡ rest
+none_read [] text rest none h = h
+none_read (t ∷ tags) text rest none h = absurd (grind arith)
+
+-- tags after commas are, after the first comma, tags that commas join
+after_first : (t : Pair Text Text) (tags : List (Pair Text Text)) (text rest : List ℕ) → AreRead (after_comma tag) (after_comma tag) (t ∷ tags) text rest
+    → (place : List ℕ) × (byte comma text ≡ reads comma place) × AreRead tag (after_comma tag) (t ∷ tags) place rest
+after_first t tags text rest h =
+    let p = bind_reads (byte comma text) (λ after. tag after.rest) t h.0 h.1 in
+    (p.mid, grind (arith, byte_parts), (h.0, p.next, h.2))
+
+-- what is fatal after tags is the fault of their set
+pub set_fatal : (tags : List (Pair Text Text)) (text rest : List ℕ) (e : Fault) → AreRead (after_comma tag) (after_comma tag) tags text rest
+    → after_comma tag rest ≡ fatal e → tag_set text ≡ Err e
+set_fatal [] text rest e h is = grind (arith, comma_cases)
+set_fatal (t ∷ tags) text rest e h is =
+    let first = after_first t tags text rest h in
+    rw (first.1, (read_fault tag tag_no_longer (t ∷ tags) first.0 rest e first.2 is).given) refl
+
+-- if no tag follows, they are all of the set; and if there is none, no comma does
+pub set_all : (tags : List (Pair Text Text)) (text rest : List ℕ) → AreRead (after_comma tag) (after_comma tag) tags text rest
+    → after_comma tag rest ≡ miss → ((length tags == 0) ≡ true → byte comma rest ≡ miss)
+    → (set : Option (List (Pair Text Text))) × (tag_set text ≡ Ok (record { value = set; rest = rest })) × (some_tags set ≡ tags)
+set_all [] text rest h is bare = (None, rw (h, bare refl) refl, refl)
+set_all (t ∷ tags) text rest h is bare =
+    let first = after_first t tags text rest h in
+    (Some (t ∷ tags), rw (first.1, (read_all tag tag_no_longer (t ∷ tags) first.0 rest (omega arith) first.2 is).0) refl, refl)
+
 -- the tags that the code told after a comma are those of the tag set
 pub set_told : (text place : List ℕ) (tags : List (Pair Text Text)) (rest : Bor (List ℕ)) → byte comma text ≡ reads comma place
     → separated_list tag place ≡ reads tags rest.now → AreMost tag (after_comma tag) place tags rest.now → AreTags (Ok rest) text tags
@@ -53,7 +84,7 @@ set_told text place tags rest mark read most =
     (Some tags, rw (mark, read) refl, refl, tags_after text place tags rest.now mark some most)
 
 -- the fields that the code told are the most
-fields_told : (result : Result (Option (Bor (List ℕ))) SpelledFault) (dialect : Dialect) (text : List ℕ)
+pub fields_told : (result : Result (Option (Bor (List ℕ))) SpelledFault) (dialect : Dialect) (text : List ℕ)
     (fields : List (Pair Text (Value Text))) → AreFields result dialect text fields
     → (end : List ℕ) × AreMost field (after_comma field) text fields end
 fields_told (Ok None) dialect text fields h = rw h.1 (text, none_most field (after_comma field) text (rw h.0 (tt {0})))
@@ -81,11 +112,6 @@ pub set_malformed : (text place : List ℕ) → byte comma text ≡ reads comma 
 set_malformed text place mark none =
     (rw (mark, none) refl, text, none_most (after_comma tag) (after_comma tag) text (rw (mark, none) (tt {0})), comma_no_space text place mark)
 
--- the fault of a field is that of the field set
-pub fields_fatal_is : (dialect : Dialect) (text : List ℕ) (fields : List (Pair Text (Value Text))) (e : Fault)
-    → AreBeforeFault field text fields e → field_set dialect text ≡ fatal e
-fields_fatal_is dialect text fields e h = rw h.given refl
-
 -- of two fronts of tags, a space comes only after the longer one
 after_longer : (xs ys : List (Pair Text Text)) (text a b gap : List ℕ) → AreRead (after_comma tag) (after_comma tag) xs text a
     → AreRead (after_comma tag) (after_comma tag) ys text b → length ys ≤ length xs → byte space b ≡ reads space gap → b ≡ a
@@ -94,19 +120,9 @@ after_longer [] (y ∷ ys) text a b gap h k fewer s = absurd (omega arith)
 after_longer (x ∷ xs) [] text a b gap h k fewer s = let none = space_no_tag b gap s in absurd (cc)
 after_longer (x ∷ xs) (y ∷ ys) text a b gap h k fewer s = grind (arith, after_longer xs ys h.0 a b gap h.2)
 
--- so many events
-front_length : (m : Text) (tags : List (Pair Text Text)) (fields : List (Pair Text (Value Text)))
-    → length (front_events m tags fields) ≡ length tags + length fields + 1
-front_length m tags fields = grind (arith, length-append, length-map)
-
 -- if no measurement reads, nothing does
 pub front_none : (line : List ℕ) → DoesNotRead (name a_measurement line) → AreLongestFront line []
-front_none line none = record { front = inl refl; longest = longest }
-  where
-    -- no front has any
-    longest : (others : List Event) → AreFrontEvents line others → length others ≤ 0
-    longest others (inl is) = rw is (omega arith)
-    longest others (inr (m, tags, fields, at, is)) = absurd (rw at.named at none)
+front_none line none = record { front = inl refl; longest = λ others are. grind (arith) }
 
 -- fields come after a space
 space_there : (text : List ℕ) (x : Pair Text (Value Text)) (rest : List ℕ) → after_spaces field text ≡ reads x rest
@@ -123,8 +139,8 @@ few_fields tags others fields (f ∷ these) start rest end after last h k fewer 
     let there = space_there after f are.0 are.1 in
     most.most (f ∷ these) last (rw (after_longer tags others start rest after there.0 h k fewer there.1) at are)
 
-module _ (line : List ℕ) (m : Text) (start : List ℕ) (read : name a_measurement line ≡ reads m start) (tags : List (Pair Text Text))
-    (rest : List ℕ) (most : AreMost (after_comma tag) (after_comma tag) start tags rest) where
+module _ {line : List ℕ} {m : Text} {start : List ℕ} (read : name a_measurement line ≡ reads m start) {tags : List (Pair Text Text)}
+    {rest : List ℕ} (most : AreMost (after_comma tag) (after_comma tag) start tags rest) where
   -- the most tags, and after them the most fields, are the longest front
   front_longest : (fields : List (Pair Text (Value Text))) (end : List ℕ) → AreMost (after_spaces field) (after_comma field) rest fields end
       → AreLongestFront line (front_events m tags fields)
@@ -142,7 +158,7 @@ module _ (line : List ℕ) (m : Text) (start : List ℕ) (read : name a_measurem
           let ts_are : AreRead (after_comma tag) (after_comma tag) ts start at.after_tags = rw same at at.tags_are in
           let fewer = most.most ts at.after_tags ts_are in
           let few = few_fields tags ts fields fs start rest end at.after_tags at.rest most.are ts_are fewer last at.fields_are in
-          rw (is, front_length n ts fs, front_length m tags fields) (omega (arith, fewer, few))
+          rw is (grind (arith, length-append, length-map, fewer, few))
 
   -- if no space comes after the tags, they are its last parts
   pub front_names : byte space rest ≡ miss → AreLongestFront line (front_events m tags [])
@@ -155,11 +171,7 @@ module _ (line : List ℕ) (m : Text) (start : List ℕ) (read : name a_measurem
       let there = most_at (after_spaces field) field (after_comma field) rest (drop (spaces rest) rest) (rw s refl) fields end h in
       front_longest fields there.0 there.1
 
--- what the code told before a fault, after a space, is the longest front
-pub told_front : (line start : List ℕ) (m : Text) (tags : List (Pair Text Text)) (rest : Bor (List ℕ)) (gap text : List ℕ)
-    (result : Result (Option (Bor (List ℕ))) SpelledFault) (dialect : Dialect) (fields : List (Pair Text (Value Text)))
-    → name a_measurement line ≡ reads m start → AreTags (Ok rest) start tags → byte space rest.now ≡ reads space gap
-    → text ≡ drop (spaces rest.now) rest.now → AreFields result dialect text fields → AreLongestFront line (front_events m tags fields)
-told_front line start m tags rest gap text result dialect fields read tags_are s is are =
-    let last = rw is at (fields_told result dialect text fields are) in
-    front_fields line m start read tags rest.now tags_are.3 gap last.0 fields s last.1
+  -- also if none is there
+  pub front_gap : (gap : List ℕ) → byte space rest ≡ reads space gap → DoesNotRead (field (drop (spaces rest) rest))
+      → AreLongestFront line (front_events m tags [])
+  front_gap gap s none = front_fields gap _ [] s (none_most field (after_comma field) (drop (spaces rest) rest) none)

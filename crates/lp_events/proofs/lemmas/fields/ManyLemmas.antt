@@ -1,166 +1,119 @@
 -- Values that commas join are read one after another; and what a tag set was read from.
-use Rattle.std.proofs.Common.{◌≡◌, ℕ, suc, ◌<◌, List, [], ◌∷◌, ◌++◌, length, length-append, refl, ap, ◌∙◌, arith, inl, inr}
-use Rattle.std.proofs.Common.{◌-◌, append_assoc, ◌⊎◌, Option, Some, None, Ok, append-nil, ◌≤◌}
+use Rattle.std.proofs.Common.{◌≡◌, ℕ, ◌<◌, List, [], ◌∷◌, ◌++◌, length, refl, arith}
+use Rattle.std.proofs.Common.{◌⊎◌, ◌↔◌, Option, Some, None, Ok, ◌≤◌}
 use Rattle.std.proofs.lemmas.Bool.{cases_Bool}
 use Rattle.lp_format.specs.format.{comma, Dialect, Fault, Text, Read, Reading, miss, fatal, reads, name, a_measurement, Pair, Value}
-use Rattle.lp_format.specs.format.{after_comma, byte, field, field_set, many, prepend, separated_list, some_tags, tag, tag_set}
-use Rattle.lp_format.specs.laws.Meanings.{SeparatedBy, SeparatedAfterComma}
-use Rattle.lp_format.proofs.lemmas.meanings.{JoinedMeaning.the_most_is_read, ShorterRests.tag_no_longer}
-use Rattle.lp_values.proofs.lemmas.fields.ReadingLemmas.{EndsIn, EndsIn-end, EndsIn-self, bind_reads, byte_ends, byte_parts, name_ends}
+use Rattle.lp_format.specs.format.{after_comma, byte, field, field_set, separated_list, some_tags, tag, tag_set}
+use Rattle.lp_format.specs.laws.Meanings.{LongestList, NextHasFault, SeparatedBy, SeparatedAfterComma}
+use Rattle.lp_format.proofs.lemmas.meanings.{JoinedMeaning.the_most_is_read, JoinedMeaning.the_next_has_the_fault, ShorterRests.IsNoLonger}
+use Rattle.lp_format.proofs.lemmas.meanings.ShorterRests.{tag_no_longer}
+use Rattle.lp_values.proofs.lemmas.fields.ReadingLemmas.{EndsIn, EndsIn-end, EndsIn-self, bind_reads, byte_parts, name_ends}
 use Rattle.lp_values.proofs.lemmas.fields.ReadingLemmas.{tag_ends}
-use Rattle.lp_events.specs.code.{Events.AreBeforeFault, Events.AreMost, Events.AreRead, Events.reader_after, EventsLeft.SoFar}
-
--- those that are read after others
-prepend-prepend : {A : Type 0} (xs ys : List A) (r : Reading (List A)) → prepend xs (prepend ys r) ≡ prepend (xs ++ ys) r
-prepend-prepend xs ys rest = grind (arith, append_assoc)
-
--- if no element is, none are read
-many_miss : {A : Type 0} (one : List ℕ → Reading A) (n : ℕ) (rest : List ℕ) → one rest ≡ miss → many one n rest ≡ reads [] rest
-many_miss one n rest e = grind (arith)
-
--- some were read, and a comma after them: the next one may come after it
-pub record AtNext {A : Type 0} (one : List ℕ → Reading A) (text : List ℕ) (done : List A) (rest place : List ℕ) : Type 0 where
-  pub so_far : SoFar one text done rest
-  pub mark : byte comma rest ≡ reads comma place
-
--- where the next one may be: at the start of all, or after those that were read and a comma
-abbrev pub Reached : {A : Type 0} → (List ℕ → Reading A) → List ℕ → List A → List ℕ → List ℕ → Type 0
-Reached one text done rest place = ((done ≡ []) × (place ≡ text)) ⊎ AtNext one text done rest place
-
--- a reading that does not read: it misses, or is fatal
-abbrev pub DoesNotRead : {A : Type 0} → Reading A → Type 0
-DoesNotRead (reads x rest) = ⊥
-DoesNotRead other = Unit {0}
-
-module _ {A : Type 0} (one : List ℕ → Reading A) where
-  -- one more after those that come after others
-  after_more : (done : List A) (text rest after : List ℕ) (y : A) → AreRead one one done text rest → one rest ≡ reads y after
-      → AreRead one one (done ++ y ∷ []) text after
-  after_more [] text rest after y h e = (after, rw h e, refl)
-  after_more (x ∷ done) text rest after y h e = (h.0, h.1, after_more done h.0 rest after y h.2 e)
-
-  -- no more come after others than those after which none reads
-  after_most : (xs ys : List A) (text a b : List ℕ) → AreRead one one xs text a → AreRead one one ys text b → DoesNotRead (one a)
-      → length ys ≤ length xs
-  after_most xs [] text a b h k none = omega arith
-  after_most [] (y ∷ ys) text a b h k none = absurd (rw (rw h at k.1) at none)
-  after_most (x ∷ xs) (y ∷ ys) text a b h k none = grind (arith, after_most xs ys h.0 a b h.2)
-
--- if none reads at the start, none are the most
-pub none_most : {A : Type 0} (first next : List ℕ → Reading A) (text : List ℕ) → DoesNotRead (first text) → AreMost first next text [] text
-none_most {A} first next text none = record { are = refl; most = most }
-  where
-    -- none reads
-    most : (others : List A) (after : List ℕ) → AreRead first next others text after → length others ≤ 0
-    most [] after k = omega arith
-    most (y ∷ ys) after k = absurd (rw k.1 at none)
-
-module _ {A : Type 0} (one : List ℕ → Reading A) where
-  -- one more after those that commas join
-  joined_more : (done : List A) (text rest after : List ℕ) (y : A) → 0 < length done → AreRead one (after_comma one) done text rest
-      → after_comma one rest ≡ reads y after → AreRead one (after_comma one) (done ++ y ∷ []) text after
-  joined_more [] text rest after y some h e = absurd (omega arith)
-  joined_more (x ∷ done) text rest after y some h e = (h.0, h.1, after_more (after_comma one) done h.0 rest after y h.2 e)
-
-  -- if no comma and element follow, these are the most
-  pub so_far_most : (text : List ℕ) (done : List A) (rest : List ℕ) → SoFar one text done rest → DoesNotRead (after_comma one rest)
-      → AreMost one (after_comma one) text done rest
-  so_far_most text [] rest so_far none = absurd (let some = so_far.some in omega arith)
-  so_far_most text (x ∷ xs) rest so_far none = record { are = so_far.done_are; most = most so_far.done_are }
-    where
-      -- no more are after the first
-      most : AreRead one (after_comma one) (x ∷ xs) text rest → (others : List A) (after : List ℕ)
-          → AreRead one (after_comma one) others text after → length others ≤ length (x ∷ xs)
-      most h [] after k = omega arith
-      most h (y ∷ ys) after k =
-          let same : k.0 ≡ h.0 = cc in
-          let fewer = after_most (after_comma one) xs ys h.0 rest after h.2 (rw same at k.2) none in
-          omega (arith, fewer)
-
-  -- after the first element the list has it alone
-  pub so_far_start : (x : A) (text rest : List ℕ) → one text ≡ reads x rest → SoFar one text (x ∷ []) rest
-  so_far_start x text rest e = record {
-    some = omega arith;
-    done_are = (rest, e, refl);
-    fuel = length rest;
-    enough = omega arith;
-    is = rw e refl;
-  }
-
-  -- if no comma and element follow, the list has ended
-  pub so_far_end : (text : List ℕ) (done : List A) (rest : List ℕ) → SoFar one text done rest
-      → after_comma one rest ≡ miss → separated_list one text ≡ reads done rest
-  so_far_end text done rest so_far e = grind (arith, many_miss, append-nil)
-
-  -- a comma and an element more
-  pub so_far_more : (text : List ℕ) (done : List A) (rest after : List ℕ) (y : A) → SoFar one text done rest
-      → after_comma one rest ≡ reads y after
-      → length after < length rest → SoFar one text (done ++ y ∷ []) after
-  so_far_more text done rest after y so_far e less =
-      let fuel : so_far.fuel ≡ suc (so_far.fuel - 1) = omega arith in
-      let joined = prepend-prepend done (y ∷ []) (many (after_comma one) (so_far.fuel - 1) after) in
-      record {
-        some = omega (arith, length-append done (y ∷ []));
-        done_are = joined_more done text rest after y so_far.some so_far.done_are e;
-        fuel = so_far.fuel - 1;
-        enough = omega arith;
-        is = rw fuel at so_far.is ∙ rw e joined;
-      }
-
-  -- what is fatal after a comma is fatal for all
-  pub so_far_fatal : (text : List ℕ) (done : List A) (rest : List ℕ) (e : Fault) → SoFar one text done rest
-      → after_comma one rest ≡ fatal e → separated_list one text ≡ fatal e
-  so_far_fatal text done rest e so_far found = grind (arith)
-
-  -- what is read after a comma is read where the next one may be
-  next_is : (rest place : List ℕ) → byte comma rest ≡ reads comma place → after_comma one rest ≡ one place
-  next_is rest place mark = rw mark refl
-
-  -- one more is read if it may be
-  pub reached_more : {text : List ℕ} {done : List A} {rest place : List ℕ} (after : List ℕ) (y : A)
-      → Reached one text done rest place → one place ≡ reads y after
-      → length after < length place → SoFar one text (done ++ y ∷ []) after
-  reached_more {text} {done} {rest} {place} after y (inl first) e less = rw first.0 (so_far_start y text after (rw first.1 at e))
-  reached_more {text} {done} {rest} {place} after y (inr more) e less = grind (arith, byte_ends, so_far_more, next_is, length-append)
-
-  -- before what is fatal where the next one may be, these are the most
-  pub reached_fatal : {text : List ℕ} {done : List A} {rest place : List ℕ} (e : Fault)
-      → Reached one text done rest place → one place ≡ fatal e → AreBeforeFault one text done e
-  reached_fatal {text} {done} {rest} {place} e (inl first) found =
-      let here = rw first.1 at found in
-      rw first.0
-      (record { rest = text; most = none_most one (after_comma one) text (rw here (tt {0})); next = here; given = rw here refl })
-  reached_fatal {text} {done} {rest} {place} e (inr more) found =
-      let next = next_is rest place more.mark ∙ found in
-      record {
-        rest = rest;
-        most = so_far_most text done rest more.so_far (rw next (tt {0}));
-        next = after_some done more.so_far.some next;
-        given = so_far_fatal text done rest e more.so_far next;
-      }
-    where
-      -- the next one comes after a comma
-      after_some : (done : List A) → 0 < length done → after_comma one rest ≡ fatal e → reader_after one (after_comma one) done rest ≡ fatal e
-      after_some [] some next = absurd (omega arith)
-      after_some (x ∷ xs) some next = next
-
-  -- nothing is read where the next one may be: these are all, and the most
-  pub reached_all : {text : List ℕ} {done : List A} {rest place : List ℕ} → Reached one text done rest place
-      → one place ≡ miss → 0 < length done → (separated_list one text ≡ reads done rest) × AreMost one (after_comma one) text done rest
-  reached_all {text} {done} {rest} {place} (inl first) e some = absurd (let none = ap length first.0 in omega arith)
-  reached_all {text} {done} {rest} {place} (inr more) e some =
-      let none = next_is rest place more.mark ∙ e in
-      (so_far_end text done rest more.so_far none, so_far_most text done rest more.so_far (rw none (tt {0})))
-
-  -- if no comma comes after them, these are all, and the most
-  pub last_read : {text : List ℕ} {done : List A} {rest : List ℕ} → SoFar one text done rest
-      → byte comma rest ≡ miss → (separated_list one text ≡ reads done rest) × AreMost one (after_comma one) text done rest
-  last_read {text} {done} {rest} so_far none =
-      (so_far_end text done rest so_far (rw none refl), so_far_most text done rest so_far (rw none (tt {0})))
+use Rattle.lp_events.specs.code.Stops.{DoesNotRead}
+use Rattle.lp_events.specs.code.{Events.AreBeforeFault, Events.AreMost, Events.AreRead, Events.reader_after}
 
 -- a text begins with a comma, or does not
 pub comma_cases : (text : List ℕ) → (byte comma text ≡ miss) ⊎ ((place : List ℕ) × (byte comma text ≡ reads comma place))
 comma_cases text = grind (arith, cases_Bool)
+
+-- after some, the next reader reads
+pub same_reader : {A : Type 0} (next : List ℕ → Reading A) (xs : List A) → reader_after next next xs ≡ next
+same_reader next [] = refl
+same_reader next (x ∷ xs) = refl
+
+-- and after one or more
+pub after_some : {A : Type 0} (first next : List ℕ → Reading A) (xs : List A) → 0 < length xs → reader_after first next xs ≡ next
+after_some first next [] some = absurd (omega arith)
+after_some first next (x ∷ xs) some = refl
+
+-- one more is read after these
+pub read_more : {A : Type 0} (first next : List ℕ → Reading A) (done : List A) (text rest after : List ℕ) (y : A) → AreRead first next done text rest
+    → reader_after first next done rest ≡ reads y after → AreRead first next (done ++ y ∷ []) text after
+read_more first next [] text rest after y h e = (after, rw h e, refl)
+read_more first next (x ∷ xs) text rest after y h e =
+    (h.0, h.1, read_more next next xs h.0 rest after y h.2 (rw (same_reader next xs) e))
+
+-- no more are there than those after which none reads
+read_most : {A : Type 0} (first next : List ℕ → Reading A) (xs ys : List A) (text a b : List ℕ) → AreRead first next xs text a
+    → AreRead first next ys text b → DoesNotRead (reader_after first next xs a) → length ys ≤ length xs
+read_most first next xs [] text a b h k none = omega arith
+read_most first next [] (y ∷ ys) text a b h k none = absurd (rw (rw h at k.1) at none)
+read_most first next (x ∷ xs) (y ∷ ys) text a b h k none =
+    let same : k.0 ≡ h.0 = cc in
+    let fewer = read_most next next xs ys h.0 a b h.2 (rw same at k.2) (rw (same_reader next xs) none) in
+    omega (arith, fewer)
+
+-- so these are the most
+pub are_most : {A : Type 0} (first next : List ℕ → Reading A) (xs : List A) (text rest : List ℕ) → AreRead first next xs text rest
+    → DoesNotRead (reader_after first next xs rest) → AreMost first next text xs rest
+are_most first next xs text rest h none = record { are = h; most = λ ys after k. read_most first next xs ys text rest after h k none }
+
+-- if none reads at the start, none are the most
+pub none_most : {A : Type 0} (first next : List ℕ → Reading A) (text : List ℕ) → DoesNotRead (first text) → AreMost first next text [] text
+none_most first next text none = are_most first next [] text text refl none
+
+-- these were read, and the next one may be at the place
+pub record Reached {A : Type 0} (one : List ℕ → Reading A) (text : List ℕ) (done : List A) (rest place : List ℕ) : Type 0 where
+  pub are : AreRead one (after_comma one) done text rest
+  pub next : reader_after one (after_comma one) done rest ≡ one place
+
+-- one more was read, and a comma comes after it
+pub reached_more : {A : Type 0} (one : List ℕ → Reading A) (done : List A) (text rest place : List ℕ) (y : A)
+    → AreRead one (after_comma one) (done ++ y ∷ []) text rest → byte comma rest ≡ reads comma place → Reached one text (done ++ y ∷ []) rest place
+reached_more one [] text rest place y h mark = record { are = h; next = rw mark refl }
+reached_more one (x ∷ xs) text rest place y h mark = record { are = h; next = rw mark refl }
+
+module _ {A : Type 0} (one : List ℕ → Reading A) (no_longer : (text : List ℕ) → IsNoLonger text (one text)) where
+  -- parts after commas, in both spellings
+  after_commas : (xs : List A) (text rest : List ℕ) → AreRead (after_comma one) (after_comma one) xs text rest ↔ SeparatedAfterComma one xs text rest
+  after_commas [] text rest = (λ h. h, λ h. h)
+  after_commas (x ∷ xs) text rest = (
+    λ h.
+        let p = bind_reads (byte comma text) (λ after. one after.rest) x h.0 h.1 in
+        (p.mid, h.0, (byte_parts comma text p.first p.mid p.was).1, p.next, (after_commas xs h.0 rest).0 h.2),
+    λ h. (h.1, rw h.2 h.3, (after_commas xs h.1 rest).1 h.4),
+  )
+
+  -- parts that commas join
+  joined : (xs : List A) (text rest : List ℕ) → AreRead one (after_comma one) xs text rest ↔ SeparatedBy one xs text rest
+  joined [] text rest = (λ h. h, λ h. h)
+  joined (x ∷ xs) text rest =
+      (λ h. (h.0, h.1, (after_commas xs h.0 rest).0 h.2), λ h. (h.0, h.1, (after_commas xs h.0 rest).1 h.2))
+
+  -- the most of them
+  longest : (text : List ℕ) (xs : List A) (rest : List ℕ) → AreMost one (after_comma one) text xs rest → LongestList one text xs rest
+  longest text xs rest h = record {
+    separated = (joined xs text rest).0 h.are;
+    most = λ others after k. h.most others after ((joined others text after).1 k);
+  }
+
+  -- if none follows, these are all, and the most
+  pub read_all : (xs : List A) (text rest : List ℕ) → 0 < length xs → AreRead one (after_comma one) xs text rest
+      → reader_after one (after_comma one) xs rest ≡ miss → (separated_list one text ≡ reads xs rest) × AreMost one (after_comma one) text xs rest
+  read_all [] text rest some h none = absurd (omega arith)
+  read_all (x ∷ xs) text rest some h none =
+      let most = are_most one (after_comma one) (x ∷ xs) text rest h (rw none (tt {0})) in (
+        (the_most_is_read one (λ t. (no_longer t).holds) text (x ∷ xs) rest).1
+            (record { some = some; longest = longest text (x ∷ xs) rest most; no_fault = λ e f. grind (arith) }),
+        most,
+      )
+
+  -- before what is fatal these are the most
+  pub read_fault : (xs : List A) (text rest : List ℕ) (e : Fault) → AreRead one (after_comma one) xs text rest
+      → reader_after one (after_comma one) xs rest ≡ fatal e → AreBeforeFault one text xs e
+  read_fault xs text rest e h next =
+      let most = are_most one (after_comma one) xs text rest h (rw next (tt {0})) in
+      record {
+        rest = rest;
+        most = most;
+        next = next;
+        given = (the_next_has_the_fault one (λ t. (no_longer t).holds) text e).1 (xs, rest, longest text xs rest most, fault_is xs next);
+      }
+    where
+      -- the next one has the fault
+      fault_is : (xs : List A) → reader_after one (after_comma one) xs rest ≡ fatal e → NextHasFault one xs rest e
+      fault_is [] next = next
+      fault_is (x ∷ xs) next = grind (arith, comma_cases, byte_parts)
 
 -- what a tag set is read from: a text without a comma at its start, or tags after a comma
 pub data TagSetRead (text : List ℕ) : Option (List (Pair Text Text)) → List ℕ → Type 0 where

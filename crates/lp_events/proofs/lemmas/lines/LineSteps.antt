@@ -1,7 +1,7 @@
 -- The pieces that a call of `next_line` skips, and how many bytes, pieces and items are left after it.
-use Rattle.std.proofs.Common.{◌≡◌, ℕ, ◌+◌, ◌<◌, ◌≤◌, List, [], ◌∷◌, ◌++◌, length, Bool, true, false, ap, refl, sym, arith}
-use Rattle.std.proofs.Common.{append_assoc, cond, length-append, Option, Some, None, Bor, All}
-use Rattle.std.proofs.lemmas.List.Elements.{All-push}
+use Rattle.std.proofs.Common.{◌≡◌, ℕ, ◌+◌, ◌<◌, ◌≤◌, List, [], ◌∷◌, ◌++◌, length, Bool, true, false, refl, sym, arith}
+use Rattle.std.proofs.Common.{append_assoc, length-append, Option, Some, None, Bor, All}
+use Rattle.std.proofs.lemmas.{Bool.cases_Bool, List.Elements.All-push}
 use Rattle.lp_format.specs.format.{newline, Dialect, Left, PiecesLeft, most_pieces, trimmed}
 use Rattle.lp_format.specs.format.Pieces.{Pieces, Pieces.last, Pieces.cut}
 use Rattle.lp_format.proofs.lemmas.{line.TrimLemmas.left_of, line.TrimLemmas.trimmed_is, split.SplitPieces.pieces_exist}
@@ -61,14 +61,10 @@ pieces_less : (before after : Left) (skipped : List (List ℕ)) (piece : List �
     → PiecesLeft before (skipped ++ piece ∷ others) → PiecesLeft after others → length piece + 1 + most_pieces after.text ≤ most_pieces before.text
 pieces_less before after skipped piece others h k = grind (arith, left_total, total_after)
 
--- either of two texts
-either_fits : (b : Bool) (xs ys : List ℕ) (n : ℕ) → length xs ≤ n → length ys ≤ n → length (cond b xs ys) ≤ n
-either_fits x0 xs ys n h k = grind (arith)
-
 -- what is left of a text when it is trimmed is no longer than the text
 left_fits : (in_comment : Bool) (text : List ℕ) → length (left_of in_comment text) ≤ length text
 left_fits in_comment [] = omega arith
-left_fits in_comment (b ∷ rest) = grind (arith, left_fits false rest, left_fits true rest, either_fits)
+left_fits in_comment (b ∷ rest) = grind (arith, cases_Bool, left_fits false rest, left_fits true rest)
 
 -- a piece is no shorter than what is left of it when it is trimmed
 trimmed_fits : (piece : List ℕ) → length (trimmed piece) ≤ length piece
@@ -77,18 +73,10 @@ trimmed_fits piece = rw (trimmed_is piece) (left_fits false piece)
 -- the bytes of a line that was found are no longer left
 pub line_less : (before after : Left) (line : Bor (List ℕ)) → GivesLine before (Some line) after
     → length line.now + 1 + most_pieces after.text ≤ most_pieces before.text
-line_less before after line found =
-    let some = left_pieces after in
-    let gave = found.1 some.0 some.1 in
-    let less = pieces_less before after gave.skipped gave.piece some.0 gave.left some.1 in
-    omega (arith, less, trimmed_fits gave.piece, ap length gave.line_is)
+line_less before after line found = let some = left_pieces after in grind (arith, found.1 some.0 some.1, pieces_less, trimmed_fits)
 
 -- after an item fewer items are left
 pub items_less : (before after : Left) (piece : List ℕ) → 0 < length (trimmed piece)
     → ((others : List (List ℕ)) → PiecesLeft after others → Skipped before (piece ∷ others))
     → most_items after.text < most_items before.text
-items_less before after piece some h =
-    let left = left_pieces after in
-    let gave = h left.0 left.1 in
-    let less = pieces_less before after gave.skipped piece left.0 gave.left left.1 in
-    grind (arith, trimmed_fits)
+items_less before after piece some h = let left = left_pieces after in grind (arith, h left.0 left.1, pieces_less, trimmed_fits)

@@ -1,6 +1,6 @@
 -- What one step of a reader means for the events that are left.
-use Rattle.std.proofs.Common.{◌≡◌, ℕ, ◌-◌, ◌<◌, List, [], ◌∷◌, ◌++◌, length, drop, Bool, true, false, refl, sym, ap, subst, arith}
-use Rattle.std.proofs.Common.{append_assoc, length-append, length-drop, length-take, ◌+◌, ◌≤◌, ℤ, ◌==◌, MatchOption, Option, Some, None}
+use Rattle.std.proofs.Common.{◌∙◌, ◌≡◌, ℕ, ◌-◌, ◌<◌, List, [], ◌∷◌, ◌++◌, length, drop, Bool, true, false, refl, sym, ap, subst, arith}
+use Rattle.std.proofs.Common.{append_assoc, length-append, length-drop, length-take, ◌+◌, ◌≤◌, ℤ, MatchOption, Option}
 use Rattle.std.proofs.Common.{Result, Ok, Err, is_some, IfOk, MatchResult, Bor, ne_eqb, append-nil}
 use Rattle.std.proofs.Math.Seq.{take-append_seam}
 use Rattle.std.proofs.lemmas.{Bool.cases_Bool, Bool.Decides.nat_tests, Grind.common_steps, List.map_push, Result.err_from_is_err_and}
@@ -10,12 +10,13 @@ use Rattle.lp_format.specs.format.{timestamp, without_comma, NameKind, name, Lef
 use Rattle.lp_format.specs.format.{fatal, miss, reads, tag_set_malformed, Value}
 use Rattle.lp_values.proofs.lemmas.fields.ReadingLemmas.{EndsIn, bind_reads, byte_parts, name_ends, name_parts}
 use Rattle.lp_values.specs.declared.spelled.SpelledFault.{SpelledFault}
-use Rattle.lp_events.specs.code.Events.{AreEventsOf, AreLongestFront, AreMost, Event, ended, failed, front_events, tagged, valued}
+use Rattle.lp_events.specs.code.Events.{reader_after, AreEventsOf, AreLongestFront, AreMost, Event, ended, failed, front_events, tagged, valued}
 use Rattle.lp_events.specs.code.EventsLeft.{AreEventsLeft, Completes, FieldsRead, NamesRead, SeriesRead, Steps, most_of_line}
 use Rattle.lp_events.specs.declared.{place.LinePlace.LinePlace}
-use Rattle.lp_events.proofs.lemmas.fields.ManyLemmas.{DoesNotRead, comma_cases, none_most, so_far_end, so_far_fatal, so_far_more}
-use Rattle.lp_events.proofs.lemmas.fields.ManyLemmas.{so_far_most, so_far_start}
-use Rattle.lp_events.proofs.lemmas.fields.FrontLemmas.{comma_no_space, front_fields, front_names, front_none, tags_after}
+use Rattle.lp_events.specs.code.Stops.{DoesNotRead}
+use Rattle.lp_events.proofs.lemmas.fields.ManyLemmas.{after_some, are_most, read_all, read_fault, read_more, same_reader}
+use Rattle.lp_format.proofs.lemmas.meanings.ShorterRests.{field_no_longer}
+use Rattle.lp_events.proofs.lemmas.fields.FrontLemmas.{comma_no_space, front_fields, front_names, front_none, none_read, set_all, set_fatal}
 use Rattle.lp_events.proofs.lemmas.events.LineEvents.{complete_none, complete_some}
 
 -- a line that is completed after one event more is completed with that event
@@ -34,29 +35,18 @@ completes_more {line} {front} {event} {left} h =
 pub completes_fault : {line : List ℕ} {front : List Event} {fault : Fault} {left : Left} {others : List Event} → AreLongestFront line front
     → answer left.dialect line ≡ Err fault → AreEventsLeft left others → Completes line front left (failed fault ∷ others)
 completes_fault {front = front} {fault = fault} {others = others} is_front is h =
-    record {
-      first = failed fault ∷ [];
-      others = others;
-      events_are = refl;
-      line_is = rw is (front, is_front, refl);
-      others_are = h;
-    }
-
--- a number that is not 0
-not_none : (n : ℕ) → (n == 0) ≡ false → 0 < n
-not_none n some = grind (arith, nat_tests)
+    record { first = failed fault ∷ []; others = others; events_are = refl; line_is = rw is (front, is_front, refl); others_are = h }
 
 -- what is left after a name is shorter than the text
 pub name_shorter : (kind : NameKind) (text : List ℕ) (t : Text) (rest : List ℕ) → name kind text ≡ reads t rest → length rest < length text
 unfolding name
-name_shorter kind text t rest e = grind (arith, cases_Bool, name_parts, not_none, length-drop, length-take)
+name_shorter kind text t rest e = grind (arith, cases_Bool, nat_tests, name_parts, length-drop, length-take)
 
 -- the front before the end of a line is what comes before it
 pub front_is : (line rest : List ℕ) → EndsIn line rest → front_before line rest ++ rest ≡ line
 front_is line rest h =
     let n : length (h.front ++ rest) - length rest ≡ length h.front = omega (arith, length-append h.front rest) in
-    let front : front_before (h.front ++ rest) rest ≡ h.front = rw n (take-append_seam h.front rest) in
-    subst (λ l. front_before l rest ++ rest ≡ l) (sym h.is) (ap (λ (x : List ℕ). x ++ rest) front)
+    rw (h.is, n, take-append_seam h.front rest) refl
 
 -- what was stripped of a text, if it begins with a comma
 pub stripped : (result : Option (Bor (List ℕ))) (text : List ℕ)
@@ -75,108 +65,78 @@ pub steps_from : (Are Wanted : Left → List Event → Type 0) (result : Result 
     → ((left : Left) (events : List Event) → Are left events → Wanted left events) → Steps Are result → Steps Wanted result
 steps_from re anted fault on h = grind (arith)
 
-module _ (line : List ℕ) (m : Text) (tags : List (Pair Text Text)) (rest : List ℕ) where
+module _ {line : List ℕ} {m : Text} {tags : List (Pair Text Text)} {rest : List ℕ} {is_first : Bool} (h : NamesRead line m tags rest is_first) where
   -- one tag more is read after a comma
-  pub names_more : (is_first : Bool) (t : Pair Text Text) (after : List ℕ) → NamesRead line m tags rest is_first
-      → after_comma tag rest ≡ reads t after → length after < length rest → NamesRead line m (tags ++ t ∷ []) after false
-  names_more x0 t after so_far is less = grind (arith, bind_reads, byte_parts, so_far_start, so_far_more)
+  pub names_more : (t : Pair Text Text) (after : List ℕ) → after_comma tag rest ≡ reads t after → NamesRead line m (tags ++ t ∷ []) after false
+  names_more t after is =
+      let read = read_more (after_comma tag) (after_comma tag) tags h.start rest after t h.tags_are (rw (same_reader (after_comma tag) tags) is) in
+      record { start = h.start; name_is = h.name_is; tags_are = read; first_is = grind (arith, length-append, ne_eqb) }
+
+  -- if no tag reads after a comma, these are the most
+  names_most : DoesNotRead (after_comma tag rest) → AreMost (after_comma tag) (after_comma tag) h.start tags rest
+  names_most none = are_most (after_comma tag) (after_comma tag) tags h.start rest h.tags_are (rw (same_reader (after_comma tag) tags) none)
+
+  -- and if a comma is there, what was read is the longest front of the line
+  pub names_front : {place : List ℕ} → byte comma rest ≡ reads comma place → DoesNotRead (after_comma tag rest)
+      → AreLongestFront line (front_events m tags [])
+  names_front {place} mark none = front_names h.name_is (names_most none) (comma_no_space rest place mark)
 
   -- what is fatal after a comma is the fault of the line
-  pub names_fatal : (dialect : Dialect) (is_first : Bool) (fault : Fault) → NamesRead line m tags rest is_first
-      → after_comma tag rest ≡ fatal fault → answer dialect line ≡ Err fault
+  pub names_fatal : (dialect : Dialect) (fault : Fault) → after_comma tag rest ≡ fatal fault → answer dialect line ≡ Err fault
   unfolding answer
-  names_fatal dialect true fault (e, none) is = grind (arith, comma_cases)
-  names_fatal dialect false fault (start, place, e, mark, so_far) is =
-      rw (e, mark, so_far_fatal tag place tags rest fault so_far is) refl
+  names_fatal dialect fault is = rw (h.name_is, set_fatal tags h.start rest fault h.tags_are is) refl
 
   -- a comma after the measurement with no tag is malformed
-  pub names_malformed : (dialect : Dialect) (is_first : Bool) (place : List ℕ) → NamesRead line m tags rest is_first → is_first ≡ true
-      → byte comma rest ≡ reads comma place → after_comma tag rest ≡ miss → answer dialect line ≡ Err tag_set_malformed
+  pub names_malformed : {place : List ℕ} (dialect : Dialect) → is_first ≡ true → byte comma rest ≡ reads comma place
+      → after_comma tag rest ≡ miss → answer dialect line ≡ Err tag_set_malformed
   unfolding answer
-  names_malformed dialect x1 place h first mark is = grind (arith)
-
-  -- at a comma after which no tag reads, what was read is the longest front of the line
-  pub names_front : (is_first : Bool) (place : List ℕ) → NamesRead line m tags rest is_first → byte comma rest ≡ reads comma place
-      → DoesNotRead (after_comma tag rest) → AreLongestFront line (front_events m tags [])
-  names_front true place (e, none) mark no_tag =
-      let most = none_most (after_comma tag) (after_comma tag) rest no_tag in
-      rw none (front_names line m rest e [] rest most (comma_no_space rest place mark))
-  names_front false place (start, first, e, sign, so_far) mark no_tag =
-      let most = tags_after start first tags rest sign so_far.some (so_far_most tag first tags rest so_far no_tag) in
-      front_names line m start e tags rest most (comma_no_space rest place mark)
+  names_malformed dialect first mark is =
+      let start : h.start ≡ rest = none_read tags h.start rest (sym h.first_is ∙ first) h.tags_are in
+      rw (h.name_is, start, mark, rw mark at is) refl
 
   -- if no tag follows, all were read
-  pub names_end : (is_first : Bool) → NamesRead line m tags rest is_first → (is_first ≡ true → byte comma rest ≡ miss)
-      → after_comma tag rest ≡ miss → SeriesRead line m tags rest
-  names_end true (e, none) bare is =
-      rw none
-      (record {
-        start = rest;
-        set = None;
-        name_is = e;
-        most = none_most (after_comma tag) (after_comma tag) rest (rw is (tt {0}));
-        set_is = rw (bare refl) refl;
-        tags_are = refl;
-      })
-  names_end false (start, place, e, mark, so_far) bare is =
-      record {
-        start = start;
-        set = Some tags;
-        name_is = e;
-        most = tags_after start place tags rest mark so_far.some (so_far_most tag place tags rest so_far (rw is (tt {0})));
-        set_is = rw (mark, so_far_end tag place tags rest so_far is) refl;
-        tags_are = refl;
-      }
-
-module _ {line : List ℕ} {m : Text} {tags : List (Pair Text Text)} {rest : List ℕ} (h : SeriesRead line m tags rest) where
-  -- without a space after it, what was read is the longest front of the line
-  pub series_front : byte space rest ≡ miss → AreLongestFront line (front_events m tags [])
-  series_front none = front_names line m h.start h.name_is tags rest h.most none
-
-  -- with a space and these fields, the most that are there, too
-  pub valued_front : (gap end : List ℕ) (fields : List (Pair Text (Value Text))) → byte space rest ≡ reads space gap
-      → AreMost field (after_comma field) (drop (spaces rest) rest) fields end → AreLongestFront line (front_events m tags fields)
-  valued_front gap end fields s most = front_fields line m h.start h.name_is tags rest h.most gap end fields s most
-
-  -- and with a space after which no field reads
-  pub first_front : (gap : List ℕ) → byte space rest ≡ reads space gap → DoesNotRead (field (drop (spaces rest) rest))
-      → AreLongestFront line (front_events m tags [])
-  first_front gap s none = valued_front gap _ [] s (none_most field (after_comma field) (drop (spaces rest) rest) none)
+  pub names_end : (is_first ≡ true → byte comma rest ≡ miss) → after_comma tag rest ≡ miss → SeriesRead line m tags rest
+  names_end bare is =
+      let set = set_all tags h.start rest h.tags_are is (λ none. bare (h.first_is ∙ none)) in
+      record { start = h.start; set = set.0; name_is = h.name_is; most = names_most (rw is (tt {0})); set_is = set.1; tags_are = set.2 }
 
 -- the first field after the tags
 pub first_read : {line : List ℕ} {m : Text} {tags : List (Pair Text Text)} {rest : List ℕ} → SeriesRead line m tags rest
     → (gap : List ℕ) (x : Pair Text (Value Text)) (after : List ℕ) → byte space rest ≡ reads space gap
     → field (drop (spaces rest) rest) ≡ reads x after
     → FieldsRead line (front_before line rest) m tags (x ∷ []) after true
-first_read {rest = rest} h gap x after s f = grind (arith, so_far_start)
+first_read {rest = rest} h gap x after s f = grind (arith)
 
 module _ {line series : List ℕ} {m : Text} {tags : List (Pair Text Text)} {fields : List (Pair Text (Value Text))} {rest : List ℕ}
     {is_first : Bool} (h : FieldsRead line series m tags fields rest is_first) where
+  -- the next field comes after a comma
+  next_is : reader_after field (after_comma field) fields ≡ after_comma field
+  next_is = after_some field (after_comma field) fields h.some
+
   -- one field more
   pub fields_more : (x : Pair Text (Value Text)) (after : List ℕ) → after_comma field rest ≡ reads x after
-      → length after < length rest → FieldsRead line series m tags (fields ++ x ∷ []) after false
-  fields_more x after is less = grind (arith, length-append, so_far_more, ne_eqb)
+      → FieldsRead line series m tags (fields ++ x ∷ []) after false
+  fields_more x after is =
+      let read = read_more field (after_comma field) fields _ rest after x h.fields_are (rw next_is is) in
+      grind (arith, length-append, ne_eqb)
 
   -- if no field reads after a comma, what was read is the longest front of the line
   pub fields_front : DoesNotRead (after_comma field rest) → AreLongestFront line (front_events m tags fields)
-  fields_front none = valued_front h.series_read h.gap rest fields h.gap_is
-      (so_far_most field (drop (spaces h.after) h.after) fields rest h.so_far none)
+  fields_front none = front_fields h.series_read.name_is h.series_read.most h.gap rest fields h.gap_is
+      (are_most field (after_comma field) fields _ rest h.fields_are (rw next_is none))
 
   -- a field that is fatal
   pub fields_fatal : (dialect : Dialect) (fault : Fault) → after_comma field rest ≡ fatal fault → answer dialect line ≡ Err fault
   unfolding answer
-  fields_fatal dialect fault is = rw (
-    h.series_read.name_is,
-    h.series_read.set_is,
-    h.gap_is,
-    so_far_fatal field (drop (spaces h.after) h.after) fields rest fault h.so_far is,
-  ) refl
+  fields_fatal dialect fault is =
+      let given = (read_fault field field_no_longer fields _ rest fault h.fields_are (rw next_is is)).given in
+      rw (h.series_read.name_is, h.series_read.set_is, h.gap_is, given) refl
 
   -- no field follows
   module _ (dialect : Dialect) (none : after_comma field rest ≡ miss) where
     -- so these are all
     all_fields : field_set dialect (drop (spaces h.after) h.after) ≡ reads fields (without_comma dialect fields rest)
-    all_fields = rw (so_far_end field (drop (spaces h.after) h.after) fields rest h.so_far none) refl
+    all_fields = rw (read_all field field_no_longer fields _ rest h.some h.fields_are (rw next_is none)).0 refl
 
     -- the timestamp is at fault
     pub time_fault : (fault : Fault) → timestamp (without_comma dialect fields rest) ≡ Err fault → answer dialect line ≡ Err fault

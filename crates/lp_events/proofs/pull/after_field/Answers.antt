@@ -17,11 +17,8 @@ returns-in_err-key-clause-steps c =
 pub returns-in-Some-clause-steps : goal.returns-in-Some-clause-steps
 returns-in-Some-clause-steps c = λ left others later d line m tags fs h.
     let x = spelled_field (c.in-Some.key, c.in-Some.value) in
-    completes_more
-    (rw (← field_after m tags fs x)
-    (later line m tags (fs ++ x ∷ [])
-    (fields_more h x c.in-Some.rest.now
-    (rw c.in-Some.is at c.in_ok-key.ensures.value) (rw c.in-Some.is at c.in_ok-key.ensures.less))))
+    completes_more (rw (← field_after m tags fs x)
+    (later line m tags (fs ++ x ∷ []) (fields_more h x c.in-Some.rest.now (rw c.in-Some.is at c.in_ok-key.ensures.value))))
 
 pub returns-in_err-timestamp-clause-steps : goal.returns-in_err-timestamp-clause-steps
 returns-in_err-timestamp-clause-steps c =

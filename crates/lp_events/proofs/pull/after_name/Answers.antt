@@ -13,20 +13,15 @@ use Rattle.lp_events.proofs.pull.after_name.Goals.{else-names-via-then-names+els
 pub returns-in_err-key-clause-steps : goal.returns-in_err-key-clause-steps
 returns-in_err-key-clause-steps c =
     let p = err_from_is_err_and c.from_residual.result c.from_residual.ensures.1 in
-    let names = c.args.names in
     rw (p.1, p.2) (λ left others later m tags h.
     let is = c.in_err-key.ensures.value in
-    let mark = fatal_comma names.rest.now _ is in
-    completes_fault (names_front names.line.now m tags names.rest.now names.is_first mark.0 h mark.1 (rw is (tt {0})))
-    (names_fatal names.line.now m tags names.rest.now left.dialect names.is_first _ h is) later)
+    completes_fault (names_front h (fatal_comma c.args.names.rest.now _ is).1 (rw is (tt {0}))) (names_fatal h left.dialect _ is) later)
 
 pub returns-then-is_some-clause-steps : goal.returns-then-is_some-clause-steps
 returns-then-is_some-clause-steps c = λ left others later m tags h.
-    let names = c.args.names in
     let no_tag = rw c.in_default.is at c.in_ok-key.ensures.value in
-    let mark = stripped c.strip_byte.result names.rest.now c.strip_byte.ensures.value (grind arith) in
-    completes_fault (names_front names.line.now m tags names.rest.now names.is_first mark.0 h mark.1 (rw no_tag (tt {0})))
-    (names_malformed names.line.now m tags names.rest.now left.dialect names.is_first mark.0 h (grind arith) mark.1 no_tag) later
+    let mark = stripped c.strip_byte.result c.args.names.rest.now c.strip_byte.ensures.value (grind arith) in
+    completes_fault (names_front h mark.1 (rw no_tag (tt {0}))) (names_malformed h left.dialect (grind arith) mark.1 no_tag) later
 
 pub returns-in_default-clause-steps : goal.returns-in_default-clause-steps
 returns-in_default-clause-steps c =
@@ -37,7 +32,7 @@ returns-in_default-clause-steps c =
     ] in
     let no_tag = rw c.in_default.is at c.in_ok-key.ensures.value in
     steps_from (AreLeftAfterSeries names.line.now names.rest.now) (AreLeftFrom (Names names)) c.first_field.result
-    (λ left events after m tags h. after m tags (names_end _ m tags names.rest.now names.is_first h bare no_tag)) c.first_field.ensures.steps
+    (λ left events after m tags h. after m tags (names_end h bare no_tag)) c.first_field.ensures.steps
 
 pub invariant_of-names : goal.invariant_of-names
 invariant_of-names c =
@@ -52,8 +47,5 @@ invariant_of-names c =
 pub returns-clause-steps : goal.returns-clause-steps
 returns-clause-steps c = λ left others later m tags h.
     let t = spelled_tag (c.in-Some.key, c.in-Some.value) in
-    completes_more
-    (rw (← tag_after m tags t)
-    (later m (tags ++ t ∷ [])
-    (names_more _ m tags c.args.names.rest.now c.args.names.is_first t c.in-Some.rest.now h
-    (rw c.in-Some.is at c.in_ok-key.ensures.value) (rw c.in-Some.is at c.in_ok-key.ensures.less))))
+    completes_more (rw (← tag_after m tags t)
+    (later m (tags ++ t ∷ []) (names_more h t c.in-Some.rest.now (rw c.in-Some.is at c.in_ok-key.ensures.value))))

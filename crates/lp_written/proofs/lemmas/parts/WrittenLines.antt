@@ -1,5 +1,5 @@
 -- Tags, fields, timestamps and lines as the builder writes them.
-use Rattle.std.proofs.Common.{◌≡◌, ℕ, ◌<◌, ◌≤◌, Bool, true, false, List, [], ◌∷◌, ◌++◌, length, drop, slice_index, refl, sym, ap, subst}
+use Rattle.std.proofs.Common.{◌≡◌, ℕ, ◌<◌, ◌≤◌, Bool, true, false, List, [], ◌∷◌, ◌++◌, length, slice_index, refl, sym, ap, subst}
 use Rattle.std.proofs.Common.{◌∙◌, arith, append_assoc, append-nil, length-append, Option, Some, None, ◌↔◌, ℤ, IfSome, MatchOption, codes}
 use Rattle.std.proofs.Common.{Bor, flat_map, take_all}
 use Rattle.std.specs.{Fmt.signed_decimal, List.AllByRecursion, List.list_all}
@@ -45,28 +45,23 @@ module _ {V : Type 0} (kind : NameKind) (stops : is_stop kind equals ≡ true) (
   pub pair_answer : (text key_end after : List ℕ) (o : Option (Bor (List ℕ)))
       → IsWrittenName kind text key_end × ((rest : List ℕ) → IsWrittenName kind text rest → EndsName kind rest → rest ≡ key_end)
       → byte equals key_end ≡ reads equals after → IsOnlyRest (IsWritten print Is after) Ends o → IsOnlyRest (Pairs text) Ends o
-  pair_answer text key_end after o key sign value = go o (byte_left equals key_end after sign) value
+  pair_answer text key_end after o key sign value = go o value
     where
-      -- the same value comes after the sign
-      again : key_end ≡ equals ∷ after → (rest : List ℕ) → Pairs text rest → IsWritten print Is after rest
-      again left rest w = record {
-        thing = w.thing.value;
-        is = w.is.1;
-        written = ap (λ (xs : List ℕ). drop 1 xs) (key.1 _ (key_of text rest w) (sign_ends _) ∙ left);
-      }
+      -- the sign is there
+      left : key_end ≡ equals ∷ after
+      left = byte_left equals key_end after sign
+
+      -- the same value comes after it
+      again : (rest : List ℕ) → Pairs text rest → IsWritten print Is after rest
+      again rest w =
+          let same = key.1 _ (key_of text rest w) (sign_ends _) in record { thing = w.thing.value; is = w.is.1; written = cc (same, left) }
 
       -- by what follows the value
-      go : (o : Option (Bor (List ℕ))) → key_end ≡ equals ∷ after → IsOnlyRest (IsWritten print Is after) Ends o
-          → IsOnlyRest (Pairs text) Ends o
-      go None left none = λ rest w ends. none rest (again left rest w) ends
-      go (Some r) left only = (
-        record {
-          thing = record { key = key.0.thing; value = only.0.thing };
-          is = (key.0.is, only.0.is);
-          written = append_assoc (spelling kind key.0.thing) (equals ∷ print only.0.thing) r.now
-              ∙ rw (only.0.written, ← left) key.0.written;
-        },
-        λ rest w ends. only.1 rest (again left rest w) ends,
+      go : (o : Option (Bor (List ℕ))) → IsOnlyRest (IsWritten print Is after) Ends o → IsOnlyRest (Pairs text) Ends o
+      go None none = λ rest w ends. none rest (again rest w) ends
+      go (Some r) only = (
+        record { thing = record { key = key.0.thing; value = only.0.thing }; is = (key.0.is, only.0.is); written = grind (arith, append_assoc) },
+        λ rest w ends. only.1 rest (again rest w) ends,
       )
 
 -- what follows a thing is no longer than the text
@@ -84,27 +79,30 @@ followed_step front after e ends whole text parts (Some r) only = (
   λ w. let f = parts.0 w in subst after (only.1 f.rest f.front (ends f.rest f.after)) f.after,
 )
 
-module _ (Item : List ℕ → List ℕ → Type 0) (After Ends : List ℕ → Type 0) where
-  -- what a reader of items keeps, if an item and this rest are after a comma
-  abbrev Kept : Type 0
-  Kept = (whole left text : List ℕ) (r : Bor (List ℕ)) → AreItems Item After left ↔ AreItems Item After whole
+-- what comes after items ends an item, as a comma does, and begins with none
+record ItemsEnd (After Ends : List ℕ → Type 0) : Type 0 where
+  comma_ends : (after : List ℕ) → Ends (comma ∷ after)
+  after_ends : (text : List ℕ) → After text → Ends text
+  no_comma : (after : List ℕ) → After (comma ∷ after) → ⊥
+
+-- what a reader of items tells of the whole: that of what is left after an item; nothing, if no item is after a comma; and that of
+-- what comes after items, if no comma is
+pub record ItemSteps (Item : List ℕ → List ℕ → Type 0) (After Ends : List ℕ → Type 0) : Type 0 where
+  pub kept : (whole left text : List ℕ) (r : Bor (List ℕ)) → AreItems Item After left ↔ AreItems Item After whole
       → byte comma left ≡ reads comma text → Item text r.now × ((rest : List ℕ) → Item text rest → Ends rest → rest ≡ r.now)
       → AreItems Item After r.now ↔ AreItems Item After whole
-
-  -- what it answers if no item is there
-  abbrev NoItem : Type 0
-  NoItem = (whole left text : List ℕ) → AreItems Item After left ↔ AreItems Item After whole
+  pub none : (whole left text : List ℕ) → AreItems Item After left ↔ AreItems Item After whole
       → byte comma left ≡ reads comma text → ((rest : List ℕ) → Item text rest → Ends rest → ⊥) → (false ≡ true) ↔ AreItems Item After whole
+  pub last : (left : List ℕ) → byte comma left ≡ miss → After left ↔ AreItems Item After left
 
-module _ (Item : List ℕ → List ℕ → Type 0) (After Ends : List ℕ → Type 0) (comma_ends : (after : List ℕ) → Ends (comma ∷ after))
-    (after_ends : (text : List ℕ) → After text → Ends text) (no_comma : (after : List ℕ) → After (comma ∷ after) → ⊥) where
+module _ (Item : List ℕ → List ℕ → Type 0) {After Ends : List ℕ → Type 0} (end : ItemsEnd After Ends) where
   -- items end the item before them
   items_end : (text : List ℕ) → AreItems Item After text → Ends text
-  items_end text more = grind (arith)
+  items_end text more = grind (arith, end.comma_ends, end.after_ends)
 
   -- after a comma an item comes, and then items
   after_comma : (left text : List ℕ) → left ≡ comma ∷ text → AreItems Item After left → IsFollowed Item (AreItems Item After) text
-  after_comma left text e more = grind (arith)
+  after_comma left text e more = grind (arith, end.no_comma)
 
   -- a step of a reader of items: after a comma
   items_step : (left text : List ℕ) (o : Option (Bor (List ℕ))) → byte comma left ≡ reads comma text → IsOnlyRest (Item text) Ends o
@@ -114,89 +112,52 @@ module _ (Item : List ℕ → List ℕ → Type 0) (After Ends : List ℕ → Ty
       followed_step Item (AreItems Item After) Ends items_end (AreItems Item After left) text
       (after_comma left text e, λ f. an_item text f.rest e f.front f.after) o
 
-  -- what is left is items if the whole is, after an item too
-  items_kept : Kept Item After Ends
-  items_kept whole left text r same read only =
-      let step = items_step left text (Some r) read only in (λ w. same.0 (step.0 w), λ w. step.1 (same.1 w))
+  -- what a reader of items keeps
+  items_read : ItemSteps Item After Ends
+  items_read = record {
+    kept = λ whole left text r same read only.
+        let step = items_step left text (Some r) read only in (λ w. same.0 (step.0 w), λ w. step.1 (same.1 w));
+    none = λ whole left text same read none. (λ h. absurd (false≢true h), λ w. absurd (items_step left text None read none (same.1 w)));
+    last = λ left missed. (λ w. no_item w, λ more. grind (arith, byte_missing));
+  }
 
-  -- and the whole is not, if no item is after a comma
-  items_none : NoItem Item After Ends
-  items_none whole left text same read none = (λ h. absurd (false≢true h), λ w. absurd (items_step left text None read none (same.1 w)))
+-- a timestamp comes after fields
+fields_end : ItemsEnd IsWrittenTimestamp EndsValue
+fields_end = record { comma_ends = λ after. refl; after_ends = λ text w. grind (arith); no_comma = λ after w. grind (arith) }
 
-  -- if no comma is, what comes after items is there
-  items_last : (left : List ℕ) → byte comma left ≡ miss → After left ↔ AreItems Item After left
-  items_last left missed = (λ w. no_item w, last)
-    where
-      -- no item is there
-      last : AreItems Item After left → After left
-      last more = grind (arith, byte_missing)
-
--- a timestamp ends a value
-stamp_ends : (text : List ℕ) → IsWrittenTimestamp text → EndsValue text
-stamp_ends text w = grind (arith)
-
--- and begins with no comma
-stamp_no_comma : (after : List ℕ) → IsWrittenTimestamp (comma ∷ after) → ⊥
-stamp_no_comma after w = grind (arith)
-
--- fields after the first end the field before them
-fields_end : (text : List ℕ) → IsWrittenAfterField text → EndsValue text
-fields_end = items_end IsWrittenField IsWrittenTimestamp EndsValue (λ after. refl) stamp_ends stamp_no_comma
-
--- a field after the first
-pub field_kept : Kept IsWrittenField IsWrittenTimestamp EndsValue
-field_kept = items_kept IsWrittenField IsWrittenTimestamp EndsValue (λ after. refl) stamp_ends stamp_no_comma
-
--- or none after its comma
-pub no_field : NoItem IsWrittenField IsWrittenTimestamp EndsValue
-no_field = items_none IsWrittenField IsWrittenTimestamp EndsValue (λ after. refl) stamp_ends stamp_no_comma
-
--- if no comma is, a timestamp is after a field, or nothing
-pub only_timestamp : (text : List ℕ) → byte comma text ≡ miss → IsWrittenTimestamp text ↔ IsWrittenAfterField text
-only_timestamp = items_last IsWrittenField IsWrittenTimestamp EndsValue (λ after. refl) stamp_ends stamp_no_comma
+-- the steps of a reader of the fields after the first
+pub later_fields : ItemSteps IsWrittenField IsWrittenTimestamp EndsValue
+later_fields = items_read IsWrittenField fields_end
 
 -- the first field, and what comes after it
 pub first_step : (text : List ℕ) (o : Option (Bor (List ℕ))) → IsOnlyRest (IsWrittenField text) EndsValue o
     → MatchOption o (AreWrittenFields text → ⊥) (λ r. IsWrittenAfterField r.now ↔ AreWrittenFields text)
-first_step text = followed_step IsWrittenField IsWrittenAfterField EndsValue fields_end (AreWrittenFields text) text (λ w. w, λ w. w)
+first_step text = followed_step IsWrittenField IsWrittenAfterField EndsValue (items_end IsWrittenField fields_end)
+    (AreWrittenFields text) text (λ w. w, λ w. w)
 
--- the space before the fields ends a name of each kind that comes before them
-gap_ends : (kind : NameKind) → is_stop kind space ≡ true → (text : List ℕ) → IsWrittenAfterTags text → EndsName kind text
-gap_ends kind stops text w = subst (EndsName kind) (sym w.front) (stop_ends kind space w.rest stops (λ e. omega (arith, e)))
+-- the space before the fields comes after a name, or after tags
+gap_end : (kind : NameKind) → is_stop kind comma ≡ true → is_stop kind space ≡ true → ItemsEnd IsWrittenAfterTags (EndsName kind)
+gap_end kind at_comma at_space = record {
+  comma_ends = λ after. stop_ends kind comma after at_comma (λ e. omega (arith, e));
+  after_ends = λ text w. subst (EndsName kind) (sym w.front) (stop_ends kind space w.rest at_space (λ e. omega (arith, e)));
+  no_comma = λ after w. omega (arith, ap (λ (xs : List ℕ). slice_index xs 0) w.front);
+}
 
--- and is no comma
-gap_no_comma : (after : List ℕ) → IsWrittenAfterTags (comma ∷ after) → ⊥
-gap_no_comma after w = omega (arith, ap (λ (xs : List ℕ). slice_index xs 0) w.front)
-
--- so does a comma
-comma_ends : (kind : NameKind) → is_stop kind comma ≡ true → (after : List ℕ) → EndsName kind (comma ∷ after)
-comma_ends kind stops after = stop_ends kind comma after stops (λ e. omega (arith, e))
-
--- a tag
-pub tag_kept : Kept IsWrittenTag IsWrittenAfterTags (EndsName a_tag_value)
-tag_kept = items_kept IsWrittenTag IsWrittenAfterTags (EndsName a_tag_value) (comma_ends a_tag_value refl) (gap_ends a_tag_value refl) gap_no_comma
-
--- or none after its comma
-pub no_tag : NoItem IsWrittenTag IsWrittenAfterTags (EndsName a_tag_value)
-no_tag = items_none IsWrittenTag IsWrittenAfterTags (EndsName a_tag_value) (comma_ends a_tag_value refl) (gap_ends a_tag_value refl) gap_no_comma
-
--- if no comma is, the fields are after a name
-only_gap : (text : List ℕ) → byte comma text ≡ miss → IsWrittenAfterTags text ↔ IsWrittenAfterName text
-only_gap = items_last IsWrittenTag IsWrittenAfterTags (EndsName a_tag_value) (comma_ends a_tag_value refl) (gap_ends a_tag_value refl) gap_no_comma
+-- the steps of a reader of tags
+pub all_tags : ItemSteps IsWrittenTag IsWrittenAfterTags (EndsName a_tag_value)
+all_tags = items_read IsWrittenTag (gap_end a_tag_value refl refl)
 
 -- if neither a comma nor a space is, nothing is after a name
 pub no_gap : (text : List ℕ) → byte comma text ≡ miss → byte space text ≡ miss → IsWrittenAfterName text → ⊥
-no_gap text no_comma no_space w = let g = (only_gap text no_comma).1 w in byte_missing space text no_space g.rest g.front
+no_gap text no_comma no_space w = let g = (all_tags.last text no_comma).1 w in byte_missing space text no_space g.rest g.front
 
 -- after a space the fields come
 pub fields_after : (text fields : List ℕ) → byte comma text ≡ miss → byte space text ≡ reads space fields
     → AreWrittenFields fields ↔ IsWrittenAfterName text
 fields_after text fields no_comma read =
     let left = byte_left space text fields read in
-    let gap = only_gap text no_comma in (
-      (λ w. gap.0 (record { rest = fields; front = left; after = w })),
-      (λ w. let f = gap.1 w in subst AreWrittenFields (ap (λ (xs : List ℕ). drop 1 xs) (sym f.front ∙ left)) f.after),
-    )
+    let gap = all_tags.last text no_comma in
+    (λ w. gap.0 (record { rest = fields; front = left; after = w }), λ w. let f = gap.1 w in subst AreWrittenFields (cc (f.front, left)) f.after)
 
 -- a timestamp after its space
 timestamp_number : (number : List ℕ) → IsWrittenTimestamp (space ∷ number) → (z : ℤ) × (fits_i64 z ≡ true) × (signed_decimal z ≡ number)
@@ -271,7 +232,7 @@ after_tags (f ∷ fs) t some all fits = record {
 all_pass : {X : Type 0} (test : X → Bool) (P : X → Type 0) → ((x : X) → P x → test x ≡ true) → (xs : List X) → AllByRecursion P xs
     → list_all test xs ≡ true
 all_pass test P each [] all = refl
-all_pass test P each (x ∷ xs) all = and_from (test x) (list_all test xs) (each x all.0) (all_pass test P each xs all.1)
+all_pass test P each (x ∷ xs) all = rw (each x all.0, all_pass test P each xs all.1) refl
 
 -- the values of admitted fields
 field_values : (fs : List Field) → AllByRecursion AdmittedField fs → AllByRecursion (λ f. IsValue f.value) fs
@@ -323,11 +284,11 @@ line_is line = (there, back)
 pub line_step : (line : List ℕ) (o : Option (Bor (List ℕ))) → IsOnlyRest (IsWrittenName a_measurement line) (EndsName a_measurement) o
     → MatchOption o (IsAsWritten line → ⊥) (λ r. IsWrittenAfterName r.now ↔ IsAsWritten line)
 line_step line = followed_step (IsWrittenName a_measurement) IsWrittenAfterName (EndsName a_measurement)
-    (items_end IsWrittenTag IsWrittenAfterTags (EndsName a_measurement) (comma_ends a_measurement refl) (gap_ends a_measurement refl) gap_no_comma)
+    (items_end IsWrittenTag (gap_end a_measurement refl refl))
     (IsAsWritten line) line (line_is line)
 
 -- the steps of a reader of tags
-pub ruleset tag_steps = (written_less, no_gap, fields_after, tag_kept, no_tag)
+pub ruleset tag_steps = (written_less, no_gap, fields_after, all_tags)
 
 -- the steps of a reader of a pair
 pub ruleset pair_steps = (pair_no_key, pair_no_sign, pair_answer)
@@ -336,4 +297,4 @@ pub ruleset pair_steps = (pair_no_key, pair_no_sign, pair_answer)
 pub ruleset stamp_steps = (whole_number, timestamp_tells)
 
 -- the steps of a reader of fields
-pub ruleset field_steps = (written_less, field_kept, no_field, only_timestamp)
+pub ruleset field_steps = (written_less, later_fields)

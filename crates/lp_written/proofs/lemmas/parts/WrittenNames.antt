@@ -1,7 +1,7 @@
 -- Names and strings that are spelled as the builder spells them, and how far such a token goes.
-use Rattle.std.proofs.Common.{◌≡◌, ℕ, ◌&&◌, Bool, true, false, not, List, [], ◌∷◌, length, take, drop, slice_index, refl, sym, ap, subst}
+use Rattle.std.proofs.Common.{◌≡◌, ℕ, Bool, true, false, not, List, [], ◌∷◌, length, take, drop, slice_index, refl, sym, ap, subst}
 use Rattle.std.proofs.Common.{◌∙◌, arith, ◌≢◌, Option, Some, None, ◌==◌, MatchOption, Bor, ne_eqb, eq-eqb, eqb-true, drop_at, take_at, append_assoc}
-use Rattle.std.proofs.Common.{take-append-drop, suc, zero, ◌+◌, ◌-◌, ◌<◌, ◌≤◌, ◌||◌, ◌++◌, inl, inr, one-add, zero-add, drop-drop}
+use Rattle.std.proofs.Common.{take-append-drop, suc, zero, ◌+◌, ◌-◌, ◌<◌, ◌≤◌, ◌||◌, ◌++◌, one-add}
 use Rattle.std.proofs.Common.{get_or-drop, length-drop}
 use Rattle.std.specs.List.{list_all}
 use Rattle.std.proofs.lemmas.Bool.{cases_Bool, and_parts, or_parts, not-true, not-false}
@@ -20,12 +20,6 @@ pub written_unmarked : (known : List ℕ) (stops : ℕ → Bool) (b : ℕ) (text
 unfolding written_len
 written_unmarked known stops b text plain = grind (arith)
 
--- a mark that is no backslash ends it
-pub written_stops : (known : List ℕ) (stops : ℕ → Bool) (b : ℕ) (text : List ℕ) → (stops b || is_one_of known b) ≡ true → b ≢ backslash
-    → written_len known stops (b ∷ text) ≡ 0
-unfolding written_len
-written_stops known stops b text mark other = grind (arith, ne_eqb)
-
 -- a backslash before a byte that gets one is two bytes of it
 pub written_escape : (known : List ℕ) (stops : ℕ → Bool) (b c : ℕ) (text : List ℕ) → (stops b || is_one_of known b) ≡ true
     → b ≡ backslash → is_one_of known c ≡ true → written_len known stops (b ∷ c ∷ text) ≡ 2 + written_len known stops text
@@ -40,17 +34,6 @@ pub written_ends : (known : List ℕ) (stops : ℕ → Bool) (text : List ℕ)
 unfolding written_len
 written_ends known stops text mark other = grind (arith, cases_Bool, and_parts, eqb-true)
 
--- bytes that are no marks are passed
-pub written_run : (known : List ℕ) (stops : ℕ → Bool) (n : ℕ) (text : List ℕ) → n ≤ length text
-    → ((k : ℕ) → k < n → (stops (slice_index text k) || is_one_of known (slice_index text k)) ≡ false)
-    → written_len known stops text ≡ n + written_len known stops (drop n text)
-written_run known stops zero text within plain = sym (zero-add (written_len known stops text))
-written_run known stops (suc n) [] within plain = absurd (omega arith)
-written_run known stops (suc n) (b ∷ text) within plain =
-    let first = written_unmarked known stops b text (plain 0 (omega arith)) in
-    let more = written_run known stops n text (omega arith) (λ k less. plain (suc k) (omega arith)) in
-    omega (arith, first, more)
-
 -- a byte that may be in a token, with a backslash or without
 abbrev pub can_hold : List ℕ → (ℕ → Bool) → ℕ → Bool
 can_hold known stops b = not (stops b) || is_one_of known b
@@ -62,16 +45,17 @@ pub written_spelling : (known : List ℕ) (stops : ℕ → Bool) (n rest : List 
 unfolding escaped
 written_spelling known stops [] rest closed all ends = ends
 written_spelling known stops (b ∷ n) rest closed all ends =
-    let parts = and_parts (can_hold known stops b) (list_all (can_hold known stops) n) all in
-    let more = written_spelling known stops n rest closed parts.1 ends in
-    elim (cases_Bool (is_one_of known b)) [
-      | inl found ↦
-          let mark : (stops backslash || is_one_of known backslash) ≡ true = grind (arith, common_steps) in
-          rw (escaped_found known n b found, written_escape known stops backslash b (escaped known n ++ rest) mark refl found, more) (omega arith)
-      | inr plain ↦
-          let unmarked : (stops b || is_one_of known b) ≡ false = grind (arith, common_steps) in
-          rw (escaped_plain known n b plain, written_unmarked known stops b (escaped known n ++ rest) unmarked, more) (omega arith)
-    ]
+    grind (
+      arith,
+      common_steps,
+      cases_Bool,
+      and_parts,
+      escaped_found,
+      escaped_plain,
+      written_escape,
+      written_unmarked,
+      written_spelling known stops n rest closed,
+    )
 
 -- a front of a text as the builder spells it, by the text that it spells
 pub record Spelled (known : List ℕ) (stops : ℕ → Bool) (text : List ℕ) : Type 0 where
@@ -118,25 +102,15 @@ written_spelled known stops (b ∷ c ∷ text) = grind (
   written_spelled known stops (c ∷ text),
 )
 
--- the token goes on after a run of bytes that are no marks
-run_passed : (kind : TokenKind) (bytes : List ℕ) (at end : ℕ) → IsRunAt (λ b. not (is_mark kind b)) bytes at end
-    → written_len (known_of kind) (stops_of kind) (drop at bytes)
-    ≡ end - at + written_len (known_of kind) (stops_of kind) (drop end bytes)
-run_passed kind bytes at end run =
-    let n = end - at in
-    let place : at + n ≡ end = omega (arith, run.ordered) in
-    let plain : (k : ℕ) → k < n → is_mark kind (slice_index (drop at bytes) k) ≡ false = λ k less.
-    rw (get_or-drop at bytes k 0) (not-true (is_mark kind (slice_index bytes (at + k))) (run.passes (at + k) (omega arith) (omega arith))) in
-    let passed = written_run (known_of kind) (stops_of kind) n (drop at bytes) (omega (arith, length-drop at bytes, run.within)) plain in
-    passed ∙ ap (λ (xs : List ℕ). n + written_len (known_of kind) (stops_of kind) xs)
-    (drop-drop n at bytes ∙ ap (λ k. drop k bytes) place)
-
--- it goes on after a backslash and a byte that gets one
-escape_passed : (kind : TokenKind) (bytes : List ℕ) (at : ℕ) → at + 1 < length bytes → slice_index bytes at ≡ backslash
-    → is_one_of (known_of kind) (slice_index bytes (at + 1)) ≡ true
-    → written_len (known_of kind) (stops_of kind) (drop at bytes)
-    ≡ 2 + written_len (known_of kind) (stops_of kind) (drop (at + 2) bytes)
-escape_passed kind bytes at inside here found = grind (arith, drop_more, written_escape)
+-- the token goes on after so many bytes that are no marks
+run_passed : (kind : TokenKind) (bytes : List ℕ) (n at end : ℕ) → at + n ≡ end → end ≤ length bytes
+    → ((k : ℕ) → at ≤ k → k < end → not (is_mark kind (slice_index bytes k)) ≡ true)
+    → written_len (known_of kind) (stops_of kind) (drop at bytes) ≡ n + written_len (known_of kind) (stops_of kind) (drop end bytes)
+run_passed kind bytes zero at end is within passes = grind (arith)
+run_passed kind bytes (suc n) at end is within passes =
+    let more = run_passed kind bytes n (at + 1) end (omega arith) within (λ k after before. passes k (omega arith) before) in
+    let plain = not-true (is_mark kind (slice_index bytes at)) (passes at (omega arith) (omega arith)) in
+    grind (arith, drop_more, written_unmarked)
 
 -- a run ends at a mark
 pub run_mark : (kind : TokenKind) (bytes : List ℕ) (at end : ℕ) → IsRunAt (λ b. not (is_mark kind b)) bytes at end
@@ -146,7 +120,7 @@ run_mark kind bytes at end run inside = not-false (is_mark kind (slice_index byt
 -- the token goes on after the first run
 pub first_run : (kind : TokenKind) (bytes : List ℕ) (end : ℕ) → IsRunAt (λ b. not (is_mark kind b)) bytes 0 end
     → end + written_len (known_of kind) (stops_of kind) (drop end bytes) ≡ written_len (known_of kind) (stops_of kind) bytes
-first_run kind bytes end run = let passed = run_passed kind bytes 0 end run in omega (arith, passed)
+first_run kind bytes end run = let passed = run_passed kind bytes end 0 end (omega arith) run.within run.passes in omega (arith, passed)
 
 -- and after a backslash, a byte that gets one and the run after them
 pub next_run : (kind : TokenKind) (bytes : List ℕ) (at end : ℕ) (found : Bool) → IsRunAt (λ b. not (is_mark kind b)) bytes (at + 2) end
@@ -154,9 +128,8 @@ pub next_run : (kind : TokenKind) (bytes : List ℕ) (at end : ℕ) (found : Boo
     → at + 1 < length bytes → slice_index bytes at ≡ backslash → found ≡ is_one_of (known_of kind) (slice_index bytes (at + 1)) → found ≡ true
     → end + written_len (known_of kind) (stops_of kind) (drop end bytes) ≡ written_len (known_of kind) (stops_of kind) bytes
 next_run kind bytes at end found run so_far inside here is accepted =
-    let escape = escape_passed kind bytes at inside here (sym is ∙ accepted) in
-    let passed = run_passed kind bytes (at + 2) end run in
-    omega (arith, escape, passed, run.ordered, so_far)
+    let passed = run_passed kind bytes (end - (at + 2)) (at + 2) end (omega (arith, run.ordered)) run.within run.passes in
+    grind (arith, passed, drop_more, written_escape, run.ordered)
 
 -- it ends at any other mark, and at the end of the text
 pub ends_here : (kind : TokenKind) (bytes : List ℕ) (at : ℕ) → at ≤ length bytes
@@ -187,22 +160,13 @@ spelled_hash : (n : List ℕ) → (slice_index (spelling a_measurement n) 0 == h
 unfolding escaped
 spelled_hash n = grind (arith, common_steps, cases_Bool, escaped_found, escaped_plain)
 
--- a test that holds does not change the others
-other_tests : (a b x : Bool) → (a && b && not x) ≡ (a && b && true && not (x && true))
-other_tests a b x = grind (arith, common_steps)
-
--- nor does another that is not asked for
-no_test : (a b x : Bool) → (a && b) ≡ (a && b && true && not (x && false))
-no_test a b x = grind (arith, common_steps)
-
 -- so the spelling tells whether a name is admitted
 spelling_tells : (kind : NameKind) (n : List ℕ) → list_all (may_hold kind) n ≡ true
     → is_admitted_spelling kind (spelling kind n) ≡ is_admitted_name kind n
 unfolding is_admitted_name
 spelling_tells a_measurement n may = rw (spelled_empty (escapable a_measurement) n, spelled_ends a_measurement n, spelled_hash n, may)
-    (other_tests (not (length n == 0)) (not (ends_in_backslash n)) (slice_index n 0 == hash))
-spelling_tells other n may = rw (spelled_empty (escapable other) n, spelled_ends other n, may)
-    (no_test (not (length n == 0)) (not (ends_in_backslash n)) (slice_index n 0 == hash))
+    (grind (arith, common_steps))
+spelling_tells other n may = rw (spelled_empty (escapable other) n, spelled_ends other n, may) (grind (arith, common_steps))
 
 -- where the bytes of a name end
 abbrev pub name_len : NameKind → List ℕ → ℕ
@@ -226,9 +190,8 @@ name_found kind text bytes known rest stops len ok left is tells passes same_tex
     let front = written_spelled (escapable kind) (is_stop kind) text in
     let spelled : spelling kind front.name ++ rest ≡ text = rw (left, is) front.spelled in
     let same : take len text ≡ spelling kind front.name =
-    sym (append_cancel_right (spelling kind front.name) (take len text) rest (spelled ∙ rw left (sym (take-append-drop len text)))) in
-    let may : list_all (may_hold kind) front.name ≡ true = sym (all_same kind front.name) ∙ front.holds in (
-      record { thing = front.name; is = grind (arith, spelling_tells); written = spelled },
+    sym (append_cancel_right (spelling kind front.name) (take len text) rest (spelled ∙ rw left (sym (take-append-drop len text)))) in (
+      record { thing = front.name; is = grind (arith, all_same kind front.name, front.holds, spelling_tells); written = spelled },
       λ other w ends. grind (arith, drop_at, name_passed),
     )
 
@@ -242,7 +205,8 @@ name_none kind text bytes known rest stops len ok is tells fails same_text same_
 
 -- a byte that ends a name ends it there
 pub stop_ends : (kind : NameKind) (stop : ℕ) (rest : List ℕ) → is_stop kind stop ≡ true → stop ≢ backslash → EndsName kind (stop ∷ rest)
-stop_ends kind stop rest stops other = written_stops (escapable kind) (is_stop kind) stop rest (rw stops refl) other
+stop_ends kind stop rest stops other =
+    written_ends (escapable kind) (is_stop kind) (stop ∷ rest) (λ some. rw stops refl) (λ some is found. absurd (other is))
 
 -- whether a byte is a quote
 abbrev pub is_quote : ℕ → Bool
@@ -251,7 +215,7 @@ is_quote b = b == quote
 -- any text can be that of a string
 holds_any : (n : List ℕ) → list_all (can_hold quotable is_quote) n ≡ true
 holds_any [] = refl
-holds_any (b ∷ n) = let one : can_hold quotable is_quote b ≡ true = grind (arith, common_steps) in rw (one, holds_any n) refl
+holds_any (b ∷ n) = grind (arith, common_steps, holds_any n)
 
 -- what is passed after a quote and before the next is the text of a string
 pub string_found : (text opened rest : List ℕ) → text ≡ quote ∷ opened → drop (written_len quotable is_quote opened) opened ≡ quote ∷ rest
@@ -263,7 +227,7 @@ string_found text opened rest e closed =
 -- and no other rest follows a string
 pub string_only : (text opened rest : List ℕ) → text ≡ quote ∷ opened → IsWrittenString text rest
     → drop (written_len quotable is_quote opened) opened ≡ quote ∷ rest
-string_only text opened rest e w = grind (arith, append_assoc, written_spelling, holds_any, drop_at, written_stops)
+string_only text opened rest e w = grind (arith, append_assoc, written_spelling, holds_any, drop_at, written_ends)
 
 -- what is left of a text if a byte reads comes after that byte
 pub byte_left : (b : ℕ) (text rest : List ℕ) → byte b text ≡ reads b rest → text ≡ b ∷ rest
@@ -274,13 +238,9 @@ pub string_answer : (text opened bytes after : List ℕ) (len : ℕ) (o : Option
     → after ≡ drop len opened → len ≡ written_len quotable is_quote bytes → bytes ≡ opened
     → MatchOption o (byte quote after ≡ miss) (λ rest. byte quote after ≡ reads quote rest.now)
     → IsOnlyRest (IsWrittenString text) (λ rest. Unit) o
-string_answer text opened bytes after len None read left is same closed =
-    let past : after ≡ drop (written_len quotable is_quote opened) opened = cc in
-    λ rest w any. byte_missing quote after closed rest (past ∙ string_only text opened rest (byte_left quote text opened read) w)
+string_answer text opened bytes after len None read left is same closed = λ rest w any.
+    let e = string_only text opened rest (byte_left quote text opened read) w in byte_missing quote after closed rest (cc e)
 string_answer text opened bytes after len (Some rest) read left is same closed =
-    let past : after ≡ drop (written_len quotable is_quote opened) opened = cc in
     let e = byte_left quote text opened read in
-    let found = byte_left quote after rest.now closed in (
-      string_found text opened rest.now e (sym past ∙ found),
-      λ other w any. ap (λ (xs : List ℕ). drop 1 xs) (sym (string_only text opened other e w) ∙ sym past ∙ found),
-    )
+    let found = byte_left quote after rest.now closed in
+    (string_found text opened rest.now e (cc found), λ other w any. let again = string_only text opened other e w in cc (found, again))

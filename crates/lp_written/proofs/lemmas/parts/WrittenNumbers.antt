@@ -113,7 +113,7 @@ unsigned_numeral ds never plain = grind (arith, eqb-false, eqb-true, false≢tru
 -- digits begin with no sign
 no_minus : (ds : List ℕ) → IsNumeral 10 ds → (slice_index ds 0 == minus) ≡ false
 no_minus [] numeral = refl
-no_minus (d ∷ ds) numeral = let range = digit_from_value d numeral.1.0 in ne_eqb d minus (λ e. absurd (omega (arith, range, e)))
+no_minus (d ∷ ds) numeral = grind (arith, digit_from_value, ne_eqb)
 
 -- an integer that is written so is that of its number
 pub integer_told : (number : List ℕ) → IsSigned (codes "-") number → is_written_integer number ≡ true
@@ -135,17 +135,6 @@ unsigned_told number signed ok =
     let numeral = unsigned_numeral number signed (not-true (slice_index number 0 == minus) first.0) in
     (n, small, unsigned_again number numeral (not-true (has_extra_zero number) first.1) small)
 
--- a number that is written so is a value with its mark
-marked_found : (v : Value (List ℕ)) (text number rest : List ℕ) (mark k : ℕ) → IsValue v → built_value v ≡ number ++ mark ∷ []
-    → number ≡ take k text → drop k text ≡ mark ∷ rest → IsWrittenValue text rest
-marked_found v text number rest mark k fits built front after = grind (arith, append_assoc, take-append-drop)
-
--- the rest after a number and its mark is the only one if the number is written so, and else none is
-marked_answer : (text left : List ℕ) (ok : Bool) → (ok ≡ true → IsWrittenValue text left)
-    → ((rest : List ℕ) → IsWrittenValue text rest → EndsValue rest → (ok ≡ true) × (rest ≡ left))
-    → (r : Bor (List ℕ)) → r.now ≡ left → IsOnlyRest (IsWrittenValue text) EndsValue (then_some ok r)
-marked_answer text left x2 found only r e = grind (arith, false≢true)
-
 -- a number at the start of a text, as the code finds it
 module _ (text number : List ℕ) (whole : ℕ) (len : whole ≡ integer_len text) (some : 0 < whole) (front : number ≡ take whole text) where
   -- it has a sign or none, and digits
@@ -155,57 +144,52 @@ module _ (text number : List ℕ) (whole : ℕ) (len : whole ≡ integer_len tex
   -- what follows it and its mark
   module _ (after : List ℕ) (ok : Bool) (r : Bor (List ℕ)) (o : Option (Bor (List ℕ))) (back : after ≡ drop whole text)
       (is : o ≡ then_some ok r) where
-    -- the front of the text
-    number_is : number ≡ take (integer_len text) text
-    number_is = rw len at front
-
     -- a mark that is read after it
     at_mark : (mark : ℕ) → byte mark after ≡ reads mark r.now → drop (integer_len text) text ≡ mark ∷ r.now
     at_mark mark read = rw (← len, ← back) (byte_left mark after r.now read)
 
-    -- is the only rest after `i`, if the builder writes the integer so
-    pub integer_answer : byte letter_i after ≡ reads letter_i r.now → ok ≡ is_written_integer number → IsOnlyRest (IsWrittenValue text) EndsValue o
-    integer_answer read tells = rw (is, tells) (marked_answer text r.now (is_written_integer number) found only r refl)
-      where
-        -- the integer is found
-        found : is_written_integer number ≡ true → IsWrittenValue text r.now
-        found ok =
-            let t = integer_told number signed_number ok in
-            marked_found (integer t.0) text number r.now letter_i (integer_len text) t.1 (ap (λ (xs : List ℕ). xs ++ letter_i ∷ []) t.2)
-            number_is (at_mark letter_i read)
+    -- is the only rest if the number is written so, and else none is
+    mark_answer : (mark : ℕ) (written : Bool) → byte mark after ≡ reads mark r.now → ok ≡ written
+        → (written ≡ true → (v : Value (List ℕ)) × IsValue v × (built_value v ≡ number ++ mark ∷ []))
+        → (drop (integer_len text) text ≡ mark ∷ r.now → (rest : List ℕ) → Shape text rest → (written ≡ true) × (rest ≡ r.now))
+        → IsOnlyRest (IsWrittenValue text) EndsValue o
+    mark_answer mark false read tells found only =
+        rw (is, tells) (λ rest w ends. absurd (false≢true (only (at_mark mark read) rest (shape text rest w ends)).0))
+    mark_answer mark true read tells found only =
+        let v = found refl in
+        let marked = at_mark mark read in
+        rw (is, tells) (
+          record { thing = v.0; is = v.1; written = grind (arith, v.2, append_assoc, take-append-drop) },
+          λ rest w ends. (only marked rest (shape text rest w ends)).1,
+        )
 
-        -- and the builder writes no other there
-        only : (rest : List ℕ) → IsWrittenValue text rest → EndsValue rest → (is_written_integer number ≡ true) × (rest ≡ r.now)
-        only rest w ends = elim (shape text rest w ends) [
-          | an_integer z fits t ↦ grind (arith, number_is, integer_tells, at_mark letter_i read)
-          | an_unsigned n fits t ↦ absurd (omega (arith, ap (λ (xs : List ℕ). slice_index xs 0) (sym (at_mark letter_i read) ∙ t.after)))
-          | a_float x f ↦ absurd (f.no_i (byte_at_drop text r.now (integer_len text) letter_i (at_mark letter_i read)).0)
+    -- after `i` the number is an integer
+    pub integer_answer : byte letter_i after ≡ reads letter_i r.now → ok ≡ is_written_integer number → IsOnlyRest (IsWrittenValue text) EndsValue o
+    integer_answer read tells = mark_answer letter_i (is_written_integer number) read tells
+        (λ ok. let t = integer_told number signed_number ok in (integer t.0, t.1, ap (λ (xs : List ℕ). xs ++ letter_i ∷ []) t.2))
+        (λ marked rest s.
+        elim s [
+          | an_integer z fits t ↦ grind (arith, integer_tells)
+          | an_unsigned n fits t ↦ absurd (omega (arith, ap (λ (xs : List ℕ). slice_index xs 0) (sym marked ∙ t.after)))
+          | a_float x f ↦ absurd (f.no_i (byte_at_drop text r.now (integer_len text) letter_i marked).0)
           | a_string none quote x ↦ absurd (omega (arith, len, some, none))
           | a_word b none word ↦ absurd (omega (arith, len, some, none))
-        ]
+        ])
 
-    -- and after `u`, if it writes the unsigned number so
+    -- and after `u` it is an unsigned number
     pub unsigned_answer : byte letter_u after ≡ reads letter_u r.now → ok ≡ is_written_unsigned number
         → IsOnlyRest (IsWrittenValue text) EndsValue o
-    unsigned_answer read tells = rw (is, tells) (marked_answer text r.now (is_written_unsigned number) found only r refl)
-      where
-        -- the number is found
-        found : is_written_unsigned number ≡ true → IsWrittenValue text r.now
-        found ok =
-            let t = unsigned_told number signed_number ok in
-            marked_found (unsigned t.0) text number r.now letter_u (integer_len text) t.1 (ap (λ (xs : List ℕ). xs ++ letter_u ∷ []) t.2)
-            number_is (at_mark letter_u read)
-
-        -- and the builder writes no other there
-        only : (rest : List ℕ) → IsWrittenValue text rest → EndsValue rest → (is_written_unsigned number ≡ true) × (rest ≡ r.now)
-        only rest w ends = elim (shape text rest w ends) [
-          | an_integer z fits t ↦ absurd (omega (arith, ap (λ (xs : List ℕ). slice_index xs 0) (sym (at_mark letter_u read) ∙ t.after)))
-          | an_unsigned n fits t ↦ let marked = at_mark letter_u read in
-              grind (arith, number_is, decimal_is_IsNumeral, no_minus, decimal_digit, first_digit, first_decimal, lt-ltb)
-          | a_float x f ↦ absurd (f.no_u (byte_at_drop text r.now (integer_len text) letter_u (at_mark letter_u read)).0)
+    unsigned_answer read tells = mark_answer letter_u (is_written_unsigned number) read tells
+        (λ ok. let t = unsigned_told number signed_number ok in (unsigned t.0, t.1, ap (λ (xs : List ℕ). xs ++ letter_u ∷ []) t.2))
+        (λ marked rest s.
+        elim s [
+          | an_integer z fits t ↦ absurd (omega (arith, ap (λ (xs : List ℕ). slice_index xs 0) (sym marked ∙ t.after)))
+          | an_unsigned n fits t ↦
+              grind (arith, decimal_is_IsNumeral, no_minus, decimal_digit, first_digit, first_decimal, lt-ltb)
+          | a_float x f ↦ absurd (f.no_u (byte_at_drop text r.now (integer_len text) letter_u marked).0)
           | a_string none quote x ↦ absurd (omega (arith, len, some, none))
           | a_word b none word ↦ absurd (omega (arith, len, some, none))
-        ]
+        ])
 
 -- the steps of a reader of a number
 pub ruleset number_steps = (signed_number, integer_answer, unsigned_answer)
@@ -222,10 +206,7 @@ module _ (text : List ℕ) (whole : ℕ) (len : whole ≡ integer_len text) (som
   -- if no mark of an integer is, the builder writes no value but a float
   float_only : (rest : List ℕ) → IsWrittenValue text rest → EndsValue rest → (t : List ℕ) × (float_at text ≡ reads (float t) rest)
   float_only rest w ends =
-      let no_i = byte_missing letter_i (drop whole text) no_i rest in
-      let no_u = byte_missing letter_u (drop whole text) no_u rest in
-      let t = shape text rest w ends in
-      grind (arith)
+      let t = shape text rest w ends in grind (arith, byte_missing letter_i (drop whole text) no_i rest, byte_missing letter_u (drop whole text) no_u rest)
 
   -- none, if no float is read
   pub no_float : (o : Option (Bor (List ℕ))) → o ≡ None → float_at text ≡ miss → IsOnlyRest (IsWrittenValue text) EndsValue o
@@ -239,11 +220,7 @@ module _ (text : List ℕ) (whole : ℕ) (len : whole ≡ integer_len text) (som
 -- the steps of a reader of a float
 pub ruleset float_steps = (no_float, float_answer)
 
--- a string is a value
-pub string_value : (text rest : List ℕ) → IsWrittenString text rest → IsWrittenValue text rest
-string_value text rest w = record { thing = string w.thing; is = tt; written = w.written }
-
--- and after a quote the builder writes no other
+-- after a quote the builder writes no value but a string
 pub value_string : (text rest : List ℕ) → integer_len text ≡ 0 → slice_index text 0 ≡ quote → IsWrittenValue text rest → EndsValue rest
     → IsWrittenString text rest
 value_string text rest whole first w ends = grind (arith, shape)
@@ -251,17 +228,7 @@ value_string text rest whole first w ends = grind (arith, shape)
 -- if neither a number nor a string is, the builder writes a word
 pub value_word : (text rest : List ℕ) → integer_len text ≡ 0 → slice_index text 0 ≢ quote → IsWrittenValue text rest → EndsValue rest
     → (b : Bool) × (text ≡ built_value (boolean b) ++ rest)
-value_word text rest whole first w ends = elim (shape text rest w ends) [
-  | an_integer z fits t ↦ absurd (omega (arith, t.some, whole))
-  | an_unsigned n fits t ↦ absurd (omega (arith, t.some, whole))
-  | a_float x front ↦ absurd (omega (arith, front.some, whole))
-  | a_string none quote x ↦ absurd (first quote)
-  | a_word b none word ↦ (b, word)
-]
-
--- a word before a rest is a value
-word_value : (text rest : List ℕ) (b : Bool) → text ≡ built_value (boolean b) ++ rest → IsWrittenValue text rest
-word_value text rest b e = record { thing = boolean b; is = tt; written = sym e }
+value_word text rest whole first w ends = let t = shape text rest w ends in grind (arith)
 
 -- two words at the start of a text are the same, and so is what follows them
 word_same : (a b : Bool) (rest left : List ℕ) → built_value (boolean a) ++ rest ≡ built_value (boolean b) ++ left → rest ≡ left
@@ -273,7 +240,7 @@ pub word_answer : (b : Bool) (text left : List ℕ) → integer_len text ≡ 0 �
     → IsWrittenValue text left × ((rest : List ℕ) → IsWrittenValue text rest → EndsValue rest → rest ≡ left)
 word_answer b text left whole first s =
     let e : text ≡ built_value (boolean b) ++ left = s.1.1 ∙ ap (λ (xs : List ℕ). built_value (boolean b) ++ xs) (sym s.2) in (
-      word_value text left b e,
+      record { thing = boolean b; is = tt; written = sym e },
       λ rest w ends. let x = value_word text rest whole first w ends in word_same x.0 b rest left (sym x.1 ∙ e),
     )
 
@@ -283,18 +250,13 @@ pub last_word : (text : List ℕ) (o : Option (Bor (List ℕ))) → integer_len 
     → MatchOption o (LacksTextAt (codes "false") text 0) (λ r. StripsPrefix (FindsTextPrefix (codes "false")) text r.now)
     → IsOnlyRest (IsWrittenValue text) EndsValue o
 last_word text (Some r) whole first no_true found = word_answer false text r.now whole first found
-last_word text None whole first no_true no_false = λ rest w ends. let x = value_word text rest whole first w ends in go rest x.0 x.1
-  where
-    -- by the word
-    go : (rest : List ℕ) (b : Bool) → text ≡ built_value (boolean b) ++ rest → ⊥
-    go rest true e = no_true rest e
-    go rest false e = no_false rest e
+last_word text None whole first no_true no_false = λ rest w ends. let x = value_word text rest whole first w ends in grind (arith)
 
 -- after a quote, what follows a string is the only rest of a value
 pub string_only_value : (text : List ℕ) (o : Option (Bor (List ℕ))) → integer_len text ≡ 0 → slice_index text 0 ≡ quote
     → IsOnlyRest (IsWrittenString text) (λ rest. Unit) o → IsOnlyRest (IsWrittenValue text) EndsValue o
 string_only_value text None whole first none = λ rest w ends. none rest (value_string text rest whole first w ends) tt
 string_only_value text (Some left) whole first only = (
-  string_value text left.now only.0,
+  record { thing = string only.0.thing; is = tt; written = only.0.written },
   λ rest w ends. only.1 rest (value_string text rest whole first w ends) tt,
 )

@@ -67,11 +67,8 @@ field_set_fits : (dialect : Dialect) (line rest : List ℕ) (fs : List (Pair Tex
     → field_set dialect line ≡ reads fs rest → SomeFit fs
 field_set_fits dialect line rest fs h =
     let parts = bind_reads (separated_list field line) (λ xs. reads xs.value (without_comma dialect xs.value xs.rest)) fs rest h in
-    subst SomeFit (cc (parts.next))
-    (record {
-      some = joined_some field line parts.mid parts.first parts.was;
-      fit = joined_of FieldFits field field_fits (λ t. (field_no_longer t).holds) line parts.mid parts.first parts.was;
-    })
+    let fit = joined_of FieldFits field field_fits (λ t. (field_no_longer t).holds) line parts.mid parts.first parts.was in
+    subst SomeFit (cc (parts.next)) (record { some = joined_some field line parts.mid parts.first parts.was; fit = fit })
 
 -- a timestamp is in range
 stamp_fits : (line rest : List ℕ) (t : Option ℤ) → timestamp line ≡ Ok (record { value = t; rest = rest })

@@ -2,7 +2,7 @@ use Rattle.std.proofs.Common.{◌≡◌, [], arith, subst, sym, Some}
 use Rattle.std.proofs.lemmas.Grind.{common_steps}
 use Rattle.lp_split.specs.code.{rules_of}
 use Rattle.lp_events.specs.code.{EventsLeft.AreLeftFrom, EventsLeft.Completes, EventsLeft.HasEventsLeft, LineSteps.GivesLine}
-use Rattle.lp_events.specs.declared.place.LinePlace.TheVariants.{Fields}
+use Rattle.lp_events.specs.declared.place.LinePlace.TheVariants.{Fields, Names}
 use Rattle.lp_events.proofs.lemmas.{pull.EventSteps.steps_from, pull.EventSteps.step_less, events.LineEvents.blank_events}
 use Rattle.lp_events.proofs.lemmas.{events.LineEvents.line_left, lines.LineSteps.line_less, lines.LineSteps.none_comes}
 use Rattle.lp_events.proofs.pull.ParseEvents.step.Goals as goal
@@ -24,7 +24,9 @@ pub returns-in_ok-next_line-in-Between-clause-less : goal.returns-in_ok-next_lin
 returns-in_ok-next_line-in-Between-clause-less c = grind (arith, common_steps, step_less, line_less)
 
 pub returns-in-Names-clause-steps : goal.returns-in-Names-clause-steps
-returns-in-Names-clause-steps c = grind (arith, common_steps, steps_from)
+returns-in-Names-clause-steps c =
+    steps_from (AreLeftFrom (Names c.in-Names.names)) (λ left events. left ≡ c.args.self.now.lines → HasEventsLeft c.args.self.now events)
+    c.after_name.result (λ left events h same. rw (c.in-Names.is, ← same) h) c.after_name.ensures.steps
 
 pub returns-in-Fields-clause-steps : goal.returns-in-Fields-clause-steps
 returns-in-Fields-clause-steps c =
