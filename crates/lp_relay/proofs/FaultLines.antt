@@ -1,5 +1,5 @@
 -- What is told of the pieces of a relay, one after another.
-use Rattle.std.proofs.Common.{◌≡◌, ℕ, ◌+◌, List, [], ◌∷◌, ◌++◌, refl, sym, ap, ◌∙◌, arith, append_assoc, append-nil}
+use Rattle.std.proofs.Common.{◌≡◌, ℕ, ◌+◌, List, [], ◌∷◌, ◌++◌, refl, sym, ap, ◌∙◌, arith, append_assoc}
 use Rattle.lp_relay.specs.declared.taking.Numbering.{Numbering}
 use Rattle.lp_relay.specs.declared.taking.Numbering.TheVariants as named
 use Rattle.lp_relay.specs.declared.taking.Settings.{Settings}
@@ -21,13 +21,6 @@ told_append s place (p ∷ ps) qs =
     let after = after_piece s place p in
     ap (λ (l : List ℕ). told_piece s place p ++ l) (told_append s after ps qs)
     ∙ sym (append_assoc (told_piece s place p) (told_from s after ps) (told_from s (place_past s after ps) qs))
-
--- what is told of pieces and one more
-pub told_push : (s : Settings) (place : Place) (ps : List (List ℕ)) (p : List ℕ)
-    → told_from s place (ps ++ p ∷ []) ≡ told_from s place ps ++ told_piece s (place_past s place ps) p
-told_push s place ps p =
-    told_append s place ps (p ∷ [])
-    ∙ ap (λ (l : List ℕ). told_from s place ps ++ l) (append-nil (told_piece s (place_past s place ps) p))
 
 -- the number of the first item
 first_number : (numbering : Numbering) (first : ℕ) → items_before numbering first + 0 + 1 ≡ first_item numbering first

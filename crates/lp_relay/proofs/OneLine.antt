@@ -1,6 +1,8 @@
 -- A text that is told on one line.
 use Rattle.std.proofs.Common.{◌≡◌, ℕ, ◌+◌, ◌<◌, ◌≤◌, nat_lt, Bool, true, false, cond, List, [], ◌∷◌, ◌++◌, length, slice_index, take}
-use Rattle.std.proofs.Common.{Result, Ok, Err, OnOk, is_ok, ◌∙◌, ap, sym, append-nil, arith}
+use Rattle.std.proofs.Common.{◌∙◌, ap, subst, sym, append-nil, arith}
+use Rattle.std.specs.Str.{IsUtf8}
+use Rattle.std.proofs.Math.Seq.{take-append_seam}
 use Rattle.std.specs.List.{flat_map}
 use Rattle.std.proofs.lemmas.Bool.Decides.{nat_tests}
 use Rattle.std.proofs.lemmas.List.{length-take-le, take_all, take_more}
@@ -46,7 +48,7 @@ one_more_plain bytes at more front next =
 pub told_plain : (text : List ℕ) → length text ≤ 200 → flat_map told_byte text ≡ text → on_one_line text ≡ text
 told_plain text few plain = sym (told_whole text few) ∙ plain
 
--- what is added if there is memory
-pub added : {T E : Type 0} (r : Result T E) (new old more : List ℕ) → new ≡ cond (is_ok r) (old ++ more) old → OnOk r (new ≡ old ++ more)
-added (Ok done) new old more is = is
-added (Err fault) new old more is = tt
+-- what a text was before more was added to it is UTF-8
+pub front_is_text : (old new more : List ℕ) (from : ℕ) → IsUtf8 old → from ≡ length old → new ≡ old ++ more → IsUtf8 (take from new)
+front_is_text old new more from u is added =
+    subst IsUtf8 (sym (ap (λ (n : ℕ). take n new) is ∙ ap (take (length old)) added ∙ take-append_seam old more)) u

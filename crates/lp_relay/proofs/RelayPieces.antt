@@ -20,7 +20,7 @@ use Rattle.lp_relay.specs.Objects.{stop_given, stop_of_piece}
 use Rattle.lp_relay.specs.RelaySteps.{TakesGiven, TakesPieces, refused_given}
 use Rattle.lp_relay.specs.Writers.{Told}
 use Rattle.lp_relay.proofs.ItemLemmas.{item_of_long, items_of_short, items_push, refused_long, refused_short, stop_long, stop_short}
-use Rattle.lp_relay.proofs.FaultLines.{place_append, told_append, told_push}
+use Rattle.lp_relay.proofs.FaultLines.{place_append, told_append}
 use Rattle.lp_relay.proofs.RelayLemmas.{part_of_none, part_poured, part_so_far, part_then, relays_none, relays_poured, relays_same}
 use Rattle.lp_relay.proofs.RelayLemmas.{part_more, part_same, relays_more, relays_then}
 
@@ -123,17 +123,17 @@ pub next_items : (s : Settings) (ps : List (List ℕ)) (p : List ℕ) (items : L
     → items ≡ items_of_piece s p → items_of s ps ++ items ≡ items_of s (ps ++ p ∷ [])
 next_items s ps p items is = ap (λ l. items_of s ps ++ l) is ∙ sym (items_push s ps p)
 
--- what is told of pieces and of one more
-pub next_faults : (s : Settings) (place now : Place) (ps : List (List ℕ)) (p told : List ℕ) → now ≡ place_past s place ps
-    → told ≡ told_piece s now p → told_from s place ps ++ told ≡ told_from s place (ps ++ p ∷ [])
-next_faults s place now ps p told start is =
-    ap (λ l. told_from s place ps ++ l) (is ∙ ap (λ q. told_piece s q p) start) ∙ sym (told_push s place ps p)
-
--- and of others
+-- what is told of pieces and of others
 pub faults_then : (s : Settings) (place now : Place) (ps qs : List (List ℕ)) → now ≡ place_past s place ps
     → told_from s place ps ++ told_from s now qs ≡ told_from s place (ps ++ qs)
 faults_then s place now ps qs start =
     ap (λ q. told_from s place ps ++ told_from s q qs) start ∙ sym (told_append s place ps qs)
+
+-- and of one more
+pub next_faults : (s : Settings) (place now : Place) (ps : List (List ℕ)) (p told : List ℕ) → now ≡ place_past s place ps
+    → told ≡ told_piece s now p → told_from s place ps ++ told ≡ told_from s place (ps ++ p ∷ [])
+next_faults s place now ps p told start is =
+    ap (λ l. told_from s place ps ++ l) (is ∙ sym (append-nil (told_piece s now p))) ∙ faults_then s place now ps (p ∷ []) start
 
 -- what goes out as refused of pieces and of one more
 pub next_put : (s : Settings) (ps : List (List ℕ)) (p put : List ℕ) → put ≡ refused_piece s p

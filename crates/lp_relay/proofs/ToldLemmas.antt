@@ -4,7 +4,7 @@ use Rattle.std.proofs.Common.{append-nil, option_map}
 use Rattle.std.specs.Borrow.{Bor}
 use Rattle.std.specs.Prelude.{if◌then◌else◌}
 use Rattle.influxdb_line_protocol.specs.code.Rules.{rules_of}
-use Rattle.influxdb_line_protocol.specs.format.Bytes.{newline, newlines_in}
+use Rattle.influxdb_line_protocol.specs.format.Bytes.{newline}
 use Rattle.influxdb_line_protocol.specs.format.Dialects.{Dialect}
 use Rattle.influxdb_line_protocol.specs.types.PieceTooLong.{PieceTooLong}
 use Rattle.lp_relay.specs.declared.pieces.Piece.{Piece}
@@ -12,42 +12,20 @@ use Rattle.lp_relay.specs.declared.refusals.Refusal.{Refusal}
 use Rattle.lp_relay.specs.declared.telling.{Faults.Faults, Place.Place}
 use Rattle.lp_relay.specs.declared.taking.Settings.{Settings}
 use Rattle.lp_relay.specs.declared.taking.Taken.TheVariants as took
-use Rattle.lp_relay.specs.FaultsTold.{line_after, place_after, told_fault, told_item, told_items}
-use Rattle.lp_relay.specs.Kinds.{Counts, kinds_after, with_fault}
-use Rattle.lp_relay.specs.Objects.{item_front, stop_given, stop_of_bytes}
+use Rattle.lp_relay.specs.FaultsTold.{line_after, told_fault, told_item}
+use Rattle.lp_relay.specs.Kinds.{with_fault}
+use Rattle.lp_relay.specs.Objects.{item_front, stop_given}
 use Rattle.lp_relay.specs.Refusals.{EndsPiece, GaveSame, IsRefusal, RefusesPiece, front_in, given_of, is_fault, reason_of, refusal_kind, stop_in}
-use Rattle.lp_relay.specs.Relaying.{Item, answered, as_it_came, not_as_written, not_utf8, too_long, is_carried_item, item_line, items_of_bytes, refused_lines}
-use Rattle.lp_relay.specs.RelaySteps.{TakesItems, TakesGiven, Unwritten, after_given, bytes_given, items_given}
+use Rattle.lp_relay.specs.Relaying.{Item, answered, as_it_came, not_as_written, not_utf8, too_long, is_carried_item, item_line, refused_lines}
+use Rattle.lp_relay.specs.RelaySteps.{TakesGiven, Unwritten, after_given, bytes_given, items_given}
 use Rattle.lp_relay.specs.RelaySteps.{len_given, newlines_given, next_place}
 use Rattle.lp_relay.proofs.ItemLemmas.{items_add_up}
 use Rattle.lp_relay.proofs.KindLemmas.{kinds_of_carried, kinds_of_nothing, kinds_of_refused, no_kind}
 
--- of an item that is carried nothing is told
-carried_told : (form : Faults) (place : Place) (stop : Option (List ℕ)) (item : Item) → is_carried_item item ≡ true
-    → told_item form place stop item ++ [] ≡ []
-carried_told form place stop item carried = rw (no_kind item carried) refl
-
--- there is no item, or one that is carried
-data Carried (items : List Item) : Type 0 where
-  no_item : items ≡ [] → Carried items
-  one_item : (item : Item) → items ≡ item ∷ [] → is_carried_item item ≡ true → Carried items
-
--- then nothing is told
-told_none : (form : Faults) (place : Place) (stop : Option (List ℕ)) (items : List Item) → Carried items
-    → told_items form place stop items ≡ []
-told_none form place stop items (no_item none) = rw none refl
-told_none form place stop items (one_item item one carried) = rw one (carried_told form place stop item carried)
-
--- nothing goes out as refused
-put_none : (goes_out : Bool) (piece : List ℕ) (items : List Item) → Carried items → refused_lines goes_out piece items ≡ []
-put_none false piece items c = refl
-put_none true piece items (no_item none) = rw none refl
-put_none true piece items (one_item item one carried) = rw (one, carried) refl
-
--- and nothing is counted
-count_none : (items : List Item) (counts : Option Counts) → Carried items → kinds_after items counts ≡ counts
-count_none items counts (no_item none) = ap (λ (l : List Item). kinds_after l counts) none ∙ kinds_of_nothing counts
-count_none items counts (one_item item one carried) = ap (λ (l : List Item). kinds_after l counts) one ∙ kinds_of_carried item counts carried
+-- nothing goes out, whether refused pieces do or not
+nothing_put : (goes_out : Bool) (pieces : List ℕ) → pieces ≡ pieces ++ (if goes_out then [] else [])
+nothing_put false pieces = sym (append-nil pieces)
+nothing_put true pieces = sym (append-nil pieces)
 
 -- of an item that is refused no line goes out
 no_line : (item : Item) → is_carried_item item ≡ false → item_line item ≡ []
@@ -83,34 +61,26 @@ told_is form dialect place piece refusal item stop r front is = rw (r.kind, r.wr
 -- a piece without an item ends as it is
 pub ends_blank : (s : Settings) (piece : Piece) (mid : Unwritten) → EndsPiece s piece took.Blank mid mid
 ends_blank s piece mid before t =
-    let items = items_given s (given_of piece) in
-    let none : Carried items = no_item t.0 in
     record {
-      items = record {
-        batch = rw t.0 (t.1 ∙ sym (append-nil before));
-        faults = sym (ap (λ (l : List ℕ). mid.made.faults ++ l) (told_none _ _ _ items none) ∙ append-nil mid.made.faults);
-        carried = rw t.0 (omega arith);
-        refused = rw t.0 (omega arith);
-      };
-      pieces = sym (ap (λ (l : List ℕ). mid.pieces ++ l) (put_none s.puts_refused (bytes_given (given_of piece)) items none) ∙ append-nil mid.pieces);
-      kinds = sym (count_none items mid.kinds none);
+      batch = rw t.0 (t.1 ∙ sym (append-nil before));
+      faults = rw t.0 (sym (append-nil mid.made.faults));
+      carried = rw t.0 (omega arith);
+      refused = rw t.0 (omega arith);
+      pieces = rw t.0 (nothing_put s.puts_refused mid.pieces);
+      kinds = rw t.0 (sym (kinds_of_nothing mid.kinds));
     }
 
 -- a piece whose line was added ends once that is counted
 pub ends_carried : (s : Settings) (piece : Piece) (mid : Unwritten) → EndsPiece s piece took.Carried mid
     (record mid { made = record mid.made { carried = mid.made.carried + 1 } })
 ends_carried s piece mid before (item, one, carries, copied) =
-    let items = items_given s (given_of piece) in
-    let carried : Carried items = one_item item one carries in
     record {
-      items = record {
-        batch = rw one (copied ∙ ap (λ (l : List ℕ). before ++ l) (sym (append-nil (item_line item))));
-        faults = sym (ap (λ (l : List ℕ). mid.made.faults ++ l) (told_none _ _ _ items carried) ∙ append-nil mid.made.faults);
-        carried = rw (one, carries) (omega arith);
-        refused = rw (one, carries) (omega arith);
-      };
-      pieces = sym (ap (λ (l : List ℕ). mid.pieces ++ l) (put_none s.puts_refused (bytes_given (given_of piece)) items carried) ∙ append-nil mid.pieces);
-      kinds = sym (count_none items mid.kinds carried);
+      batch = rw one (copied ∙ ap (λ (l : List ℕ). before ++ l) (sym (append-nil (item_line item))));
+      faults = rw (one, no_kind item carries) (sym (append-nil mid.made.faults));
+      carried = rw (one, carries) (omega arith);
+      refused = rw (one, carries) (omega arith);
+      pieces = rw (one, carries) (nothing_put s.puts_refused mid.pieces);
+      kinds = rw one (sym (kinds_of_carried item mid.kinds carries));
     }
 
 -- a piece whose item is refused ends once that is told and counted, and the piece is put out
@@ -127,12 +97,10 @@ refuses s piece refusal item old new n r numbered batch faults carried refused k
     let is = r.refused in
     let told = told_is s.faults d (record (next_place s old) { number = n }) piece refusal item (stop_given d (given_of piece)) is r.front r.stop in
     record {
-      items = record {
-        batch = batch ∙ sym (rw (r.is, no_line item is.refused) (append-nil old.made.batch));
-        faults = rw (r.is, ← numbered) (faults ∙ ap (λ (l : List ℕ). old.made.faults ++ l) (sym (append-nil _ ∙ told)));
-        carried = rw (r.is, is.refused) (carried ∙ omega arith);
-        refused = rw (r.is, is.refused) (refused ∙ omega arith);
-      };
+      batch = batch ∙ sym (rw (r.is, no_line item is.refused) (append-nil old.made.batch));
+      faults = rw (r.is, ← numbered) (faults ∙ ap (λ (l : List ℕ). old.made.faults ++ l) (sym (append-nil _ ∙ told)));
+      carried = rw (r.is, is.refused) (carried ∙ omega arith);
+      refused = rw (r.is, is.refused) (refused ∙ omega arith);
       pieces = rw r.is (pieces ∙ ap (λ (l : List ℕ). old.pieces ++ l) (sym (refused_put s.puts_refused (bytes_given (given_of piece)) item is.refused)));
       kinds = rw r.is (kinds ∙ kinds_of_refused item (refusal_kind refusal) old.kinds (sym is.kind));
     }
@@ -148,13 +116,8 @@ ends_refused s piece refusal mid new takes before ((item, r), same) =
 pub given_same : (s : Settings) (old new : Unwritten) (given other : Result (Bor (List ℕ)) PieceTooLong) → GaveSame given other
     → TakesGiven s old given new → TakesGiven s old other new
 given_same s old new (Ok piece) (Ok other) same t =
-    let items = items_of_bytes s.lines (rules_of s.dialect) in
-    record {
-      items = subst (λ (l : List ℕ). TakesItems
-          (told_items s.faults (next_place s old) (stop_of_bytes (rules_of s.dialect) l) (items l)) old.made (items l) new.made) same t.items;
-      pieces = t.pieces ∙ ap (λ (l : List ℕ). old.pieces ++ refused_lines s.puts_refused l (items l)) same;
-      kinds = t.kinds ∙ ap (λ (l : List ℕ). kinds_after (items l) old.kinds) same;
-    }
+    let h = subst (λ (l : List ℕ). TakesGiven s old (Ok (record piece { now = l })) new) same t in
+    record { batch = h.batch; faults = h.faults; carried = h.carried; refused = h.refused; pieces = h.pieces; kinds = h.kinds }
 given_same s old new (Ok piece) (Err other) same t = absurd same
 given_same s old new (Err fault) (Ok other) same t = absurd same
 given_same s old new (Err fault) (Err other) same t = subst (λ f. TakesGiven s old (Err f) new) same t
@@ -162,7 +125,7 @@ given_same s old new (Err fault) (Err other) same t = subst (λ f. TakesGiven s 
 -- the next place is the same too
 pub same_place : (s : Settings) (place : Place) (given other : Result (Bor (List ℕ)) PieceTooLong) → GaveSame given other
     → after_given s place given ≡ after_given s place other
-same_place s place (Ok piece) (Ok other) same = ap (λ (l : List ℕ). place_after place (length (items_of_bytes s.lines (rules_of s.dialect) l)) (newlines_in l) (length l)) same
+same_place s place (Ok piece) (Ok other) same = ap (λ (l : List ℕ). after_given s place (Ok (record piece { now = l }))) same
 same_place s place (Ok piece) (Err other) same = absurd same
 same_place s place (Err fault) (Ok other) same = absurd same
 same_place s place (Err fault) (Err other) same = ap (λ f. after_given s place (Err f)) same
@@ -173,5 +136,5 @@ pub place_taken : (s : Settings) (old new : Unwritten) (given : Result (Bor (Lis
     → next_place s (record new { made = record new.made { line = line }; offset = offset }) ≡ after_given s (next_place s old) given
 place_taken s old new given line offset t lines offsets =
     let number : new.made.carried + new.made.refused + 1 ≡ old.made.carried + old.made.refused + 1 + length (items_given s given) =
-    omega (arith, t.items.carried, t.items.refused, items_add_up (items_given s given)) in
+    omega (arith, t.carried, t.refused, items_add_up (items_given s given)) in
     rw (lines, offsets, number) refl

@@ -135,17 +135,14 @@ after_given s place given = place_after place (length (items_given s given)) (ne
 abbrev pub told_given : Settings → Place → Result (Bor (List ℕ)) PieceTooLong → List ℕ
 told_given s place given = told_items s.faults place (stop_given (rules_of s.dialect) given) (items_given s given)
 
--- these items of one piece were taken, and this was told of them
-pub record TakesItems (told : List ℕ) (old : Made) (items : List Item) (new : Made) : Type 0 where
-  pub batch : new.batch ≡ old.batch ++ items_batch items
-  pub faults : new.faults ≡ old.faults ++ told
-  pub carried : new.carried ≡ old.carried + carried_items items
-  pub refused : new.refused ≡ old.refused + refused_items items
-
--- what a call gave was taken: its items, as refused what goes out of its piece, and the kind of its fault, if kinds are counted
+-- what a call gave was taken: its items and what is told of them, as refused what goes out of its piece, and the kind of its fault, if
+-- kinds are counted
 pub record TakesGiven (s : Settings) (old : Unwritten) (result : Result (Bor (List ℕ)) PieceTooLong) (new : Unwritten)
     : Type 0 where
-  pub items : TakesItems (told_given s (next_place s old) result) old.made (items_given s result) new.made
+  pub batch : new.made.batch ≡ old.made.batch ++ items_batch (items_given s result)
+  pub faults : new.made.faults ≡ old.made.faults ++ told_given s (next_place s old) result
+  pub carried : new.made.carried ≡ old.made.carried + carried_items (items_given s result)
+  pub refused : new.made.refused ≡ old.made.refused + refused_items (items_given s result)
   pub pieces : new.pieces ≡ old.pieces ++ refused_given s result
   pub kinds : new.kinds ≡ kinds_after (items_given s result) old.kinds
 

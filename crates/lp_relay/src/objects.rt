@@ -2,8 +2,8 @@
 ghost use Rattle.std.specs.Prelude.{◌≡◌, ◌<◌, ◌≤◌, ◌++◌, drop, length, string_bytes, take, true, IsUtf8, OnOk, Some};
 ghost use Rattle.influxdb_line_protocol.specs.code.Rules.{rules_of};
 ghost use Rattle.lp_relay.specs.Objects.{column_after, escape_of, fault_members, first_members, is_escaped, json_text, member};
-ghost use Rattle.lp_relay.specs.Objects.{object, object_start, stop_members};
-ghost use Rattle.lp_relay.specs.Refusals.{reason_of, refusal_kind, stop_in, wrong_of};
+ghost use Rattle.lp_relay.specs.Objects.{line_or_none, object, object_start, stop_members};
+ghost use Rattle.lp_relay.specs.Refusals.{front_in, is_fault, reason_of, refusal_kind, stop_in, wrong_of};
 
 use crate::pieces::Piece;
 use crate::refusals::Refusal;
@@ -70,10 +70,11 @@ fn put_first(faults: &mut String, file: Option<&str>, number: usize) -> Result<(
     write!(faults, "\",\"item\":{number}")
 }
 
-// Adds the start of an object of the item at this place; these bytes of its piece come before its text.
-fn put_start(faults: &mut String, place: Place<'_>, front: &[u8]) -> Result<(), AllocError>
-    ensures { OnOk result (string_bytes faults.new ≡ string_bytes faults.old ++ object_start place.entry front.now) }
+// Adds the start of the object of a piece at this place.
+fn put_start(faults: &mut String, place: Place<'_>, piece: Piece<'_>) -> Result<(), AllocError>
+    ensures { OnOk result (string_bytes faults.new ≡ string_bytes faults.old ++ object_start place.entry (front_in piece.entry)) }
 {
+    let front = piece.front();
     let line = place.line.unwrap_or(0);
     let text_line = line.checked_add(newlines_in(front)).ok_or(AllocError)?;
     let text_offset = place.offset.checked_add(front.len()).ok_or(AllocError)?;
@@ -106,31 +107,34 @@ fn column_after(bytes: &[u8]) -> usize
     column
 }
 
-// Adds the members that tell where reading stopped that took these bytes of a piece, which begins on this line.
-fn put_stop(faults: &mut String, line: usize, bytes: &[u8]) -> Result<(), AllocError>
-    ensures { OnOk result (string_bytes faults.new ≡ string_bytes faults.old ++ stop_members line (Some bytes.now)) }
+// Adds the members that tell where reading stopped that took these bytes of a piece at this place.
+fn put_stop(faults: &mut String, place: Place<'_>, bytes: &[u8]) -> Result<(), AllocError>
+    ensures { OnOk result (string_bytes faults.new
+        ≡ string_bytes faults.old ++ stop_members (line_or_none place.entry.line) (Some bytes.now)) }
 {
+    let line = place.line.unwrap_or(0);
     let stop_line = line.checked_add(newlines_in(bytes)).ok_or(AllocError)?;
+    let stop_column = column_after(bytes);
     put_member(faults, "stop_line", stop_line)?;
-    put_member(faults, "stop_column", column_after(bytes))
+    put_member(faults, "stop_column", stop_column)
 }
 
-// Adds the members that tell where reading stops in a piece that begins on this line, if its text is at fault.
+// Adds the members that tell where reading stops in a piece at this place, if its text is at fault.
 fn put_stop_in(
     faults: &mut String,
     dialect: Dialect,
-    line: usize,
+    place: Place<'_>,
+    refusal: &Refusal<'_>,
     piece: Piece<'_>,
-    is_fault: bool,
 ) -> Result<(), AllocError>
-    ensures { OnOk result (string_bytes faults.new
-        ≡ string_bytes faults.old ++ stop_members line (stop_in is_fault (rules_of dialect) piece.entry)) }
+    ensures { OnOk result (string_bytes faults.new ≡ string_bytes faults.old
+        ++ stop_members (line_or_none place.entry.line) (stop_in (is_fault refusal.now) (rules_of dialect) piece.entry)) }
 {
     match piece {
-        Piece::Text(text) if is_fault => {
+        Piece::Text(text) if refusal.is_fault() => {
             let left = reading_stop(dialect, trimmed(text)).rest;
             let end = text.len().saturating_sub(left.len());
-            put_stop(faults, line, &text.as_bytes()[..end])
+            put_stop(faults, place, &text.as_bytes()[..end])
         }
         _ => Ok(()),
     }
@@ -193,9 +197,8 @@ pub(crate) fn tell_as_object(
     ensures { OnOk result (string_bytes faults.new
         ≡ string_bytes faults.old ++ object place.entry (reason_of (rules_of dialect) piece.entry refusal.now)) }
 {
-    put_start(faults, place, piece.front())?;
+    put_start(faults, place, piece)?;
     put_fault(faults, refusal)?;
-    let line = place.line.unwrap_or(0);
-    put_stop_in(faults, dialect, line, piece, refusal.is_fault())?;
+    put_stop_in(faults, dialect, place, refusal, piece)?;
     faults.push_str("}\n")
 }
