@@ -6,7 +6,7 @@ use Rattle.std.proofs.lemmas.List.{drop-drop, drop_all}
 use Rattle.influxdb_line_protocol.specs.laws.Laws.{PiecesExist}
 use Rattle.influxdb_line_protocol.specs.code.Rules.{rules_of}
 use Rattle.lp_rebuild.specs.declared.program.RunFault.{RunFault}
-use Rattle.lp_rebuild.specs.Running.{CountsReadFault}
+use Rattle.lp_rebuild.specs.declared.program.RunFault.TheVariants.{Read}
 use Rattle.lp_relay.specs.declared.relaying.Relayed.{Relayed}
 use Rattle.lp_relay.specs.declared.taking.Settings.{Settings}
 use Rattle.lp_relay.specs.Inputs.{AddsUp, Input, InputsTold, RelaysEach, RelaysEach.none, RelaysEach.more, RelaysInputs, RelaysNext, RelaysUpTo, TellsFaults}
@@ -34,22 +34,16 @@ nothing_of_next : PiecesExist → (s : Settings) (left : Option (List (List ℕ)
 nothing_of_next exist s None a = tt
 nothing_of_next exist s (Some texts) a = nothing_put exist s (next_text texts) a
 
--- an input could not be opened, or memory was refused before that
-pub not_opened : PiecesExist → (s : Settings) (fault : RunFault) (inputs inputs_after : InputsTold) (a b : Told) → a ≡ b
-    → CountsReadFault {T = ℕ} (Err fault) inputs.failures inputs_after.failures → RelaysNext s (Err fault) inputs inputs_after a b
-not_opened exist s fault inputs inputs_after a b same counts =
-    subst (λ t. RelaysNext s (Err fault) inputs inputs_after a t) same
-    (record {
+-- an input could not be opened
+pub not_opened : PiecesExist → (s : Settings) (inputs inputs_after : InputsTold) (a : Told)
+    → inputs_after.failures ≡ inputs.failures + 1 → RelaysNext s (Err Read) inputs inputs_after a a
+not_opened exist s inputs inputs_after a counts =
+    record {
       all = tt;
       flushed = tt;
       part = nothing_of_next exist s inputs.left (bytes_of a);
       faults = record { read = grind (arith); write = grind (arith); utf8 = grind (arith); counts = grind (arith) };
-    })
-
--- writers that began an input have what they had
-pub begun : (s : Settings) (result : Result Relayed RunFault) (inputs inputs_after : InputsTold) (a b c : Told) → b ≡ a
-    → RelaysNext s result inputs inputs_after b c → RelaysNext s result inputs inputs_after a c
-begun s result inputs inputs_after a b c same h = subst (λ t. RelaysNext s result inputs inputs_after t c) same h
+    }
 
 -- these inputs were relayed whole, and these texts are left
 pub record RelayedTexts (s : Settings) (names : List (Bor (List ℕ))) (texts : List (List ℕ)) (taken : ℕ) (before after : Known)

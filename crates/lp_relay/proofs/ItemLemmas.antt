@@ -1,6 +1,6 @@
 -- The items of a relay, one after another.
-use Rattle.std.proofs.Common.{◌≡◌, ℕ, ◌+◌, ◌≤◌, nat_lt, false, not, cond, List, [], ◌∷◌, ◌++◌, length, take, map}
-use Rattle.std.proofs.Common.{refl, sym, ap, ◌∙◌, arith, append_assoc, append-nil, inl, inr}
+use Rattle.std.proofs.Common.{◌≡◌, ℕ, ◌+◌, ◌≤◌, nat_lt, false, not, cond, List, [], ◌∷◌, ◌++◌, length, take, map, None}
+use Rattle.std.proofs.Common.{refl, arith, append-nil, inl, inr}
 use Rattle.std.specs.Str.{IsUtf8, is_utf8}
 use Rattle.std.proofs.lemmas.Bool.{cases_Bool}
 use Rattle.std.proofs.lemmas.Bool.Decides.{nat_tests}
@@ -13,28 +13,15 @@ use Rattle.influxdb_line_protocol.specs.code.Bounded.{IsTooLong}
 use Rattle.lp_relay.specs.declared.taking.Settings.{Settings}
 use Rattle.influxdb_line_protocol.specs.code.Rules.{rules_of}
 use Rattle.lp_relay.specs.declared.taking.LineForm.{LineForm}
-use Rattle.lp_relay.specs.declared.telling.Faults.{Faults}
-use Rattle.lp_relay.specs.Told.{told}
 use Rattle.lp_relay.specs.Objects.{stop_of_bytes, stop_of_piece}
 use Rattle.lp_relay.specs.Relaying.{Item, item_of, not_utf8, too_long, limit_of, is_too_long, items_of_bytes, items_of_piece, items_of}
-use Rattle.lp_relay.specs.Relaying.{is_carried_item, items_batch, item_fault, item_faults, carried_items, refused_items}
+use Rattle.lp_relay.specs.Relaying.{is_carried_item, items_batch, carried_items, refused_items}
 use Rattle.lp_relay.specs.Relaying.{kept_of, refused_lines, refused_piece}
 use Rattle.lp_rebuild.proofs.RebuildLemmas.{one_of_two}
 
 -- the batch of items and others
 pub batch_append : (xs ys : List Item) → items_batch (xs ++ ys) ≡ items_batch xs ++ items_batch ys
 batch_append xs ys = grind (arith, flat_map-append)
-
--- their faults
-pub faults_append : (form : Faults) (number : ℕ) (xs ys : List Item)
-    → item_faults form number (xs ++ ys) ≡ item_faults form number xs ++ item_faults form (number + length xs) ys
-faults_append form number [] ys = ap (λ (n : ℕ). item_faults form n ys) {y = number + 0} (omega arith)
-faults_append form number (x ∷ xs) ys =
-    let first = told form (item_fault number x) in
-    let others = item_faults form (number + 1) xs in
-    ap (λ (l : List ℕ). first ++ l) (faults_append form (number + 1) xs ys)
-    ∙ sym (append_assoc first others (item_faults form (number + 1 + length xs) ys))
-    ∙ ap (λ (n : ℕ). (first ++ others) ++ item_faults form n ys) {y = number + length (x ∷ xs)} (omega arith)
 
 -- how many of them are carried
 pub carried_append : (xs ys : List Item) → carried_items (xs ++ ys) ≡ carried_items xs + carried_items ys
@@ -102,15 +89,15 @@ unfolding refused_piece
 refused_long s piece h = grind (arith, nat_lt, item_of_long)
 
 -- where reading stops in a piece that is not too long
-pub stop_short : (s : Settings) (line : ℕ) (piece : List ℕ) → length piece ≤ s.limit
-    → stop_of_piece s line piece ≡ stop_of_bytes (rules_of s.dialect) line piece
+pub stop_short : (s : Settings) (piece : List ℕ) → length piece ≤ s.limit
+    → stop_of_piece s piece ≡ stop_of_bytes (rules_of s.dialect) piece
 unfolding stop_of_piece
-stop_short s line piece h = grind (arith, cases_Bool, nat_tests)
+stop_short s piece h = grind (arith, cases_Bool, nat_tests)
 
 -- it stops nowhere in one that is too long
-pub stop_long : (s : Settings) (line : ℕ) (piece : List ℕ) → IsTooLong s.limit piece → stop_of_piece s line piece ≡ []
+pub stop_long : (s : Settings) (piece : List ℕ) → IsTooLong s.limit piece → stop_of_piece s piece ≡ None
 unfolding stop_of_piece
-stop_long s line piece h = grind (arith, nat_lt)
+stop_long s piece h = grind (arith, nat_lt)
 
 -- the items of pieces and one more
 pub items_push : (s : Settings) (pieces : List (List ℕ)) (piece : List ℕ)

@@ -56,8 +56,3 @@ one_more_plain bytes at more front plain =
     let one : json_byte (slice_index bytes at) ≡ slice_index bytes at ∷ [] = rw plain refl in
     text_more bytes at more ∙ ap (λ (l : List ℕ). l ++ json_byte (slice_index bytes at)) front
     ∙ ap (λ (l : List ℕ). take at bytes ++ l) one ∙ sym (take_more bytes at 0 (omega (arith, more)))
-
--- three parts that were added one after another, and an end
-pub parts_added : (old a b c end last first second third : List ℕ) → first ≡ old ++ a → second ≡ first ++ b → third ≡ second ++ c
-    → third ++ (end ++ last) ≡ old ++ (a ++ b ++ c ++ end ++ last)
-parts_added old a b c end last first second third one two three = rw (three, two, one) (grind (arith, append_assoc))

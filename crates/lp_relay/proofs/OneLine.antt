@@ -1,14 +1,13 @@
 -- A text that is told on one line.
-use Rattle.std.proofs.Common.{◌≡◌, ℕ, ◌+◌, ◌-◌, ◌<◌, ◌≤◌, nat_lt, Bool, true, false, cond, List, [], ◌∷◌, ◌++◌, length, slice_index, take}
-use Rattle.std.proofs.Common.{Result, Ok, Err, OnOk, is_ok, ◌∙◌, ap, sym, append-nil, arith}
+use Rattle.std.proofs.Common.{◌≡◌, ℕ, ◌+◌, ◌<◌, ◌≤◌, nat_lt, Bool, true, false, cond, List, [], ◌∷◌, ◌++◌, length, slice_index, take}
+use Rattle.std.proofs.Common.{◌∙◌, ap, subst, sym, append-nil, arith}
+use Rattle.std.specs.Str.{IsUtf8}
+use Rattle.std.proofs.Math.Seq.{take-append_seam}
 use Rattle.std.specs.List.{flat_map}
 use Rattle.std.proofs.lemmas.Bool.Decides.{nat_tests}
-use Rattle.std.proofs.lemmas.List.{length-append, length-take-le, take_all, take_more}
-use Rattle.std.proofs.Math.Seq.{take-append_seam}
+use Rattle.std.proofs.lemmas.List.{length-take-le, take_all, take_more}
 use Rattle.std.proofs.lemmas.Grind.{flat_map-append}
-use Rattle.influxdb_line_protocol.specs.format.Bytes.{newline}
-use Rattle.lp_relay.specs.declared.telling.Faults.TheVariants.{OneLine}
-use Rattle.lp_relay.specs.Told.{cut_mark, on_one_line, told, told_byte}
+use Rattle.lp_relay.specs.Told.{cut_mark, on_one_line, told_byte}
 
 -- a front alone, if nothing is to follow
 no_more : (front more : List ℕ) (test : Bool) → test ≡ false → front ≡ front ++ cond test more []
@@ -36,12 +35,6 @@ told_front text many =
 pub front_len : (text : List ℕ) → 200 < length text → 200 ≡ length (take 200 text)
 front_len text many = sym (length-take-le 200 text (omega (arith, many)))
 
--- a fault line without its newline is told, and a newline after it
-pub told_line : (line : List ℕ) → 0 < length line → on_one_line (take (length line - 1) line) ++ newline ∷ [] ≡ told OneLine line
-told_line [] some = absurd (omega (arith, some))
-told_line (b ∷ bytes) some =
-    ap (λ (n : ℕ). on_one_line (take n (b ∷ bytes)) ++ newline ∷ []) {x = length (b ∷ bytes) - 1} {y = length bytes} (omega arith)
-
 -- if bytes are told as they are, and so is the next, so are all of them
 pub one_more_plain : (bytes : List ℕ) (at : ℕ) → at < length bytes → flat_map told_byte (take at bytes) ≡ take at bytes
     → told_byte (slice_index bytes at) ≡ slice_index bytes at ∷ [] → flat_map told_byte (take (at + 1) bytes) ≡ take (at + 1) bytes
@@ -51,18 +44,11 @@ one_more_plain bytes at more front next =
     ∙ ap (λ (l : List ℕ). l ++ flat_map told_byte (slice_index bytes at ∷ [])) front
     ∙ ap (λ (l : List ℕ). take at bytes ++ l) (append-nil (told_byte (slice_index bytes at)) ∙ next) ∙ sym longer
 
--- a fault line is told as it is if its bytes before the newline are few, and are told as they are
-pub told_plain : (text line : List ℕ) → line ≡ text ++ newline ∷ [] → length text ≤ 200 → flat_map told_byte text ≡ text
-    → told OneLine line ≡ line
-told_plain text line is few plain =
-    let len : length line ≡ length text + 1 = ap length is ∙ length-append text (newline ∷ []) in
-    let front : take (length line - 1) line ≡ text =
-    ap (λ (n : ℕ). take n line) {x = length line - 1} {y = length text} (omega (arith, len))
-    ∙ ap (take (length text)) is ∙ take-append_seam text (newline ∷ []) in
-    sym (told_line line (omega (arith, len))) ∙ ap (λ (l : List ℕ). on_one_line l ++ newline ∷ []) front
-    ∙ ap (λ (l : List ℕ). l ++ newline ∷ []) (sym (told_whole text few) ∙ plain) ∙ sym is
+-- a text of few bytes that are told as they are is told as it is
+pub told_plain : (text : List ℕ) → length text ≤ 200 → flat_map told_byte text ≡ text → on_one_line text ≡ text
+told_plain text few plain = sym (told_whole text few) ∙ plain
 
--- what is added if there is memory
-pub added : {T E : Type 0} (r : Result T E) (new old more : List ℕ) → new ≡ cond (is_ok r) (old ++ more) old → OnOk r (new ≡ old ++ more)
-added (Ok done) new old more is = is
-added (Err fault) new old more is = tt
+-- what a text was before more was added to it is UTF-8
+pub front_is_text : (old new more : List ℕ) (from : ℕ) → IsUtf8 old → from ≡ length old → new ≡ old ++ more → IsUtf8 (take from new)
+front_is_text old new more from u is added =
+    subst IsUtf8 (sym (ap (λ (n : ℕ). take n new) is ∙ ap (take (length old)) added ∙ take-append_seam old more)) u

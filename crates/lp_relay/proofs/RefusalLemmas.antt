@@ -116,10 +116,10 @@ item_is_of Canonical piece (Ok l) refused = canonical_is_of (front_of piece) (tr
 item_is_of Canonical piece (Err fault) refused = (refl, refl)
 
 -- where reading stops in a text, if it is at fault
-stop_is : (dialect : Dialect) (line : ℕ) (piece : Bor (List ℕ)) (fault : Bool) → IsUtf8 piece.now
-    → is_err (answer dialect (trimmed piece.now)) ≡ fault → stop_given dialect line (Ok piece) ≡ stop_in fault dialect line (Text piece)
-stop_is dialect line piece true u is = rw (is_utf8-from_IsUtf8 piece.now u, is) refl
-stop_is dialect line piece false u is = rw (is_utf8-from_IsUtf8 piece.now u, is) refl
+stop_is : (dialect : Dialect) (piece : Bor (List ℕ)) (fault : Bool) → IsUtf8 piece.now
+    → is_err (answer dialect (trimmed piece.now)) ≡ fault → stop_given dialect (Ok piece) ≡ stop_in fault dialect (Text piece)
+stop_is dialect piece true u is = rw (is_utf8-from_IsUtf8 piece.now u, is) refl
+stop_is dialect piece false u is = rw (is_utf8-from_IsUtf8 piece.now u, is) refl
 
 -- the test of what is not UTF-8
 not_utf8_test : (bytes : List ℕ) → (¬ IsUtf8 bytes) → is_utf8 bytes ≡ false
@@ -168,7 +168,7 @@ takes_text s piece text (took.Refused refusal) before after u is some takes =
           is = text_item s.lines d piece.now u some ∙ ap (λ (l : List ℕ). item_of s.lines piece.now (answer d l) ∷ []) (sym is);
           refused = takes.0;
           front = of.0;
-          stop = λ line. stop_is d line piece (is_fault refusal) u
+          stop = stop_is d piece (is_fault refusal) u
               (ap (λ (l : List ℕ). is_err (answer d l)) (sym is) ∙ sym of.1 ∙ takes.0.fault);
         },
       ),
@@ -194,7 +194,7 @@ takes_too_long s fault kept before is =
           is = refl;
           refused = record { refused = refl; wrong = refl; kind = refl; fault = refl };
           front = refl;
-          stop = λ line. refl;
+          stop = refl;
         },
       ),
       refl,
@@ -211,7 +211,7 @@ takes_no_text s bytes before bad =
           is = item_of_no_text s.lines (rules_of s.dialect) bytes.now bad;
           refused = record { refused = refl; wrong = refl; kind = refl; fault = refl };
           front = refl;
-          stop = λ line. rw none refl;
+          stop = rw none refl;
         },
       ),
       refl,

@@ -16,18 +16,14 @@ use Rattle.lp_relay.specs.Relaying.{Item, item_of, items_of_bytes, items_batch}
 use Rattle.influxdb_line_protocol.specs.types.PieceTooLong.{PieceTooLong}
 use Rattle.lp_relay.specs.declared.taking.Pending.{Pending}
 use Rattle.lp_relay.specs.declared.taking.Settings.{Settings}
-use Rattle.lp_relay.specs.RelaySteps.{Form, as_raw, form_given, start_of, Made, Passes, RelaysItems, RelaysPart, TakesItems, TakesGiven, Unwritten, faults_next}
-use Rattle.lp_relay.specs.RelaySteps.{items_given, refused_given, unwritten_of}
+use Rattle.lp_relay.specs.RelaySteps.{Passes, RelaysItems, RelaysPart, TakesGiven, Unwritten}
+use Rattle.lp_relay.specs.RelaySteps.{items_given, next_place, refused_given, told_given, unwritten_of}
 use Rattle.lp_relay.specs.Writers.{GainsFronts, Told}
 use Rattle.lp_rebuild.proofs.RebuildLemmas.{blank_answers, piece_answers}
 use Rattle.lp_relay.proofs.PassLemmas.{passes_more, passes_front}
 use Rattle.lp_relay.proofs.ItemLemmas.{batch_append, carried_append, refused_append}
 use Rattle.lp_relay.proofs.KindLemmas.{kinds_of_more, kinds_of_nothing}
 use Rattle.lp_relay.proofs.ItemLemmas.{items_of_text}
-
--- nothing was taken
-takes_nothing : (old : Made) → TakesItems as_raw old [] old
-takes_nothing old = grind (arith, append-nil)
 
 -- a blank text has no item
 pub blank_items : (lines : LineForm) (dialect : Dialect) (piece : List ℕ) → IsUtf8 piece → length (trimmed piece) ≡ 0
@@ -43,17 +39,17 @@ text_item lines dialect piece u some =
     ∙ ap (λ (l : List (Result Line Fault)). map (item_of lines piece) l) (piece_answers dialect piece some)
 
 -- what was taken is held
-pub relays_taken : (form : Form) (old new : Unwritten) (a : Told) (xs : List Item) (ps : List ℕ)
-    → TakesItems form old.made xs new.made → new.pieces ≡ old.pieces ++ ps → new.kinds ≡ kinds_after xs old.kinds
-    → RelaysItems old new a a xs (faults_next form old.made xs) ps
-relays_taken form old new a xs ps t pieces kinds =
+pub relays_taken : (s : Settings) (old new : Unwritten) (a : Told) (result : Result (Bor (List ℕ)) PieceTooLong)
+    → TakesGiven s old result new
+    → RelaysItems old new a a (items_given s result) (told_given s (next_place s old) result) (refused_given s result)
+relays_taken s old new a result t =
     record {
       batch = ([], Appends-nil a.lines.bytes, t.batch);
       faults = ([], Appends-nil a.faults.bytes, t.faults);
-      pieces = ([], Appends-nil a.refused.bytes, pieces);
+      pieces = ([], Appends-nil a.refused.bytes, t.pieces);
       carried = t.carried;
       refused = t.refused;
-      kinds = kinds;
+      kinds = t.kinds;
     }
 
 -- one step, and then another
@@ -148,25 +144,32 @@ pub relays_poured : (s : Settings) (old now next poured : Unwritten) (a b c : To
     (result : Result (Bor (List ℕ)) PieceTooLong) → RelaysItems old now a b xs fs ps → TakesGiven s now result next
     → RelaysItems next poured b c [] [] []
     → RelaysItems old poured a c (xs ++ items_given s result)
-    (fs ++ faults_next (form_given s (start_of now) result) now.made (items_given s result)) (ps ++ refused_given s result)
+    (fs ++ told_given s (next_place s now) result) (ps ++ refused_given s result)
 relays_poured s old now next poured a b c xs fs ps result p t q =
     relays_then old next poured a b c _ _ _
-    (relays_more old now next a b b xs _ fs _ ps _ p (relays_taken (form_given s (start_of now) result) now next b _ _ t.items t.pieces t.kinds)) q
+    (relays_more old now next a b b xs _ fs _ ps _ p (relays_taken s now next b result t)) q
 
 -- the same, if a beginning of it was written
 pub part_poured : (s : Settings) (old now next : Unwritten) (a b c : Told) (xs : List Item) (fs ps : List ℕ)
     (result : Result (Bor (List ℕ)) PieceTooLong) → RelaysItems old now a b xs fs ps → TakesGiven s now result next
     → RelaysPart next b c [] [] []
     → RelaysPart old a c (xs ++ items_given s result)
-    (fs ++ faults_next (form_given s (start_of now) result) now.made (items_given s result)) (ps ++ refused_given s result)
+    (fs ++ told_given s (next_place s now) result) (ps ++ refused_given s result)
 part_poured s old now next a b c xs fs ps result p t q =
     part_then old next a b c _ _ _
-    (relays_more old now next a b b xs _ fs _ ps _ p (relays_taken (form_given s (start_of now) result) now next b _ _ t.items t.pieces t.kinds)) q
+    (relays_more old now next a b b xs _ fs _ ps _ p (relays_taken s now next b result t)) q
 
 -- nothing was made so far
 pub relays_none : (old : Unwritten) (a : Told) → RelaysItems old old a a [] [] []
 relays_none old a =
-    relays_taken as_raw old old a [] [] (takes_nothing old.made) (sym (append-nil old.pieces)) (sym (kinds_of_nothing old.kinds))
+    record {
+      batch = ([], Appends-nil a.lines.bytes, sym (append-nil old.made.batch));
+      faults = ([], Appends-nil a.faults.bytes, sym (append-nil old.made.faults));
+      pieces = ([], Appends-nil a.refused.bytes, sym (append-nil old.pieces));
+      carried = omega arith;
+      refused = omega arith;
+      kinds = sym (kinds_of_nothing old.kinds);
+    }
 
 -- a fact at a fault
 pub on_err : {T E P : Type 0} (r : Result T E) → P → OnErr r P

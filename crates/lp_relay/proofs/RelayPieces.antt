@@ -13,13 +13,14 @@ use Rattle.lp_relay.specs.declared.taking.Settings.{Settings}
 use Rattle.influxdb_line_protocol.specs.code.Rules.{rules_of}
 use Rattle.lp_relay.specs.Relaying.{Item, items_of_piece, items_of, refused_piece, refused_pieces, kept_of, refused_lines, too_long}
 use Rattle.lp_relay.specs.RelaySteps.{RelaysAllPieces, RelaysItems, RelaysLast, RelaysLastPart, RelaysPart, RelaysSome, RelaysTo}
-use Rattle.lp_relay.specs.RelaySteps.{Form, Start, Unwritten, faults_next, faults_past, form_at, form_given, form_of, items_given, len_given}
-use Rattle.lp_relay.specs.RelaySteps.{line_or_none, newlines_given, start_after, start_of, start_past}
+use Rattle.lp_relay.specs.RelaySteps.{Unwritten, after_given, items_given, len_given, newlines_given, next_place, place_past, told_given}
+use Rattle.lp_relay.specs.declared.telling.Place.{Place}
+use Rattle.lp_relay.specs.FaultsTold.{after_piece, told_from, told_items, told_piece}
 use Rattle.lp_relay.specs.Objects.{stop_given, stop_of_piece}
 use Rattle.lp_relay.specs.RelaySteps.{TakesGiven, TakesPieces, refused_given}
 use Rattle.lp_relay.specs.Writers.{Told}
-use Rattle.lp_relay.proofs.ItemLemmas.{item_of_long, items_add_up, items_of_short, items_push, refused_long, refused_short, stop_long, stop_short}
-use Rattle.lp_relay.proofs.FaultLines.{faults_from_append, faults_from_push, start_append}
+use Rattle.lp_relay.proofs.ItemLemmas.{item_of_long, items_of_short, items_push, refused_long, refused_short, stop_long, stop_short}
+use Rattle.lp_relay.proofs.FaultLines.{place_append, told_append}
 use Rattle.lp_relay.proofs.RelayLemmas.{part_of_none, part_poured, part_so_far, part_then, relays_none, relays_poured, relays_same}
 use Rattle.lp_relay.proofs.RelayLemmas.{part_more, part_same, relays_more, relays_then}
 
@@ -32,7 +33,7 @@ pub record Given (s : Settings) (text : List ℕ) (result : Result (Bor (List �
   pub items : items_given s result ≡ items_of_piece s piece
   pub newlines : newlines_given result ≡ newlines_in piece
   pub len : len_given result ≡ length piece
-  pub stop : (line : ℕ) → stop_given (rules_of s.dialect) line result ≡ stop_of_piece s line piece
+  pub stop : stop_given (rules_of s.dialect) result ≡ stop_of_piece s piece
   pub put : refused_given s result ≡ refused_piece s piece
 
 -- a piece that is not too long
@@ -51,7 +52,7 @@ given_long s text piece fault rest tells cuts =
       items = sym (item_of_long s piece tells.0);
       newlines = tells.1;
       len = tells.2;
-      stop = λ line. sym (stop_long s line piece tells.0);
+      stop = sym (stop_long s piece tells.0);
       put = ap (λ f. refused_lines s.puts_refused f (too_long (kept_of s) ∷ [])) tells.3 ∙ sym (refused_long s piece tells.0);
     }
 
@@ -72,19 +73,21 @@ pub last_items : (s : Settings) (text : List ℕ) (result : Result (Bor (List �
 last_items s text e h = grind (arith, items_of_short, item_of_long)
 
 -- where reading stops in it
-last_stop : (s : Settings) (line : ℕ) (text : List ℕ) (result : Result (Bor (List ℕ)) PieceTooLong)
-    → IsLastOf s.limit text result → stop_given (rules_of s.dialect) line result ≡ stop_of_piece s line text
-last_stop s line text e h = grind (arith, stop_short, stop_long)
+last_stop : (s : Settings) (text : List ℕ) (result : Result (Bor (List ℕ)) PieceTooLong)
+    → IsLastOf s.limit text result → stop_given (rules_of s.dialect) result ≡ stop_of_piece s text
+last_stop s text e h = grind (arith, stop_short, stop_long)
 
--- its fault lines
-last_faults : (s : Settings) (old : Unwritten) (text : List ℕ) (result : Result (Bor (List ℕ)) PieceTooLong)
-    → IsLastOf s.limit text result
-    → faults_next (form_given s (start_of old) result) old.made (items_given s result)
-    ≡ faults_next (form_at s (start_of old) text) old.made (items_of_piece s text)
-last_faults s old text result last =
-    ap (λ form. faults_next form old.made (items_given s result))
-    (ap (form_of s.faults old.offset) (last_stop s (line_or_none old.made.line) text result last))
-    ∙ ap (faults_next (form_at s (start_of old) text) old.made) (last_items s text result last)
+-- what is told of what a call gave is what is told of the piece
+told_same : (s : Settings) (place : Place) (piece : List ℕ) (result : Result (Bor (List ℕ)) PieceTooLong)
+    → items_given s result ≡ items_of_piece s piece → stop_given (rules_of s.dialect) result ≡ stop_of_piece s piece
+    → told_given s place result ≡ told_piece s place piece
+told_same s place piece result items stop =
+    ap (λ e. told_items s.faults place e (items_given s result)) stop ∙ ap (told_items s.faults place (stop_of_piece s piece)) items
+
+-- what is told of the last piece
+last_faults : (s : Settings) (place : Place) (text : List ℕ) (result : Result (Bor (List ℕ)) PieceTooLong)
+    → IsLastOf s.limit text result → told_given s place result ≡ told_piece s place text
+last_faults s place text result last = told_same s place text result (last_items s text result last) (last_stop s text result last)
 
 -- what goes out of it as refused
 pub last_put : (s : Settings) (text : List ℕ) (result : Result (Bor (List ℕ)) PieceTooLong)
@@ -120,18 +123,17 @@ pub next_items : (s : Settings) (ps : List (List ℕ)) (p : List ℕ) (items : L
     → items ≡ items_of_piece s p → items_of s ps ++ items ≡ items_of s (ps ++ p ∷ [])
 next_items s ps p items is = ap (λ l. items_of s ps ++ l) is ∙ sym (items_push s ps p)
 
--- if pieces were taken, the fault lines of one more name what comes then
-pub next_faults : (s : Settings) (old now : Unwritten) (a b : Told) (ps : List (List ℕ)) (p : List ℕ) (items : List Item)
-    (form : Form) (fs put : List ℕ) → RelaysItems old now a b (items_of s ps) fs put → start_of now ≡ start_past (start_of old) ps
-    → items ≡ items_of_piece s p → form ≡ form_at s (start_of now) p
-    → faults_past s old ps ++ faults_next form now.made items ≡ faults_past s old (ps ++ p ∷ [])
-next_faults s old now a b ps p items form fs put relays start is told = grind (arith, items_add_up, faults_from_push)
+-- what is told of pieces and of others
+pub faults_then : (s : Settings) (place now : Place) (ps qs : List (List ℕ)) → now ≡ place_past s place ps
+    → told_from s place ps ++ told_from s now qs ≡ told_from s place (ps ++ qs)
+faults_then s place now ps qs start =
+    ap (λ q. told_from s place ps ++ told_from s q qs) start ∙ sym (told_append s place ps qs)
 
--- and so do those of others
-pub faults_then : (s : Settings) (old now : Unwritten) (a b : Told) (ps qs : List (List ℕ)) (fs put : List ℕ)
-    → RelaysItems old now a b (items_of s ps) fs put → start_of now ≡ start_past (start_of old) ps
-    → faults_past s old ps ++ faults_past s now qs ≡ faults_past s old (ps ++ qs)
-faults_then s old now a b ps qs fs put relays start = grind (arith, items_add_up, faults_from_append)
+-- and of one more
+pub next_faults : (s : Settings) (place now : Place) (ps : List (List ℕ)) (p told : List ℕ) → now ≡ place_past s place ps
+    → told ≡ told_piece s now p → told_from s place ps ++ told ≡ told_from s place (ps ++ p ∷ [])
+next_faults s place now ps p told start is =
+    ap (λ l. told_from s place ps ++ l) (is ∙ sym (append-nil (told_piece s now p))) ∙ faults_then s place now ps (p ∷ []) start
 
 -- what goes out as refused of pieces and of one more
 pub next_put : (s : Settings) (ps : List (List ℕ)) (p put : List ℕ) → put ≡ refused_piece s p
@@ -147,7 +149,7 @@ pub last_relayed : (s : Settings) (old next poured : Unwritten) (a b : Told) (te
     (result : Result (Bor (List ℕ)) PieceTooLong) → IsLastOf s.limit text result → TakesGiven s old result next
     → RelaysItems next poured a b [] [] [] → RelaysLast s text old poured a b
 last_relayed s old next poured a b text result last t q =
-    relays_same old poured a b _ _ _ _ _ _ (last_items s text result last) (last_faults s old text result last) (last_put s text result last)
+    relays_same old poured a b _ _ _ _ _ _ (last_items s text result last) (last_faults s (next_place s old) text result last) (last_put s text result last)
     (relays_poured s old old next poured a a b [] [] [] result (relays_none old a) t q)
 
 -- the same, if a beginning of it was written
@@ -155,18 +157,16 @@ pub last_part : (s : Settings) (old next : Unwritten) (a b : Told) (text : List 
     (result : Result (Bor (List ℕ)) PieceTooLong) → IsLastOf s.limit text result → TakesGiven s old result next
     → RelaysPart next a b [] [] [] → RelaysLastPart s text old a b
 last_part s old next a b text result last t q =
-    part_same old a b _ _ _ _ _ _ (last_items s text result last) (last_faults s old text result last) (last_put s text result last)
+    part_same old a b _ _ _ _ _ _ (last_items s text result last) (last_faults s (next_place s old) text result last) (last_put s text result last)
     (part_poured s old old next a a b [] [] [] result (relays_none old a) t q)
 
--- where the next piece starts after one piece more
-next_start : (start now next : Start) (newlines len : ℕ) (ps : List (List ℕ)) (p : List ℕ) → now ≡ start_past start ps
-    → newlines ≡ newlines_in p → len ≡ length p → next ≡ start_after now newlines len → next ≡ start_past start (ps ++ p ∷ [])
-next_start start now next newlines len ps p is lines bytes step = grind (arith, start_append)
-
--- how the fault of the piece is told
-form_is : (s : Settings) (text : List ℕ) (result : Result (Bor (List ℕ)) PieceTooLong) (rest : List ℕ) (start : Start)
-    → (one : Given s text result rest) → form_given s start result ≡ form_at s start one.piece
-form_is s text result rest start one = ap (form_of s.faults start.offset) (one.stop (line_or_none start.line))
+-- the place after one piece more
+next_start : (s : Settings) (text : List ℕ) (result : Result (Bor (List ℕ)) PieceTooLong) (rest : List ℕ) (place now next : Place)
+    (ps : List (List ℕ)) → (one : Given s text result rest) → now ≡ place_past s place ps → next ≡ after_given s now result
+    → next ≡ place_past s place (ps ++ one.piece ∷ [])
+next_start s text result rest place now next ps one is step =
+    let after : after_given s now result ≡ after_piece s now one.piece = rw (one.items, one.newlines, one.len) refl in
+    step ∙ after ∙ ap (λ q. after_piece s q one.piece) is ∙ sym (place_append s place ps (one.piece ∷ []))
 
 -- no piece was taken so far
 pub to_none : (s : Settings) (text : List ℕ) (old : Unwritten) (a : Told) → RelaysTo s text text old old a a
@@ -181,16 +181,16 @@ some_none s text old a =
 -- a piece more was taken, and what is held was written
 pub to_more : (s : Settings) (text mid rest : List ℕ) (old now next poured : Unwritten) (a b c : Told)
     (result : Result (Bor (List ℕ)) PieceTooLong) → RelaysTo s text mid old now a b → Given s mid result rest
-    → TakesGiven s now result next → start_of poured ≡ start_after (start_of now) (newlines_given result) (len_given result)
+    → TakesGiven s now result next → next_place s poured ≡ after_given s (next_place s now) result
     → RelaysItems next poured b c [] [] [] → RelaysTo s text rest old poured a c
 to_more s text mid rest old now next poured a b c result p one takes start q =
     record {
       pieces = p.pieces ++ one.piece ∷ [];
       taken = takes_one (rules_of s.dialect) text mid rest p.pieces one.piece p.taken one.text_is one.is_cut;
-      start = next_start (start_of old) (start_of now) (start_of poured) _ _ p.pieces one.piece p.start one.newlines one.len start;
+      start = next_start s mid result rest _ _ _ p.pieces one p.start start;
       relays = relays_same old poured a c _ _ _ _ _ _
           (next_items s p.pieces one.piece (items_given s result) one.items)
-          (next_faults s old now a b p.pieces one.piece _ _ _ _ p.relays p.start one.items (form_is s mid result rest (start_of now) one))
+          (next_faults s (next_place s old) (next_place s now) p.pieces one.piece _ p.start (told_same s (next_place s now) one.piece result one.items one.stop))
           (next_put s p.pieces one.piece (refused_given s result) one.put)
           (relays_poured s old now next poured a b c _ _ _ result p.relays takes q);
     }
@@ -206,7 +206,7 @@ to_part s text mid rest old now next a b c result p one takes q =
       taken = takes_one (rules_of s.dialect) text mid rest p.pieces one.piece p.taken one.text_is one.is_cut;
       part = part_same old a c _ _ _ _ _ _
           (next_items s p.pieces one.piece (items_given s result) one.items)
-          (next_faults s old now a b p.pieces one.piece _ _ _ _ p.relays p.start one.items (form_is s mid result rest (start_of now) one))
+          (next_faults s (next_place s old) (next_place s now) p.pieces one.piece _ p.start (told_same s (next_place s now) one.piece result one.items one.stop))
           (next_put s p.pieces one.piece (refused_given s result) one.put)
           (part_poured s old now next a b c _ _ _ result p.relays takes q);
     }
@@ -222,9 +222,9 @@ to_then s text mid rest old now new a b c p q =
     record {
       pieces = p.pieces ++ q.pieces;
       taken = takes_then (rules_of s.dialect) text mid rest p.pieces q.pieces p.taken q.taken;
-      start = q.start ∙ ap (λ (k : Start). start_past k q.pieces) p.start ∙ sym (start_append (start_of old) p.pieces q.pieces);
+      start = q.start ∙ ap (λ (k : Place). place_past s k q.pieces) p.start ∙ sym (place_append s (next_place s old) p.pieces q.pieces);
       relays = relays_same old new a c _ _ _ _ _ _ (items_append s p.pieces q.pieces)
-          (faults_then s old now a b p.pieces q.pieces _ _ p.relays p.start) (put_append s p.pieces q.pieces)
+          (faults_then s (next_place s old) (next_place s now) p.pieces q.pieces p.start) (put_append s p.pieces q.pieces)
           (relays_more old now new a b c _ _ _ _ _ _ p.relays q.relays);
     }
 
@@ -237,7 +237,7 @@ some_then s text mid old now a b c p q =
       rest = q.rest;
       taken = takes_then (rules_of s.dialect) text mid q.rest p.pieces q.pieces p.taken q.taken;
       part = part_same old a c _ _ _ _ _ _ (items_append s p.pieces q.pieces)
-          (faults_then s old now a b p.pieces q.pieces _ _ p.relays p.start) (put_append s p.pieces q.pieces)
+          (faults_then s (next_place s old) (next_place s now) p.pieces q.pieces p.start) (put_append s p.pieces q.pieces)
           (part_more old now a b c _ _ _ _ _ _ p.relays q.part);
     }
 
@@ -249,7 +249,7 @@ to_so_far s text rest old now a b p =
 
 -- pieces were taken up to a rest, then all of that, and then what is held was written
 pub to_all : (s : Settings) (text mid : List ℕ) (stream : HeldWithin) (old now new poured : Unwritten) (a b c d : Told)
-    → RelaysTo s text mid old now a b → RelaysAllPieces s mid stream now new b c → start_of poured ≡ start_of new
+    → RelaysTo s text mid old now a b → RelaysAllPieces s mid stream now new b c → next_place s poured ≡ next_place s new
     → RelaysItems new poured c d [] [] [] → RelaysAllPieces s text stream old poured a d
 to_all s text mid stream old now new poured a b c d first rest start q =
     let p = to_then s text mid rest.0.rest old now new a b c first rest.0.to in (

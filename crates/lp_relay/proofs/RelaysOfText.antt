@@ -1,6 +1,8 @@
 -- What is relayed of a text that is UTF-8 is what a rebuild of it gives.
-use Rattle.std.proofs.Common.{◌≡◌, ℕ, ◌+◌, ◌≤◌, nat_lt, false, List, [], ◌∷◌, ◌++◌, length, map, Option, Some, None, Result}
-use Rattle.std.proofs.Common.{refl, sym, ap, subst, ◌∙◌, arith}
+use Rattle.std.proofs.Common.{◌≡◌, ℕ, ◌+◌, ◌≤◌, nat_lt, false, List, [], ◌∷◌, ◌++◌, length, Option, Some, None, Result, Ok, Err}
+use Rattle.std.proofs.Common.{refl, sym, ap, subst, ◌∙◌, append_assoc, append-nil, arith, inl, inr}
+use Rattle.std.proofs.lemmas.Bool.{cases_Bool}
+use Rattle.influxdb_line_protocol.specs.format.Bytes.{newlines_in}
 use Rattle.std.specs.List.{All, flat_map}
 use Rattle.std.proofs.lemmas.Bool.Decides.{nat_tests}
 use Rattle.std.proofs.lemmas.List.Elements.{All-tail}
@@ -10,79 +12,94 @@ use Rattle.std.proofs.lemmas.Grind.{flat_map-append}
 use Rattle.influxdb_line_protocol.specs.format.Dialects.{Dialect}
 use Rattle.influxdb_line_protocol.specs.format.Readings.{Fault}
 use Rattle.influxdb_line_protocol.specs.format.Points.{built, built_all}
-use Rattle.influxdb_line_protocol.specs.format.Lines.{Line}
+use Rattle.influxdb_line_protocol.specs.format.Lines.{Line, answer}
 use Rattle.influxdb_line_protocol.specs.format.Pieces.{Pieces, Pieces.cut, Pieces.last}
-use Rattle.influxdb_line_protocol.specs.format.Items.{answers_of, answers_of_piece}
+use Rattle.influxdb_line_protocol.specs.format.Items.{answers_of}
 use Rattle.influxdb_line_protocol.specs.laws.Laws.{PiecesAreUnique}
 use Rattle.influxdb_line_protocol.specs.laws.StreamLaws.{Utf8ByPieces}
 use Rattle.lp_rebuild.specs.declared.batch.Rebuilt.{Rebuilt}
 use Rattle.lp_relay.specs.declared.relaying.Relayed.{Relayed}
-use Rattle.lp_rebuild.specs.Rebuilding.{RebuildsIn, batch_of, carried_of, carried_point, fault_of, faults_from, refused_of}
+use Rattle.lp_rebuild.specs.Rebuilding.{RebuildsIn, batch_of, carried_of, carried_point, fault_of, faults_from, is_carried_answer, refused_of}
 use Rattle.lp_rebuild.specs.Running.{AppendsFront}
-use Rattle.lp_relay.specs.Relaying.{Item, answered, first_of, front_of, is_too_long, item_of, limit_of, items_of, items_of_piece, items_batch, item_faults}
+use Rattle.lp_relay.specs.Relaying.{answered, first_of, front_of, is_too_long, item_of, limit_of, items_of, items_of_piece, items_batch}
 use Rattle.lp_relay.specs.Relaying.{carried_items, refused_items}
 use Rattle.lp_relay.specs.Writers.{Known}
-use Rattle.lp_relay.specs.Relays.{IfRebuilt, named_faults, told_faults, RelaysAll, RelaysFronts, RelaysRebuilt, RelaysRebuiltFronts}
+use Rattle.lp_relay.specs.FaultsTold.{after_piece, first_item, first_line, first_named, first_place, line_after, told_faults, told_from, told_item, told_items}
+use Rattle.lp_relay.specs.Objects.{stop_of_piece}
+use Rattle.lp_relay.specs.Relays.{IfRebuilt, RelaysAll, RelaysFronts, RelaysRebuilt, RelaysRebuiltFronts}
 use Rattle.lp_relay.specs.declared.taking.LineForm.TheVariants as going
 use Rattle.lp_relay.specs.declared.taking.Numbering.TheVariants as named
 use Rattle.lp_relay.specs.declared.taking.Settings.{Settings}
-use Rattle.lp_relay.specs.declared.telling.Faults.TheVariants.{Raw}
+use Rattle.lp_relay.specs.declared.telling.{Faults.TheVariants.Raw, Place.Place}
 use Rattle.influxdb_line_protocol.specs.code.Rules.{rules_of}
-use Rattle.lp_rebuild.proofs.RebuildLemmas.{carried_cons, refused_cons}
-use Rattle.lp_relay.proofs.ItemLemmas.{carried_first, refused_first, items_of_fitting, items_of_text}
+use Rattle.lp_rebuild.proofs.RebuildLemmas.{blank_answers, carried_cons, piece_answers, refused_cons}
+use Rattle.lp_relay.proofs.ItemLemmas.{carried_first, refused_first, items_of_fitting}
+use Rattle.lp_relay.proofs.RelayLemmas.{blank_items, text_item}
+use Rattle.std.proofs.Math.Nat.{eq-zero-or-pos}
+use Rattle.influxdb_line_protocol.specs.format.Trimming.{trimmed}
 
--- these items are these answers, in order
-abbrev AreAnswers : List Item → List (Result Line Fault) → Type 0
-AreAnswers [] answers = answers ≡ []
-AreAnswers (item ∷ items) answers =
-    (front : List ℕ) × (first : Result Line Fault) × (others : List (Result Line Fault))
-    × (item ≡ answered front first) × (answers ≡ first ∷ others) × AreAnswers items others
+-- the answers of these pieces are these, in order: each piece has one item, which is its answer, or none
+data AreAnswers (s : Settings) : List (List ℕ) → List (Result Line Fault) → Type 0 where
+  no_piece : AreAnswers s [] []
+  blank : (piece : List ℕ) (pieces : List (List ℕ)) (answers : List (Result Line Fault)) → items_of_piece s piece ≡ []
+      → AreAnswers s pieces answers → AreAnswers s (piece ∷ pieces) answers
+  one : (front : List ℕ) (a : Result Line Fault) (piece : List ℕ) (pieces : List (List ℕ)) (answers : List (Result Line Fault))
+      → items_of_piece s piece ≡ answered front a ∷ [] → AreAnswers s pieces answers → AreAnswers s (piece ∷ pieces) (a ∷ answers)
 
--- answers after one front are the answers
-are_answers : (front : List ℕ) (answers : List (Result Line Fault)) → AreAnswers (map (answered front) answers) answers
-are_answers front [] = refl
-are_answers front (a ∷ answers) = (front, a, answers, refl, refl, are_answers front answers)
+-- what goes out for the items are the lines of the points of the answers
+lines_of_answers : (s : Settings) (pieces : List (List ℕ)) (answers : List (Result Line Fault)) → AreAnswers s pieces answers
+    → items_batch (items_of s pieces) ≡ batch_of answers
+lines_of_answers s pieces answers no_piece = refl
+lines_of_answers s pieces answers (blank p others later none more) = rw none (lines_of_answers s others later more)
+lines_of_answers s pieces answers (one front a p others later is more) =
+    rw is (ap (λ l. built_all (carried_point a) ++ l) (lines_of_answers s others later more)
+    ∙ sym (flat_map-append built (carried_point a) (flat_map carried_point later)))
 
--- items and others
-are_append : (xs ys : List Item) (firsts others : List (Result Line Fault)) → AreAnswers xs firsts → AreAnswers ys others
-    → AreAnswers (xs ++ ys) (firsts ++ others)
-are_append [] ys firsts others none are = subst (λ l. AreAnswers ys (l ++ others)) (sym none) are
-are_append (x ∷ xs) ys firsts others (front, a, next, is, first, more) are =
-    (front, a, next ++ others, is, ap (λ l. l ++ others) first, are_append xs ys next others more are)
+-- the fault line of an answer, if items are named
+fault_of_answer : (place : Place) (stop : Option (List ℕ)) (front : List ℕ) (a : Result Line Fault) → place.line ≡ None
+    → told_item Raw place stop (answered front a) ≡ fault_of place.number a
+fault_of_answer place stop front (Ok line) none =
+    elim (cases_Bool (is_carried_answer (Ok line))) [
+      | inl carried ↦ rw carried refl
+      | inr refused ↦ rw (refused, none) (grind (arith, append_assoc))
+    ]
+fault_of_answer place stop front (Err fault) none = rw none (grind (arith, append_assoc))
 
--- what goes out for answers as items are the lines of their points
-lines_of_answers : (items : List Item) (answers : List (Result Line Fault)) → AreAnswers items answers → items_batch items ≡ batch_of answers
-lines_of_answers [] answers none = ap batch_of (sym none)
-lines_of_answers (i ∷ items) answers (front, a, others, is, first, more) =
-    ap (λ x. items_batch (x ∷ items)) is
-    ∙ ap (λ l. built_all (carried_point a) ++ l) (lines_of_answers items others more)
-    ∙ sym (flat_map-append built (carried_point a) (flat_map carried_point others)) ∙ ap batch_of (sym first)
+-- so what is told, if fault lines are told as they are, are the fault lines of the answers
+faults_of_answers : (s : Settings) (place : Place) (pieces : List (List ℕ)) (answers : List (Result Line Fault)) → s.faults ≡ Raw
+    → place.line ≡ None → AreAnswers s pieces answers → told_from s place pieces ≡ faults_from place.number answers
+faults_of_answers s place pieces answers raw unnamed no_piece = refl
+faults_of_answers s place pieces answers raw unnamed (blank p others later none more) =
+    let after = after_piece s place p in
+    let number : after.number ≡ place.number = omega (arith, ap length none) in
+    ap (λ items. told_items s.faults place (stop_of_piece s p) items ++ told_from s after others) none
+    ∙ faults_of_answers s after others later raw (ap (λ l. line_after l (newlines_in p)) unnamed) more ∙ ap (λ n. faults_from n later) number
+faults_of_answers s place pieces answers raw unnamed (one front a p others later is more) =
+    let after = after_piece s place p in
+    let rest = told_from s after others in
+    ap (λ items. told_items s.faults place (stop_of_piece s p) items ++ rest) is
+    ∙ ap (λ l. l ++ rest) (append-nil _)
+    ∙ ap (λ form. told_item form place (stop_of_piece s p) (answered front a) ++ rest) raw
+    ∙ ap (λ l. l ++ rest) (fault_of_answer place (stop_of_piece s p) front a unnamed)
+    ∙ ap (λ l. fault_of place.number a ++ l)
+    (faults_of_answers s after others later raw (ap (λ l. line_after l (newlines_in p)) unnamed) more
+    ∙ ap (λ items. faults_from (place.number + length items) later) is)
 
--- their faults
-faults_of_answers : (number : ℕ) (items : List Item) (answers : List (Result Line Fault)) → AreAnswers items answers
-    → item_faults Raw number items ≡ faults_from number answers
-faults_of_answers number [] answers none = ap (faults_from number) (sym none)
-faults_of_answers number (i ∷ items) answers (front, a, others, is, first, more) =
-    ap (λ x. item_faults Raw number (x ∷ items)) is
-    ∙ ap (λ l. fault_of number a ++ l) (faults_of_answers (number + 1) items others more) ∙ ap (faults_from number) (sym first)
-
--- how many of them are carried
-carried_of_answers : (items : List Item) (answers : List (Result Line Fault)) → AreAnswers items answers
-    → carried_items items ≡ carried_of answers
-carried_of_answers [] answers none = ap carried_of (sym none)
-carried_of_answers (i ∷ items) answers (front, a, others, is, first, more) =
-    let now : carried_items (answered front a ∷ items) ≡ carried_of (a ∷ others) =
-    omega (arith, carried_first (answered front a) items, carried_cons a others, carried_of_answers items others more) in
-    ap (λ x. carried_items (x ∷ items)) is ∙ now ∙ ap carried_of (sym first)
+-- how many items are carried
+carried_of_answers : (s : Settings) (pieces : List (List ℕ)) (answers : List (Result Line Fault)) → AreAnswers s pieces answers
+    → carried_items (items_of s pieces) ≡ carried_of answers
+carried_of_answers s pieces answers no_piece = refl
+carried_of_answers s pieces answers (blank p others later none more) = rw none (carried_of_answers s others later more)
+carried_of_answers s pieces answers (one front a p others later is more) =
+    rw is (omega (arith, carried_first (answered front a) (items_of s others), carried_cons a later, carried_of_answers s others later more))
 
 -- how many are not
-refused_of_answers : (items : List Item) (answers : List (Result Line Fault)) → AreAnswers items answers
-    → refused_items items ≡ refused_of answers
-refused_of_answers [] answers none = ap refused_of (sym none)
-refused_of_answers (i ∷ items) answers (front, a, others, is, first, more) =
-    let now : refused_items (answered front a ∷ items) ≡ refused_of (a ∷ others) =
-    omega (arith, refused_first (answered front a) items, refused_cons a others, refused_of_answers items others more) in
-    ap (λ x. refused_items (x ∷ items)) is ∙ now ∙ ap refused_of (sym first)
+refused_of_answers : (s : Settings) (pieces : List (List ℕ)) (answers : List (Result Line Fault)) → AreAnswers s pieces answers
+    → refused_items (items_of s pieces) ≡ refused_of answers
+refused_of_answers s pieces answers no_piece = refl
+refused_of_answers s pieces answers (blank p others later none more) = rw none (refused_of_answers s others later more)
+refused_of_answers s pieces answers (one front a p others later is more) =
+    rw is (omega (arith, refused_first (answered front a) (items_of s others), refused_cons a later, refused_of_answers s others later more))
 
 -- none of these pieces is too long
 abbrev NoneTooLong : Option ℕ → List (List ℕ) → Type 0
@@ -102,35 +119,40 @@ short_pieces limit (piece ∷ pieces) h =
     let fits : nat_lt limit (length piece) ≡ false = grind (arith, nat_tests) in
     (fits, short_pieces limit pieces (All-tail (λ piece. length piece ≤ limit) piece pieces h))
 
--- the items of a piece that is UTF-8 and not too long, and of others, if lines are written again
-items_of_texts : (s : Settings) (piece : List ℕ) (pieces : List (List ℕ)) → s.lines ≡ going.Rebuilt
-    → is_too_long (limit_of s.limit) piece ≡ false → IsUtf8 piece → AreAnswers (items_of s pieces) (answers_of (rules_of s.dialect) pieces)
-    → AreAnswers (items_of s (piece ∷ pieces)) (answers_of (rules_of s.dialect) (piece ∷ pieces))
-items_of_texts s piece pieces again fits u others =
-    let answers = answers_of_piece (rules_of s.dialect) piece in
-    let items : items_of_piece s piece ≡ map (answered (front_of piece)) answers =
-    items_of_fitting s piece fits ∙ items_of_text s.lines (rules_of s.dialect) piece u ∙ ap (λ l. map (item_of l piece) answers) again in
-    subst (λ l. AreAnswers (l ++ items_of s pieces) (answers_of (rules_of s.dialect) (piece ∷ pieces))) (sym items)
-    (are_append (map (answered (front_of piece)) answers) (items_of s pieces) answers (answers_of (rules_of s.dialect) pieces)
-    (are_answers (front_of piece) answers) others)
+-- a piece that is UTF-8 and not too long comes before others, if lines are written again
+one_more : (s : Settings) (piece : List ℕ) (pieces : List (List ℕ)) → s.lines ≡ going.Rebuilt
+    → is_too_long (limit_of s.limit) piece ≡ false → IsUtf8 piece → AreAnswers s pieces (answers_of (rules_of s.dialect) pieces)
+    → AreAnswers s (piece ∷ pieces) (answers_of (rules_of s.dialect) (piece ∷ pieces))
+one_more s piece pieces again fits u others =
+    let d = rules_of s.dialect in
+    let a = answer d (trimmed piece) in
+    let items = items_of_fitting s piece fits in
+    elim (eq-zero-or-pos (length (trimmed piece))) [
+      | inl none ↦
+          subst (λ l. AreAnswers s (piece ∷ pieces) (l ++ answers_of d pieces)) (sym (blank_answers d piece none))
+          (blank piece pieces _ (items ∙ blank_items s.lines d piece u none) others)
+      | inr some ↦
+          subst (λ l. AreAnswers s (piece ∷ pieces) (l ++ answers_of d pieces)) (sym (piece_answers d piece some))
+          (one (front_of piece) a piece pieces _ (items ∙ text_item s.lines d piece u some ∙ ap (λ l. item_of l piece a ∷ []) again) others)
+    ]
 
--- the items of a text that is UTF-8, and has no piece that is too long, are its answers
-items_are_answers : Utf8ByPieces → (s : Settings) (text : List ℕ) (pieces : List (List ℕ)) → s.lines ≡ going.Rebuilt
+-- the pieces of a text that is UTF-8, if none is too long, have its answers
+pieces_are_answers : Utf8ByPieces → (s : Settings) (text : List ℕ) (pieces : List (List ℕ)) → s.lines ≡ going.Rebuilt
     → Pieces (rules_of s.dialect) text pieces → IsUtf8 text → NoneTooLong (limit_of s.limit) pieces
-    → AreAnswers (items_of s pieces) (answers_of (rules_of s.dialect) pieces)
-items_are_answers law s text pieces again (last piece h) u fit = items_of_texts s piece [] again fit.0 u refl
-items_are_answers law s text pieces again (cut piece rest others c k) u fit =
+    → AreAnswers s pieces (answers_of (rules_of s.dialect) pieces)
+pieces_are_answers law s text pieces again (last piece h) u fit = one_more s piece [] again fit.0 u no_piece
+pieces_are_answers law s text pieces again (cut piece rest others c k) u fit =
     let both = (law piece rest).0 u in
-    items_of_texts s piece others again fit.0 both.0 (items_are_answers law s rest others again k both.1 fit.1)
+    one_more s piece others again fit.0 both.0 (pieces_are_answers law s rest others again k both.1 fit.1)
 
--- so they are those of a rebuild
-items_of_rebuilt : Utf8ByPieces → PiecesAreUnique → (s : Settings) (text : List ℕ) (pieces : List (List ℕ)) → s.lines ≡ going.Rebuilt
+-- so they have those of a rebuild
+pieces_of_rebuilt : Utf8ByPieces → PiecesAreUnique → (s : Settings) (text : List ℕ) (pieces : List (List ℕ)) → s.lines ≡ going.Rebuilt
     → Pieces (rules_of s.dialect) text pieces → NoneTooLong (limit_of s.limit) pieces → IsUtf8 text → (r : Rebuilt)
-    → (h : RebuildsIn (rules_of s.dialect) text r) → AreAnswers (items_of s pieces) h.answers
-items_of_rebuilt law unique s text pieces again are fit u r h =
+    → (h : RebuildsIn (rules_of s.dialect) text r) → AreAnswers s pieces h.answers
+pieces_of_rebuilt law unique s text pieces again are fit u r h =
     let same = unique (rules_of s.dialect) text pieces h.has.pieces are h.has.are in
-    subst (AreAnswers (items_of s pieces)) (ap (answers_of (rules_of s.dialect)) same ∙ sym h.has.answered)
-    (items_are_answers law s text pieces again are u fit)
+    subst (AreAnswers s pieces) (ap (answers_of (rules_of s.dialect)) same ∙ sym h.has.answered)
+    (pieces_are_answers law s text pieces again are u fit)
 
 -- what holds if no piece is too long holds of a text that is rebuilt
 if_rebuilt : PiecesAreUnique → (dialect : Dialect) (limit : Option ℕ) (text : List ℕ) (pieces : List (List ℕ)) (P : Rebuilt → Type 0)
@@ -139,11 +161,12 @@ if_rebuilt : PiecesAreUnique → (dialect : Dialect) (limit : Option ℕ) (text 
 if_rebuilt unique dialect limit text pieces x5 are f = grind (arith, no_limit, short_pieces)
 
 -- the fault lines of a rebuild, if they name items from 1 on, and are told as they are
-faults_of_rebuilt : (s : Settings) (pieces : List (List ℕ)) (answers : List (Result Line Fault)) → AreAnswers (items_of s pieces) answers
-    → s.numbering ≡ named.Items → first_of s.first ≡ 1 → s.faults ≡ Raw → told_faults s.faults s pieces ≡ faults_from 1 answers
-faults_of_rebuilt s pieces answers same named one raw =
-    ap (λ f. told_faults f s pieces) raw ∙ ap (λ n. named_faults n s pieces) named ∙ ap (λ n. item_faults s.faults n (items_of s pieces)) one
-    ∙ ap (λ f. item_faults f 1 (items_of s pieces)) raw ∙ faults_of_answers 1 (items_of s pieces) answers same
+faults_of_rebuilt : (s : Settings) (pieces : List (List ℕ)) (answers : List (Result Line Fault)) → AreAnswers s pieces answers
+    → s.numbering ≡ named.Items → first_of s.first ≡ 1 → s.faults ≡ Raw → told_faults s pieces ≡ faults_from 1 answers
+faults_of_rebuilt s pieces answers same named first raw =
+    faults_of_answers s (first_place s) pieces answers raw
+    (ap (λ form. first_line form s.numbering s.first) raw ∙ ap (λ n. first_named n s.first) named) same
+    ∙ ap (λ n. faults_from n answers) (ap (λ n. first_item n s.first) named ∙ first)
 
 -- what was written of all items is what the rebuild gives
 pub all_rebuilt : Utf8ByPieces → PiecesAreUnique → (s : Settings) (text : List ℕ) (counts : Relayed)
@@ -152,13 +175,13 @@ pub all_rebuilt : Utf8ByPieces → PiecesAreUnique → (s : Settings) (text : Li
 all_rebuilt law unique s text counts before after again all =
     if_rebuilt unique (rules_of s.dialect) (limit_of s.limit) text all.pieces (λ r. RelaysRebuilt s r counts before after) all.are
     (λ fit u r h.
-    let same = items_of_rebuilt law unique s text all.pieces again all.are fit u r h in
+    let same = pieces_of_rebuilt law unique s text all.pieces again all.are fit u r h in
     record {
-      batch = subst (Appends before.lines after.lines) (lines_of_answers (items_of s all.pieces) h.answers same ∙ sym h.batch) all.batch;
-      faults = λ named one raw. subst (Appends before.faults after.faults)
-          (faults_of_rebuilt s all.pieces h.answers same named one raw ∙ sym h.faults) all.faults;
-      carried = all.carried ∙ carried_of_answers (items_of s all.pieces) h.answers same ∙ sym h.carried;
-      refused = all.refused ∙ refused_of_answers (items_of s all.pieces) h.answers same ∙ sym h.refused;
+      batch = subst (Appends before.lines after.lines) (lines_of_answers s all.pieces h.answers same ∙ sym h.batch) all.batch;
+      faults = λ named first raw. subst (Appends before.faults after.faults)
+          (faults_of_rebuilt s all.pieces h.answers same named first raw ∙ sym h.faults) all.faults;
+      carried = all.carried ∙ carried_of_answers s all.pieces h.answers same ∙ sym h.carried;
+      refused = all.refused ∙ refused_of_answers s all.pieces h.answers same ∙ sym h.refused;
     })
 
 -- and a beginning is a beginning of that
@@ -168,8 +191,8 @@ pub fronts_rebuilt : Utf8ByPieces → PiecesAreUnique → (s : Settings) (text :
 fronts_rebuilt law unique s text before after again some =
     if_rebuilt unique (rules_of s.dialect) (limit_of s.limit) text some.pieces (λ r. RelaysRebuiltFronts s r before after) some.are
     (λ fit u r h.
-    let same = items_of_rebuilt law unique s text some.pieces again some.are fit u r h in (
-      subst (AppendsFront before.lines after.lines) (lines_of_answers (items_of s some.pieces) h.answers same ∙ sym h.batch) some.batch,
-      λ named one raw. subst (AppendsFront before.faults after.faults)
-          (faults_of_rebuilt s some.pieces h.answers same named one raw ∙ sym h.faults) some.faults,
+    let same = pieces_of_rebuilt law unique s text some.pieces again some.are fit u r h in (
+      subst (AppendsFront before.lines after.lines) (lines_of_answers s some.pieces h.answers same ∙ sym h.batch) some.batch,
+      λ named first raw. subst (AppendsFront before.faults after.faults)
+          (faults_of_rebuilt s some.pieces h.answers same named first raw ∙ sym h.faults) some.faults,
     ))

@@ -1,5 +1,5 @@
 -- What a relay has read and written so far, and what is left at its end.
-use Rattle.std.proofs.Common.{◌≡◌, ℕ, ◌+◌, List, [], ◌∷◌, ◌++◌, length, Option, Some, None, IfSome, refl, sym, ap, subst, ◌∙◌}
+use Rattle.std.proofs.Common.{◌≡◌, ℕ, ◌+◌, List, [], ◌∷◌, ◌++◌, Option, Some, None, IfSome, refl, sym, ap, subst, ◌∙◌}
 use Rattle.std.proofs.Common.{append-nil, arith, take}
 use Rattle.std.specs.Io.KnownBytes.{Appends, Consumes, IsAtEnd}
 use Rattle.std.proofs.KnownBytes.{Consumes-nil, Consumes-trans, Consumes-whole}
@@ -16,12 +16,13 @@ use Rattle.lp_relay.specs.Relays.{RelaysAll, RelaysFronts}
 use Rattle.lp_relay.specs.Relaying.{items_of_piece, items_of, items_batch, refused_pieces}
 use Rattle.lp_relay.specs.Writers.{Told, bytes_of}
 use Rattle.lp_relay.specs.RelaySteps.{RelaysAllPieces, RelaysItems, RelaysLast, RelaysLastPart, RelaysPart, RelaysSome, Unwritten}
-use Rattle.lp_relay.specs.RelaySteps.{faults_from, faults_past, items_before, start_of, start_past, unwritten_of_none}
+use Rattle.lp_relay.specs.RelaySteps.{items_before, next_place, place_past, unwritten_of_none}
+use Rattle.lp_relay.specs.FaultsTold.{told_from}
 use Rattle.lp_relay.specs.Kinds.{counts_if}
 use Rattle.lp_relay.proofs.KindLemmas.{counts_add_up, kinds_of_all}
 use Rattle.lp_relay.proofs.PassLemmas.{passes_all, passes_some}
 use Rattle.lp_relay.proofs.ItemLemmas.{batch_append, items_push}
-use Rattle.lp_relay.proofs.FaultLines.{faults_from_append, faults_named, start_append}
+use Rattle.lp_relay.proofs.FaultLines.{place_append, told_all, told_append}
 use Rattle.lp_relay.proofs.RelayLemmas.{relays_more, relays_none, relays_same, part_more, part_same, part_so_far}
 use Rattle.lp_relay.proofs.RelayPieces.{faults_then, next_faults, next_put, put_append, run_on}
 use Rattle.influxdb_line_protocol.specs.format.Bytes.{newline}
@@ -37,8 +38,8 @@ pub record RelaysSoFar (s : Settings) (reader reader_after : Option (List ℕ)) 
   pub last : IsLastPiece (rules_of s.dialect) held
   pub consumed : Consumes reader reader_after given
   pub run : Run (rules_of s.dialect) given pieces held
-  pub start_is : start_of now ≡ start_past (start_of (unwritten_of_none s)) pieces
-  pub relays : RelaysItems (unwritten_of_none s) now before after (items_of s pieces) (faults_past s (unwritten_of_none s) pieces)
+  pub start_is : next_place s now ≡ place_past s (next_place s (unwritten_of_none s)) pieces
+  pub relays : RelaysItems (unwritten_of_none s) now before after (items_of s pieces) (told_from s (next_place s (unwritten_of_none s)) pieces)
       (refused_pieces s pieces)
 
 -- no text with a newline is empty
@@ -94,10 +95,10 @@ so_far_more s r m t part stream after now new a b c h read q =
       run = run_on (rules_of s.dialect) (h.given ++ part) (h.held ++ part) p.0.rest h.pieces more.pieces
           (pushed h.given h.pieces h.held part h.run) more.taken;
       start_is =
-          more.start ∙ ap (λ q. start_past q more.pieces) h.start_is ∙ sym (start_append (start_of (unwritten_of_none s)) h.pieces more.pieces);
+          more.start ∙ ap (λ q. place_past s q more.pieces) h.start_is ∙ sym (place_append s (next_place s (unwritten_of_none s)) h.pieces more.pieces);
       relays = relays_same (unwritten_of_none s) new a c _ _ _ _ _ _
           (sym (items_append s h.pieces more.pieces))
-          (faults_then s (unwritten_of_none s) now a b h.pieces more.pieces _ _ h.relays h.start_is)
+          (faults_then s (next_place s (unwritten_of_none s)) (next_place s now) h.pieces more.pieces h.start_is)
           (put_append s h.pieces more.pieces)
           (relays_more (unwritten_of_none s) now new a b c _ _ _ _ _ _ h.relays more.relays);
     }
@@ -106,7 +107,7 @@ so_far_more s r m t part stream after now new a b c h read q =
 fronts_of : PiecesExist → RunsGivePieces → (s : Settings) (r m : Option (List ℕ))
     (given : List ℕ) (pieces : List (List ℕ)) (held : List ℕ) (a c : Told) → Consumes r m given
     → Run (rules_of s.dialect) given pieces held
-    → RelaysPart (unwritten_of_none s) a c (items_of s pieces) (faults_past s (unwritten_of_none s) pieces) (refused_pieces s pieces)
+    → RelaysPart (unwritten_of_none s) a c (items_of s pieces) (told_from s (next_place s (unwritten_of_none s)) pieces) (refused_pieces s pieces)
     → IfSome r (λ bs. RelaysFronts s bs (bytes_of a) (bytes_of c))
 fronts_of exist give s None m given pieces held a c read run p = tt
 fronts_of exist give s (Some x) None given pieces held a c read run p = absurd read
@@ -120,11 +121,9 @@ fronts_of exist give s (Some x) (Some y) given pieces held a c read run p =
           (give (rules_of s.dialect) given pieces held y others.0 run others.1);
       batch = passes_some a.lines.bytes c.lines.bytes (items_batch xs) p.batch_left (items_batch ys) _ p.batch
           (ap items_batch (items_append s pieces others.0) ∙ batch_append xs ys);
-      faults = passes_some a.faults.bytes c.faults.bytes (faults_past s (unwritten_of_none s) pieces) p.faults_left
-          (faults_from s (start_past (start_of (unwritten_of_none s)) pieces)
-          (items_before s.numbering s.first + 0 + 1 + length xs) others.0) _ p.faults
-          (sym (faults_named s (pieces ++ others.0))
-          ∙ faults_from_append s (start_of (unwritten_of_none s)) (items_before s.numbering s.first + 0 + 1) pieces others.0);
+      faults = passes_some a.faults.bytes c.faults.bytes (told_from s (next_place s (unwritten_of_none s)) pieces) p.faults_left
+          (told_from s (place_past s (next_place s (unwritten_of_none s)) pieces) others.0) _ p.faults
+          (sym (told_all s (pieces ++ others.0)) ∙ told_append s (next_place s (unwritten_of_none s)) pieces others.0);
       put = passes_some a.refused.bytes c.refused.bytes (refused_pieces s pieces) p.pieces_left (refused_pieces s others.0) _ p.pieces
           (sym (put_append s pieces others.0));
     }
@@ -146,7 +145,7 @@ some_fronts exist give s r m t part stream now a b c h read q =
     (run_on (rules_of s.dialect) (h.given ++ part) (h.held ++ part) p.rest h.pieces p.pieces (pushed h.given h.pieces h.held part h.run) p.taken)
     (part_same (unwritten_of_none s) a c _ _ _ _ _ _
     (sym (items_append s h.pieces p.pieces))
-    (faults_then s (unwritten_of_none s) now a b h.pieces p.pieces _ _ h.relays h.start_is)
+    (faults_then s (next_place s (unwritten_of_none s)) (next_place s now) h.pieces p.pieces h.start_is)
     (put_append s h.pieces p.pieces)
     (part_more (unwritten_of_none s) now a b c _ _ _ _ _ _ h.relays p.part))
 
@@ -174,12 +173,12 @@ so_far_all ends s r m t stream now end counts a b c h read at_end p no_batch no_
     let old = unwritten_of_none s in
     let pieces = h.pieces ++ h.held ∷ [] in
     let items = items_of s pieces in
-    let told = faults_past s (unwritten_of_none s) pieces in
+    let told = told_from s (next_place s old) pieces in
     let put = refused_pieces s pieces in
     let last = p h.held h.holds h.last in
     let all : RelaysItems old end a c items told put =
     relays_same old end a c _ items _ told _ put (sym (items_push s h.pieces h.held))
-    (next_faults s old now a b h.pieces h.held (items_of_piece s h.held) _ _ _ h.relays h.start_is refl refl)
+    (next_faults s (next_place s old) (next_place s now) h.pieces h.held _ h.start_is refl)
     (next_put s h.pieces h.held _ refl)
     (relays_more old now end a b c _ _ _ _ _ _ h.relays last) in
     all_read r t h.given (λ bs. RelaysAll s bs counts (bytes_of a) (bytes_of c)) (read_none r m t h.given h.consumed read) at_end
@@ -187,7 +186,7 @@ so_far_all ends s r m t stream now end counts a b c h read at_end p no_batch no_
       pieces = pieces;
       are = ends (rules_of s.dialect) h.given h.pieces h.held h.run h.last;
       batch = passes_all a.lines.bytes c.lines.bytes (items_batch items) end.made.batch all.batch no_batch;
-      faults = subst (Appends a.faults.bytes c.faults.bytes) (faults_named s _) (passes_all a.faults.bytes c.faults.bytes told end.made.faults all.faults no_faults);
+      faults = subst (Appends a.faults.bytes c.faults.bytes) (told_all s _) (passes_all a.faults.bytes c.faults.bytes told end.made.faults all.faults no_faults);
       put = passes_all a.refused.bytes c.refused.bytes put end.pieces all.pieces no_pieces;
       carried = omega (arith, carried, all.carried);
       refused = omega (arith, refused, all.refused);
@@ -205,12 +204,12 @@ end_fronts ends s r m t stream now a b c h read at_end p =
     let old = unwritten_of_none s in
     let pieces = h.pieces ++ h.held ∷ [] in
     let items = items_of s pieces in
-    let told = faults_past s (unwritten_of_none s) pieces in
+    let told = told_from s (next_place s old) pieces in
     let put = refused_pieces s pieces in
     let last = p h.held h.holds h.last in
     let part : RelaysPart old a c items told put =
     part_same old a c _ items _ told _ put (sym (items_push s h.pieces h.held))
-    (next_faults s old now a b h.pieces h.held (items_of_piece s h.held) _ _ _ h.relays h.start_is refl refl)
+    (next_faults s (next_place s old) (next_place s now) h.pieces h.held _ h.start_is refl)
     (next_put s h.pieces h.held _ refl)
     (part_more old now a b c _ _ _ _ _ _ h.relays last) in
     Consumes-whole r t h.given (λ bs. RelaysFronts s bs (bytes_of a) (bytes_of c)) (read_none r m t h.given h.consumed read) at_end
@@ -219,6 +218,6 @@ end_fronts ends s r m t stream now a b c h read at_end p =
       are = ends (rules_of s.dialect) h.given h.pieces h.held h.run h.last;
       batch = passes_some a.lines.bytes c.lines.bytes (items_batch items) part.batch_left [] _ part.batch (sym (append-nil _));
       faults = passes_some a.faults.bytes c.faults.bytes told part.faults_left [] _ part.faults
-          (sym (faults_named s _) ∙ sym (append-nil _));
+          (sym (told_all s _) ∙ sym (append-nil _));
       put = passes_some a.refused.bytes c.refused.bytes put part.pieces_left [] _ part.pieces (sym (append-nil _));
     })

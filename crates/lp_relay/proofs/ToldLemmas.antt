@@ -4,51 +4,28 @@ use Rattle.std.proofs.Common.{append-nil, option_map}
 use Rattle.std.specs.Borrow.{Bor}
 use Rattle.std.specs.Prelude.{if◌then◌else◌}
 use Rattle.influxdb_line_protocol.specs.code.Rules.{rules_of}
-use Rattle.influxdb_line_protocol.specs.format.Bytes.{newline, newlines_in}
+use Rattle.influxdb_line_protocol.specs.format.Bytes.{newline}
 use Rattle.influxdb_line_protocol.specs.format.Dialects.{Dialect}
 use Rattle.influxdb_line_protocol.specs.types.PieceTooLong.{PieceTooLong}
 use Rattle.lp_relay.specs.declared.pieces.Piece.{Piece}
 use Rattle.lp_relay.specs.declared.refusals.Refusal.{Refusal}
 use Rattle.lp_relay.specs.declared.telling.{Faults.Faults, Place.Place}
-use Rattle.lp_relay.specs.declared.telling.Faults.TheVariants.{Raw, OneLine, Json}
 use Rattle.lp_relay.specs.declared.taking.Settings.{Settings}
-use Rattle.lp_relay.specs.declared.taking.{Pending.Pending}
 use Rattle.lp_relay.specs.declared.taking.Taken.TheVariants as took
-use Rattle.lp_relay.specs.Kinds.{Counts, counts_if, kinds_after, with_fault}
-use Rattle.lp_relay.specs.Objects.{item_front, stop_given, stop_of_bytes}
-use Rattle.lp_relay.specs.Refusals.{EndsPiece, GaveSame, IsRefusal, RefusesPiece, front_in, given_of, is_fault, refusal_kind, stop_in, told_by}
-use Rattle.lp_relay.specs.Relaying.{Item, answered, as_it_came, not_as_written, not_utf8, too_long, is_carried_item, item_line, items_of_bytes, refused_lines}
-use Rattle.lp_relay.specs.RelaySteps.{TakesItems, TakesGiven, Unwritten, Form, as_raw, as_one_line, as_object, bytes_given, form_of, items_given}
-use Rattle.lp_relay.specs.RelaySteps.{faults_at, len_given, line_or_none, made, newlines_given, told_item, unwritten_of}
+use Rattle.lp_relay.specs.FaultsTold.{line_after, told_fault, told_item}
+use Rattle.lp_relay.specs.Kinds.{with_fault}
+use Rattle.lp_relay.specs.Objects.{item_front, stop_given}
+use Rattle.lp_relay.specs.Refusals.{EndsPiece, GaveSame, IsRefusal, RefusesPiece, front_in, given_of, is_fault, reason_of, refusal_kind, stop_in}
+use Rattle.lp_relay.specs.Relaying.{Item, answered, as_it_came, not_as_written, not_utf8, too_long, is_carried_item, item_line, refused_lines}
+use Rattle.lp_relay.specs.RelaySteps.{TakesGiven, Unwritten, after_given, bytes_given, items_given}
+use Rattle.lp_relay.specs.RelaySteps.{len_given, newlines_given, next_place}
+use Rattle.lp_relay.proofs.ItemLemmas.{items_add_up}
 use Rattle.lp_relay.proofs.KindLemmas.{kinds_of_carried, kinds_of_nothing, kinds_of_refused, no_kind}
 
--- of an item that is carried nothing is told
-carried_told : (form : Form) (line : Option ℕ) (number : ℕ) (item : Item) → is_carried_item item ≡ true
-    → told_item form line number item ++ [] ≡ []
-carried_told as_raw line number item carried = rw carried refl
-carried_told as_one_line line number item carried = rw carried refl
-carried_told (as_object offset stop) line number item carried = rw (no_kind item carried) refl
-
--- there is no item, or one that is carried
-data Carried (items : List Item) : Type 0 where
-  no_item : items ≡ [] → Carried items
-  one_item : (item : Item) → items ≡ item ∷ [] → is_carried_item item ≡ true → Carried items
-
--- then nothing is told
-told_none : (form : Form) (line : Option ℕ) (number : ℕ) (items : List Item) → Carried items → faults_at form line number items ≡ []
-told_none form line number items (no_item none) = rw none refl
-told_none form line number items (one_item item one carried) = rw one (carried_told form line number item carried)
-
--- nothing goes out as refused
-put_none : (goes_out : Bool) (piece : List ℕ) (items : List Item) → Carried items → refused_lines goes_out piece items ≡ []
-put_none false piece items c = refl
-put_none true piece items (no_item none) = rw none refl
-put_none true piece items (one_item item one carried) = rw (one, carried) refl
-
--- and nothing is counted
-count_none : (items : List Item) (counts : Option Counts) → Carried items → kinds_after items counts ≡ counts
-count_none items counts (no_item none) = ap (λ (l : List Item). kinds_after l counts) none ∙ kinds_of_nothing counts
-count_none items counts (one_item item one carried) = ap (λ (l : List Item). kinds_after l counts) one ∙ kinds_of_carried item counts carried
+-- nothing goes out, whether refused pieces do or not
+nothing_put : (goes_out : Bool) (pieces : List ℕ) → pieces ≡ pieces ++ (if goes_out then [] else [])
+nothing_put false pieces = sym (append-nil pieces)
+nothing_put true pieces = sym (append-nil pieces)
 
 -- of an item that is refused no line goes out
 no_line : (item : Item) → is_carried_item item ≡ false → item_line item ≡ []
@@ -76,69 +53,54 @@ pub put_asked : (pieces bytes : List ℕ) (goes_out : Bool) → goes_out ≡ tru
 put_asked pieces bytes goes_out asked = rw asked refl
 
 -- why an item is refused is told as what is told of the item
-told_is : (f : Faults) (dialect : Dialect) (place : Place) (piece : Piece) (refusal : Refusal) (item : Item) (stop : List ℕ)
-    → IsRefusal refusal item → item_front item ≡ front_in piece → stop ≡ stop_in (is_fault refusal) dialect (line_or_none place.line) piece
-    → told_item (form_of f place.offset stop) place.line place.number item ≡ told_by f dialect place piece refusal
-told_is Raw dialect place piece refusal item stop r front is = rw (r.refused, r.wrong) refl
-told_is OneLine dialect place piece refusal item stop r front is = rw (r.refused, r.wrong) refl
-told_is (Json first) dialect place piece refusal item stop r front is = rw (r.kind, r.wrong, front, is) refl
+told_is : (form : Faults) (dialect : Dialect) (place : Place) (piece : Piece) (refusal : Refusal) (item : Item) (stop : Option (List ℕ))
+    → IsRefusal refusal item → item_front item ≡ front_in piece → stop ≡ stop_in (is_fault refusal) dialect piece
+    → told_item form place stop item ≡ told_fault form place (reason_of dialect piece refusal)
+told_is form dialect place piece refusal item stop r front is = rw (r.kind, r.wrong, front, is) refl
 
 -- a piece without an item ends as it is
 pub ends_blank : (s : Settings) (piece : Piece) (mid : Unwritten) → EndsPiece s piece took.Blank mid mid
 ends_blank s piece mid before t =
-    let items = items_given s (given_of piece) in
-    let none : Carried items = no_item t.0 in
     record {
-      items = record {
-        batch = rw t.0 (t.1 ∙ sym (append-nil before));
-        faults = sym (ap (λ (l : List ℕ). mid.made.faults ++ l) (told_none _ _ _ items none) ∙ append-nil mid.made.faults);
-        carried = rw t.0 (omega arith);
-        refused = rw t.0 (omega arith);
-      };
-      pieces = sym (ap (λ (l : List ℕ). mid.pieces ++ l) (put_none s.puts_refused (bytes_given (given_of piece)) items none) ∙ append-nil mid.pieces);
-      kinds = sym (count_none items mid.kinds none);
+      batch = rw t.0 (t.1 ∙ sym (append-nil before));
+      faults = rw t.0 (sym (append-nil mid.made.faults));
+      carried = rw t.0 (omega arith);
+      refused = rw t.0 (omega arith);
+      pieces = rw t.0 (nothing_put s.puts_refused mid.pieces);
+      kinds = rw t.0 (sym (kinds_of_nothing mid.kinds));
     }
 
 -- a piece whose line was added ends once that is counted
 pub ends_carried : (s : Settings) (piece : Piece) (mid : Unwritten) → EndsPiece s piece took.Carried mid
     (record mid { made = record mid.made { carried = mid.made.carried + 1 } })
 ends_carried s piece mid before (item, one, carries, copied) =
-    let items = items_given s (given_of piece) in
-    let carried : Carried items = one_item item one carries in
     record {
-      items = record {
-        batch = rw one (copied ∙ ap (λ (l : List ℕ). before ++ l) (sym (append-nil (item_line item))));
-        faults = sym (ap (λ (l : List ℕ). mid.made.faults ++ l) (told_none _ _ _ items carried) ∙ append-nil mid.made.faults);
-        carried = rw (one, carries) (omega arith);
-        refused = rw (one, carries) (omega arith);
-      };
-      pieces = sym (ap (λ (l : List ℕ). mid.pieces ++ l) (put_none s.puts_refused (bytes_given (given_of piece)) items carried) ∙ append-nil mid.pieces);
-      kinds = sym (count_none items mid.kinds carried);
+      batch = rw one (copied ∙ ap (λ (l : List ℕ). before ++ l) (sym (append-nil (item_line item))));
+      faults = rw (one, no_kind item carries) (sym (append-nil mid.made.faults));
+      carried = rw (one, carries) (omega arith);
+      refused = rw (one, carries) (omega arith);
+      pieces = rw (one, carries) (nothing_put s.puts_refused mid.pieces);
+      kinds = rw one (sym (kinds_of_carried item mid.kinds carries));
     }
 
 -- a piece whose item is refused ends once that is told and counted, and the piece is put out
 pub refuses : (s : Settings) (piece : Piece) (refusal : Refusal) (item : Item) (old new : Unwritten) (n : ℕ) → RefusesPiece s piece refusal item
     → n ≡ old.made.carried + old.made.refused + 1
     → new.made.batch ≡ old.made.batch
-    → new.made.faults ≡ old.made.faults ++ told_by s.faults (rules_of s.dialect)
-    (record { number = n; line = old.made.line; offset = old.offset }) piece refusal
+    → new.made.faults ≡ old.made.faults ++ told_fault s.faults (record (next_place s old) { number = n }) (reason_of (rules_of s.dialect) piece refusal)
     → new.made.carried ≡ old.made.carried → new.made.refused ≡ old.made.refused + 1
     → new.kinds ≡ option_map (with_fault (refusal_kind refusal)) old.kinds
     → new.pieces ≡ old.pieces ++ (if s.puts_refused then bytes_given (given_of piece) ++ newline ∷ [] else [])
     → TakesGiven s old (given_of piece) new
 refuses s piece refusal item old new n r numbered batch faults carried refused kinds pieces =
     let d = rules_of s.dialect in
-    let stop = stop_given d (line_or_none old.made.line) (given_of piece) in
     let is = r.refused in
-    let told = told_is s.faults d (record { number = n; line = old.made.line; offset = old.offset }) piece refusal item stop is r.front
-    (r.stop (line_or_none old.made.line)) in
+    let told = told_is s.faults d (record (next_place s old) { number = n }) piece refusal item (stop_given d (given_of piece)) is r.front r.stop in
     record {
-      items = record {
-        batch = batch ∙ sym (rw (r.is, no_line item is.refused) (append-nil old.made.batch));
-        faults = rw (r.is, ← numbered) (faults ∙ ap (λ (l : List ℕ). old.made.faults ++ l) (sym (append-nil _ ∙ told)));
-        carried = rw (r.is, is.refused) (carried ∙ omega arith);
-        refused = rw (r.is, is.refused) (refused ∙ omega arith);
-      };
+      batch = batch ∙ sym (rw (r.is, no_line item is.refused) (append-nil old.made.batch));
+      faults = rw (r.is, ← numbered) (faults ∙ ap (λ (l : List ℕ). old.made.faults ++ l) (sym (append-nil _ ∙ told)));
+      carried = rw (r.is, is.refused) (carried ∙ omega arith);
+      refused = rw (r.is, is.refused) (refused ∙ omega arith);
       pieces = rw r.is (pieces ∙ ap (λ (l : List ℕ). old.pieces ++ l) (sym (refused_put s.puts_refused (bytes_given (given_of piece)) item is.refused)));
       kinds = rw r.is (kinds ∙ kinds_of_refused item (refusal_kind refusal) old.kinds (sym is.kind));
     }
@@ -150,37 +112,29 @@ pub ends_refused : (s : Settings) (piece : Piece) (refusal : Refusal) (mid new :
 ends_refused s piece refusal mid new takes before ((item, r), same) =
     subst (λ (l : List ℕ). TakesGiven s (record mid { made = record mid.made { batch = l } }) (given_of piece) new) same (takes item r)
 
--- what was taken is taken, wherever the next piece starts
-pub takes_on : (s : Settings) (old : Unwritten) (result : Result (Bor (List ℕ)) PieceTooLong) (new : Pending)
-    (line : Option ℕ) (offset : ℕ) → TakesGiven s old result (unwritten_of new)
-    → TakesGiven s old result
-    (record { made = record (made new.so_far) { line = line }; pieces = new.pieces.items; offset = offset; kinds = counts_if new.kinds })
-takes_on s old result new line offset t =
-    record {
-      items = record { batch = t.items.batch; faults = t.items.faults; carried = t.items.carried; refused = t.items.refused };
-      pieces = t.pieces;
-      kinds = t.kinds;
-    }
-
--- so is what a call gave with another reference to the same bytes
+-- what was taken is taken with another reference to the same bytes
 pub given_same : (s : Settings) (old new : Unwritten) (given other : Result (Bor (List ℕ)) PieceTooLong) → GaveSame given other
     → TakesGiven s old given new → TakesGiven s old other new
 given_same s old new (Ok piece) (Ok other) same t =
-    let items = items_of_bytes s.lines (rules_of s.dialect) in
-    record {
-      items = subst (λ (l : List ℕ). TakesItems
-          (form_of s.faults old.offset (stop_of_bytes (rules_of s.dialect) (line_or_none old.made.line) l)) old.made (items l) new.made) same t.items;
-      pieces = t.pieces ∙ ap (λ (l : List ℕ). old.pieces ++ refused_lines s.puts_refused l (items l)) same;
-      kinds = t.kinds ∙ ap (λ (l : List ℕ). kinds_after (items l) old.kinds) same;
-    }
+    let h = subst (λ (l : List ℕ). TakesGiven s old (Ok (record piece { now = l })) new) same t in
+    record { batch = h.batch; faults = h.faults; carried = h.carried; refused = h.refused; pieces = h.pieces; kinds = h.kinds }
 given_same s old new (Ok piece) (Err other) same t = absurd same
 given_same s old new (Err fault) (Ok other) same t = absurd same
 given_same s old new (Err fault) (Err other) same t = subst (λ f. TakesGiven s old (Err f) new) same t
 
--- and it has as many newlines and bytes
-pub same_size : (given other : Result (Bor (List ℕ)) PieceTooLong) → GaveSame given other
-    → (newlines_given given ≡ newlines_given other) × (len_given given ≡ len_given other)
-same_size (Ok piece) (Ok other) same = (ap newlines_in same, ap length same)
-same_size (Ok piece) (Err other) same = absurd same
-same_size (Err fault) (Ok other) same = absurd same
-same_size (Err fault) (Err other) same = (ap (λ f. f.newlines) same, ap (λ f. f.len) same)
+-- the next place is the same too
+pub same_place : (s : Settings) (place : Place) (given other : Result (Bor (List ℕ)) PieceTooLong) → GaveSame given other
+    → after_given s place given ≡ after_given s place other
+same_place s place (Ok piece) (Ok other) same = ap (λ (l : List ℕ). after_given s place (Ok (record piece { now = l }))) same
+same_place s place (Ok piece) (Err other) same = absurd same
+same_place s place (Err fault) (Ok other) same = absurd same
+same_place s place (Err fault) (Err other) same = ap (λ f. after_given s place (Err f)) same
+
+-- once a piece was taken, the next place comes after it
+pub place_taken : (s : Settings) (old new : Unwritten) (given : Result (Bor (List ℕ)) PieceTooLong) (line : Option ℕ) (offset : ℕ)
+    → TakesGiven s old given new → line ≡ line_after old.made.line (newlines_given given) → offset ≡ old.offset + len_given given + 1
+    → next_place s (record new { made = record new.made { line = line }; offset = offset }) ≡ after_given s (next_place s old) given
+place_taken s old new given line offset t lines offsets =
+    let number : new.made.carried + new.made.refused + 1 ≡ old.made.carried + old.made.refused + 1 + length (items_given s given) =
+    omega (arith, t.carried, t.refused, items_add_up (items_given s given)) in
+    rw (lines, offsets, number) refl

@@ -1,9 +1,9 @@
 pub mod Cuts
 pub mod CutSteps
 pub mod Differing
+pub mod FaultsTold
 pub mod Inputs
 pub mod Kinds
-pub mod LineFaults
 pub mod Objects
 pub mod Relaying
 pub mod RelaySteps

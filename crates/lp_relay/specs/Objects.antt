@@ -1,9 +1,8 @@
 -- The faults of a relay as objects of JSON.
 use Rattle.std.specs.Prelude.{ℕ, ◌+◌, ◌/◌, ◌%◌, ◌==◌, ◌||◌, ◌&&◌, nat_lt, Bool, List, [], ◌∷◌, ◌++◌, codes, decimal, length, if◌then◌else◌}
-use Rattle.std.specs.Prelude.{Option, Some, None, Result, Ok, Err, is_err}
+use Rattle.std.specs.Prelude.{Option, Some, None, Result, Ok, Err, is_err, unwrap_or}
 use Rattle.std.specs.Borrow.{Bor}
 use Rattle.std.specs.List.{flat_map}
-use Rattle.std.specs.Option.{option_map_or}
 use Rattle.std.specs.Str.{is_utf8}
 use Rattle.influxdb_line_protocol.specs.format.Bytes.{newline, newlines_in, backslash}
 use Rattle.influxdb_line_protocol.specs.format.Dialects.{Dialect}
@@ -11,16 +10,16 @@ use Rattle.influxdb_line_protocol.specs.format.Lines.{answer, front_before}
 use Rattle.influxdb_line_protocol.specs.format.Readings as fault
 use Rattle.influxdb_line_protocol.specs.format.Trimming.{trimmed}
 use Rattle.influxdb_line_protocol.specs.types.PieceTooLong.{PieceTooLong}
-use Rattle.lp_rebuild.specs.Rebuilding.{is_carried_answer}
+use Rattle.lp_rebuild.specs.Rebuilding.{is_carried_answer, refusal_text}
 use Rattle.lp_relay.specs.declared.kinds.Kind.{Kind}
 use Rattle.lp_relay.specs.declared.kinds.Kind.TheVariants.{CannotParseEntireLine, EndsWithBackslash, FieldSetMissing, GenericParsingError, IntegerValueInvalid}
 use Rattle.lp_relay.specs.declared.kinds.Kind.TheVariants.{MeasurementValueInvalid, NameNotAdmitted, NotAsWritten, NotUtf8}
 use Rattle.lp_relay.specs.declared.kinds.Kind.TheVariants.{TagSetMalformed, TimestampValueInvalid, TooLong, UintegerValueInvalid}
 use Rattle.lp_relay.specs.declared.taking.Settings.{Settings}
-use Rattle.lp_relay.specs.LineFaults.{item_text}
+use Rattle.lp_relay.specs.declared.telling.Place.{Place}
 use Rattle.influxdb_line_protocol.specs.code.Rules.{rules_of}
-use Rattle.lp_relay.specs.Relaying.{Item, answered, as_it_came, not_as_written, not_utf8, too_long, items_of_piece}
-use Rattle.lp_relay.specs.Relaying.{is_too_long, limit_of}
+use Rattle.lp_relay.specs.Relaying.{Item, answered, as_it_came, not_as_written, not_utf8, too_long}
+use Rattle.lp_relay.specs.Relaying.{is_too_long, limit_of, long_text}
 use Rattle.lp_events.specs.code.Stops.{reading_stop}
 use Rattle.lp_relay.specs.Told.{hex_digit}
 
@@ -79,6 +78,14 @@ item_kind (not_as_written front wrong) = Some NotAsWritten
 item_kind not_utf8 = Some NotUtf8
 item_kind (too_long kept) = Some TooLong
 
+-- what is wrong with an item that is not carried
+abbrev pub item_text : Item → List ℕ
+item_text (answered front answer) = refusal_text answer
+item_text (as_it_came piece) = []
+item_text (not_as_written front wrong) = wrong
+item_text not_utf8 = codes "the line is not UTF-8"
+item_text (too_long kept) = long_text kept
+
 -- what comes before the text of an item in its piece: nothing if the piece has no text
 abbrev pub item_front : Item → List ℕ
 item_front (answered front answer) = front
@@ -86,6 +93,29 @@ item_front (as_it_came piece) = []
 item_front (not_as_written front wrong) = front
 item_front not_utf8 = []
 item_front (too_long kept) = []
+
+-- why an item is refused: the kind of its fault, what is wrong with it, what comes before its text in its piece, and, if its text is no
+-- line, what comes before the byte of the piece at which reading stopped
+pub record Reason : Type 0 where
+  pub kind : Kind
+  pub wrong : List ℕ
+  pub front : List ℕ
+  pub stop : Option (List ℕ)
+
+-- what comes before the byte of a piece at which reading stops, if its text is no line
+abbrev pub stop_of_bytes : Dialect → List ℕ → Option (List ℕ)
+stop_of_bytes dialect piece =
+    let text = trimmed piece in
+    if is_utf8 piece && is_err (answer dialect text) then Some (front_before piece (reading_stop dialect text).1) else None
+
+-- the same of a piece that may be too long
+unfoldable pub stop_of_piece : Settings → List ℕ → Option (List ℕ)
+stop_of_piece s piece = if is_too_long (limit_of s.limit) piece then None else stop_of_bytes (rules_of s.dialect) piece
+
+-- the same of what a call gave
+abbrev pub stop_given : Dialect → Result (Bor (List ℕ)) PieceTooLong → Option (List ℕ)
+stop_given dialect (Ok piece) = stop_of_bytes dialect piece.now
+stop_given dialect (Err _) = None
 
 -- the column after these bytes, from this one on: each newline begins a line
 abbrev pub column_after : ℕ → List ℕ → ℕ
@@ -96,63 +126,36 @@ column_after column (b ∷ bytes) = column_after (if b == newline then 1 else co
 abbrev pub member : (name : List ℕ) → ℕ → List ℕ
 member name value = codes ",\"" ++ name ++ codes "\":" ++ decimal value
 
--- the members that tell this line and this column
-abbrev pub place_members : (line column : ℕ) → List ℕ
-place_members line column = member (codes "stop_line") line ++ member (codes "stop_column") column
+-- the first members of an object: the name of the file, if one is named, and the number of the item
+abbrev pub first_members : (file : Option (Bor (List ℕ))) → (number : ℕ) → List ℕ
+first_members None number = codes "{\"item\":" ++ decimal number
+first_members (Some name) number = codes "{\"file\":\"" ++ json_text name.now ++ codes "\",\"item\":" ++ decimal number
 
--- the members that tell where reading stops that took these bytes of a piece, which begins on this line
-abbrev pub stop_members : (line : ℕ) → List ℕ → List ℕ
-stop_members line bytes = place_members (line + newlines_in bytes) (column_after 1 bytes)
+-- the line that is named, or 0 if none is
+abbrev pub line_or_none : Option ℕ → ℕ
+line_or_none line = unwrap_or line 0
 
--- the same of a piece, if its text is no line; else there are none
-abbrev pub stop_of_bytes : Dialect → (line : ℕ) → List ℕ → List ℕ
-stop_of_bytes dialect line piece =
-    let text = trimmed piece in
-    if is_utf8 piece && is_err (answer dialect text) then stop_members line (front_before piece (reading_stop dialect text).1) else []
-
--- the same of a piece that may be too long
-unfoldable pub stop_of_piece : Settings → (line : ℕ) → List ℕ → List ℕ
-stop_of_piece s line piece = if is_too_long (limit_of s.limit) piece then [] else stop_of_bytes (rules_of s.dialect) line piece
-
--- the start of an object, which names this item, where its text begins, and where its piece begins: on this line and after so many
--- bytes. These bytes of the piece come before the text
-abbrev pub object_start : (number line offset : ℕ) → (front : List ℕ) → List ℕ
-object_start number line offset front =
-    codes "{\"item\":" ++ decimal number
-    ++ member (codes "line") (line + newlines_in front) ++ member (codes "offset") (offset + length front)
-    ++ member (codes "piece_line") line ++ member (codes "piece_offset") offset
+-- the start of an object, which names the item at this place, where its text begins, and where its piece does. These bytes of the piece
+-- come before the text
+abbrev pub object_start : Place → (front : List ℕ) → List ℕ
+object_start place front =
+    let line = line_or_none place.line in
+    first_members place.file place.number
+    ++ member (codes "line") (line + newlines_in front) ++ member (codes "offset") (place.offset + length front)
+    ++ member (codes "piece_line") line ++ member (codes "piece_offset") place.offset
 
 -- the members that tell the kind of a fault and its text
 abbrev pub fault_members : Kind → (text : List ℕ) → List ℕ
 fault_members kind text = codes ",\"kind\":\"" ++ kind_name kind ++ codes "\",\"text\":\"" ++ json_text text ++ codes "\""
 
--- the object of a fault that has these members on where reading stops, and a newline
-abbrev pub object : (number line offset : ℕ) → (front : List ℕ) → Kind → (text stop : List ℕ) → List ℕ
-object number line offset front kind text stop =
-    object_start number line offset front ++ fault_members kind text ++ stop ++ codes "}" ++ newline ∷ []
+-- the members that tell where reading stopped, if it did, after these bytes of a piece, which begins on this line
+abbrev pub stop_members : (line : ℕ) → Option (List ℕ) → List ℕ
+stop_members line None = []
+stop_members line (Some bytes) =
+    member (codes "stop_line") (line + newlines_in bytes) ++ member (codes "stop_column") (column_after 1 bytes)
 
--- the object of an item that is not carried, which has this number, and whose piece begins on this line and after so many bytes
-abbrev pub item_object : (number line offset : ℕ) → (stop : List ℕ) → Item → List ℕ
-item_object number line offset stop item =
-    option_map_or (λ kind. object number line offset (item_front item) kind (item_text item) stop) (item_kind item) []
-
--- the objects of the items of one piece, where the first item has this number, and the piece begins on this line and after so many
--- bytes
-abbrev pub item_objects : (number line offset : ℕ) → (stop : List ℕ) → List Item → List ℕ
-item_objects number line offset stop [] = []
-item_objects number line offset stop (item ∷ items) =
-    item_object number line offset stop item ++ item_objects (number + 1) line offset stop items
-
--- the objects of the items of pieces, where the first item has this number, and the first piece begins on this line and after so many
--- bytes
-abbrev pub fault_objects : Settings → (number line offset : ℕ) → List (List ℕ) → List ℕ
-fault_objects s number line offset [] = []
-fault_objects s number line offset (piece ∷ pieces) =
-    let items = items_of_piece s piece in
-    item_objects number line offset (stop_of_piece s line piece) items
-    ++ fault_objects s (number + length items) (line + newlines_in piece + 1) (offset + length piece + 1) pieces
-
--- the members that tell where reading stops in what a call gave, which begins on this line
-abbrev pub stop_given : Dialect → (line : ℕ) → Result (Bor (List ℕ)) PieceTooLong → List ℕ
-stop_given dialect line (Ok piece) = stop_of_bytes dialect line piece.now
-stop_given dialect line (Err _) = []
+-- the object of an item at this place that is refused for this, and a newline
+abbrev pub object : Place → Reason → List ℕ
+object place why =
+    object_start place why.front ++ fault_members why.kind why.wrong ++ stop_members (line_or_none place.line) why.stop
+    ++ codes "}" ++ newline ∷ []

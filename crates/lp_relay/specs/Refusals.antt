@@ -1,5 +1,5 @@
 -- Why items are refused, and what is known of a piece whose item is.
-use Rattle.std.specs.Prelude.{◌≡◌, ◌++◌, ℕ, Bool, true, false, List, [], ◌∷◌, codes, string_bytes, Some, Result, Ok, Err}
+use Rattle.std.specs.Prelude.{◌≡◌, ◌++◌, ℕ, Bool, true, false, List, [], ◌∷◌, codes, string_bytes, Option, Some, None, Result, Ok, Err}
 use Rattle.std.specs.Borrow.{Bor}
 use Rattle.std.specs.Str.{IsUtf8}
 use Rattle.influxdb_line_protocol.specs.format.Dialects.{Dialect}
@@ -19,14 +19,10 @@ use Rattle.lp_relay.specs.declared.refusals.Refusal.TheVariants as why
 use Rattle.lp_relay.specs.declared.taking.Settings.{Settings}
 use Rattle.lp_relay.specs.declared.taking.Taken.{Taken}
 use Rattle.lp_relay.specs.declared.taking.Taken.TheVariants as took
-use Rattle.lp_relay.specs.declared.telling.{Faults.Faults, Place.Place}
-use Rattle.lp_relay.specs.declared.telling.Faults.TheVariants as form
-use Rattle.lp_relay.specs.LineFaults.{fault_line_at, item_text}
-use Rattle.lp_relay.specs.Objects.{fault_kind, item_front, item_kind, object, stop_given, stop_members}
+use Rattle.lp_relay.specs.Objects.{Reason, fault_kind, item_front, item_kind, item_text, stop_given}
 use Rattle.lp_events.specs.code.Stops.{reading_stop}
 use Rattle.lp_relay.specs.Relaying.{Item, answered, front_of, is_carried_item, item_line, long_text}
-use Rattle.lp_relay.specs.RelaySteps.{TakesGiven, Unwritten, items_given, line_or_none}
-use Rattle.lp_relay.specs.Told.{told}
+use Rattle.lp_relay.specs.RelaySteps.{TakesGiven, Unwritten, items_given}
 
 -- what is wrong with an item that is refused for this
 abbrev pub wrong_of : Refusal → List ℕ
@@ -77,23 +73,20 @@ abbrev pub front_in : Piece → List ℕ
 front_in (Text text) = front_of text.now
 front_in other = []
 
--- the members that tell where reading stops in it, if its text is at fault
-abbrev pub stop_in : (fault : Bool) → Dialect → (line : ℕ) → Piece → List ℕ
-stop_in false dialect line piece = []
-stop_in true dialect line (Text text) = stop_members line (front_before text.now (reading_stop dialect (trimmed text.now)).1)
-stop_in true dialect line other = []
+-- what comes before the byte of it at which reading stops, if its text is at fault
+abbrev pub stop_in : (fault : Bool) → Dialect → Piece → Option (List ℕ)
+stop_in false dialect piece = None
+stop_in true dialect (Text text) = Some (front_before text.now (reading_stop dialect (trimmed text.now)).1)
+stop_in true dialect other = None
 
--- the object of a piece at this place that is refused for this
-abbrev pub object_of : Dialect → Place → Piece → Refusal → List ℕ
-object_of dialect place piece refusal =
-    object place.number (line_or_none place.line) place.offset (front_in piece) (refusal_kind refusal) (wrong_of refusal)
-    (stop_in (is_fault refusal) dialect (line_or_none place.line) piece)
-
--- what is told of it, in this form
-abbrev pub told_by : Faults → Dialect → Place → Piece → Refusal → List ℕ
-told_by form.Raw dialect place piece refusal = fault_line_at place.line place.number (wrong_of refusal)
-told_by form.OneLine dialect place piece refusal = told form.OneLine (fault_line_at place.line place.number (wrong_of refusal))
-told_by (form.Json first_line) dialect place piece refusal = object_of dialect place piece refusal
+-- why its item is refused, if it is for this
+abbrev pub reason_of : Dialect → Piece → Refusal → Reason
+reason_of dialect piece refusal = record {
+  kind = refusal_kind refusal;
+  wrong = wrong_of refusal;
+  front = front_in piece;
+  stop = stop_in (is_fault refusal) dialect piece;
+}
 
 -- it is known for what it is
 abbrev pub IsKnown : Piece → Type 0
@@ -116,7 +109,7 @@ pub record RefusesPiece (s : Settings) (piece : Piece) (refusal : Refusal) (item
   pub is : items_given s (given_of piece) ≡ item ∷ []
   pub refused : IsRefusal refusal item
   pub front : item_front item ≡ front_in piece
-  pub stop : (line : ℕ) → stop_given (rules_of s.dialect) line (given_of piece) ≡ stop_in (is_fault refusal) (rules_of s.dialect) line piece
+  pub stop : stop_given (rules_of s.dialect) (given_of piece) ≡ stop_in (is_fault refusal) (rules_of s.dialect) piece
 
 -- what came of a piece
 abbrev pub TakesPiece : Settings → Piece → Taken → (before after : List ℕ) → Type 0

@@ -1,6 +1,6 @@
 -- What each step of a relay takes of the stream, and what it writes or holds of it.
-use Rattle.std.specs.Prelude.{◌≡◌, ◌<◌, ℕ, ◌+◌, ◌-◌, ◌++◌, List, [], ◌∷◌, length, drop, string_bytes, Option, Some, None}
-use Rattle.std.specs.Prelude.{Result, Ok, Err, unwrap_or, if◌then◌else◌}
+use Rattle.std.specs.Prelude.{◌≡◌, ◌<◌, ℕ, ◌+◌, ◌-◌, ◌++◌, List, [], ◌∷◌, length, drop, string_bytes, Option}
+use Rattle.std.specs.Prelude.{Result, Ok, Err}
 use Rattle.std.specs.Borrow.{Bor}
 use Rattle.std.specs.Io.KnownBytes.{Appends}
 use Rattle.influxdb_line_protocol.specs.format.Dialects.{Dialect}
@@ -15,13 +15,11 @@ use Rattle.lp_relay.specs.declared.taking.Pending.{Pending}
 use Rattle.lp_relay.specs.declared.taking.Numbering.{Numbering}
 use Rattle.lp_relay.specs.declared.taking.Numbering.TheVariants as named
 use Rattle.lp_relay.specs.declared.taking.Settings.{Settings}
-use Rattle.lp_relay.specs.declared.telling.Faults.{Faults}
-use Rattle.lp_relay.specs.declared.telling.Faults.TheVariants.{Raw, OneLine, Json}
-use Rattle.lp_relay.specs.Told.{told}
+use Rattle.lp_relay.specs.declared.telling.Place.{Place}
+use Rattle.lp_relay.specs.FaultsTold.{after_piece, first_line, place_after, told_from, told_items, told_piece}
 use Rattle.lp_relay.specs.Kinds.{Counts, counts_if, kinds_after, kinds_of_none}
-use Rattle.lp_relay.specs.LineFaults.{fault_line_at, item_text}
-use Rattle.lp_relay.specs.Objects.{item_object, stop_given, stop_of_piece}
-use Rattle.lp_relay.specs.Relaying.{Item, first_of, kept_of, too_long, is_carried_item, items_of_bytes, items_of_piece, items_of, items_batch, carried_items}
+use Rattle.lp_relay.specs.Objects.{stop_given}
+use Rattle.lp_relay.specs.Relaying.{Item, kept_of, too_long, items_of_bytes, items_of_piece, items_of, items_batch, carried_items}
 use Rattle.lp_relay.specs.Relaying.{refused_items, refused_lines, refused_piece, refused_pieces}
 use Rattle.lp_relay.specs.Writers.{Told}
 
@@ -62,17 +60,6 @@ pub record Made : Type 0 where
   pub carried : ℕ
   pub refused : ℕ
   pub line : Option ℕ
-
--- the line that the fault line of the first item names, if it names a line
-abbrev pub first_named : Numbering → ℕ → Option ℕ
-first_named named.Items first = None
-first_named named.Lines first = Some (first_of first)
-
--- the line that the fault line of the first item names, if it names a line; an object always does
-abbrev pub first_line : Faults → Numbering → ℕ → Option ℕ
-first_line Raw numbering first = first_named numbering first
-first_line OneLine numbering first = first_named numbering first
-first_line (Json line) numbering first = Some (first_of line)
 
 -- how many items are counted before the first item, so that the next number is that of the first item
 abbrev pub items_before : Numbering → ℕ → ℕ
@@ -116,14 +103,13 @@ abbrev pub unwritten_of : Pending → Unwritten
 unwritten_of pending =
     record { made = made pending.so_far; pieces = pending.pieces.items; offset = pending.offset; kinds = counts_if pending.kinds }
 
--- where a piece starts: on which line, if fault lines name lines, and after how many bytes
-pub record Start : Type 0 where
-  pub line : Option ℕ
-  pub offset : ℕ
+-- the place of the next item, by the settings
+abbrev pub next_place : Settings → Unwritten → Place
+next_place s u = record { file = s.file; number = u.made.carried + u.made.refused + 1; line = u.made.line; offset = u.offset }
 
--- where the next piece starts
-abbrev pub start_of : Unwritten → Start
-start_of u = record { line = u.made.line; offset = u.offset }
+-- the place of the next item stays
+abbrev pub KeepsPlace : (old new : Unwritten) → Type 0
+KeepsPlace old new = (s : Settings) → next_place s new ≡ next_place s old
 
 -- nothing that was made is held: all of it was written
 abbrev pub HoldsNone : Pending → Type 0
@@ -136,86 +122,27 @@ HoldsLess room pending =
     (length pending.so_far.batch.items < room) × (length (string_bytes pending.so_far.faults) < room)
     × (length pending.pieces.items < room)
 
--- what the fault lines after a piece with so many newlines name
-abbrev pub line_after : Option ℕ → ℕ → Option ℕ
-line_after None newlines = None
-line_after (Some line) newlines = Some (line + newlines + 1)
+-- the place after these pieces
+abbrev pub place_past : Settings → Place → List (List ℕ) → Place
+place_past s place [] = place
+place_past s place (piece ∷ pieces) = place_past s (after_piece s place piece) pieces
 
--- where the next piece starts after one with so many newlines and bytes
-abbrev pub start_after : Start → (newlines len : ℕ) → Start
-start_after start newlines len = record { line = line_after start.line newlines; offset = start.offset + len + 1 }
+-- the place after what a call gave
+abbrev pub after_given : Settings → Place → Result (Bor (List ℕ)) PieceTooLong → Place
+after_given s place given = place_after place (length (items_given s given)) (newlines_given given) (len_given given)
 
--- where it starts after these pieces
-abbrev pub start_past : Start → List (List ℕ) → Start
-start_past start [] = start
-start_past start (piece ∷ pieces) = start_past (start_after start (newlines_in piece) (length piece)) pieces
+-- what is told of what a call gave, which is at this place
+abbrev pub told_given : Settings → Place → Result (Bor (List ℕ)) PieceTooLong → List ℕ
+told_given s place given = told_items s.faults place (stop_given (rules_of s.dialect) given) (items_given s given)
 
--- the fault line of an item at a place, which has this number, as a rebuild writes it: none if it is carried
-abbrev pub raw_fault : Option ℕ → ℕ → Item → List ℕ
-raw_fault line number item = if is_carried_item item then [] else fault_line_at line number (item_text item)
-
--- the line that is named, or 0 if none is
-abbrev pub line_or_none : Option ℕ → ℕ
-line_or_none line = unwrap_or line 0
-
--- how the fault of a piece is told: by a fault line as it is, or on one line; or by an object that has these members on where reading
--- stops, of a piece that starts after so many bytes
-pub data Form : Type 0 where
-  as_raw as_one_line : Form
-  as_object : (offset : ℕ) → (stop : List ℕ) → Form
-
--- how it is told by the settings
-abbrev pub form_of : Faults → (offset : ℕ) → (stop : List ℕ) → Form
-form_of Raw offset stop = as_raw
-form_of OneLine offset stop = as_one_line
-form_of (Json first_line) offset stop = as_object offset stop
-
--- how the fault of a piece is told that starts there
-abbrev pub form_at : Settings → Start → List ℕ → Form
-form_at s start piece = form_of s.faults start.offset (stop_of_piece s (line_or_none start.line) piece)
-
--- how the fault of what a call gave is told, if that starts there
-abbrev pub form_given : Settings → Start → Result (Bor (List ℕ)) PieceTooLong → Form
-form_given s start given = form_of s.faults start.offset (stop_given (rules_of s.dialect) (line_or_none start.line) given)
-
--- what is told of an item at a place, which has this number
-abbrev pub told_item : Form → Option ℕ → ℕ → Item → List ℕ
-told_item as_raw line number item = raw_fault line number item
-told_item as_one_line line number item = told OneLine (raw_fault line number item)
-told_item (as_object offset stop) line number item = item_object number (line_or_none line) offset stop item
-
--- the fault lines of items of one piece that are not carried, at this line, where the first item has this number
-abbrev pub faults_at : Form → Option ℕ → ℕ → List Item → List ℕ
-faults_at form line number [] = []
-faults_at form line number (item ∷ items) =
-    told_item form line number item ++ faults_at form line (number + 1) items
-
--- the fault lines of the items of pieces that are not carried, where the first piece starts there, and the first item has this number
-abbrev pub faults_from : Settings → Start → ℕ → List (List ℕ) → List ℕ
-faults_from s start number [] = []
-faults_from s start number (piece ∷ pieces) =
-    faults_at (form_at s start piece) start.line number (items_of_piece s piece)
-    ++ faults_from s (start_after start (newlines_in piece) (length piece)) (number + length (items_of_piece s piece)) pieces
-
--- the fault lines of the items of the next piece, after what was made
-abbrev pub faults_next : Form → Made → List Item → List ℕ
-faults_next form old items = faults_at form old.line (old.carried + old.refused + 1) items
-
--- the fault lines of the next pieces
-abbrev pub faults_past : Settings → Unwritten → List (List ℕ) → List ℕ
-faults_past s old pieces = faults_from s (start_of old) (old.made.carried + old.made.refused + 1) pieces
-
--- these items of one piece were taken, and their fault lines are told so
-pub record TakesItems (form : Form) (old : Made) (items : List Item) (new : Made) : Type 0 where
-  pub batch : new.batch ≡ old.batch ++ items_batch items
-  pub faults : new.faults ≡ old.faults ++ faults_next form old items
-  pub carried : new.carried ≡ old.carried + carried_items items
-  pub refused : new.refused ≡ old.refused + refused_items items
-
--- what a call gave was taken: its items, as refused what goes out of its piece, and the kind of its fault, if kinds are counted
+-- what a call gave was taken: its items and what is told of them, as refused what goes out of its piece, and the kind of its fault, if
+-- kinds are counted
 pub record TakesGiven (s : Settings) (old : Unwritten) (result : Result (Bor (List ℕ)) PieceTooLong) (new : Unwritten)
     : Type 0 where
-  pub items : TakesItems (form_given s (start_of old) result) old.made (items_given s result) new.made
+  pub batch : new.made.batch ≡ old.made.batch ++ items_batch (items_given s result)
+  pub faults : new.made.faults ≡ old.made.faults ++ told_given s (next_place s old) result
+  pub carried : new.made.carried ≡ old.made.carried + carried_items (items_given s result)
+  pub refused : new.made.refused ≡ old.made.refused + refused_items (items_given s result)
   pub pieces : new.pieces ≡ old.pieces ++ refused_given s result
   pub kinds : new.kinds ≡ kinds_after (items_given s result) old.kinds
 
@@ -223,31 +150,31 @@ pub record TakesGiven (s : Settings) (old : Unwritten) (result : Result (Bor (Li
 abbrev pub Passes : Option (List ℕ) → Option (List ℕ) → (held added left : List ℕ) → Type 0
 Passes old new held added left = (written : List ℕ) × Appends old new written × (written ++ left ≡ held ++ added)
 
--- the lines of these items were written, or are held, and so were these fault lines of theirs and these refused pieces; and the items
--- were counted
-pub record RelaysItems (old new : Unwritten) (before after : Told) (items : List Item) (fault_lines put : List ℕ) : Type 0 where
+-- the lines of these items were written, or are held, and so was what is told of them, and these refused pieces; and the items were
+-- counted
+pub record RelaysItems (old new : Unwritten) (before after : Told) (items : List Item) (told put : List ℕ) : Type 0 where
   pub batch : Passes before.lines.bytes after.lines.bytes old.made.batch (items_batch items) new.made.batch
-  pub faults : Passes before.faults.bytes after.faults.bytes old.made.faults fault_lines new.made.faults
+  pub faults : Passes before.faults.bytes after.faults.bytes old.made.faults told new.made.faults
   pub pieces : Passes before.refused.bytes after.refused.bytes old.pieces put new.pieces
   pub carried : new.made.carried ≡ old.made.carried + carried_items items
   pub refused : new.made.refused ≡ old.made.refused + refused_items items
   pub kinds : new.kinds ≡ kinds_after items old.kinds
 
--- a beginning of the lines of these items was written, one of these fault lines, and one of these refused pieces
-pub record RelaysPart (old : Unwritten) (before after : Told) (items : List Item) (fault_lines put : List ℕ) : Type 0 where
+-- a beginning of the lines of these items was written, one of what is told of them, and one of these refused pieces
+pub record RelaysPart (old : Unwritten) (before after : Told) (items : List Item) (told put : List ℕ) : Type 0 where
   pub batch_left : List ℕ
   pub faults_left : List ℕ
   pub pieces_left : List ℕ
   pub batch : Passes before.lines.bytes after.lines.bytes old.made.batch (items_batch items) batch_left
-  pub faults : Passes before.faults.bytes after.faults.bytes old.made.faults fault_lines faults_left
+  pub faults : Passes before.faults.bytes after.faults.bytes old.made.faults told faults_left
   pub pieces : Passes before.refused.bytes after.refused.bytes old.pieces put pieces_left
 
 -- pieces of a text were taken up to this rest, and their lines were written, or are held
 pub record RelaysTo (s : Settings) (text rest : List ℕ) (old new : Unwritten) (before after : Told) : Type 0 where
   pub pieces : List (List ℕ)
   pub taken : TakesPieces (rules_of s.dialect) text pieces rest
-  pub start : start_of new ≡ start_past (start_of old) pieces
-  pub relays : RelaysItems old new before after (items_of s pieces) (faults_past s old pieces) (refused_pieces s pieces)
+  pub start : next_place s new ≡ place_past s (next_place s old) pieces
+  pub relays : RelaysItems old new before after (items_of s pieces) (told_from s (next_place s old) pieces) (refused_pieces s pieces)
 
 -- so they were up to a rest that the stream holds
 pub record RelaysPieces (s : Settings) (text : List ℕ) (stream : HeldWithin) (old new : Unwritten) (before after : Told)
@@ -275,14 +202,14 @@ pub record RelaysSome (s : Settings) (text : List ℕ) (old : Unwritten) (before
   pub pieces : List (List ℕ)
   pub rest : List ℕ
   pub taken : TakesPieces (rules_of s.dialect) text pieces rest
-  pub part : RelaysPart old before after (items_of s pieces) (faults_past s old pieces) (refused_pieces s pieces)
+  pub part : RelaysPart old before after (items_of s pieces) (told_from s (next_place s old) pieces) (refused_pieces s pieces)
 
 -- the last piece was taken, which is all of this text, and its line was written, or is held
 abbrev pub RelaysLast : Settings → (text : List ℕ) → (old new : Unwritten) → (before after : Told) → Type 0
 RelaysLast s text old new before after = RelaysItems old new before after (items_of_piece s text)
-    (faults_next (form_at s (start_of old) text) old.made (items_of_piece s text)) (refused_piece s text)
+    (told_piece s (next_place s old) text) (refused_piece s text)
 
 -- the same, if a beginning of it was written
 abbrev pub RelaysLastPart : Settings → (text : List ℕ) → (old : Unwritten) → (before after : Told) → Type 0
 RelaysLastPart s text old before after = RelaysPart old before after (items_of_piece s text)
-    (faults_next (form_at s (start_of old) text) old.made (items_of_piece s text)) (refused_piece s text)
+    (told_piece s (next_place s old) text) (refused_piece s text)

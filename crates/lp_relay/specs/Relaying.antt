@@ -1,6 +1,6 @@
 -- What bytes give when they are relayed: the items of their pieces, of which one that is too long, or is not UTF-8, is one item
 -- without an answer, and what goes out for these items.
-use Rattle.std.specs.Prelude.{ℕ, ◌+◌, ◌-◌, ◌^◌, ◌==◌, nat_lt, max, Bool, true, false, not, List, [], ◌∷◌, ◌++◌, length, take, codes, decimal, map}
+use Rattle.std.specs.Prelude.{ℕ, ◌-◌, ◌^◌, ◌==◌, nat_lt, max, Bool, true, false, not, List, [], ◌∷◌, ◌++◌, length, take, codes, decimal, map}
 use Rattle.std.specs.Prelude.{Option, Some, None, Result, Ok, Err, if◌then◌else◌}
 use Rattle.std.specs.List.{flat_map, count_by}
 use Rattle.std.specs.Str.{bytes_eq, is_utf8}
@@ -11,14 +11,12 @@ use Rattle.influxdb_line_protocol.specs.format.Points.{built, built_all, is_admi
 use Rattle.influxdb_line_protocol.specs.format.Lines.{Line, front_before, point_of}
 use Rattle.influxdb_line_protocol.specs.format.Items.{answers_of_piece}
 use Rattle.influxdb_line_protocol.specs.format.Trimming.{trimmed}
-use Rattle.lp_rebuild.specs.Rebuilding.{carried_point, fault_line, fault_of, is_carried_answer}
+use Rattle.lp_rebuild.specs.Rebuilding.{carried_point, is_carried_answer}
 use Rattle.influxdb_line_protocol.specs.code.Rules.{rules_of}
 use Rattle.lp_relay.specs.declared.taking.LineForm.{LineForm}
 use Rattle.lp_relay.specs.declared.taking.LineForm.TheVariants.{Rebuilt, Verbatim, Canonical}
 use Rattle.lp_relay.specs.declared.taking.Settings.{Settings}
-use Rattle.lp_relay.specs.declared.telling.Faults.{Faults}
 use Rattle.lp_relay.specs.Differing.{differing_part, part_text}
-use Rattle.lp_relay.specs.Told.{told}
 
 -- an item: an answer; a text that holds a line and goes out as it came; a line that is refused, with what is wrong with it, since
 -- it is not as it would be written; or a piece that has no answer, since it is not UTF-8 or is too long, and then as many bytes of it
@@ -106,19 +104,6 @@ items_batch items = flat_map item_line items
 abbrev pub long_text : Option ℕ → List ℕ
 long_text None = codes "the line is too long"
 long_text (Some kept) = codes "the line is too long: its first " ++ decimal kept ++ codes " bytes are kept"
-
--- the fault line of an item that is not carried
-abbrev pub item_fault : ℕ → Item → List ℕ
-item_fault number (answered front answer) = fault_of number answer
-item_fault number (as_it_came piece) = []
-item_fault number (not_as_written front wrong) = fault_line number wrong
-item_fault number not_utf8 = fault_line number (codes "the line is not UTF-8")
-item_fault number (too_long kept) = fault_line number (long_text kept)
-
--- the fault lines of the items that are not carried, as they are told, where the first item has this number
-abbrev pub item_faults : Faults → ℕ → List Item → List ℕ
-item_faults form number [] = []
-item_faults form number (item ∷ items) = told form (item_fault number item) ++ item_faults form (number + 1) items
 
 -- the refused lines of a piece with these items, if refused pieces go out: for each item that is not carried, the piece as it came,
 -- or what is kept of it, and a newline

@@ -13,34 +13,15 @@ use Rattle.lp_relay.specs.declared.relaying.Relayed.{Relayed}
 use Rattle.lp_rebuild.specs.declared.batch.Rebuilt.{Rebuilt}
 use Rattle.lp_rebuild.specs.Rebuilding.{RebuildsIn}
 use Rattle.lp_rebuild.specs.Running.{AppendsFront, ReaderTold, WriterTold}
-use Rattle.lp_relay.specs.Relaying.{first_of, limit_of, items_of, items_batch, item_faults, carried_items, refused_items}
+use Rattle.lp_relay.specs.Relaying.{first_of, limit_of, items_of, items_batch, carried_items, refused_items}
 use Rattle.lp_relay.specs.Relaying.{refused_pieces}
 use Rattle.lp_relay.specs.Kinds.{counts_if, counts_of, refused_kinds, sum_of}
 use Rattle.lp_relay.specs.Writers.{Known, Writers, bytes_of}
-use Rattle.lp_relay.specs.LineFaults.{line_faults}
+use Rattle.lp_relay.specs.FaultsTold.{told_faults}
 use Rattle.lp_relay.specs.declared.taking.LineForm.TheVariants as going
-use Rattle.lp_relay.specs.declared.taking.Numbering.{Numbering}
 use Rattle.lp_relay.specs.declared.taking.Numbering.TheVariants as named
 use Rattle.lp_relay.specs.declared.taking.Settings.{Settings}
-use Rattle.lp_relay.specs.declared.telling.Faults.{Faults}
-use Rattle.lp_relay.specs.declared.telling.Faults.TheVariants.{Raw, OneLine, Json}
-use Rattle.lp_relay.specs.Objects.{fault_objects}
-
--- the fault lines of the items of pieces that are not carried, by what they name, from this number on
-abbrev pub named_faults : Numbering → Settings → List (List ℕ) → List ℕ
-named_faults named.Items s pieces = item_faults s.faults (first_of s.first) (items_of s pieces)
-named_faults named.Lines s pieces = line_faults s (first_of s.first) pieces
-
--- the number of the first item, if this is the number of what fault lines name first
-abbrev pub first_item : Numbering → ℕ → ℕ
-first_item named.Items first = first_of first
-first_item named.Lines first = 1
-
--- what is told of the items of pieces that are not carried: their fault lines, or their objects
-abbrev pub told_faults : Faults → Settings → List (List ℕ) → List ℕ
-told_faults Raw s pieces = named_faults s.numbering s pieces
-told_faults OneLine s pieces = named_faults s.numbering s pieces
-told_faults (Json first_line) s pieces = fault_objects s (first_item s.numbering s.first) (first_of first_line) 0 pieces
+use Rattle.lp_relay.specs.declared.telling.Faults.TheVariants.{Raw}
 
 -- the first writer gained the batch of the items of these bytes, the second one their faults, and the third one the refused
 -- pieces, if these go out, and these are their counts
@@ -48,7 +29,7 @@ pub record RelaysAll (s : Settings) (bytes : List ℕ) (counts : Relayed) (befor
   pub pieces : List (List ℕ)
   pub are : Pieces (rules_of s.dialect) bytes pieces
   pub batch : Appends before.lines after.lines (items_batch (items_of s pieces))
-  pub faults : Appends before.faults after.faults (told_faults s.faults s pieces)
+  pub faults : Appends before.faults after.faults (told_faults s pieces)
   pub put : Appends before.refused after.refused (refused_pieces s pieces)
   pub carried : counts.carried ≡ carried_items (items_of s pieces)
   pub refused : counts.refused ≡ refused_items (items_of s pieces)
@@ -61,7 +42,7 @@ pub record RelaysFronts (s : Settings) (bytes : List ℕ) (before after : Known)
   pub pieces : List (List ℕ)
   pub are : Pieces (rules_of s.dialect) bytes pieces
   pub batch : AppendsFront before.lines after.lines (items_batch (items_of s pieces))
-  pub faults : AppendsFront before.faults after.faults (told_faults s.faults s pieces)
+  pub faults : AppendsFront before.faults after.faults (told_faults s pieces)
   pub put : AppendsFront before.refused after.refused (refused_pieces s pieces)
 
 -- the first writer gained the batch of a rebuild, and these are its counts; if fault lines name items from 1 on, and are told as

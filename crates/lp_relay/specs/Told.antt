@@ -1,9 +1,7 @@
--- How a relay tells fault lines: as they are, or each on one line.
+-- How a text is told on one line.
 use Rattle.std.specs.Prelude.{ℕ, ◌+◌, ◌/◌, ◌%◌, ◌==◌, ◌&&◌, nat_lt, List, [], ◌∷◌, ◌++◌, length, take, codes, decimal, if◌then◌else◌}
 use Rattle.std.specs.List.{flat_map}
 use Rattle.influxdb_line_protocol.specs.format.Bytes.{tab, newline, backslash}
-use Rattle.lp_relay.specs.declared.telling.Faults.{Faults}
-use Rattle.lp_relay.specs.declared.telling.Faults.TheVariants.{Raw, OneLine, Json}
 
 -- the hexadecimal digit of a number below 16
 abbrev pub hex_digit : ℕ → ℕ
@@ -27,10 +25,3 @@ cut_mark len = codes ".. [" ++ decimal len ++ codes " bytes]"
 -- a text on one line: its first 200 bytes, and if it has more, how many it has
 abbrev pub on_one_line : List ℕ → List ℕ
 on_one_line text = flat_map told_byte (take 200 text) ++ (if nat_lt 200 (length text) then cut_mark (length text) else [])
-
--- a fault line as it is told; its last byte is its newline. By `Json` none is told, but an object for its item
-abbrev pub told : Faults → List ℕ → List ℕ
-told Raw line = line
-told (Json first_line) line = []
-told OneLine [] = []
-told OneLine (b ∷ bytes) = on_one_line (take (length bytes) (b ∷ bytes)) ++ newline ∷ []

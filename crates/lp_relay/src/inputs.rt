@@ -117,9 +117,6 @@ fn relay_next<R: Source, N: NextInput<R>, O: ThreeWriters>(
         (inputs_told N.left R.failures inputs.new.next inputs.new.reader) (O.told outputs.old) (O.told outputs.new) }
 {
     laws::pieces_join();
-    if outputs.begin(alloc, settings).is_err() {
-        return Err(RunFault::OutOfMemory);
-    }
     if inputs.next.open(&mut inputs.reader, name).is_err() {
         return Err(RunFault::Read);
     }
@@ -129,7 +126,8 @@ fn relay_next<R: Source, N: NextInput<R>, O: ThreeWriters>(
 /// Relays the inputs of these names, one after another and each by itself, as [`relay`] does, and adds up their counts.
 ///
 /// The first input is relayed by `settings`. Each other one is too, but its items are counted on from those before it, and its lines
-/// from 1 on. If there are several, `settings.file` is the name of each in turn. A sum that no `usize` holds becomes `usize::MAX`.
+/// from 1 on. If there are several, `settings.file` is the name of each in turn, so each fault names its input, but not by `Faults::Raw`.
+/// A sum that no `usize` holds becomes `usize::MAX`.
 ///
 /// # Errors
 ///

@@ -1,9 +1,9 @@
 //! Tells faults as objects of JSON, each on one line.
-ghost use Rattle.std.specs.Prelude.{◌≡◌, ◌+◌, ◌<◌, ◌≤◌, ◌++◌, ◌∷◌, ℕ, List, [], drop, length, string_bytes, take, true, IsUtf8, OnOk};
+ghost use Rattle.std.specs.Prelude.{◌≡◌, ◌<◌, ◌≤◌, ◌++◌, drop, length, string_bytes, take, true, IsUtf8, OnOk, Some};
 ghost use Rattle.influxdb_line_protocol.specs.code.Rules.{rules_of};
-ghost use Rattle.influxdb_line_protocol.specs.format.Bytes.{newline, newlines_in};
-ghost use Rattle.lp_relay.specs.Objects.{column_after, escape_of, fault_members, is_escaped, json_text, member, object_start, stop_members};
-ghost use Rattle.lp_relay.specs.Refusals.{object_of, refusal_kind, stop_in, wrong_of};
+ghost use Rattle.lp_relay.specs.Objects.{column_after, escape_of, fault_members, first_members, is_escaped, json_text, member};
+ghost use Rattle.lp_relay.specs.Objects.{line_or_none, object, object_start, stop_members};
+ghost use Rattle.lp_relay.specs.Refusals.{front_in, is_fault, reason_of, refusal_kind, stop_in, wrong_of};
 
 use crate::pieces::Piece;
 use crate::refusals::Refusal;
@@ -58,24 +58,34 @@ pub fn put_json_text(json: &mut String, text: &str) -> Result<(), AllocError>
     json.push_str(&text[start..])
 }
 
-// Adds the start of an object, whose piece begins on this line and after so many bytes; these bytes come before its text.
-fn put_start(
-    faults: &mut String,
-    number: usize,
-    line: usize,
-    offset: usize,
-    front: &[u8],
-) -> Result<(), AllocError>
-    ensures { OnOk result (string_bytes faults.new ≡ string_bytes faults.old ++ object_start number line offset front.now) }
+// Adds the first members of an object: the name of the file, if one is named, and the number of the item.
+fn put_first(faults: &mut String, file: Option<&str>, number: usize) -> Result<(), AllocError>
+    ensures { OnOk result (string_bytes faults.new ≡ string_bytes faults.old ++ first_members file.entry number) }
 {
+    match file {
+        None => faults.push_str("{\"item\":")?,
+        Some(name) => {
+            faults.push_str("{\"file\":\"")?;
+            put_json_text(faults, name)?;
+            faults.push_str("\",\"item\":")?;
+        }
+    }
+    put_number(faults, number)
+}
+
+// Adds the start of the object of a piece at this place.
+fn put_start(faults: &mut String, place: Place<'_>, piece: Piece<'_>) -> Result<(), AllocError>
+    ensures { OnOk result (string_bytes faults.new ≡ string_bytes faults.old ++ object_start place.entry (front_in piece.entry)) }
+{
+    let front = piece.front();
+    let line = place.line.unwrap_or(0);
     let text_line = line.checked_add(newlines_in(front)).ok_or(AllocError)?;
-    let text_offset = offset.checked_add(front.len()).ok_or(AllocError)?;
-    faults.push_str("{\"item\":")?;
-    put_number(faults, number)?;
+    let text_offset = place.offset.checked_add(front.len()).ok_or(AllocError)?;
+    put_first(faults, place.file, place.number)?;
     put_member(faults, "line", text_line)?;
     put_member(faults, "offset", text_offset)?;
     put_member(faults, "piece_line", line)?;
-    put_member(faults, "piece_offset", offset)
+    put_member(faults, "piece_offset", place.offset)
 }
 
 // Adds a member that tells a number.
@@ -104,31 +114,34 @@ fn column_after(bytes: &[u8]) -> usize
     column
 }
 
-// Adds the members that tell where reading stopped that took these bytes of a piece, which begins on this line.
-fn put_stop(faults: &mut String, line: usize, bytes: &[u8]) -> Result<(), AllocError>
-    ensures { OnOk result (string_bytes faults.new ≡ string_bytes faults.old ++ stop_members line bytes.now) }
+// Adds the members that tell where reading stopped that took these bytes of a piece at this place.
+fn put_stop(faults: &mut String, place: Place<'_>, bytes: &[u8]) -> Result<(), AllocError>
+    ensures { OnOk result (string_bytes faults.new
+        ≡ string_bytes faults.old ++ stop_members (line_or_none place.entry.line) (Some bytes.now)) }
 {
+    let line = place.line.unwrap_or(0);
     let stop_line = line.checked_add(newlines_in(bytes)).ok_or(AllocError)?;
+    let stop_column = column_after(bytes);
     put_member(faults, "stop_line", stop_line)?;
-    put_member(faults, "stop_column", column_after(bytes))
+    put_member(faults, "stop_column", stop_column)
 }
 
-// Adds the members that tell where reading stops in a piece that begins on this line, if its text is at fault.
+// Adds the members that tell where reading stops in a piece at this place, if its text is at fault.
 fn put_stop_in(
     faults: &mut String,
     dialect: Dialect,
-    line: usize,
+    place: Place<'_>,
+    refusal: &Refusal<'_>,
     piece: Piece<'_>,
-    is_fault: bool,
 ) -> Result<(), AllocError>
-    ensures { OnOk result (string_bytes faults.new
-        ≡ string_bytes faults.old ++ stop_in is_fault (rules_of dialect) line piece.entry) }
+    ensures { OnOk result (string_bytes faults.new ≡ string_bytes faults.old
+        ++ stop_members (line_or_none place.entry.line) (stop_in (is_fault refusal.now) (rules_of dialect) piece.entry)) }
 {
     match piece {
-        Piece::Text(text) if is_fault => {
+        Piece::Text(text) if refusal.is_fault() => {
             let left = reading_stop(dialect, trimmed(text)).rest;
             let end = text.len().saturating_sub(left.len());
-            put_stop(faults, line, &text.as_bytes()[..end])
+            put_stop(faults, place, &text.as_bytes()[..end])
         }
         _ => Ok(()),
     }
@@ -146,7 +159,7 @@ fn are_plain(bytes: &[u8]) -> bool
     are
 }
 
-// Makes of what follows these first bytes what stands for it in a string of JSON: mostly it is that.
+// Escapes what follows these first bytes, for a string of JSON: most of it has no escape.
 fn escape_from(faults: &mut String, from: usize) -> Result<(), AllocError>
     requires front { IsUtf8 (take from (string_bytes faults.old)) }
     requires within { from ≤ length (string_bytes faults.old) }
@@ -185,16 +198,15 @@ fn put_fault(faults: &mut String, refusal: &Refusal<'_>) -> Result<(), AllocErro
 pub(crate) fn tell_as_object(
     faults: &mut String,
     dialect: Dialect,
-    place: Place,
+    place: Place<'_>,
     refusal: &Refusal<'_>,
     piece: Piece<'_>,
 ) -> Result<(), AllocError>
     ensures { OnOk result (string_bytes faults.new
-        ≡ string_bytes faults.old ++ object_of (rules_of dialect) place piece.entry refusal.now) }
+        ≡ string_bytes faults.old ++ object place.entry (reason_of (rules_of dialect) piece.entry refusal.now)) }
 {
-    let line = place.line.unwrap_or(0);
-    put_start(faults, place.number, line, place.offset, piece.front())?;
+    put_start(faults, place, piece)?;
     put_fault(faults, refusal)?;
-    put_stop_in(faults, dialect, line, piece, refusal.is_fault())?;
+    put_stop_in(faults, dialect, place, refusal, piece)?;
     faults.push_str("}\n")
 }

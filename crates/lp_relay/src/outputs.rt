@@ -3,14 +3,12 @@
 //! A relay hands all three from call to call, and each of its contracts speaks of all three. So they have one name, and one
 //! member for contracts. A trait gives it that name, since a member of a type with three parameters is named by all of them.
 //! A relay is compiled for each kind of its writers, and a call of `put` or `flush` is one of each of them.
-ghost use Rattle.std.specs.Prelude.{◌≡◌, OnErr, OnOk};
+ghost use Rattle.std.specs.Prelude.{OnErr, OnOk};
 ghost use Rattle.lp_rebuild.specs.Running.{WriterTold, writer_told};
 ghost use Rattle.lp_relay.specs.Writers.{AreFlushed, CountsWriteFault, Gains, GainsFronts, KeepsBytes, Writers, of_writers};
 
-use crate::taking::Settings;
 use lp_rebuild::program::write_bytes;
 use lp_rebuild::{RunFault, Sink};
-use std::alloc::{AllocError, Global};
 
 /// The three writers of a relay: for lines, for faults, and for refused pieces. [`Outputs`] makes them of three sinks.
 ///
@@ -27,19 +25,6 @@ pub trait ThreeWriters {
         ensures ok { OnOk result (Gains (told self.old) (told self.new) lines.now faults.now refused.now) }
         ensures part { OnErr result (GainsFronts (told self.old) (told self.new) lines.now faults.now refused.now) }
         ensures counts { CountsWriteFault result (told self.old) (told self.new) };
-
-    /// Begins an input that is relayed by these settings: they have its name, if its faults are to name it. It writes nothing, and
-    /// [`Outputs`] do nothing of it.
-    ///
-    /// # Errors
-    ///
-    /// If memory was refused.
-    fn begin(&mut self, alloc: Global, _settings: Settings<'_>) -> Result<(), AllocError>
-        ensures { told self.new ≡ told self.old }
-    {
-        let _ = alloc;
-        Ok(())
-    }
 
     /// Flushes each writer. Its bytes stay as they are.
     ///

@@ -5,8 +5,8 @@ ghost use Rattle.influxdb_line_protocol.specs.format.Bytes.{newline};
 ghost use Rattle.influxdb_line_protocol.specs.code.Bounded.{Holds, KeepsRules};
 ghost use Rattle.influxdb_line_protocol.specs.code.Rules.{rules_of};
 ghost use Rattle.influxdb_line_protocol.specs.format.Pieces.{IsLastPiece};
-ghost use Rattle.lp_relay.specs.RelaySteps.{HoldsLess, HoldsNone, RelaysAllPieces, RelaysBegun, RelaysItems};
-ghost use Rattle.lp_relay.specs.RelaySteps.{RelaysLast, RelaysLastPart, RelaysPart, RelaysSome, RelaysTo, start_of, unwritten_of};
+ghost use Rattle.lp_relay.specs.RelaySteps.{HoldsLess, HoldsNone, KeepsPlace, RelaysAllPieces, RelaysBegun, RelaysItems};
+ghost use Rattle.lp_relay.specs.RelaySteps.{RelaysLast, RelaysLastPart, RelaysPart, RelaysSome, RelaysTo, unwritten_of};
 ghost use Rattle.lp_relay.specs.Relays.{Relays};
 ghost use Rattle.lp_relay.specs.Writers.{AreFlushed, CountsWriteFault};
 ghost use Rattle.lp_rebuild.specs.Running.{reader_told};
@@ -37,7 +37,7 @@ pub struct Relayed {
 // Writes all that is held.
 #[tactic(auto, using(crate::proofs::KindLemmas::kinds_of_nothing))]
 fn pour<O: ThreeWriters>(pending: &mut Pending, outputs: &mut O) -> Result<(), RunFault>
-    ensures start { start_of (unwritten_of pending.new) ≡ start_of (unwritten_of pending.old) }
+    ensures start { KeepsPlace (unwritten_of pending.old) (unwritten_of pending.new) }
     ensures ok { OnOk result (RelaysItems (unwritten_of pending.old) (unwritten_of pending.new)
         (O.told outputs.old) (O.told outputs.new) [] [] []) }
     ensures none { OnOk result (HoldsNone pending.new) }
@@ -58,7 +58,7 @@ fn pour<O: ThreeWriters>(pending: &mut Pending, outputs: &mut O) -> Result<(), R
 
 // Writes all that is held, if it fills a block.
 fn pour_full<O: ThreeWriters>(pending: &mut Pending, outputs: &mut O) -> Result<(), RunFault>
-    ensures start { start_of (unwritten_of pending.new) ≡ start_of (unwritten_of pending.old) }
+    ensures start { KeepsPlace (unwritten_of pending.old) (unwritten_of pending.new) }
     ensures ok { OnOk result (RelaysItems (unwritten_of pending.old) (unwritten_of pending.new)
         (O.told outputs.old) (O.told outputs.new) [] [] []) }
     ensures held { OnOk result (HoldsLess BLOCK pending.new) }
@@ -76,7 +76,7 @@ fn pour_full<O: ThreeWriters>(pending: &mut Pending, outputs: &mut O) -> Result<
 
 // Writes all that is held, and flushes.
 fn pour_and_flush<O: ThreeWriters>(pending: &mut Pending, outputs: &mut O) -> Result<(), RunFault>
-    ensures start { start_of (unwritten_of pending.new) ≡ start_of (unwritten_of pending.old) }
+    ensures start { KeepsPlace (unwritten_of pending.old) (unwritten_of pending.new) }
     ensures ok { OnOk result (RelaysItems (unwritten_of pending.old) (unwritten_of pending.new)
         (O.told outputs.old) (O.told outputs.new) [] [] []) }
     ensures none { OnOk result (HoldsNone pending.new) }

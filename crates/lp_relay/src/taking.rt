@@ -6,10 +6,11 @@ ghost use Rattle.influxdb_line_protocol.specs.format.Lines.{answer};
 ghost use Rattle.influxdb_line_protocol.specs.format.Points.{IsAsWritten};
 ghost use Rattle.influxdb_line_protocol.specs.format.Trimming.{trimmed};
 ghost use Rattle.lp_relay.specs.Kinds.{counts_if, with_fault};
-ghost use Rattle.lp_relay.specs.Refusals.{EndsPiece, GaveSame, IsKnown, RefusesPiece, TakesItem, TakesPiece, given_of, refusal_kind, told_by};
+ghost use Rattle.lp_relay.specs.Refusals.{EndsPiece, GaveSame, IsKnown, RefusesPiece, TakesItem, TakesPiece, given_of, reason_of, refusal_kind};
 ghost use Rattle.lp_relay.specs.Relaying.{Item, canonical_item, front_of, item_of, kept_of};
-ghost use Rattle.lp_relay.specs.RelaySteps.{HoldsLess, TakesGiven, first_line, items_before, len_given, line_after, made, newlines_given};
-ghost use Rattle.lp_relay.specs.RelaySteps.{start_after, start_of, unwritten_of, unwritten_of_none};
+ghost use Rattle.lp_relay.specs.FaultsTold.{first_line, line_after, told_fault};
+ghost use Rattle.lp_relay.specs.RelaySteps.{HoldsLess, TakesGiven, after_given, items_before, len_given, made, newlines_given, next_place};
+ghost use Rattle.lp_relay.specs.RelaySteps.{unwritten_of, unwritten_of_none};
 
 use crate::differing::{differing_part, part_text};
 use crate::kinds::{Kind, KindCounts};
@@ -71,8 +72,8 @@ pub struct Settings<'n> {
     pub puts_refused: bool,
     /// Whether it is counted for which kind of fault each item is refused.
     pub counts_kinds: bool,
-    /// The name of the input, if its faults are to name it: [`relay_inputs`](crate::relay_inputs) hands it to the writers as the
-    /// input begins. A relay puts it into no fault.
+    /// The name of the input, if its faults are to name it: by `Faults::OneLine` before a fault line, as in `a.lp: item 7: ..`, and by
+    /// `Faults::Json` as the first member of an object, as in `{"file":"a.lp","item":7,..`. Raw fault lines name none.
     pub file: Option<&'n str>,
 }
 
@@ -325,12 +326,12 @@ fn count(kinds: &mut Option<KindCounts>, kind: Kind) -> Result<(), AllocError>
 fn tell(
     settings: &Settings<'_>,
     faults: &mut String,
-    place: Place,
+    place: Place<'_>,
     refusal: &Refusal<'_>,
     piece: Piece<'_>,
 ) -> Result<(), AllocError>
-    ensures { OnOk result (string_bytes faults.new
-        ≡ string_bytes faults.old ++ told_by settings.now.faults (rules_of settings.now.dialect) place piece.entry refusal.now) }
+    ensures { OnOk result (string_bytes faults.new ≡ string_bytes faults.old
+        ++ told_fault settings.now.faults place.entry (reason_of (rules_of settings.now.dialect) piece.entry refusal.now)) }
 {
     match settings.faults {
         Faults::Raw => put_fault_line(faults, place, refusal),
@@ -358,6 +359,7 @@ fn refuse(
     pending.so_far.refused += 1;
     count(&mut pending.kinds, refusal.kind())?;
     let place = Place {
+        file: settings.file,
         number: pending.so_far.carried + pending.so_far.refused,
         line: pending.so_far.line,
         offset: pending.offset,
@@ -493,8 +495,8 @@ pub(crate) fn take_piece<'a>(
     requires fits { pending.old.so_far.carried + pending.old.so_far.refused ≤ usize.MAX }
     requires few { HoldsLess BLOCK pending.old }
     ensures taken { OnOk result (TakesGiven settings.now (unwritten_of pending.old) (given_of piece.entry) (unwritten_of pending.new)) }
-    ensures start { OnOk result (start_of (unwritten_of pending.new) ≡ start_after (start_of (unwritten_of pending.old))
-        (newlines_given (given_of piece.entry)) (len_given (given_of piece.entry))) }
+    ensures start { OnOk result (next_place settings.now (unwritten_of pending.new)
+        ≡ after_given settings.now (next_place settings.now (unwritten_of pending.old)) (given_of piece.entry)) }
     ensures fits { OnOk result (pending.new.so_far.carried + pending.new.so_far.refused ≤ usize.MAX) }
     ensures dialect { reader.new.dialect ≡ reader.old.dialect }
 {
@@ -516,8 +518,8 @@ pub(crate) fn take_given(
     requires fits { pending.old.so_far.carried + pending.old.so_far.refused ≤ usize.MAX }
     requires few { HoldsLess BLOCK pending.old }
     ensures taken { OnOk result (TakesGiven settings.now (unwritten_of pending.old) given.entry (unwritten_of pending.new)) }
-    ensures start { OnOk result (start_of (unwritten_of pending.new)
-        ≡ start_after (start_of (unwritten_of pending.old)) (newlines_given given.entry) (len_given given.entry)) }
+    ensures start { OnOk result (next_place settings.now (unwritten_of pending.new)
+        ≡ after_given settings.now (next_place settings.now (unwritten_of pending.old)) given.entry) }
     ensures fits { OnOk result (pending.new.so_far.carried + pending.new.so_far.refused ≤ usize.MAX) }
 {
     let mut reader = LineReader::new(pending.alloc, settings.dialect);

@@ -1,11 +1,12 @@
 //! How fault lines are told, and each on one line.
 //!
 //! A fault line is added as it is, and most are on one line then.
-ghost use Rattle.std.specs.Prelude.{◌≡◌, ◌<◌, ◌++◌, ◌∷◌, [], decimal, drop, length, string_bytes, take, true, IsUtf8, OnOk};
-ghost use Rattle.lp_relay.specs.LineFaults.{fault_line_at};
+ghost use Rattle.std.specs.Prelude.{◌≡◌, ◌<◌, ◌≤◌, ◌++◌, ◌∷◌, [], decimal, drop, length, string_bytes, take, true, IsUtf8, OnOk};
+ghost use Rattle.influxdb_line_protocol.specs.format.Bytes.{newline};
+ghost use Rattle.lp_relay.specs.FaultsTold.{fault_text, file_before};
 ghost use Rattle.lp_relay.specs.Refusals.{wrong_of};
 ghost use Rattle.std.specs.List.{flat_map};
-ghost use Rattle.lp_relay.specs.Told.{hex_digit, on_one_line, told, told_byte};
+ghost use Rattle.lp_relay.specs.Told.{hex_digit, on_one_line, told_byte};
 
 use crate::refusals::Refusal;
 use std::alloc::AllocError;
@@ -13,23 +14,26 @@ use std::alloc::AllocError;
 /// How a relay tells its fault lines.
 #[derive(Clone, Copy, Debug, PartialEq, Eq)]
 pub enum Faults {
-    /// As they are, with the text of the line that is at fault, which may have newlines.
+    /// As they are, with the text of the line that is at fault, which may have newlines. They name no file.
     Raw,
     /// Each on one line, with Rust's escapes for what ASCII does not print: `\n`, `\t`, `\r`, `\\`, and `\x..` for each other byte. Of
-    /// a fault line of more than 200 bytes the first 200, and how many it has, as in `.. [1234 bytes]`.
+    /// a fault line of more than 200 bytes the first 200, and how many it has, as in `.. [1234 bytes]`. If `file` of the settings names
+    /// the input, that name comes before the line, with the same escapes and whole, as in `a.lp: item 7: ..`.
     OneLine,
     /// Each as an object of JSON on one line, as `{"item":2,"line":7,"offset":31,"piece_line":7,"piece_offset":29,
     /// "kind":"field_set_missing","text":"No fields were provided","stop_line":7,"stop_column":5}`: the number of the item, the line
     /// of the input on which its text begins, how many bytes come before that, the same two of its piece, which begins with the blanks
     /// and comments before the text, the kind of its fault, what is wrong with it, and, if it is no line, at which byte reading stopped:
     /// its line and its column. Lines are counted from `first_line`, whatever `numbering` of the settings says, where 0 is taken as 1, and
-    /// columns from 1.
+    /// columns from 1. If `file` of the settings names the input, that is the first member, as in `{"file":"a.lp","item":2,"line":7,..`.
     Json { first_line: usize },
 }
 
 /// Where an item is.
 #[derive(Clone, Copy)]
-pub(crate) struct Place {
+pub(crate) struct Place<'n> {
+    /// The name of its file, if faults name it.
+    pub(crate) file: Option<&'n str>,
     /// Its number.
     pub(crate) number: usize,
     /// The line of the input on which its piece begins, if fault lines name lines.
@@ -119,31 +123,19 @@ fn are_plain(bytes: &[u8]) -> bool
     are
 }
 
-// Whether a fault line is on one line, as it is told: most are.
-fn is_on_one_line(line: &[u8]) -> bool
-    ensures { result ≡ true → told Faults.OneLine line.now ≡ line.now }
-{
-    match line.split_last() {
-        Some((b'\n', text)) => text.len() <= MOST_TOLD && are_plain(text),
-        _ => false,
-    }
-}
-
-// Tells on one line the fault line that follows the first bytes of these.
-fn tell_on_one_line(faults: &mut String, from: usize) -> Result<(), AllocError>
+// Tells on one line what follows these first bytes. Mostly that stays as it is.
+fn tell_from(faults: &mut String, from: usize) -> Result<(), AllocError>
     requires front { IsUtf8 (take from (string_bytes faults.old)) }
-    requires some { from < length (string_bytes faults.old) }
+    requires within { from ≤ length (string_bytes faults.old) }
     ensures { OnOk result (string_bytes faults.new
-        ≡ take from (string_bytes faults.old) ++ told Faults.OneLine (drop from (string_bytes faults.old))) }
+        ≡ take from (string_bytes faults.old) ++ on_one_line (drop from (string_bytes faults.old))) }
 {
-    if is_on_one_line(&faults.as_bytes()[from..]) {
+    let line = &faults.as_bytes()[from..];
+    if line.len() <= MOST_TOLD && are_plain(line) {
         return Ok(());
     }
-    let line = faults.split_off(from)?;
-    let bytes = line.as_bytes();
-    let text = &bytes[..bytes.len() - 1];
-    tell_text(faults, text)?;
-    faults.push('\n')
+    let text = faults.split_off(from)?;
+    tell_text(faults, text.as_bytes())
 }
 
 // Adds a number.
@@ -155,14 +147,14 @@ pub(crate) fn put_number(faults: &mut String, number: usize) -> Result<(), Alloc
     faults.push_str(digits.format(number))
 }
 
-// Adds the fault line of an item that is refused.
-pub(crate) fn put_fault_line(
+// Adds the fault line of an item that is refused, without its newline.
+fn put_fault_text(
     faults: &mut String,
-    place: Place,
+    place: Place<'_>,
     refusal: &Refusal<'_>,
 ) -> Result<(), AllocError>
     ensures { OnOk result (string_bytes faults.new
-        ≡ string_bytes faults.old ++ fault_line_at place.line place.number (wrong_of refusal.now)) }
+        ≡ string_bytes faults.old ++ fault_text place.entry (wrong_of refusal.now)) }
 {
     match place.line {
         None => {
@@ -175,20 +167,45 @@ pub(crate) fn put_fault_line(
         }
     }
     faults.push_str(": ")?;
-    writeln!(faults, "{refusal}")?;
-    Ok(())
+    write!(faults, "{refusal}")
 }
 
-// The same, on one line.
-pub(crate) fn put_on_one_line(
+// Adds the fault line of an item that is refused.
+pub(crate) fn put_fault_line(
     faults: &mut String,
-    place: Place,
+    place: Place<'_>,
     refusal: &Refusal<'_>,
 ) -> Result<(), AllocError>
     ensures { OnOk result (string_bytes faults.new
-        ≡ string_bytes faults.old ++ told Faults.OneLine (fault_line_at place.line place.number (wrong_of refusal.now))) }
+        ≡ string_bytes faults.old ++ (fault_text place.entry (wrong_of refusal.now) ++ newline ∷ [])) }
 {
+    put_fault_text(faults, place, refusal)?;
+    faults.push_str("\n")
+}
+
+// Adds what comes before a fault line that is told on one line: the name of the file, if one is named.
+fn put_file(faults: &mut String, file: Option<&str>) -> Result<(), AllocError>
+    ensures { OnOk result (string_bytes faults.new ≡ string_bytes faults.old ++ file_before file.entry) }
+{
+    let Some(name) = file else {
+        return Ok(());
+    };
+    tell_bytes(faults, name.as_bytes())?;
+    faults.push_str(": ")
+}
+
+// The same, on one line, after the name of its file.
+pub(crate) fn put_on_one_line(
+    faults: &mut String,
+    place: Place<'_>,
+    refusal: &Refusal<'_>,
+) -> Result<(), AllocError>
+    ensures { OnOk result (string_bytes faults.new ≡ string_bytes faults.old
+        ++ (file_before place.entry.file ++ on_one_line (fault_text place.entry (wrong_of refusal.now)) ++ newline ∷ [])) }
+{
+    put_file(faults, place.file)?;
     let from = faults.len();
-    put_fault_line(faults, place, refusal)?;
-    tell_on_one_line(faults, from)
+    put_fault_text(faults, place, refusal)?;
+    tell_from(faults, from)?;
+    faults.push_str("\n")
 }

@@ -71,7 +71,7 @@ returns-in_err-taken-clause-part g c =
     (to_more c.args.settings (text ++ part) (text ++ part) rest old old (unwritten_of c.take_given.new.pending) (unwritten_of c.pour_full.new.pending)
     _ _ _ c.in-Some-next.piece (to_none c.args.settings (text ++ part) old _) first.1
     (at_no_fault c.take_given.result c.if-is_err-2.ensures.value taken.taken)
-    (poured.start ∙ at_no_fault c.take_given.result c.if-is_err-2.ensures.value taken.start) poured.ok)
+    (poured.start c.args.settings ∙ at_no_fault c.take_given.result c.if-is_err-2.ensures.value taken.start) poured.ok)
     c.in_err-taken.ensures.part)
 
 pub returns-clause-ok : goal.returns-clause-ok
@@ -94,5 +94,5 @@ returns-clause-ok g c text holds is_last =
     (to_more c.args.settings (text ++ part) (text ++ part) rest old old (unwritten_of c.take_given.new.pending) (unwritten_of c.pour_full.new.pending)
     _ _ _ c.in-Some-next.piece (to_none c.args.settings (text ++ part) old _) first.1
     (at_no_fault c.take_given.result c.if-is_err-2.ensures.value taken.taken)
-    (poured.start ∙ at_no_fault c.take_given.result c.if-is_err-2.ensures.value taken.start) poured.ok)
+    (poured.start c.args.settings ∙ at_no_fault c.take_given.result c.if-is_err-2.ensures.value taken.start) poured.ok)
     c.in_ok-taken.ensures.ok

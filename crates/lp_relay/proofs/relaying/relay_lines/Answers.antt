@@ -45,7 +45,7 @@ loop-piece-preserved g c =
           (unwritten_of c.args.pending.now) (unwritten_of c.loop-piece.pending) (unwritten_of c.take_piece.new.pending) (unwritten_of c.pour_full.new.pending)
           _ _ _ (Ok c.in-Some.piece) h.relays line.given
           (at_no_fault c.take_piece.result c.if-is_err.ensures.value taken.taken)
-          (poured.start ∙ at_no_fault c.take_piece.result c.if-is_err.ensures.value taken.start) poured.ok;
+          (poured.start c.args.settings ∙ at_no_fault c.take_piece.result c.if-is_err.ensures.value taken.start) poured.ok;
       unfailed = none_twice _ _ _ h.unfailed poured.counts;
     }
 

@@ -34,7 +34,7 @@ returns-clause-ok g c =
     let begun = c.in_ok-given.ensures.ok text holds is_last in
     let rest = begun.held ++ drop c.in_ok-given.given part in
     to_all c.args.settings (text ++ part) rest _ _ _ _ _ _ _ _ _ begun.to
-    (c.in_ok-relay_pieces.ensures.ok rest (subst (λ l. Holds c.push.new.self (begun.held ++ l)) (take_rest part c.in_ok-given.given) (pushed begun.held begun.holds))) c.pour_and_flush.ensures.start poured)
+    (c.in_ok-relay_pieces.ensures.ok rest (subst (λ l. Holds c.push.new.self (begun.held ++ l)) (take_rest part c.in_ok-given.given) (pushed begun.held begun.holds))) (c.pour_and_flush.ensures.start c.args.settings) poured)
     c.pour_and_flush.ensures.ok
 
 pub returns-clause-part : goal.returns-clause-part

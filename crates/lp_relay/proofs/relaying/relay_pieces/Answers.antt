@@ -49,7 +49,7 @@ loop-piece-preserved g c =
                 (unwritten_of c.args.pending.now) (unwritten_of c.loop-piece.pending) (unwritten_of c.take_given.new.pending) (unwritten_of c.pour_full.new.pending)
                 _ _ _ c.in-Some.piece p.to one.2
                 (at_no_fault c.take_given.result c.if-is_err.ensures.value c.take_given.ensures.taken)
-                (poured.start ∙ at_no_fault c.take_given.result c.if-is_err.ensures.value c.take_given.ensures.start) poured.ok;
+                (poured.start c.args.settings ∙ at_no_fault c.take_given.result c.if-is_err.ensures.value c.take_given.ensures.start) poured.ok;
           };
       unfailed = none_twice _ _ _ h.unfailed poured.counts;
     }

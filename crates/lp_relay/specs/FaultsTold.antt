@@ -1,0 +1,99 @@
+-- What a relay tells of the items that it refuses: a fault line of each, or an object.
+use Rattle.std.specs.Prelude.{ℕ, ◌+◌, List, [], ◌∷◌, ◌++◌, codes, decimal, length, Option, Some, None, option_map}
+use Rattle.std.specs.Borrow.{Bor}
+use Rattle.std.specs.List.{flat_map}
+use Rattle.std.specs.Option.{option_map_or}
+use Rattle.influxdb_line_protocol.specs.format.Bytes.{newline, newlines_in}
+use Rattle.lp_relay.specs.declared.taking.{Numbering.Numbering, Settings.Settings}
+use Rattle.lp_relay.specs.declared.taking.Numbering.TheVariants as named
+use Rattle.lp_relay.specs.declared.telling.{Faults.Faults, Place.Place}
+use Rattle.lp_relay.specs.declared.telling.Faults.TheVariants.{Raw, OneLine, Json}
+use Rattle.lp_relay.specs.Objects.{Reason, item_front, item_kind, item_text, object, stop_of_piece}
+use Rattle.lp_relay.specs.Relaying.{Item, first_of, items_of_piece}
+use Rattle.lp_relay.specs.Told.{on_one_line, told_byte}
+
+-- what a fault line names first: the line on which the piece of the item begins, if lines are named, or else the number of the item
+abbrev pub named_first : (line : Option ℕ) → (number : ℕ) → List ℕ
+named_first None number = codes "item " ++ decimal number
+named_first (Some line) number = codes "line " ++ decimal line
+
+-- a fault line, without its newline, of an item at a place with which this is wrong
+abbrev pub fault_text : Place → (wrong : List ℕ) → List ℕ
+fault_text place wrong = named_first place.line place.number ++ codes ": " ++ wrong
+
+-- the name of a file before a fault line, as it is told on one line, and a colon: nothing if no file is named
+abbrev pub file_before : Option (Bor (List ℕ)) → List ℕ
+file_before None = []
+file_before (Some name) = flat_map told_byte name.now ++ codes ": "
+
+-- what is told of an item at a place that is refused for this: its fault line as it is; that on one line, after the name of the file;
+-- or its object
+abbrev pub told_fault : Faults → Place → Reason → List ℕ
+told_fault Raw place why = fault_text place why.wrong ++ newline ∷ []
+told_fault OneLine place why = file_before place.file ++ on_one_line (fault_text place why.wrong) ++ newline ∷ []
+told_fault (Json first_line) place why = object place why
+
+-- what is told of an item at a place, where reading of its piece stopped after these bytes: nothing if it is carried
+abbrev pub told_item : Faults → Place → (stop : Option (List ℕ)) → Item → List ℕ
+told_item form place stop item =
+    option_map_or (λ kind. told_fault form place (record { kind = kind; wrong = item_text item; front = item_front item; stop = stop })) (item_kind item) []
+
+-- what is told of the items of one piece, of which the first is at this place
+abbrev pub told_items : Faults → Place → (stop : Option (List ℕ)) → List Item → List ℕ
+told_items form place stop [] = []
+told_items form place stop (item ∷ items) =
+    told_item form place stop item ++ told_items form (record place { number = place.number + 1 }) stop items
+
+-- what is told of a piece at a place
+abbrev pub told_piece : Settings → Place → List ℕ → List ℕ
+told_piece s place piece = told_items s.faults place (stop_of_piece s piece) (items_of_piece s piece)
+
+-- the line after a piece with so many newlines, if lines are named
+abbrev pub line_after : Option ℕ → (newlines : ℕ) → Option ℕ
+line_after line newlines = option_map (λ line. line + newlines + 1) line
+
+-- the place after a piece with so many items, newlines and bytes
+abbrev pub place_after : Place → (items newlines len : ℕ) → Place
+place_after place items newlines len = record place {
+  number = place.number + items;
+  line = line_after place.line newlines;
+  offset = place.offset + len + 1;
+}
+
+-- the place after a piece
+abbrev pub after_piece : Settings → Place → List ℕ → Place
+after_piece s place piece = place_after place (length (items_of_piece s piece)) (newlines_in piece) (length piece)
+
+-- what is told of pieces, of which the first is at this place
+abbrev pub told_from : Settings → Place → List (List ℕ) → List ℕ
+told_from s place [] = []
+told_from s place (piece ∷ pieces) = told_piece s place piece ++ told_from s (after_piece s place piece) pieces
+
+-- the number of the first item, if this is the number of what fault lines name first
+abbrev pub first_item : Numbering → ℕ → ℕ
+first_item named.Items first = first_of first
+first_item named.Lines first = 1
+
+-- the line that the fault line of the first item names, if it names a line
+abbrev pub first_named : Numbering → ℕ → Option ℕ
+first_named named.Items first = None
+first_named named.Lines first = Some (first_of first)
+
+-- the line on which the first piece begins, if lines are named: an object always names one
+abbrev pub first_line : Faults → Numbering → ℕ → Option ℕ
+first_line Raw numbering first = first_named numbering first
+first_line OneLine numbering first = first_named numbering first
+first_line (Json line) numbering first = Some (first_of line)
+
+-- the place of the first item
+abbrev pub first_place : Settings → Place
+first_place s = record {
+  file = s.file;
+  number = first_item s.numbering s.first;
+  line = first_line s.faults s.numbering s.first;
+  offset = 0;
+}
+
+-- what is told of pieces by the settings, from the first place on
+abbrev pub told_faults : Settings → List (List ℕ) → List ℕ
+told_faults s pieces = told_from s (first_place s) pieces
