@@ -1,4 +1,3 @@
 pub mod Decimals
 pub mod JoinedInputs
 pub mod LastWords
-pub mod NamedText

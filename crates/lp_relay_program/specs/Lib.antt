@@ -4,7 +4,6 @@ pub mod Destinations
 pub mod Endings
 pub mod Files
 pub mod Inputs
-pub mod Named
 pub mod Refusals
 pub mod Summaries
 pub mod Words

@@ -8,7 +8,6 @@ ghost use Rattle.lp_rebuild.specs.Running.{CountsReadFault};
 ghost use Rattle.lp_relay_program.specs.Asked.{ChecksBy};
 
 use crate::counted::CountedSource;
-use crate::named::{Named, NamedOutputs};
 use crate::summary::Totals;
 use crate::words::RunSettings;
 use influxdb_line_protocol::Dialect;
@@ -18,27 +17,8 @@ use lp_relay::{
 };
 use std::alloc::Global;
 
-// Relays the inputs of these names. Of several inputs each fault has the name of its own.
-fn relay_named<'n, R: Source, N: NextInput<R>, L: Sink, F: Sink, P: Sink>(
-    alloc: Global,
-    settings: lp_relay::Settings<'n>,
-    names: &[&'n str],
-    inputs: &mut Inputs<R, N>,
-    outputs: Outputs<L, Named<F>, P>,
-) -> (Outputs<L, Named<F>, P>, Result<Relayed, RunFault>)
-    ensures { RelaysInputs settings.entry names.entry.now result.1
-        (inputs_told N.left R.failures inputs.old.next inputs.old.reader)
-        (inputs_told N.left R.failures inputs.new.next inputs.new.reader)
-        (⟦<Outputs<L, Named<F>, P> as ThreeWriters>⟧.told outputs) (⟦<Outputs<L, Named<F>, P> as ThreeWriters>⟧.told result.0) }
-{
-    let mut named = NamedOutputs { inner: outputs };
-    let answer = relay_inputs(alloc, settings, names, inputs, &mut named);
-    (named.inner, answer)
-}
-
 /// Relays the inputs of these names, as [`relay_inputs`] does, by these settings, and gives the outputs back. If they ask for a check,
-/// the lines go nowhere: those of `outputs` stay as they are, and a fault `Write` is one of its other two writers. Of several inputs each
-/// fault has the name of its own.
+/// the lines go nowhere: those of `outputs` stay as they are, and a fault `Write` is one of its other two writers.
 ///
 /// # Errors
 ///
@@ -48,16 +28,16 @@ pub fn relay_as_asked<'n, R: Source, N: NextInput<R>, L: Sink, F: Sink, P: Sink>
     settings: RunSettings<'n>,
     names: &[&'n str],
     inputs: &mut Inputs<R, N>,
-    outputs: Outputs<L, Named<F>, P>,
-) -> (Outputs<L, Named<F>, P>, Result<Relayed, RunFault>)
+    outputs: Outputs<L, F, P>,
+) -> (Outputs<L, F, P>, Result<Relayed, RunFault>)
     ensures relays { OnFalse settings.entry.check (RelaysInputs settings.entry.relay names.entry.now result.1
         (inputs_told N.left R.failures inputs.old.next inputs.old.reader)
         (inputs_told N.left R.failures inputs.new.next inputs.new.reader)
-        (⟦<Outputs<L, Named<F>, P> as ThreeWriters>⟧.told outputs) (⟦<Outputs<L, Named<F>, P> as ThreeWriters>⟧.told result.0)) }
+        (⟦<Outputs<L, F, P> as ThreeWriters>⟧.told outputs) (⟦<Outputs<L, F, P> as ThreeWriters>⟧.told result.0)) }
     ensures checks { OnTrue settings.entry.check (ChecksBy settings.entry.relay names.entry.now result.1
         (inputs_told N.left R.failures inputs.old.next inputs.old.reader)
         (inputs_told N.left R.failures inputs.new.next inputs.new.reader)
-        (⟦<Outputs<L, Named<F>, P> as ThreeWriters>⟧.told outputs) (⟦<Outputs<L, Named<F>, P> as ThreeWriters>⟧.told result.0)) }
+        (⟦<Outputs<L, F, P> as ThreeWriters>⟧.told outputs) (⟦<Outputs<L, F, P> as ThreeWriters>⟧.told result.0)) }
     ensures unwritten { OnTrue settings.entry.check (result.0.lines ≡ outputs.lines) }
 {
     if settings.check {
@@ -66,12 +46,12 @@ pub fn relay_as_asked<'n, R: Source, N: NextInput<R>, L: Sink, F: Sink, P: Sink>
             faults,
             refused,
         } = outputs;
-        let nowhere = Outputs {
+        let mut others = Outputs {
             lines: Nowhere::new(),
             faults,
             refused,
         };
-        let (others, answer) = relay_named(alloc, settings.relay, names, inputs, nowhere);
+        let answer = relay_inputs(alloc, settings.relay, names, inputs, &mut others);
         let Outputs {
             faults,
             refused,
@@ -84,7 +64,9 @@ pub fn relay_as_asked<'n, R: Source, N: NextInput<R>, L: Sink, F: Sink, P: Sink>
         };
         return (outputs, answer);
     }
-    relay_named(alloc, settings.relay, names, inputs, outputs)
+    let mut outputs = outputs;
+    let answer = relay_inputs(alloc, settings.relay, names, inputs, &mut outputs);
+    (outputs, answer)
 }
 
 // Its reader begins the next input by itself, with the first read after the end of one.
@@ -110,7 +92,7 @@ pub fn relay_each<'n, R: Source + Drop, L: Sink + Drop, F: Sink + Drop, P: Sink 
     settings: RunSettings<'n>,
     names: &[&'n str],
     reader: R,
-    outputs: Outputs<L, Named<F>, P>,
+    outputs: Outputs<L, F, P>,
 ) -> Result<Totals, RunFault> {
     let mut inputs = Inputs {
         reader: CountedSource::new(settings.summary, reader),

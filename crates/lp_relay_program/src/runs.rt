@@ -9,7 +9,6 @@ use crate::errors::{LastErrors, Watched};
 use crate::files::Files;
 use crate::inputs::{Inputs, Joined, SystemOpener};
 use crate::meter::{Counted, Meter, MeteredSink, MeteredSource};
-use crate::named::Named;
 use crate::places::{refusal_at, total_len};
 use crate::refusals::names_of;
 use crate::summary::Totals;
@@ -39,10 +38,9 @@ fn relay_inputs<'n>(
     let lines = Writing::new(Watched::new(&errors.output, destinations.lines));
     let faults = Writing::new(Watched::new(&errors.faults, rt.stderr()));
     let reader = MeteredSource::new(shown, reader);
-    let faults = MeteredSink::new(shown, Counted::Faults, true, faults);
     let outputs = Outputs {
         lines: MeteredSink::new(shown, Counted::Lines, is_out_shown, lines),
-        faults: Named::new(rt.alloc(), faults),
+        faults: MeteredSink::new(shown, Counted::Faults, true, faults),
         refused: Writing::new(Watched::new(&errors.refused, destinations.refused)),
     };
     let answer = relay_each(rt.alloc(), settings, names, reader, outputs);
