@@ -1,4 +1,3 @@
-pub mod Asked
 pub mod Counted
 pub mod Destinations
 pub mod Endings

@@ -2,8 +2,9 @@
 ghost use Rattle.std.specs.Prelude.{◌≡◌, IfNone, IfSome};
 ghost use Rattle.lp_relay_program.specs.Words.{asked_task};
 
-use crate::asked::{part_ends_of, relay_each};
+use crate::asked::{ReadsOn, part_ends_of, relay_each};
 use crate::beside::Destinations;
+use crate::counted::CountedSource;
 use crate::endings::{Device, Ending, Failure, ending_of_cut, ending_of_relay, status_of_print};
 use crate::errors::{LastErrors, Watched};
 use crate::files::Files;
@@ -14,9 +15,25 @@ use crate::refusals::names_of;
 use crate::summary::Totals;
 use crate::words::{HELP, Request, RunSettings, Task, USAGE, VERSION, task_of};
 use influxdb_line_protocol::Dialect;
-use lp_rebuild::{Reading, RunFault, Writing};
-use lp_relay::Outputs;
+use lp_rebuild::{Reading, RunFault, Source, Writing};
+use lp_relay::{Outputs, ThreeWriters};
+use std::alloc::Global;
 use std::io::IsTerminal;
+
+// Relays the inputs of these names over these devices.
+fn relay_over<R: Source + Drop, O: ThreeWriters + Drop>(
+    alloc: Global,
+    settings: RunSettings<'_>,
+    names: &[&str],
+    reader: R,
+    mut outputs: O,
+) -> Result<Totals, RunFault> {
+    let mut inputs = lp_relay::Inputs {
+        reader: CountedSource::new(settings.summary, reader),
+        next: ReadsOn,
+    };
+    relay_each(alloc, settings.relay, names, &mut inputs, &mut outputs)
+}
 
 // Relays the inputs of these names, one after another, and shows on the terminal how far it is, if that is asked for.
 fn relay_inputs<'n>(
@@ -26,6 +43,11 @@ fn relay_inputs<'n>(
     destinations: Destinations<'_>,
     errors: &LastErrors<'n>,
 ) -> Result<Totals, RunFault> {
+    let counted = if settings.check {
+        Counted::Nothing
+    } else {
+        Counted::Lines
+    };
     let meter = if settings.progress && rt.stderr().is_terminal() {
         Some(Meter::new(rt, total_len(rt, names)))
     } else {
@@ -35,15 +57,15 @@ fn relay_inputs<'n>(
     let is_out_shown = destinations.is_on_terminal();
     let inputs = Inputs::new(SystemOpener::new(rt, &errors.input_name), names);
     let reader = Reading::new(Watched::new(&errors.input, inputs));
+    let reader = MeteredSource::new(shown, reader);
     let lines = Writing::new(Watched::new(&errors.output, destinations.lines));
     let faults = Writing::new(Watched::new(&errors.faults, rt.stderr()));
-    let reader = MeteredSource::new(shown, reader);
     let outputs = Outputs {
-        lines: MeteredSink::new(shown, Counted::Lines, is_out_shown, lines),
+        lines: MeteredSink::new(shown, counted, is_out_shown, lines),
         faults: MeteredSink::new(shown, Counted::Faults, true, faults),
         refused: Writing::new(Watched::new(&errors.refused, destinations.refused)),
     };
-    let answer = relay_each(rt.alloc(), settings, names, reader, outputs);
+    let answer = relay_over(rt.alloc(), settings, names, reader, outputs);
     if let Some(meter) = shown {
         meter.finish();
     }
@@ -58,7 +80,7 @@ fn relay_to_files<'n>(
 ) -> Result<Totals, Failure<'n>> {
     let mut files = Files::open(&rt, request.output, request.refused)?;
     let errors = LastErrors::new(request.output, request.refused);
-    let destinations = files.destinations(rt);
+    let destinations = files.destinations(rt, request.settings.check);
     let answer = match relay_inputs(rt, request.settings, names, destinations, &errors) {
         Ok(totals) => Ok(totals),
         Err(fault) => Err(errors.devices().failure(fault)),
