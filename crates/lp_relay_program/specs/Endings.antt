@@ -7,6 +7,7 @@ use Rattle.std.specs.declared.io.ErrorKind.{ErrorKind}
 use Rattle.std.specs.declared.io.ErrorKind.TheVariants.{BrokenPipe}
 use Rattle.lp_rebuild.specs.declared.program.RunFault.{RunFault}
 use Rattle.lp_rebuild.specs.declared.program.RunFault.TheVariants.{Read, NotUtf8, OutOfMemory, Write}
+use Rattle.lp_relay.specs.declared.taking.Settings.{Settings}
 use Rattle.lp_relay_program.specs.declared.endings.{Device.Device, Devices.Devices, Ending.Ending, Failure.Failure}
 use Rattle.lp_relay_program.specs.declared.summary.Totals.{Totals}
 
@@ -62,15 +63,15 @@ failed_ending failure = record {
   status = fault_status failure.is_pipe_closed failure.fault;
 }
 
--- how a relay ends: its status is 0 if every item was carried, and 1 if some item was not. Its totals are told if that is asked for,
--- and never after a fault
-abbrev pub relay_ending : Bool → Result Totals Failure → Ending
-relay_ending is_asked (Ok totals) = record {
+-- how a relay ends: its status is 0 if every item was carried, and 1 if some item was not. Its totals are told if the kinds of faults
+-- are counted, and never after a fault of the run
+abbrev pub relay_ending : Settings → Result Totals Failure → Ending
+relay_ending settings (Ok totals) = record {
   failure = None;
-  summary = if is_asked then Some totals else None;
+  summary = if settings.counts_kinds then Some totals else None;
   status = if totals.counts.refused == 0 then 0 else 1;
 }
-relay_ending is_asked (Err failure) = failed_ending failure
+relay_ending settings (Err failure) = failed_ending failure
 
 -- how a run ends that has no counts
 abbrev pub plain_ending : {T : Type 0} → Result T Failure → Ending

@@ -5,6 +5,7 @@ ghost use Rattle.std.specs.IoError.{error_kind};
 
 use crate::summary::Totals;
 use lp_rebuild::RunFault;
+use lp_relay::Settings;
 use std::fmt;
 use std::io::{self, ErrorKind};
 
@@ -132,14 +133,21 @@ fn ending_of_failure<'n>(failure: Failure<'n>) -> Ending<'n>
     }
 }
 
-/// How a relay ends, which tells its totals if a summary is asked for.
-pub fn ending_of_relay<'n>(is_asked: bool, answer: Result<Totals, Failure<'n>>) -> Ending<'n>
-    ensures { result ≡ relay_ending is_asked answer.entry }
+/// How a relay by these settings ends, which tells its totals if the kinds of faults are counted.
+pub fn ending_of_relay<'n>(
+    settings: Settings<'_>,
+    answer: Result<Totals, Failure<'n>>,
+) -> Ending<'n>
+    ensures { result ≡ relay_ending settings.entry answer.entry }
 {
     match answer {
         Ok(totals) => Ending {
             failure: None,
-            summary: if is_asked { Some(totals) } else { None },
+            summary: if settings.counts_kinds {
+                Some(totals)
+            } else {
+                None
+            },
             status: if totals.counts.refused == 0 { 0 } else { 1 },
         },
         Err(failure) => ending_of_failure(failure),

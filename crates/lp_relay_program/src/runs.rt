@@ -106,7 +106,7 @@ fn end(rt: &HostRuntime, ending: Ending<'_>) -> u8
 // Relays what a request names, and answers with the exit status.
 fn relay<'n>(rt: &HostRuntime, request: Request<'n>, names: &'n [&'n str]) -> u8 {
     let answer = relay_to_files(rt, request, names);
-    end(rt, ending_of_relay(request.relay.counts_kinds, answer))
+    end(rt, ending_of_relay(request.relay, answer))
 }
 
 // Prints where the inputs of these names can be cut into parts, a line for each end.
