@@ -1,4 +1,2 @@
 pub mod Decimals
-pub mod JoinedInputs
 pub mod LastWords
-pub mod NamedText

@@ -1,22 +1,23 @@
 -- Where lines and refused pieces are written.
-use Rattle.std.specs.Prelude.{◌≡◌, Option, Some, None}
+use Rattle.std.specs.Prelude.{◌≡◌, Bool, true, false, Option, Some, None, option_map}
+use Rattle.std.specs.declared.fs.File.{File as SystemFile}
 use Rattle.lp_relay_program.specs.declared.beside.{Destination.Destination, FileBeside.FileBeside}
 use Rattle.lp_relay_program.specs.declared.beside.Destination.TheVariants.{Standard, File, Nowhere}
 
--- lines are written to their file, or to standard output if they have none
-abbrev pub LinesGoTo : Option FileBeside → Destination → Type 0
-LinesGoTo None (Standard stdout) = Unit {0}
-LinesGoTo None (File file) = ⊥
-LinesGoTo None Nowhere = ⊥
-LinesGoTo (Some output) (Standard stdout) = ⊥
-LinesGoTo (Some output) (File file) = file.now ≡ output.file
-LinesGoTo (Some output) Nowhere = ⊥
+-- the file that is written to, if one is
+abbrev pub file_of : Destination → Option SystemFile
+file_of (Standard stdout) = None
+file_of (File file) = Some file.now
+file_of Nowhere = None
 
--- refused pieces are written to their file, or nowhere if they have none
-abbrev pub RefusedGoTo : Option FileBeside → Destination → Type 0
-RefusedGoTo None (Standard stdout) = ⊥
-RefusedGoTo None (File file) = ⊥
-RefusedGoTo None Nowhere = Unit {0}
-RefusedGoTo (Some output) (Standard stdout) = ⊥
-RefusedGoTo (Some output) (File file) = file.now ≡ output.file
-RefusedGoTo (Some output) Nowhere = ⊥
+-- whether what is written goes nowhere
+abbrev pub is_nowhere : Destination → Bool
+is_nowhere (Standard stdout) = false
+is_nowhere (File file) = false
+is_nowhere Nowhere = true
+
+-- what is written goes nowhere if it is unwanted, else to its file, or to standard output if it has none
+abbrev pub GoesTo : Option FileBeside → (is_unwanted : Bool) → Destination → Type 0
+GoesTo output true destination = is_nowhere destination ≡ true
+GoesTo output false destination =
+    (is_nowhere destination ≡ false) × (file_of destination ≡ option_map (λ beside. beside.file) output)

@@ -47,14 +47,6 @@ HasNames state old new =
     (name_of_each (option_map state new.lines) ≡ name_of_each (option_map state old.lines))
     × (name_of_each (option_map state new.refused) ≡ name_of_each (option_map state old.refused))
 
--- the same, if there is one
-abbrev pub after_sync_each : Option FileState → Bool → Option FileState
-after_sync_each file is_done = option_map (λ state. after_sync state is_done) file
-
--- the same, if there is one
-abbrev pub after_put_each : Option FileState → Bool → Option FileState
-after_put_each file is_done = option_map (λ state. after_put state is_done) file
-
 -- the file is beside its place
 abbrev pub IsBeside : FileState → Type 0
 IsBeside file = file.stage ≡ Beside

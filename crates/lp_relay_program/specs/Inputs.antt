@@ -1,8 +1,7 @@
 -- Inputs that are read one after another.
-use Rattle.std.specs.Prelude.{◌≡◌, ℕ, ◌==◌, ◌<◌, Bool, true, false, not, ◌&&◌, List, [], ◌∷◌, ◌++◌, nat_lt, drop, map, take, Option, Some, None, is_some, Result, Ok, Err, if◌then◌else◌}
-use Rattle.std.specs.Io.KnownBytes.{Consumes, IsAtEnd, Keeps, prepend_known}
-use Rattle.influxdb_line_protocol.specs.format.Bytes.{newline}
-use Rattle.lp_relay_program.specs.declared.inputs.{Inputs.Inputs, Joined.Joined}
+use Rattle.std.specs.Prelude.{◌≡◌, ℕ, ◌<◌, Bool, true, List, [], ◌∷◌, nat_lt, drop, map, take, Option, Some, None, Result, Ok, Err}
+use Rattle.std.specs.Io.KnownBytes.{Consumes, IsAtEnd, Keeps}
+use Rattle.lp_relay_program.specs.declared.inputs.Inputs.{Inputs}
 
 -- the rest of an input that is open, and the bytes of those with these names, as far as they are known
 abbrev pub texts_after : {I : Type 0} → (I → Option (List ℕ)) → Option I → List (Option (List ℕ)) → List (Option (List ℕ))
@@ -30,25 +29,3 @@ ReadsOne old new (Err error) buf = Keeps (first_text old) (first_text new) × (d
 abbrev pub ReadsOn : {E : Type 0} → (is_open is_open_after : Bool) → Result ℕ E → Type 0
 ReadsOn is_open is_open_after (Ok n) = is_open_after ≡ nat_lt 0 n
 ReadsOn is_open is_open_after (Err error) = is_open ≡ true → is_open_after ≡ true
-
--- whether the last byte of these is no newline, or the byte before them if there is none
-abbrev pub is_in_line_after : Bool → List ℕ → Bool
-is_in_line_after is_in_line [] = is_in_line
-is_in_line_after is_in_line (b ∷ bytes) = is_in_line_after (not (b == newline)) bytes
-
--- the newline between two inputs that are read as one, if the first does not end with one
-abbrev pub mark_between : Bool → List ℕ
-mark_between is_in_line = if is_in_line then newline ∷ [] else []
-
--- texts as one after another: each that does not end with a newline is followed by one, if another comes after it. A part of the first
--- may have been read already, if it is open
-abbrev pub joined : (is_open is_in_line : Bool) → List (Option (List ℕ)) → Option (List ℕ)
-joined is_open is_in_line [] = Some []
-joined is_open is_in_line (None ∷ texts) = None
-joined is_open is_in_line (Some text ∷ texts) =
-    prepend_known (mark_between (not is_open && is_in_line) ++ text) (joined false (is_in_line_after (is_open && is_in_line) text) texts)
-
--- what is left of inputs that are read as one, if it is known
-abbrev pub joined_left : {O I : Type 0} → (O → List ℕ → Option (List ℕ)) → (I → Option (List ℕ)) → Joined O I → Option (List ℕ)
-joined_left bytes remaining all =
-    joined (is_some all.inputs.current) all.is_in_line (texts_left bytes remaining all.inputs)

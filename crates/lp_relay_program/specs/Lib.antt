@@ -1,10 +1,9 @@
-pub mod Asked
 pub mod Counted
 pub mod Destinations
 pub mod Endings
 pub mod Files
 pub mod Inputs
-pub mod Named
+pub mod Joined
 pub mod Refusals
 pub mod Summaries
 pub mod Words

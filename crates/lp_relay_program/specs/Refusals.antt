@@ -1,5 +1,5 @@
 -- What is refused before anything is opened.
-use Rattle.std.specs.Prelude.{ℕ, ◌==◌, ◌&&◌, Bool, false, List, [], ◌∷◌, ◌++◌, bytes_eq, codes, Option, Some, None, if◌then◌else◌}
+use Rattle.std.specs.Prelude.{ℕ, ◌==◌, ◌&&◌, Bool, false, List, ◌++◌, bytes_eq, codes, find, Option, Some, None, if◌then◌else◌}
 use Rattle.std.specs.Prelude.{option_and_then, option_map}
 use Rattle.std.specs.Option.{option_or}
 use Rattle.std.specs.Borrow.{Bor}
@@ -14,8 +14,7 @@ are_one (Some file) (Some other) = file.device == other.device && file.number ==
 
 -- the name of the first input that is this file
 abbrev pub input_at : List Located → Option FileId → Option (Bor (List ℕ))
-input_at [] file = None
-input_at (input ∷ inputs) file = if are_one input.file file then Some input.name else input_at inputs file
+input_at inputs file = option_map (λ input. input.name) (find (λ input. are_one input.file file) inputs)
 
 -- why the refused pieces cannot go to a file: it is an input, or the output
 abbrev pub refused_refusal : List Located → (output : Option FileId) → Located → Option Refusal

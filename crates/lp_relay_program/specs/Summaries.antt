@@ -1,12 +1,10 @@
 -- What a relay tells at its end, if its words ask for that.
-use Rattle.std.specs.Prelude.{ℕ, ◌+◌, ◌==◌, List, [], ◌∷◌, ◌++◌, codes, decimal, Option, Some, None, Result, Ok, Err, if◌then◌else◌}
-use Rattle.lp_rebuild.specs.declared.program.RunFault.{RunFault}
+use Rattle.std.specs.Prelude.{ℕ, ◌+◌, ◌==◌, List, [], ◌∷◌, ◌++◌, codes, decimal, Option, Some, None, if◌then◌else◌}
 use Rattle.lp_relay.specs.declared.relaying.Relayed.{Relayed}
 use Rattle.lp_relay.specs.declared.kinds.{Kind.Kind, KindCounts.KindCounts, TheConstants.KINDS}
 use Rattle.lp_relay.specs.Kinds.{Counts, counts_of}
 use Rattle.lp_relay.specs.Objects.{kind_name}
-use Rattle.lp_relay_program.specs.declared.summary.{Summary.Summary, Totals.Totals}
-use Rattle.lp_relay_program.specs.declared.words.RunSettings.{RunSettings}
+use Rattle.lp_relay_program.specs.declared.summary.Totals.{Totals}
 
 -- the kinds of these of which some are counted, each with its count, and before the first of them a mark
 abbrev pub kinds_from : (mark : List ℕ) → (kinds : List Kind) → Counts → List ℕ
@@ -30,8 +28,3 @@ items_text counts =
 abbrev pub summary_text : Totals → List ℕ
 summary_text totals =
     decimal totals.bytes ++ codes " bytes, " ++ decimal totals.lines ++ codes " lines, " ++ items_text totals.counts
-
--- the summary of a relay: none if its settings ask for none, and none after a fault
-abbrev pub asked_summary : RunSettings → Result Totals RunFault → Option Summary
-asked_summary settings (Ok totals) = if settings.summary then Some (record { totals = totals }) else None
-asked_summary settings (Err fault) = None

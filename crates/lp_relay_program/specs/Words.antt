@@ -1,6 +1,6 @@
--- What words ask of the program for a relay, and its exit status.
+-- What words ask of the program.
 use Rattle.std.specs.Prelude.{ℕ, ◌^◌, nat_lt, Bool, true, false, not, ◌&&◌, ◌||◌, List, [], ◌∷◌, length, bytes_eq, codes}
-use Rattle.std.specs.Prelude.{Option, Some, None, is_none, is_some, option_map, option_and_then, unwrap_or, Result, Ok, Err}
+use Rattle.std.specs.Prelude.{Option, Some, None, is_none, is_some, option_map, option_and_then, unwrap_or}
 use Rattle.std.specs.Prelude.{◌==◌, if◌then◌else◌}
 use Rattle.std.specs.Borrow.{Bor}
 use Rattle.std.specs.List.{list_all}
@@ -9,17 +9,14 @@ use Rattle.std.specs.Str.{all_ascii_digits}
 use Rattle.std.specs.Str.Parse.{digits_value}
 use Rattle.influxdb_line_protocol.specs.types.Dialect.{Dialect}
 use Rattle.influxdb_line_protocol.specs.types.Dialect.TheVariants.{Crate, Strict}
-use Rattle.lp_rebuild.specs.declared.program.RunFault.{RunFault}
-use Rattle.lp_rebuild.specs.declared.program.RunFault.TheVariants.{Read, NotUtf8, OutOfMemory, Write}
 use Rattle.lp_relay.specs.declared.telling.Faults.{Faults}
 use Rattle.lp_relay.specs.declared.telling.Faults.TheVariants.{Raw, OneLine, Json}
 use Rattle.lp_relay.specs.declared.taking.LineForm.{LineForm}
 use Rattle.lp_relay.specs.declared.taking.LineForm.TheVariants.{Rebuilt, Verbatim, Canonical}
 use Rattle.lp_relay.specs.declared.taking.Numbering.TheVariants as named
-use Rattle.lp_relay.specs.declared.relaying.Relayed.{Relayed}
+use Rattle.lp_relay.specs.declared.taking.Settings.{Settings}
 use Rattle.lp_relay_program.specs.declared.words.Given.{Given}
 use Rattle.lp_relay_program.specs.declared.words.Request.{Request}
-use Rattle.lp_relay_program.specs.declared.words.RunSettings.{RunSettings}
 use Rattle.lp_relay_program.specs.declared.words.Task.{Task}
 use Rattle.lp_relay_program.specs.declared.words.Task.TheVariants.{Relay, Cut, Help, Version}
 
@@ -69,22 +66,17 @@ abbrev pub lines_form : Given → LineForm
 lines_form given = if given.verbatim then Verbatim else (if given.canonical then Canonical else Rebuilt)
 
 -- the settings of the options that were given: those that were not have their defaults
-abbrev pub given_settings : Given → RunSettings
+abbrev pub given_settings : Given → Settings
 given_settings given = record {
-  relay = record {
-    dialect = if given.strict then Strict else Crate;
-    limit = unwrap_or given.max_line default_max_line;
-    lines = lines_form given;
-    numbering = if names_lines given then named.Lines else named.Items;
-    first = first_named given;
-    faults = told_form given;
-    puts_refused = is_some given.refused;
-    counts_kinds = given.summary;
-    file = None;
-  };
-  progress = given.progress;
-  summary = given.summary;
-  check = given.check;
+  dialect = if given.strict then Strict else Crate;
+  limit = unwrap_or given.max_line default_max_line;
+  lines = lines_form given;
+  numbering = if names_lines given then named.Lines else named.Items;
+  first = first_named given;
+  faults = told_form given;
+  puts_refused = is_some given.refused;
+  counts_kinds = given.summary;
+  file = None;
 }
 
 -- the number that a word writes: one digit or more and nothing else, if a usize holds it
@@ -106,10 +98,6 @@ names_input word = bytes_eq word (codes "-") || names_file word
 abbrev pub are_inputs : List (Bor (List ℕ)) → Bool
 are_inputs words = list_all (λ word. names_input word.now) words
 
--- whether a word is the option before the file that the lines go to
-abbrev pub asks_output : List ℕ → Bool
-asks_output word = bytes_eq word (codes "--output") || bytes_eq word (codes "-o")
-
 -- whether two options exclude each other: a check has no file for lines, the number of the first item is none of a line, and lines
 -- go out in one way
 abbrev pub are_at_odds : Given → Bool
@@ -120,7 +108,14 @@ are_at_odds given =
 abbrev pub request_of : Given → List (Bor (List ℕ)) → Option Request
 request_of given words =
     if are_inputs words && not (are_at_odds given)
-    then Some (record { settings = given_settings given; output = given.output; refused = given.refused; inputs = length words })
+    then Some (record {
+      relay = given_settings given;
+      progress = given.progress;
+      check = given.check;
+      output = given.output;
+      refused = given.refused;
+      inputs = length words;
+    })
     else None
 
 -- the options with the one that a word names, if that was not given before and takes no word after it
@@ -145,7 +140,7 @@ faults_form word =
     if bytes_eq word (codes "line") then Some OneLine
     else (if bytes_eq word (codes "raw") then Some Raw else (if bytes_eq word (codes "json") then Some (Json 1) else None))
 
--- the options with the one that a word names, if that was not given before and the word after it says what it takes
+-- the same, if the word after it says what it takes
 abbrev pub with_value : Given → List ℕ → Bor (List ℕ) → Option Given
 with_value given word value =
     if bytes_eq word (codes "--max-line") && is_none given.max_line
@@ -156,7 +151,7 @@ with_value given word value =
     then option_map (λ first. record given { first_line = Some first }) (first_number value.now)
     else (if bytes_eq word (codes "--faults") && is_none given.faults
     then option_map (λ form. record given { faults = Some form }) (faults_form value.now)
-    else (if asks_output word && is_none given.output && names_file value.now
+    else (if (bytes_eq word (codes "--output") || bytes_eq word (codes "-o")) && is_none given.output && names_file value.now
     then Some (record given { output = Some value })
     else (if bytes_eq word (codes "--refused") && is_none given.refused && names_file value.now
     then Some (record given { refused = Some value }) else None)))))
@@ -209,15 +204,3 @@ abbrev pub asked_task : List (Bor (List ℕ)) → Option Task
 asked_task words =
     if is_some (asked_alone words) then asked_alone words
     else (if is_none (asked_cut words) then option_map Relay (asked_request nothing_given words) else asked_cut words)
-
--- 141 if a writer failed since nothing reads what is written, as of a program that a closed pipe ends, 2 for any other fault
-abbrev pub fault_status : Bool → RunFault → ℕ
-fault_status is_pipe_closed Read = 2
-fault_status is_pipe_closed NotUtf8 = 2
-fault_status is_pipe_closed OutOfMemory = 2
-fault_status is_pipe_closed Write = if is_pipe_closed then 141 else 2
-
--- 0 if every item was carried, 1 if some item was not, the status of the fault for a fault of the relay
-abbrev pub relay_status : Bool → Result Relayed RunFault → ℕ
-relay_status is_pipe_closed (Ok counts) = if counts.refused == 0 then 0 else 1
-relay_status is_pipe_closed (Err fault) = fault_status is_pipe_closed fault

@@ -1,5 +1,8 @@
 //! Where the lines and the refused pieces go: to standard output, to a file that comes to its place whole or not at all, or nowhere.
-ghost use Rattle.lp_relay_program.specs.Destinations.{LinesGoTo, RefusedGoTo};
+ghost use Rattle.std.specs.Prelude.{◌≡◌, None, Ok, is_none, length, true, IsOk};
+ghost use Rattle.std.specs.Io.{WritesAtMost};
+ghost use Rattle.std.specs.Io.KnownBytes.{Keeps, WriteAppends};
+ghost use Rattle.lp_relay_program.specs.Destinations.{GoesTo, is_nowhere};
 
 use crate::files::{FileState, Files, Maker, Output, Stage};
 use std::fs::{self, File, OpenOptions};
@@ -149,7 +152,11 @@ pub(crate) enum Destination<'a> {
 }
 
 impl<'a> Write for Destination<'a> {
-    fn write(&mut self, buf: &[u8]) -> io::Result<usize> {
+    fn write(&mut self, buf: &[u8]) -> io::Result<usize>
+        ensures bound { WritesAtMost result buf.now }
+        ensures bytes { WriteAppends None None result buf.now }
+        ensures nowhere { is_nowhere self.old ≡ true → result ≡ Ok (length buf.now) }
+    {
         match self {
             Destination::Standard(stdout) => stdout.write(buf),
             Destination::File(file) => file.write(buf),
@@ -157,7 +164,10 @@ impl<'a> Write for Destination<'a> {
         }
     }
 
-    fn flush(&mut self) -> io::Result<()> {
+    fn flush(&mut self) -> io::Result<()>
+        ensures bytes { Keeps None None }
+        ensures nowhere { is_nowhere self.old ≡ true → IsOk result }
+    {
         match self {
             Destination::Standard(stdout) => stdout.flush(),
             Destination::File(file) => file.flush(),
@@ -184,13 +194,14 @@ impl<'a> Destinations<'a> {
 }
 
 impl<'a, 'n> Files<FileBeside<'a, 'n>> {
-    /// Where lines and refused pieces are written: those that have no file to standard output, and nowhere.
-    pub(crate) fn destinations(&self, rt: &HostRuntime) -> Destinations<'_>
-        ensures lines { LinesGoTo self.now.lines result.lines }
-        ensures refused { RefusedGoTo self.now.refused result.refused }
+    /// Where lines and refused pieces are written: lines that are only checked, and refused pieces that have no file, nowhere.
+    pub(crate) fn destinations(&self, rt: &HostRuntime, is_check: bool) -> Destinations<'_>
+        ensures lines { GoesTo self.now.lines is_check result.lines }
+        ensures refused { GoesTo self.now.refused (is_none self.now.refused) result.refused }
     {
         Destinations {
             lines: match &self.lines {
+                _ if is_check => Destination::Nowhere,
                 Some(output) => Destination::File(&output.file),
                 None => Destination::Standard(rt.stdout()),
             },

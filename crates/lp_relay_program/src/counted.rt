@@ -19,8 +19,8 @@ pub struct Counts {
     is_in_line: bool,
 }
 
-// Whether these bytes end within a line.
-fn ends_in_line(bytes: &[u8]) -> bool
+/// Whether these bytes end within a line.
+pub(crate) fn ends_in_line(bytes: &[u8]) -> bool
     ensures { result ≡ ends_in_line bytes.now }
 {
     !bytes.is_empty() && bytes[bytes.len() - 1] != b'\n'

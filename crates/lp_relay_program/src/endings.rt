@@ -1,11 +1,11 @@
 //! How a run ends: why it failed, what is said of that, and its exit status.
 ghost use Rattle.std.specs.Prelude.{◌≡◌};
-ghost use Rattle.lp_relay_program.specs.Endings.{failed_device, failed_ending, is_broken_pipe, is_closed, is_write, memory_failure, plain_ending, print_status, relay_ending, run_failure};
+ghost use Rattle.lp_relay_program.specs.Endings.{failed_device, failed_ending, fault_status, is_broken_pipe, is_closed, plain_ending, print_status, relay_ending, run_failure};
 ghost use Rattle.std.specs.IoError.{error_kind};
 
-use crate::summary::{Summary, Totals, summary_of};
-use crate::words::{RunSettings, status_of_fault, status_of_relay};
+use crate::summary::Totals;
 use lp_rebuild::RunFault;
+use lp_relay::Settings;
 use std::fmt;
 use std::io::{self, ErrorKind};
 
@@ -18,13 +18,13 @@ pub struct Device<'n> {
     pub error: Option<io::Error>,
 }
 
-/// The devices of a run: what it reads, and where lines, faults and refused pieces go.
-#[derive(Clone, Copy)]
-pub struct Devices<'n> {
-    pub input: Device<'n>,
-    pub output: Device<'n>,
-    pub faults: Device<'n>,
-    pub refused: Device<'n>,
+/// What there is of each device of a run: what it reads, and where lines, faults and refused pieces go.
+#[derive(Clone, Copy, Drop)]
+pub struct Devices<D> {
+    pub input: D,
+    pub output: D,
+    pub faults: D,
+    pub refused: D,
 }
 
 /// Why a run failed.
@@ -43,7 +43,7 @@ pub struct Ending<'n> {
     /// What is said of why it failed.
     pub failure: Option<Failure<'n>>,
     /// What is said of what it did.
-    pub summary: Option<Summary>,
+    pub summary: Option<Totals>,
     /// The exit status.
     pub status: u8,
 }
@@ -53,13 +53,6 @@ fn is_of_closed_pipe(error: io::Error) -> bool
     ensures { result ≡ is_broken_pipe (error_kind error) }
 {
     matches!(error.kind(), ErrorKind::BrokenPipe)
-}
-
-// Whether a writer failed.
-fn is_of_writer(fault: RunFault) -> bool
-    ensures { result ≡ is_write fault }
-{
-    matches!(fault, RunFault::Write)
 }
 
 impl<'n> Device<'n> {
@@ -74,7 +67,7 @@ impl<'n> Device<'n> {
     }
 }
 
-impl<'n> Devices<'n> {
+impl<'n> Devices<Device<'n>> {
     // The device of which a fault tells; without an error if it tells of none.
     fn failed(self, fault: RunFault) -> Device<'n>
         ensures { result ≡ failed_device self.entry fault }
@@ -95,27 +88,11 @@ impl<'n> Devices<'n> {
     pub fn failure(self, fault: RunFault) -> Failure<'n>
         ensures { result ≡ run_failure self.entry fault }
     {
+        let is_closed = self.output.is_closed() || self.faults.is_closed();
         Failure {
             fault,
             device: self.failed(fault),
-            is_pipe_closed: is_of_writer(fault)
-                && (self.output.is_closed() || self.faults.is_closed()),
-        }
-    }
-}
-
-impl<'n> Failure<'n> {
-    /// A request for memory was refused.
-    pub fn out_of_memory() -> Self
-        ensures { result ≡ memory_failure }
-    {
-        Failure {
-            fault: RunFault::OutOfMemory,
-            device: Device {
-                name: None,
-                error: None,
-            },
-            is_pipe_closed: false,
+            is_pipe_closed: matches!(fault, RunFault::Write) && is_closed,
         }
     }
 }
@@ -128,6 +105,16 @@ impl<'n> fmt::Display for Failure<'n> {
             (None, Some(error)) => write!(f, "{fault}: {error}"),
             (_, None) => write!(f, "{fault}"),
         }
+    }
+}
+
+// The exit status of a run that failed: 141, as of a program that a closed pipe ends, if nothing reads what it wrote, else 2.
+fn status_of_fault(fault: RunFault, is_pipe_closed: bool) -> u8
+    ensures { result ≡ fault_status is_pipe_closed fault }
+{
+    match fault {
+        RunFault::Write if is_pipe_closed => 141,
+        _ => 2,
     }
 }
 
@@ -146,9 +133,9 @@ fn ending_of_failure<'n>(failure: Failure<'n>) -> Ending<'n>
     }
 }
 
-/// How a relay ends.
+/// How a relay by these settings ends, which tells its totals if the kinds of faults are counted.
 pub fn ending_of_relay<'n>(
-    settings: RunSettings<'_>,
+    settings: Settings<'_>,
     answer: Result<Totals, Failure<'n>>,
 ) -> Ending<'n>
     ensures { result ≡ relay_ending settings.entry answer.entry }
@@ -156,8 +143,12 @@ pub fn ending_of_relay<'n>(
     match answer {
         Ok(totals) => Ending {
             failure: None,
-            summary: summary_of(settings, &Ok(totals)),
-            status: status_of_relay(&Ok(totals.counts), false),
+            summary: if settings.counts_kinds {
+                Some(totals)
+            } else {
+                None
+            },
+            status: if totals.counts.refused == 0 { 0 } else { 1 },
         },
         Err(failure) => ending_of_failure(failure),
     }

@@ -8,100 +8,83 @@ use crate::endings::{Device, Devices};
 use std::cell::Cell;
 use std::io::{self, Read, Write};
 
-/// The last errors of the devices of a run, and the names of those that are files.
-#[derive(Drop)]
-pub(crate) struct LastErrors<'n> {
-    pub(crate) input: Cell<Option<io::Error>>,
-    pub(crate) output: Cell<Option<io::Error>>,
-    pub(crate) faults: Cell<Option<io::Error>>,
-    pub(crate) refused: Cell<Option<io::Error>>,
-    /// The file that was read last; none if that was standard input.
-    pub(crate) input_name: Cell<Option<&'n str>>,
-    output_name: Option<&'n str>,
-    refused_name: Option<&'n str>,
+/// The devices of a run with the errors that they have so far.
+pub(crate) type LastErrors<'n> = Devices<Cell<Device<'n>>>;
+
+// A device that has not failed so far, which is the file of this name, if it has one.
+fn device<'n>(name: Option<&'n str>) -> Cell<Device<'n>> {
+    Cell::new(Device { name, error: None })
 }
 
-impl<'n> LastErrors<'n> {
+impl<'n> Devices<Cell<Device<'n>>> {
     /// No error so far of a run whose lines and refused pieces go to files of these names, if they have names.
-    pub(crate) fn new(output_name: Option<&'n str>, refused_name: Option<&'n str>) -> Self {
-        LastErrors {
-            input: Cell::new(None),
-            output: Cell::new(None),
-            faults: Cell::new(None),
-            refused: Cell::new(None),
-            input_name: Cell::new(None),
-            output_name,
-            refused_name,
+    pub(crate) fn unfailed(output: Option<&'n str>, refused: Option<&'n str>) -> Self {
+        Devices {
+            input: device(None),
+            output: device(output),
+            faults: device(None),
+            refused: device(refused),
         }
     }
 
     /// The devices with the errors that they have now.
-    pub(crate) fn devices(&self) -> Devices<'n> {
+    pub(crate) fn now(&self) -> Devices<Device<'n>> {
         Devices {
-            input: Device {
-                name: self.input_name.get(),
-                error: self.input.get(),
-            },
-            output: Device {
-                name: self.output_name,
-                error: self.output.get(),
-            },
-            faults: Device {
-                name: None,
-                error: self.faults.get(),
-            },
-            refused: Device {
-                name: self.refused_name,
-                error: self.refused.get(),
-            },
+            input: self.input.get(),
+            output: self.output.get(),
+            faults: self.faults.get(),
+            refused: self.refused.get(),
         }
     }
 }
 
 /// A reader or a writer, and the place for its last error.
 #[derive(Drop)]
-pub(crate) struct Watched<'a, D> {
-    error: &'a Cell<Option<io::Error>>,
+pub(crate) struct Watched<'a, 'n, D> {
+    device: &'a Cell<Device<'n>>,
     inner: D,
 }
 
-impl<'a, D> Watched<'a, D> {
+impl<'a, 'n, D> Watched<'a, 'n, D> {
     /// A reader or a writer that hands on each call to another.
-    pub(crate) fn new(error: &'a Cell<Option<io::Error>>, inner: D) -> Self
+    pub(crate) fn new(device: &'a Cell<Device<'n>>, inner: D) -> Self
         ensures { result.inner ≡ inner }
     {
-        Watched { error, inner }
+        Watched { device, inner }
+    }
+
+    // Keeps the error of an answer, if it is one.
+    fn keep<T>(&self, answer: &io::Result<T>) {
+        if let Err(error) = answer {
+            let name = self.device.get().name;
+            let error = Some(*error);
+            self.device.set(Device { name, error });
+        }
     }
 }
 
-impl<'a, R: Read> Read for Watched<'a, R> {
+impl<'a, 'n, R: Read> Read for Watched<'a, 'n, R> {
     ghost remaining = { λ d. R.remaining d.inner };
 
     fn read(&mut self, buf: &mut [u8]) -> io::Result<usize> {
         let answer = self.inner.read(buf);
-        if let Err(error) = answer {
-            self.error.set(Some(error));
-        }
+        self.keep(&answer);
         answer
     }
 }
 
-impl<'a, W: Write> Write for Watched<'a, W> {
+impl<'a, 'n, W: Write> Write for Watched<'a, 'n, W> {
     ghost contents = { λ d. W.contents d.inner };
 
     fn write(&mut self, buf: &[u8]) -> io::Result<usize> {
         let answer = self.inner.write(buf);
-        if let Err(error) = answer {
-            self.error.set(Some(error));
-        }
+        self.keep(&answer);
         answer
     }
 
     fn flush(&mut self) -> io::Result<()> {
         let answer = self.inner.flush();
-        if let Err(error) = answer {
-            self.error.set(Some(error));
-        }
+        self.keep(&answer);
         answer
     }
 }

@@ -3,7 +3,7 @@ ghost use Rattle.std.specs.Prelude.{◌≡◌, ◌≢◌, Bool, List, ℕ, Optio
 ghost use Rattle.std.specs.Borrow.{Bor};
 ghost use Rattle.std.specs.declared.io.Error.{Error};
 ghost use Rattle.lp_relay_program.specs.declared.files.FileState.{FileState};
-ghost use Rattle.lp_relay_program.specs.Files.{ArePutWhole, Each, HasNames, IsBeside, IsInPlace, IsRemoved, IsSettled, IsTold, IsWhole, after_put, after_put_each, after_remove, after_sync, after_sync_each, file_failure, new_file};
+ghost use Rattle.lp_relay_program.specs.Files.{ArePutWhole, Each, HasNames, IsBeside, IsInPlace, IsRemoved, IsSettled, IsTold, IsWhole, after_put, after_remove, after_sync, file_failure, new_file};
 
 use crate::endings::{Device, Failure};
 use lp_rebuild::RunFault;
@@ -154,7 +154,7 @@ fn let_file_go<'n, F: Output<'n>>(file: Option<F>)
 
 // Waits until all of a file is on the device, if there is one.
 fn sync_file<'n, F: Output<'n>>(file: &mut Option<F>) -> Result<(), Failure<'n>>
-    ensures state { option_map F.state file.new ≡ after_sync_each (option_map F.state file.old) (is_ok result) }
+    ensures state { option_map F.state file.new ≡ option_map (λ state. after_sync state (is_ok result)) (option_map F.state file.old) }
     ensures told { IfErr result (λ failure. IsTold F.says failure) }
 {
     let Some(file) = file else {
@@ -167,7 +167,7 @@ fn sync_file<'n, F: Output<'n>>(file: &mut Option<F>) -> Result<(), Failure<'n>>
 // Puts a file in its place, if there is one.
 fn put_file<'n, F: Output<'n>>(file: &mut Option<F>) -> Result<(), Failure<'n>>
     requires { IfSome (option_map F.state file.old) IsWhole }
-    ensures state { option_map F.state file.new ≡ after_put_each (option_map F.state file.old) (is_ok result) }
+    ensures state { option_map F.state file.new ≡ option_map (λ state. after_put state (is_ok result)) (option_map F.state file.old) }
     ensures told { IfErr result (λ failure. IsTold F.says failure) }
 {
     let Some(file) = file else {
@@ -258,20 +258,14 @@ impl<'n, F: Output<'n>> Files<F> {
         ensures value { IfOk answer.entry (λ value. IfOk result (λ other. other ≡ value)) }
         ensures told { OnOk answer.entry (IfErr result (λ failure. IsTold F.says failure)) }
     {
-        let value = match answer {
-            Ok(value) => value,
-            Err(failure) => {
-                self.remove();
-                return Err(failure);
-            }
+        let answer = match answer {
+            Ok(value) => self.put().map(|()| value),
+            Err(failure) => Err(failure),
         };
-        match self.put() {
-            Ok(()) => Ok(value),
-            Err(failure) => {
-                self.remove();
-                Err(failure)
-            }
+        if answer.is_err() {
+            self.remove();
         }
+        answer
     }
 
     // Removes each file that is beside its place.

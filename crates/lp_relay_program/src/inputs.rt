@@ -1,9 +1,10 @@
-//! The inputs, which are read one after another: each by itself, or all as one.
-ghost use Rattle.std.specs.Prelude.{◌≡◌, ◌<◌, List, [], ℕ, Option, None, false, is_some, nat_lt, true, length, IfOk, OnOk};
+//! The inputs, which are read one after another, each by itself.
+ghost use Rattle.std.specs.Prelude.{◌≡◌, ◌<◌, List, [], ℕ, Option, None, false, is_some, true, length, IfOk, OnOk};
 ghost use Rattle.std.specs.Io.{ReadsAtMost};
 ghost use Rattle.std.specs.Io.KnownBytes.{ReadConsumes};
-ghost use Rattle.lp_relay_program.specs.Inputs.{ReadsOn, ReadsOne, joined_left, texts_left};
+ghost use Rattle.lp_relay_program.specs.Inputs.{ReadsOn, ReadsOne, texts_left};
 
+use crate::endings::Device;
 use std::cell::Cell;
 use std::fs::File;
 use std::io::{self, Read, Stdin};
@@ -43,20 +44,6 @@ impl<'n, O: Opener<'n>> Inputs<'n, O, O::Input> {
             current: None,
             names,
         }
-    }
-
-    // Whether an input is open.
-    fn is_open(&self) -> bool
-        ensures { result ≡ is_some self.now.current }
-    {
-        self.current.is_some()
-    }
-
-    // Whether an input is left, be it at its end.
-    fn is_left(&self) -> bool
-        ensures { result ≡ nat_lt 0 (length (texts_left O.bytes O.Input.remaining self.now)) }
-    {
-        self.current.is_some() || !self.names.is_empty()
     }
 
     // Opens the next input, if none is open.
@@ -101,49 +88,6 @@ impl<'n, O: Opener<'n>> Read for Inputs<'n, O, O::Input> {
     }
 }
 
-/// Inputs that are read as one: one that does not end in a newline is followed by one, if another comes after it.
-#[derive(Drop)]
-pub struct Joined<'n, O, I> {
-    inputs: Inputs<'n, O, I>,
-    /// Whether bytes were given, and the last one is no newline.
-    is_in_line: bool,
-}
-
-impl<'n, O: Opener<'n>> Joined<'n, O, O::Input> {
-    /// All of these, of which nothing was read.
-    pub fn new(inputs: Inputs<'n, O, O::Input>) -> Self
-        ensures { result ≡ record { inputs = inputs.entry; is_in_line = false } }
-    {
-        Joined {
-            inputs,
-            is_in_line: false,
-        }
-    }
-}
-
-impl<'n, O: Opener<'n>> Read for Joined<'n, O, O::Input> {
-    ghost remaining = { λ all. joined_left O.bytes O.Input.remaining all };
-
-    fn read(&mut self, buf: &mut [u8]) -> io::Result<usize> {
-        if buf.is_empty() {
-            return Ok(0);
-        }
-        while self.inputs.is_left() {
-            if self.is_in_line && !self.inputs.is_open() {
-                self.is_in_line = false;
-                buf[0] = b'\n';
-                return Ok(1);
-            }
-            let n = self.inputs.read(buf)?;
-            if n > 0 {
-                self.is_in_line = buf[n - 1] != b'\n';
-                return Ok(n);
-            }
-        }
-        Ok(0)
-    }
-}
-
 /// An input of the system that is open.
 #[derive(Drop)]
 pub enum SystemInput {
@@ -166,14 +110,14 @@ impl Read for SystemInput {
 #[derive(Drop)]
 pub struct SystemOpener<'a, 'n> {
     rt: &'a HostRuntime,
-    /// The file that was opened last; none if it was standard input.
-    name: &'a Cell<Option<&'n str>>,
+    /// The input that was opened last, for the message if it fails.
+    device: &'a Cell<Device<'n>>,
 }
 
 impl<'a, 'n> SystemOpener<'a, 'n> {
     /// It puts the name of each file that it opens into a cell.
-    pub(crate) fn new(rt: &'a HostRuntime, name: &'a Cell<Option<&'n str>>) -> Self {
-        SystemOpener { rt, name }
+    pub(crate) fn new(rt: &'a HostRuntime, device: &'a Cell<Device<'n>>) -> Self {
+        SystemOpener { rt, device }
     }
 }
 
@@ -183,11 +127,14 @@ impl<'a, 'n> Opener<'n> for SystemOpener<'a, 'n> {
     ghost bytes = { λ _ _. None };
 
     fn open(&self, name: &'n str) -> io::Result<SystemInput> {
-        if name == "-" {
-            self.name.set(None);
-            return Ok(SystemInput::Standard(self.rt.stdin()));
+        let file = if name == "-" { None } else { Some(name) };
+        self.device.set(Device {
+            name: file,
+            error: None,
+        });
+        match file {
+            Some(path) => Ok(SystemInput::File(File::open(self.rt, path)?)),
+            None => Ok(SystemInput::Standard(self.rt.stdin())),
         }
-        self.name.set(Some(name));
-        Ok(SystemInput::File(File::open(self.rt, name)?))
     }
 }

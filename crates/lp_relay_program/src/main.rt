@@ -10,7 +10,6 @@ mod errors;
 mod files;
 mod inputs;
 mod meter;
-mod named;
 mod places;
 mod refusals;
 mod runs;

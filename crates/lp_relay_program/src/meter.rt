@@ -166,6 +166,8 @@ pub(crate) enum Counted {
     Lines,
     /// Fault lines.
     Faults,
+    /// None: they go nowhere.
+    Nothing,
 }
 
 /// A sink that shows on a meter, if there is one, how many lines are written to another.
@@ -213,11 +215,12 @@ impl<'a, R: Clock + Eprint, S: Sink> Sink for MeteredSink<'a, R, S> {
         }
         let answer = self.inner.write(buf);
         if let Ok(n) = answer {
-            let count = match self.counted {
-                Counted::Lines => &meter.lines,
-                Counted::Faults => &meter.faults,
-            };
-            add(count, newlines_in(&buf[..n]));
+            let lines = newlines_in(&buf[..n]);
+            match self.counted {
+                Counted::Lines => add(&meter.lines, lines),
+                Counted::Faults => add(&meter.faults, lines),
+                Counted::Nothing => {}
+            }
         }
         answer
     }

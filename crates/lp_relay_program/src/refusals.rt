@@ -46,12 +46,8 @@ fn are_one(one: Option<FileId>, other: Option<FileId>) -> bool
 fn input_at<'a>(inputs: &[Located<'a>], file: Option<FileId>) -> Option<&'a str>
     ensures { result ≡ input_at inputs.now file }
 {
-    for at in 0..inputs.len() {
-        if are_one(inputs[at].file, file) {
-            return Some(inputs[at].name);
-        }
-    }
-    None
+    let input = inputs.iter().find(|input| are_one(input.file, file))?;
+    Some(input.name)
 }
 
 // Why the refused pieces cannot go to a file.

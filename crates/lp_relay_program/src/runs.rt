@@ -2,50 +2,70 @@
 ghost use Rattle.std.specs.Prelude.{◌≡◌, IfNone, IfSome};
 ghost use Rattle.lp_relay_program.specs.Words.{asked_task};
 
-use crate::asked::{part_ends_of, relay_each};
+use crate::asked::{ReadsOn, part_ends_of, relay_each};
 use crate::beside::Destinations;
+use crate::counted::CountedSource;
 use crate::endings::{Device, Ending, Failure, ending_of_cut, ending_of_relay, status_of_print};
 use crate::errors::{LastErrors, Watched};
 use crate::files::Files;
-use crate::inputs::{Inputs, Joined, SystemOpener};
+use crate::inputs::{Inputs, SystemOpener};
 use crate::meter::{Counted, Meter, MeteredSink, MeteredSource};
-use crate::named::Named;
 use crate::places::{refusal_at, total_len};
 use crate::refusals::names_of;
 use crate::summary::Totals;
-use crate::words::{HELP, Request, RunSettings, Task, USAGE, VERSION, task_of};
+use crate::words::{HELP, Request, Task, USAGE, VERSION, task_of};
 use influxdb_line_protocol::Dialect;
-use lp_rebuild::{Reading, RunFault, Writing};
-use lp_relay::Outputs;
+use lp_rebuild::{Reading, RunFault, Source, Writing};
+use lp_relay::{Outputs, ThreeWriters};
+use std::alloc::Global;
 use std::io::IsTerminal;
+
+// Relays the inputs of these names over these devices.
+fn relay_over<R: Source + Drop, O: ThreeWriters + Drop>(
+    alloc: Global,
+    request: Request<'_>,
+    names: &[&str],
+    reader: R,
+    mut outputs: O,
+) -> Result<Totals, RunFault> {
+    let mut inputs = lp_relay::Inputs {
+        reader: CountedSource::new(request.relay.counts_kinds, reader),
+        next: ReadsOn,
+    };
+    relay_each(alloc, request.relay, names, &mut inputs, &mut outputs)
+}
 
 // Relays the inputs of these names, one after another, and shows on the terminal how far it is, if that is asked for.
 fn relay_inputs<'n>(
     rt: &HostRuntime,
-    settings: RunSettings<'_>,
+    request: Request<'_>,
     names: &'n [&'n str],
     destinations: Destinations<'_>,
     errors: &LastErrors<'n>,
 ) -> Result<Totals, RunFault> {
-    let meter = if settings.progress && rt.stderr().is_terminal() {
+    let counted = if request.check {
+        Counted::Nothing
+    } else {
+        Counted::Lines
+    };
+    let meter = if request.progress && rt.stderr().is_terminal() {
         Some(Meter::new(rt, total_len(rt, names)))
     } else {
         None
     };
     let shown = meter.as_ref();
     let is_out_shown = destinations.is_on_terminal();
-    let inputs = Inputs::new(SystemOpener::new(rt, &errors.input_name), names);
+    let inputs = Inputs::new(SystemOpener::new(rt, &errors.input), names);
     let reader = Reading::new(Watched::new(&errors.input, inputs));
+    let reader = MeteredSource::new(shown, reader);
     let lines = Writing::new(Watched::new(&errors.output, destinations.lines));
     let faults = Writing::new(Watched::new(&errors.faults, rt.stderr()));
-    let reader = MeteredSource::new(shown, reader);
-    let faults = MeteredSink::new(shown, Counted::Faults, true, faults);
     let outputs = Outputs {
-        lines: MeteredSink::new(shown, Counted::Lines, is_out_shown, lines),
-        faults: Named::new(rt.alloc(), faults),
+        lines: MeteredSink::new(shown, counted, is_out_shown, lines),
+        faults: MeteredSink::new(shown, Counted::Faults, true, faults),
         refused: Writing::new(Watched::new(&errors.refused, destinations.refused)),
     };
-    let answer = relay_each(rt.alloc(), settings, names, reader, outputs);
+    let answer = relay_over(rt.alloc(), request, names, reader, outputs);
     if let Some(meter) = shown {
         meter.finish();
     }
@@ -59,11 +79,11 @@ fn relay_to_files<'n>(
     names: &'n [&'n str],
 ) -> Result<Totals, Failure<'n>> {
     let mut files = Files::open(&rt, request.output, request.refused)?;
-    let errors = LastErrors::new(request.output, request.refused);
-    let destinations = files.destinations(rt);
-    let answer = match relay_inputs(rt, request.settings, names, destinations, &errors) {
+    let errors = LastErrors::unfailed(request.output, request.refused);
+    let destinations = files.destinations(rt, request.check);
+    let answer = match relay_inputs(rt, request, names, destinations, &errors) {
         Ok(totals) => Ok(totals),
-        Err(fault) => Err(errors.devices().failure(fault)),
+        Err(fault) => Err(errors.now().failure(fault)),
     };
     let answer = files.finish(answer);
     files.let_go();
@@ -86,7 +106,7 @@ fn end(rt: &HostRuntime, ending: Ending<'_>) -> u8
 // Relays what a request names, and answers with the exit status.
 fn relay<'n>(rt: &HostRuntime, request: Request<'n>, names: &'n [&'n str]) -> u8 {
     let answer = relay_to_files(rt, request, names);
-    end(rt, ending_of_relay(request.settings, answer))
+    end(rt, ending_of_relay(request.relay, answer))
 }
 
 // Prints where the inputs of these names can be cut into parts, a line for each end.
@@ -97,11 +117,17 @@ fn print_ends<'n>(
     names: &'n [&'n str],
     errors: &LastErrors<'n>,
 ) -> Result<(), RunFault> {
-    let inputs = Inputs::new(SystemOpener::new(rt, &errors.input_name), names);
-    let mut reader = Reading::new(Watched::new(&errors.input, Joined::new(inputs)));
-    for end in part_ends_of(rt.alloc(), dialect, count, &mut reader)? {
+    let inputs = Inputs::new(SystemOpener::new(rt, &errors.input), names);
+    let mut inputs = lp_relay::Inputs {
+        reader: Reading::new(Watched::new(&errors.input, inputs)),
+        next: ReadsOn,
+    };
+    for end in part_ends_of(rt.alloc(), dialect, count, names, &mut inputs)? {
         if let Err(error) = println!(rt; "{end}") {
-            errors.output.set(Some(error));
+            errors.output.set(Device {
+                name: None,
+                error: Some(error),
+            });
             return Err(RunFault::Write);
         }
     }
@@ -110,10 +136,10 @@ fn print_ends<'n>(
 
 // Says where the inputs of these names can be cut into parts, and answers with the exit status.
 fn cut(rt: &HostRuntime, dialect: Dialect, count: usize, names: &[&str]) -> u8 {
-    let errors = LastErrors::new(None, None);
+    let errors = LastErrors::unfailed(None, None);
     let answer = match print_ends(rt, dialect, count, names, &errors) {
         Ok(()) => Ok(()),
-        Err(fault) => Err(errors.devices().failure(fault)),
+        Err(fault) => Err(errors.now().failure(fault)),
     };
     end(rt, ending_of_cut(answer))
 }
@@ -138,11 +164,14 @@ fn refuse_files(
     match refusal_at(rt, names, output, refused) {
         Ok(Some(refusal)) => {
             let _ = eprintln!(rt; "lp_relay: {refusal}");
-            Some(2)
         }
-        Ok(None) => None,
-        Err(_) => Some(end(rt, ending_of_cut(Err(Failure::out_of_memory())))),
+        Ok(None) => return None,
+        Err(_) => {
+            let fault = RunFault::OutOfMemory;
+            let _ = eprintln!(rt; "lp_relay: {fault}");
+        }
     }
+    Some(2)
 }
 
 /// Does what the words ask for, and answers with the exit status.

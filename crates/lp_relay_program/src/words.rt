@@ -1,13 +1,11 @@
-//! What the words after the program's name ask for, and its exit status.
+//! What the words after the program's name ask for.
 ghost use Rattle.std.specs.Prelude.{◌≡◌};
-ghost use Rattle.lp_relay_program.specs.Words.{are_at_odds, are_inputs, asked_cut, asked_request, asked_task, asks_output, cut_task, decimal, fault_status, faults_form};
-ghost use Rattle.lp_relay_program.specs.Words.{first_named, first_number, given_settings, is_json, lines_form, names_file, names_input, names_lines, told_form};
-ghost use Rattle.lp_relay_program.specs.Words.{nothing_given, relay_status, request_of};
-ghost use Rattle.lp_relay_program.specs.Words.{with_flag, with_value};
+ghost use Rattle.lp_relay_program.specs.Words.{are_at_odds, are_inputs, asked_cut, asked_request, asked_task, cut_task, decimal, faults_form};
+ghost use Rattle.lp_relay_program.specs.Words.{first_named, first_number, given_settings, is_json, names_file, names_input, names_lines, told_form};
+ghost use Rattle.lp_relay_program.specs.Words.{nothing_given, request_of, with_flag, with_value};
 
 use influxdb_line_protocol::Dialect;
-use lp_rebuild::RunFault;
-use lp_relay::{Faults, LineForm, Numbering, Relayed};
+use lp_relay::{Faults, LineForm, Numbering, Settings};
 
 /// How the program is called: the lines that it prints if its words ask for nothing, without the last newline.
 pub const USAGE: &str =
@@ -77,24 +75,15 @@ pub const DEFAULT_MAX_LINE: usize = 16_777_216;
 /// machine runs as many processes at once.
 pub const MOST_PARTS: usize = 1_000_000;
 
-/// How the relay is to run.
-#[derive(Clone, Copy, Debug, PartialEq, Eq)]
-pub struct RunSettings<'n> {
-    /// How lines are read and written, and what the fault lines name.
-    pub relay: lp_relay::Settings<'n>,
-    /// Whether progress is shown.
-    pub progress: bool,
-    /// Whether the counts of items are told at the end.
-    pub summary: bool,
-    /// Whether the lines are only checked, and none is written.
-    pub check: bool,
-}
-
 /// A relay that words ask for.
 #[derive(Clone, Copy)]
 pub struct Request<'a> {
-    /// How it is to run.
-    pub settings: RunSettings<'a>,
+    /// How lines are read and written, what the fault lines name, and whether the counts of items are told at the end.
+    pub relay: Settings<'a>,
+    /// Whether progress is shown.
+    pub progress: bool,
+    /// Whether the lines are only checked, and none is written.
+    pub check: bool,
     /// The file that the lines go to, or none: standard output. A check has none.
     pub output: Option<&'a str>,
     /// The file that the refused pieces go to, if they go out.
@@ -184,20 +173,7 @@ impl<'a> Given<'a> {
         }
     }
 
-    // How lines go out.
-    fn lines_form(self) -> LineForm
-        ensures { result ≡ lines_form self.entry }
-    {
-        if self.verbatim {
-            LineForm::Verbatim
-        } else if self.canonical {
-            LineForm::Canonical
-        } else {
-            LineForm::Rebuilt
-        }
-    }
-
-    fn settings(self) -> RunSettings<'a>
+    fn settings(self) -> Settings<'a>
         ensures { result ≡ given_settings self.entry }
     {
         let dialect = if self.strict {
@@ -205,94 +181,68 @@ impl<'a> Given<'a> {
         } else {
             Dialect::Crate
         };
+        let lines = if self.verbatim {
+            LineForm::Verbatim
+        } else if self.canonical {
+            LineForm::Canonical
+        } else {
+            LineForm::Rebuilt
+        };
         let numbering = if self.names_lines() {
             Numbering::Lines
         } else {
             Numbering::Items
         };
-        let relay = lp_relay::Settings {
+        Settings {
             dialect,
             limit: self.max_line.unwrap_or(DEFAULT_MAX_LINE),
-            lines: self.lines_form(),
+            lines,
             numbering,
             first: self.first_named(),
             faults: self.told_form(),
             puts_refused: self.refused.is_some(),
             counts_kinds: self.summary,
             file: None,
-        };
-        RunSettings {
-            relay,
-            progress: self.progress,
-            summary: self.summary,
-            check: self.check,
         }
     }
 
     // These options and the one that a word names, if that was not given before and takes no word after it.
-    fn with_flag(self, word: &str) -> Option<Self>
+    fn with_flag(mut self, word: &str) -> Option<Self>
         ensures { result ≡ with_flag self.entry word.now }
     {
-        if word == "--strict" && !self.strict {
-            let strict = true;
-            return Some(Given { strict, ..self });
+        match word {
+            "--strict" if !self.strict => self.strict = true,
+            "--verbatim" if !self.verbatim => self.verbatim = true,
+            "--canonical" if !self.canonical => self.canonical = true,
+            "--lines" if !self.lines => self.lines = true,
+            "--progress" if !self.progress => self.progress = true,
+            "--summary" if !self.summary => self.summary = true,
+            "--check" if !self.check => self.check = true,
+            _ => return None,
         }
-        if word == "--verbatim" && !self.verbatim {
-            let verbatim = true;
-            return Some(Given { verbatim, ..self });
-        }
-        if word == "--canonical" && !self.canonical {
-            let canonical = true;
-            return Some(Given { canonical, ..self });
-        }
-        if word == "--lines" && !self.lines {
-            let lines = true;
-            return Some(Given { lines, ..self });
-        }
-        if word == "--progress" && !self.progress {
-            let progress = true;
-            return Some(Given { progress, ..self });
-        }
-        if word == "--summary" && !self.summary {
-            let summary = true;
-            return Some(Given { summary, ..self });
-        }
-        if word == "--check" && !self.check {
-            let check = true;
-            return Some(Given { check, ..self });
-        }
-        None
+        Some(self)
     }
 
     // These options and the one that a word names, if that was not given before and the word after it says what it takes.
-    fn with_value(self, word: &str, value: &'a str) -> Option<Self>
+    fn with_value(mut self, word: &str, value: &'a str) -> Option<Self>
         ensures { result ≡ with_value self.entry word.now value.entry }
     {
-        if word == "--max-line" && self.max_line.is_none() {
-            let max_line = Some(decimal_of(value)?);
-            return Some(Given { max_line, ..self });
+        match word {
+            "--max-line" if self.max_line.is_none() => self.max_line = Some(decimal_of(value)?),
+            "--first-item" if self.first_item.is_none() => {
+                self.first_item = Some(first_number_of(value)?);
+            }
+            "--first-line" if self.first_line.is_none() => {
+                self.first_line = Some(first_number_of(value)?);
+            }
+            "--faults" if self.faults.is_none() => self.faults = Some(faults_form_of(value)?),
+            "--output" | "-o" if self.output.is_none() && is_file(value) => {
+                self.output = Some(value);
+            }
+            "--refused" if self.refused.is_none() && is_file(value) => self.refused = Some(value),
+            _ => return None,
         }
-        if word == "--first-item" && self.first_item.is_none() {
-            let first_item = Some(first_number_of(value)?);
-            return Some(Given { first_item, ..self });
-        }
-        if word == "--first-line" && self.first_line.is_none() {
-            let first_line = Some(first_number_of(value)?);
-            return Some(Given { first_line, ..self });
-        }
-        if word == "--faults" && self.faults.is_none() {
-            let faults = Some(faults_form_of(value)?);
-            return Some(Given { faults, ..self });
-        }
-        if is_output(word) && self.output.is_none() && is_file(value) {
-            let output = Some(value);
-            return Some(Given { output, ..self });
-        }
-        if word == "--refused" && self.refused.is_none() && is_file(value) {
-            let refused = Some(value);
-            return Some(Given { refused, ..self });
-        }
-        None
+        Some(self)
     }
 
     // Whether two options exclude each other: a check has no file for lines, the number of the first item is none of a line, and
@@ -313,7 +263,9 @@ impl<'a> Given<'a> {
             return None;
         }
         Some(Request {
-            settings: self.settings(),
+            relay: self.settings(),
+            progress: self.progress,
+            check: self.check,
             output: self.output,
             refused: self.refused,
             inputs: words.len(),
@@ -335,10 +287,7 @@ fn decimal_of(word: &str) -> Option<usize>
 fn first_number_of(word: &str) -> Option<usize>
     ensures { result ≡ first_number word.now }
 {
-    match decimal_of(word) {
-        Some(0) => None,
-        first => first,
-    }
+    decimal_of(word).filter(|first| *first > 0)
 }
 
 // Whether faults are told as objects.
@@ -370,13 +319,6 @@ fn is_file(word: &str) -> bool
     }
 }
 
-// Whether a word is the option before the file that the lines go to.
-fn is_output(word: &str) -> bool
-    ensures { result ≡ asks_output word.now }
-{
-    word == "--output" || word == "-o"
-}
-
 // Whether a word names an input: a file, or standard input.
 fn is_input(word: &str) -> bool
     ensures { result ≡ names_input word.now }
@@ -388,12 +330,7 @@ fn is_input(word: &str) -> bool
 fn are_inputs(words: &[&str]) -> bool
     ensures { result ≡ are_inputs words.now }
 {
-    for at in 0..words.len() {
-        if !is_input(words[at]) {
-            return false;
-        }
-    }
-    true
+    words.iter().all(|word| is_input(word))
 }
 
 // The request that words ask for after the options given. No option is taken twice, so it calls itself a few times at most.
@@ -443,34 +380,19 @@ fn cut_of<'a>(words: &[&str]) -> Option<Task<'a>>
 
 /// What the words after the program's name ask for, or `None` if they are not as [`USAGE`] says.
 ///
-/// The options of a relay come in any order, each at most once, but not both `--check` and `--output`, not both
-/// `--verbatim` and `--canonical`, nor `--first-item` with `--lines` or `--first-line`, whose numbers are at least 1, but with
-/// `--faults json`; `--cut` and a number, [`MOST_PARTS`] at most, come first or after `--strict`. The words after these name inputs. `--help`, `-h` or `--version` comes alone. A number, as after
-/// `--max-line`, is a decimal one that a `usize` holds: digits alone, of which the first may be zeros. A word with no byte, or
-/// that begins with `-`, names no file, and `-` alone names standard input. It takes no memory.
+/// A number, as after `--max-line`, is a decimal one that a `usize` holds: digits alone, of which the first may be zeros. A word with
+/// no byte, or that begins with `-`, names no file, and `-` alone names standard input. It takes no memory.
 ///
 /// ```text
 /// task_of(&[])                          gives  a relay of the crate's dialect with the default length
-/// task_of(&["--progress", "--strict"])  gives  a relay of the strict dialect that shows progress
-/// task_of(&["--lines"])                 gives  a relay of the crate's dialect whose fault lines name lines
-/// task_of(&["--lines", "a", "-"])       gives  the same of the file `a`, and of standard input after it
+/// task_of(&["--lines", "a", "-"])       gives  one of the file `a`, and of standard input after it, whose fault lines name lines
 /// task_of(&["-o", "b", "a"])            gives  a relay of the file `a` to the file `b`
 /// task_of(&["a", "-o", "b"])            gives  None
-/// task_of(&["--check", "a"])            gives  a relay of the file `a` that writes no line
 /// task_of(&["--check", "-o", "b"])      gives  None
-/// task_of(&["--refused", "b", "a"])     gives  a relay of the file `a` whose refused pieces go to the file `b`
-/// task_of(&["--canonical"])             gives  a relay that lets out only lines that are as they would be written
 /// task_of(&["--strict", "--strict"])    gives  None
 /// task_of(&["--max-line", "+80"])       gives  None
-/// task_of(&["--first-line", "5"])       gives  a relay whose fault lines name lines, of which the first is 5
-/// task_of(&["--first-item", "0"])       gives  None
-/// task_of(&["--faults", "raw"])         gives  a relay whose fault lines are as lp_rebuild writes them
-/// task_of(&["--faults", "json"])        gives  a relay whose faults are objects, which name items and lines from 1 on
-/// task_of(&["--faults", "none"])        gives  None
 /// task_of(&["--cut", "4"])              gives  the ends of 4 parts of the input
-/// task_of(&["--cut", "1000001"])        gives  None
 /// task_of(&["--cut", "4", "--strict"])  gives  None
-/// task_of(&["-h"])                      gives  the usage
 /// task_of(&["--help", "--strict"])      gives  None
 /// ```
 pub fn task_of<'a>(words: &[&'a str]) -> Option<Task<'a>>
@@ -483,25 +405,5 @@ pub fn task_of<'a>(words: &[&'a str]) -> Option<Task<'a>>
             Some(task) => Some(task),
             None => Some(Task::Relay(request_after(Given::nothing(), words)?)),
         },
-    }
-}
-
-/// The exit status of a run that failed: 141, as of a program that a closed pipe ends, if nothing reads what it wrote, else 2.
-pub fn status_of_fault(fault: RunFault, is_pipe_closed: bool) -> u8
-    ensures { result ≡ fault_status is_pipe_closed fault }
-{
-    match fault {
-        RunFault::Write if is_pipe_closed => 141,
-        _ => 2,
-    }
-}
-
-/// The exit status of a relay: 0 if every item was carried, 1 if some item was not, and that of the fault for a fault.
-pub fn status_of_relay(answer: &Result<Relayed, RunFault>, is_pipe_closed: bool) -> u8
-    ensures { result ≡ relay_status is_pipe_closed answer.now }
-{
-    match answer {
-        Ok(relayed) => { if relayed.refused == 0 { 0 } else { 1 } }
-        Err(fault) => status_of_fault(*fault, is_pipe_closed),
     }
 }
