@@ -1,7 +1,7 @@
 //! Tells faults as objects of JSON, each on one line.
-ghost use Rattle.std.specs.Prelude.{◌≡◌, ◌<◌, ◌≤◌, ◌++◌, drop, length, string_bytes, take, true, IsUtf8, OnOk, Some};
+ghost use Rattle.std.specs.Prelude.{◌≡◌, ◌<◌, ◌≤◌, ◌++◌, decimal, drop, length, string_bytes, take, true, IsUtf8, OnOk, Some};
 ghost use Rattle.influxdb_line_protocol.specs.code.Rules.{rules_of};
-ghost use Rattle.lp_relay.specs.Objects.{column_after, escape_of, fault_members, first_members, is_escaped, json_text, member};
+ghost use Rattle.lp_relay.specs.Objects.{column_after, escape_of, fault_members, first_members, is_escaped, json_text};
 ghost use Rattle.lp_relay.specs.Objects.{line_or_none, object, object_start, stop_members};
 ghost use Rattle.lp_relay.specs.Refusals.{front_in, is_fault, reason_of, refusal_kind, stop_in, wrong_of};
 
@@ -82,20 +82,18 @@ fn put_start(faults: &mut String, place: Place<'_>, piece: Piece<'_>) -> Result<
     let text_line = line.checked_add(newlines_in(front)).ok_or(AllocError)?;
     let text_offset = place.offset.checked_add(front.len()).ok_or(AllocError)?;
     put_first(faults, place.file, place.number)?;
-    put_member(faults, "line", text_line)?;
-    put_member(faults, "offset", text_offset)?;
-    put_member(faults, "piece_line", line)?;
-    put_member(faults, "piece_offset", place.offset)
+    put_after(faults, ",\"line\":", text_line)?;
+    put_after(faults, ",\"offset\":", text_offset)?;
+    put_after(faults, ",\"piece_line\":", line)?;
+    put_after(faults, ",\"piece_offset\":", place.offset)
 }
 
-// Adds a member that tells a number.
+// Adds a number after these bytes.
 #[inline(always)]
-fn put_member(members: &mut String, name: &str, value: usize) -> Result<(), AllocError>
-    ensures { OnOk result (string_bytes members.new ≡ string_bytes members.old ++ member name.now value) }
+fn put_after(members: &mut String, head: &str, value: usize) -> Result<(), AllocError>
+    ensures { OnOk result (string_bytes members.new ≡ string_bytes members.old ++ (head.now ++ decimal value)) }
 {
-    members.push_str(",\"")?;
-    members.push_str(name)?;
-    members.push_str("\":")?;
+    members.push_str(head)?;
     put_number(members, value)
 }
 
@@ -122,8 +120,8 @@ fn put_stop(faults: &mut String, place: Place<'_>, bytes: &[u8]) -> Result<(), A
     let line = place.line.unwrap_or(0);
     let stop_line = line.checked_add(newlines_in(bytes)).ok_or(AllocError)?;
     let stop_column = column_after(bytes);
-    put_member(faults, "stop_line", stop_line)?;
-    put_member(faults, "stop_column", stop_column)
+    put_after(faults, ",\"stop_line\":", stop_line)?;
+    put_after(faults, ",\"stop_column\":", stop_column)
 }
 
 // Adds the members that tell where reading stops in a piece at this place, if its text is at fault.
