@@ -123,7 +123,7 @@ fn are_plain(bytes: &[u8]) -> bool
     are
 }
 
-// Makes of what follows these first bytes what it is as it is told on one line: most of it is so as it is.
+// Tells what follows these first bytes on one line. Most texts are told as they are.
 fn tell_from(faults: &mut String, from: usize) -> Result<(), AllocError>
     requires front { IsUtf8 (take from (string_bytes faults.old)) }
     requires within { from ≤ length (string_bytes faults.old) }
@@ -180,7 +180,7 @@ fn put_file(faults: &mut String, file: Option<&str>) -> Result<(), AllocError>
     faults.push_str(": ")
 }
 
-// The same, on one line, after the name of its file.
+// Adds that fault line on one line, after the name of its file.
 pub(crate) fn put_on_one_line(
     faults: &mut String,
     place: Place<'_>,
