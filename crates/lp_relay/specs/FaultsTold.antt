@@ -1,4 +1,4 @@
--- What a relay tells of the items that it refuses: a fault line of each, or an object.
+-- What a relay tells of the items that it refuses: of each a fault line, or an object, which names its place.
 use Rattle.std.specs.Prelude.{ℕ, ◌+◌, List, [], ◌∷◌, ◌++◌, codes, decimal, length, Option, Some, None, option_map}
 use Rattle.std.specs.Borrow.{Bor}
 use Rattle.std.specs.List.{flat_map}
@@ -12,7 +12,7 @@ use Rattle.lp_relay.specs.Objects.{Reason, item_front, item_kind, item_text, obj
 use Rattle.lp_relay.specs.Relaying.{Item, first_of, items_of_piece}
 use Rattle.lp_relay.specs.Told.{on_one_line, told_byte}
 
--- what a fault line names first: the line on which the piece of the item begins, if lines are named, or else the number of the item
+-- what a fault line begins with: the line on which the piece of the item begins, if lines are named, or else the number of the item
 abbrev pub named_first : (line : Option ℕ) → (number : ℕ) → List ℕ
 named_first None number = codes "item " ++ decimal number
 named_first (Some line) number = codes "line " ++ decimal line
@@ -33,7 +33,7 @@ told_fault Raw place why = fault_text place why.wrong ++ newline ∷ []
 told_fault OneLine place why = file_before place.file ++ on_one_line (fault_text place why.wrong) ++ newline ∷ []
 told_fault (Json first_line) place why = object place why
 
--- what is told of an item at a place, where reading of its piece stopped after these bytes: nothing if it is carried
+-- what is told of an item at a place, in whose piece reading stopped after these bytes, if its text is no line: nothing if it is carried
 abbrev pub told_item : Faults → Place → (stop : Option (List ℕ)) → Item → List ℕ
 told_item form place stop item =
     option_map_or (λ kind. told_fault form place (record { kind = kind; wrong = item_text item; front = item_front item; stop = stop })) (item_kind item) []
@@ -74,12 +74,12 @@ abbrev pub first_item : Numbering → ℕ → ℕ
 first_item named.Items first = first_of first
 first_item named.Lines first = 1
 
--- the line that the fault line of the first item names, if it names a line
+-- the line on which the first piece begins, if fault lines name lines
 abbrev pub first_named : Numbering → ℕ → Option ℕ
 first_named named.Items first = None
 first_named named.Lines first = Some (first_of first)
 
--- the line on which the first piece begins, if lines are named: an object always names one
+-- the same, by how faults are told: an object always names its line
 abbrev pub first_line : Faults → Numbering → ℕ → Option ℕ
 first_line Raw numbering first = first_named numbering first
 first_line OneLine numbering first = first_named numbering first

@@ -157,7 +157,7 @@ fn are_plain(bytes: &[u8]) -> bool
     are
 }
 
-// Escapes what follows these first bytes, for a string of JSON: most of it has no escape.
+// Escapes what follows these first bytes, for a string of JSON. Most texts have nothing to escape.
 fn escape_from(faults: &mut String, from: usize) -> Result<(), AllocError>
     requires front { IsUtf8 (take from (string_bytes faults.old)) }
     requires within { from ≤ length (string_bytes faults.old) }

@@ -123,7 +123,7 @@ fn are_plain(bytes: &[u8]) -> bool
     are
 }
 
-// Tells on one line what follows these first bytes. Mostly that stays as it is.
+// Tells on one line what follows these first bytes. Most texts stay as they are.
 fn tell_from(faults: &mut String, from: usize) -> Result<(), AllocError>
     requires front { IsUtf8 (take from (string_bytes faults.old)) }
     requires within { from ≤ length (string_bytes faults.old) }
@@ -194,7 +194,7 @@ fn put_file(faults: &mut String, file: Option<&str>) -> Result<(), AllocError>
     faults.push_str(": ")
 }
 
-// The same, on one line, after the name of its file.
+// Adds that fault line on one line, after the name of its file.
 pub(crate) fn put_on_one_line(
     faults: &mut String,
     place: Place<'_>,
