@@ -17,7 +17,7 @@ use lp_rebuild::{DeviceFault, RunFault, Source};
 use lp_relay::{Inputs, NextInput, Settings, ThreeWriters, part_ends, relay_inputs};
 use std::alloc::{AllocError, Global};
 
-/// The reader of a relay begins the next input by itself, with the first read after the end of one.
+/// For a reader that begins the next input by itself, with the first read after the end of one.
 #[derive(Drop)]
 pub(crate) struct ReadsOn;
 

@@ -166,7 +166,7 @@ pub(crate) enum Counted {
     Lines,
     /// Fault lines.
     Faults,
-    /// None: they go nowhere.
+    /// Lines that go nowhere, which are not counted.
     Nothing,
 }
 
