@@ -1,13 +1,13 @@
 -- What each step of a relay takes of the stream, and what it writes or holds of it.
-use Rattle.std.specs.Prelude.{◌≡◌, ◌<◌, ℕ, ◌+◌, ◌-◌, ◌++◌, List, [], ◌∷◌, length, drop, string_bytes, Option, Some, None}
-use Rattle.std.specs.Prelude.{Result, Ok, Err, unwrap_or, if◌then◌else◌}
+use Rattle.std.specs.Prelude.{◌≡◌, ◌<◌, ℕ, ◌+◌, ◌-◌, ◌++◌, List, [], ◌∷◌, length, string_bytes, Option, Some, None}
+use Rattle.std.specs.Prelude.{Result, Ok, Err, Bool, true, false, unwrap_or, if◌then◌else◌}
 use Rattle.std.specs.Borrow.{Bor}
 use Rattle.std.specs.Io.KnownBytes.{Appends}
 use Rattle.influxdb_line_protocol.specs.format.Dialects.{Dialect}
 use Rattle.influxdb_line_protocol.specs.format.Bytes.{newlines_in}
 use Rattle.influxdb_line_protocol.specs.format.Pieces.{IsLastPiece}
 use Rattle.influxdb_line_protocol.specs.types.PieceTooLong.{PieceTooLong}
-use Rattle.influxdb_line_protocol.specs.code.Bounded.{HeldWithin, Holds}
+use Rattle.influxdb_line_protocol.specs.code.Bounded.{CutsTo, HeldWithin, Holds}
 use Rattle.influxdb_line_protocol.specs.laws.StreamLaws.{Run}
 use Rattle.influxdb_line_protocol.specs.code.Rules.{rules_of}
 use Rattle.lp_relay.specs.declared.taking.Progress.{Progress}
@@ -22,8 +22,8 @@ use Rattle.lp_relay.specs.Kinds.{Counts, counts_if, kinds_after, kinds_of_none}
 use Rattle.lp_relay.specs.LineFaults.{fault_line_at, item_text}
 use Rattle.lp_relay.specs.Objects.{item_object, stop_given, stop_of_piece}
 use Rattle.lp_relay.specs.Relaying.{Item, first_of, kept_of, too_long, is_carried_item, items_of_bytes, items_of_piece, items_of, items_batch, carried_items}
-use Rattle.lp_relay.specs.Relaying.{refused_items, refused_lines, refused_piece, refused_pieces}
-use Rattle.lp_relay.specs.Writers.{Told}
+use Rattle.lp_relay.specs.Relaying.{refused_items, refused_lines, refused_pieces}
+use Rattle.lp_relay.specs.Writers.{GainsFronts, Told}
 
 -- the items of what a call gave: those of a piece, or that of one that is too long
 abbrev pub items_given : Settings → Result (Bor (List ℕ)) PieceTooLong → List Item
@@ -48,11 +48,6 @@ bytes_given (Err fault) = fault.front.now
 -- what goes out as refused of what a call gave, if refused pieces go out
 abbrev pub refused_given : Settings → Result (Bor (List ℕ)) PieceTooLong → List ℕ
 refused_given s given = refused_lines s.puts_refused (bytes_given given) (items_given s given)
-
--- these pieces were taken of a text, one after another, after whatever came before, and the rest is left, whatever comes then
-abbrev pub TakesPieces : Dialect → (text : List ℕ) → List (List ℕ) → (rest : List ℕ) → Type 0
-TakesPieces dialect text pieces rest =
-    (given t : List ℕ) (first : List (List ℕ)) → Run dialect given first (text ++ t) → Run dialect given (first ++ pieces) (rest ++ t)
 
 -- what was made so far and is not written yet, how many items that was made of, together with what was written and with those that
 -- are counted before the first item, and what the fault line of the next item names
@@ -135,6 +130,10 @@ abbrev pub HoldsLess : ℕ → Pending → Type 0
 HoldsLess room pending =
     (length pending.so_far.batch.items < room) × (length (string_bytes pending.so_far.faults) < room)
     × (length pending.pieces.items < room)
+
+-- how many items were counted, with those before the first one
+abbrev pub counted : Pending → ℕ
+counted pending = pending.so_far.carried + pending.so_far.refused
 
 -- what the fault lines after a piece with so many newlines name
 abbrev pub line_after : Option ℕ → ℕ → Option ℕ
@@ -219,70 +218,82 @@ pub record TakesGiven (s : Settings) (old : Unwritten) (result : Result (Bor (Li
   pub pieces : new.pieces ≡ old.pieces ++ refused_given s result
   pub kinds : new.kinds ≡ kinds_after (items_given s result) old.kinds
 
--- a writer gained all that was held and that was made, but for what is left
-abbrev pub Passes : Option (List ℕ) → Option (List ℕ) → (held added left : List ℕ) → Type 0
-Passes old new held added left = (written : List ℕ) × Appends old new written × (written ++ left ≡ held ++ added)
+-- a stage of a relay: what it has not written yet, and what its writers tell
+pub record Stage : Type 0 where
+  pub unwritten : Unwritten
+  pub told : Told
 
--- the lines of these items were written, or are held, and so were these fault lines of theirs and these refused pieces; and the items
--- were counted
-pub record RelaysItems (old new : Unwritten) (before after : Told) (items : List Item) (fault_lines put : List ℕ) : Type 0 where
-  pub batch : Passes before.lines.bytes after.lines.bytes old.made.batch (items_batch items) new.made.batch
-  pub faults : Passes before.faults.bytes after.faults.bytes old.made.faults fault_lines new.made.faults
-  pub pieces : Passes before.refused.bytes after.refused.bytes old.pieces put new.pieces
-  pub carried : new.made.carried ≡ old.made.carried + carried_items items
-  pub refused : new.made.refused ≡ old.made.refused + refused_items items
-  pub kinds : new.kinds ≡ kinds_after items old.kinds
+-- where a relay is
+abbrev pub stage_of : Pending → Told → Stage
+stage_of pending told = record { unwritten = unwritten_of pending; told = told }
 
--- a beginning of the lines of these items was written, one of these fault lines, and one of these refused pieces
-pub record RelaysPart (old : Unwritten) (before after : Told) (items : List Item) (fault_lines put : List ℕ) : Type 0 where
-  pub batch_left : List ℕ
-  pub faults_left : List ℕ
-  pub pieces_left : List ℕ
-  pub batch : Passes before.lines.bytes after.lines.bytes old.made.batch (items_batch items) batch_left
-  pub faults : Passes before.faults.bytes after.faults.bytes old.made.faults fault_lines faults_left
-  pub pieces : Passes before.refused.bytes after.refused.bytes old.pieces put pieces_left
+-- a writer gained all of these bytes, but for what is left
+abbrev pub GainsBut : Option (List ℕ) → Option (List ℕ) → (all left : List ℕ) → Type 0
+GainsBut before after all left = (written : List ℕ) × Appends before after written × (all ≡ written ++ left)
 
--- pieces of a text were taken up to this rest, and their lines were written, or are held
-pub record RelaysTo (s : Settings) (text rest : List ℕ) (old new : Unwritten) (before after : Told) : Type 0 where
+-- these pieces were taken, from the first one on: what they make was written, or is held, and their items were counted
+pub record HasTaken (s : Settings) (pieces : List (List ℕ)) (before : Told) (now : Stage) : Type 0 where
+  pub lines : GainsBut before.lines.bytes now.told.lines.bytes (items_batch (items_of s pieces)) now.unwritten.made.batch
+  pub faults : GainsBut before.faults.bytes now.told.faults.bytes (faults_past s (unwritten_of_none s) pieces) now.unwritten.made.faults
+  pub refused : GainsBut before.refused.bytes now.told.refused.bytes (refused_pieces s pieces) now.unwritten.pieces
+  pub carried : now.unwritten.made.carried ≡ items_before s.numbering s.first + carried_items (items_of s pieces)
+  pub refusals : now.unwritten.made.refused ≡ refused_items (items_of s pieces)
+  pub kinds : now.unwritten.kinds ≡ kinds_after (items_of s pieces) (kinds_of_none s)
+  pub start : start_of now.unwritten ≡ start_past (start_of (unwritten_of_none s)) pieces
+
+-- each writer gained a front of what these pieces make
+abbrev pub HasWritten : Settings → List (List ℕ) → (before after : Told) → Type 0
+HasWritten s pieces before after = GainsFronts before after
+    (items_batch (items_of s pieces)) (faults_past s (unwritten_of_none s) pieces) (refused_pieces s pieces)
+
+-- nothing of what was taken is lost from one stage to another
+abbrev pub Writes : (old new : Stage) → Type 0
+Writes old new = (s : Settings) (pieces : List (List ℕ)) (before : Told) → HasTaken s pieces before old → HasTaken s pieces before new
+
+-- after a fault each writer has a front of what was taken up to a stage
+abbrev pub WritesSome : Stage → (after : Told) → Type 0
+WritesSome old after =
+    (s : Settings) (pieces : List (List ℕ)) (before : Told) → HasTaken s pieces before old → HasWritten s pieces before after
+
+-- of what was given so far, all pieces were taken but for what is left
+pub record SoFar (s : Settings) (given left : List ℕ) (before : Told) (now : Stage) : Type 0 where
   pub pieces : List (List ℕ)
-  pub taken : TakesPieces (rules_of s.dialect) text pieces rest
-  pub start : start_of new ≡ start_past (start_of old) pieces
-  pub relays : RelaysItems old new before after (items_of s pieces) (faults_past s old pieces) (refused_pieces s pieces)
+  pub run : Run (rules_of s.dialect) given pieces left
+  pub taken : HasTaken s pieces before now
 
--- so they were up to a rest that the stream holds
-pub record RelaysPieces (s : Settings) (text : List ℕ) (stream : HeldWithin) (old new : Unwritten) (before after : Told)
-    : Type 0 where
-  pub rest : List ℕ
-  pub holds : Holds stream rest
-  pub to : RelaysTo s text rest old new before after
-
--- so were all that a newline ends
-abbrev pub RelaysAllPieces : Settings → (text : List ℕ) → (stream : HeldWithin) → (old new : Unwritten) → (before after : Told)
-    → Type 0
-RelaysAllPieces s text stream old new before after =
-    (relays : RelaysPieces s text stream old new before after) × IsLastPiece (rules_of s.dialect) relays.rest
-
--- pieces of a text and of a part after it were taken up to a rest: the stream holds the start of it, and so many bytes of the
--- part come before the end
-pub record RelaysBegun (s : Settings) (text part : List ℕ) (given : ℕ) (stream : HeldWithin) (old new : Unwritten)
-    (before after : Told) : Type 0 where
-  pub held : List ℕ
-  pub holds : Holds stream held
-  pub to : RelaysTo s (text ++ part) (held ++ drop given part) old new before after
-
--- pieces of a text were taken, and a beginning of their lines was written
-pub record RelaysSome (s : Settings) (text : List ℕ) (old : Unwritten) (before after : Told) : Type 0 where
+-- of what was given so far, pieces were taken, and each writer has a front of what they make
+pub record SomeSoFar (s : Settings) (given : List ℕ) (before after : Told) : Type 0 where
   pub pieces : List (List ℕ)
-  pub rest : List ℕ
-  pub taken : TakesPieces (rules_of s.dialect) text pieces rest
-  pub part : RelaysPart old before after (items_of s pieces) (faults_past s old pieces) (refused_pieces s pieces)
+  pub left : List ℕ
+  pub run : Run (rules_of s.dialect) given pieces left
+  pub written : HasWritten s pieces before after
 
--- the last piece was taken, which is all of this text, and its line was written, or is held
-abbrev pub RelaysLast : Settings → (text : List ℕ) → (old new : Unwritten) → (before after : Told) → Type 0
-RelaysLast s text old new before after = RelaysItems old new before after (items_of_piece s text)
-    (faults_next (form_at s (start_of old) text) old.made (items_of_piece s text)) (refused_piece s text)
+-- a stream has the rules of the settings
+abbrev pub HasRules : Settings → HeldWithin → Type 0
+HasRules s stream = (stream.held.dialect ≡ rules_of s.dialect) × (stream.limit ≡ s.limit)
 
--- the same, if a beginning of it was written
-abbrev pub RelaysLastPart : Settings → (text : List ℕ) → (old : Unwritten) → (before after : Told) → Type 0
-RelaysLastPart s text old before after = RelaysPart old before after (items_of_piece s text)
-    (faults_next (form_at s (start_of old) text) old.made (items_of_piece s text)) (refused_piece s text)
+-- of what was given so far, all pieces that a newline ends were taken, and the stream holds what is left
+abbrev pub SoFarBy : Settings → (given : List ℕ) → HeldWithin → (before : Told) → (now : Stage) → Type 0
+SoFarBy s given stream before now =
+    (left : List ℕ) × Holds stream left × SoFar s given left before now × IsLastPiece (rules_of s.dialect) left
+
+-- the first piece of a text was taken; or none was, since no newline ends one
+abbrev pub TakesFirst : Dialect → (text : List ℕ) → Bool → (left : List ℕ) → Type 0
+TakesFirst dialect text true left = (piece : List ℕ) × CutsTo dialect text piece left
+TakesFirst dialect text false left = IsLastPiece dialect left
+
+-- whatever came before, the first piece of what the stream holds was relayed; or none was, since no newline ends one
+abbrev pub RelaysFirst : Settings → Bool → (stream stream_after : HeldWithin) → (old new : Stage) → Type 0
+RelaysFirst s some stream stream_after old new =
+    (given text : List ℕ) (before : Told) → Holds stream text → SoFar s given text before old
+    → (left : List ℕ) × Holds stream_after left × SoFar s given left before new × TakesFirst (rules_of s.dialect) text some left
+
+-- whatever came before, this part was given too, and all pieces that a newline ends then were relayed
+abbrev pub RelaysPart : Settings → (part : List ℕ) → (stream stream_after : HeldWithin) → (old new : Stage) → Type 0
+RelaysPart s part stream stream_after old new =
+    (given : List ℕ) (before : Told) → SoFarBy s given stream before old → SoFarBy s (given ++ part) stream_after before new
+
+-- the same after a fault: each writer has a front of what the pieces make
+abbrev pub RelaysSome : Settings → (part : List ℕ) → (stream : HeldWithin) → (old : Stage) → (after : Told) → Type 0
+RelaysSome s part stream old after =
+    (given : List ℕ) (before : Told) → SoFarBy s given stream before old → SomeSoFar s (given ++ part) before after

@@ -1,14 +1,14 @@
 //! From a reader to three writers, line by line as they come.
-ghost use Rattle.std.specs.Prelude.{◌≡◌, ◌≢◌, ◌+◌, ◌<◌, ◌≤◌, ◌++◌, ◌∷◌, List, [], ℕ, drop, length, take, true, IfOk, IfSome, OnOk, OnErr};
+ghost use Rattle.std.specs.Prelude.{◌≡◌, ◌≢◌, ◌+◌, ◌<◌, ◌≤◌, ◌++◌, ◌∷◌, List, [], ℕ, length, take, true, IfOk, IfSome, OnOk, OnErr};
 ghost use Rattle.std.specs.List.{All};
 ghost use Rattle.influxdb_line_protocol.specs.format.Bytes.{newline};
-ghost use Rattle.influxdb_line_protocol.specs.code.Bounded.{Holds, KeepsRules};
+ghost use Rattle.influxdb_line_protocol.specs.code.Bounded.{Holds, most_given};
 ghost use Rattle.influxdb_line_protocol.specs.code.Rules.{rules_of};
-ghost use Rattle.influxdb_line_protocol.specs.format.Pieces.{IsLastPiece};
-ghost use Rattle.lp_relay.specs.RelaySteps.{HoldsLess, HoldsNone, RelaysAllPieces, RelaysBegun, RelaysItems};
-ghost use Rattle.lp_relay.specs.RelaySteps.{RelaysLast, RelaysLastPart, RelaysPart, RelaysSome, RelaysTo, start_of, unwritten_of};
-ghost use Rattle.lp_relay.specs.Relays.{Relays};
-ghost use Rattle.lp_relay.specs.Writers.{AreFlushed, CountsWriteFault};
+ghost use Rattle.influxdb_line_protocol.specs.format.Pieces.{Pieces};
+ghost use Rattle.lp_relay.specs.RelaySteps.{HasRules, HasTaken, HoldsLess, HoldsNone, RelaysFirst, RelaysPart, RelaysSome};
+ghost use Rattle.lp_relay.specs.RelaySteps.{SoFar, SoFarBy, SomeSoFar, Writes, WritesSome, counted, stage_of};
+ghost use Rattle.lp_relay.specs.Relays.{Relays, RelaysFronts};
+ghost use Rattle.lp_relay.specs.Writers.{AreFlushed, CountsWriteFault, Told, bytes_of};
 ghost use Rattle.lp_rebuild.specs.Running.{reader_told};
 
 use crate::kinds::KindCounts;
@@ -35,14 +35,12 @@ pub struct Relayed {
 }
 
 // Writes all that is held.
-#[tactic(auto, using(crate::proofs::KindLemmas::kinds_of_nothing))]
 fn pour<O: ThreeWriters>(pending: &mut Pending, outputs: &mut O) -> Result<(), RunFault>
-    ensures start { start_of (unwritten_of pending.new) ≡ start_of (unwritten_of pending.old) }
-    ensures ok { OnOk result (RelaysItems (unwritten_of pending.old) (unwritten_of pending.new)
-        (O.told outputs.old) (O.told outputs.new) [] [] []) }
+    ensures ok { OnOk result (Writes (stage_of pending.old (O.told outputs.old)) (stage_of pending.new (O.told outputs.new))) }
     ensures none { OnOk result (HoldsNone pending.new) }
-    ensures part { OnErr result (RelaysPart (unwritten_of pending.old) (O.told outputs.old) (O.told outputs.new) [] [] []) }
+    ensures part { OnErr result (WritesSome (stage_of pending.old (O.told outputs.old)) (O.told outputs.new)) }
     ensures counts { CountsWriteFault result (O.told outputs.old) (O.told outputs.new) }
+    ensures same { counted pending.new ≡ counted pending.old }
 {
     let so_far = &pending.so_far;
     outputs.put(
@@ -58,12 +56,11 @@ fn pour<O: ThreeWriters>(pending: &mut Pending, outputs: &mut O) -> Result<(), R
 
 // Writes all that is held, if it fills a block.
 fn pour_full<O: ThreeWriters>(pending: &mut Pending, outputs: &mut O) -> Result<(), RunFault>
-    ensures start { start_of (unwritten_of pending.new) ≡ start_of (unwritten_of pending.old) }
-    ensures ok { OnOk result (RelaysItems (unwritten_of pending.old) (unwritten_of pending.new)
-        (O.told outputs.old) (O.told outputs.new) [] [] []) }
+    ensures ok { OnOk result (Writes (stage_of pending.old (O.told outputs.old)) (stage_of pending.new (O.told outputs.new))) }
     ensures held { OnOk result (HoldsLess BLOCK pending.new) }
-    ensures part { OnErr result (RelaysPart (unwritten_of pending.old) (O.told outputs.old) (O.told outputs.new) [] [] []) }
+    ensures part { OnErr result (WritesSome (stage_of pending.old (O.told outputs.old)) (O.told outputs.new)) }
     ensures counts { CountsWriteFault result (O.told outputs.old) (O.told outputs.new) }
+    ensures same { counted pending.new ≡ counted pending.old }
 {
     if pending.so_far.batch.len() < BLOCK
         && pending.so_far.faults.len() < BLOCK
@@ -76,46 +73,71 @@ fn pour_full<O: ThreeWriters>(pending: &mut Pending, outputs: &mut O) -> Result<
 
 // Writes all that is held, and flushes.
 fn pour_and_flush<O: ThreeWriters>(pending: &mut Pending, outputs: &mut O) -> Result<(), RunFault>
-    ensures start { start_of (unwritten_of pending.new) ≡ start_of (unwritten_of pending.old) }
-    ensures ok { OnOk result (RelaysItems (unwritten_of pending.old) (unwritten_of pending.new)
-        (O.told outputs.old) (O.told outputs.new) [] [] []) }
+    ensures ok { OnOk result (Writes (stage_of pending.old (O.told outputs.old)) (stage_of pending.new (O.told outputs.new))) }
     ensures none { OnOk result (HoldsNone pending.new) }
-    ensures part { OnErr result (RelaysPart (unwritten_of pending.old) (O.told outputs.old) (O.told outputs.new) [] [] []) }
+    ensures part { OnErr result (WritesSome (stage_of pending.old (O.told outputs.old)) (O.told outputs.new)) }
     ensures counts { CountsWriteFault result (O.told outputs.old) (O.told outputs.new) }
+    ensures same { counted pending.new ≡ counted pending.old }
     ensures flushed { OnOk result (AreFlushed (O.told outputs.new)) }
 {
     pour(pending, outputs)?;
     outputs.flush()
 }
 
-// Takes each piece that the stream can give.
-fn relay_pieces<O: ThreeWriters>(
+// Takes the next piece, and tells whether the stream could give one.
+fn relay_piece<O: ThreeWriters>(
     settings: Settings<'_>,
     stream: &mut BoundedLineStream,
     pending: &mut Pending,
     outputs: &mut O,
-) -> Result<(), RunFault>
-    requires dialect { stream.old.held.dialect ≡ rules_of settings.dialect }
-    requires limit { stream.old.limit ≡ settings.limit }
-    requires holds { (text : List ℕ) × Holds stream.old text }
-    requires fits { pending.old.so_far.carried + pending.old.so_far.refused ≤ usize.MAX }
+) -> Result<bool, RunFault>
+    requires rules { HasRules settings stream.old }
+    requires fits { counted pending.old ≤ usize.MAX }
     requires few { HoldsLess BLOCK pending.old }
-    ensures rules { OnOk result (KeepsRules stream.old stream.new) }
-    ensures ok { OnOk result ((text : List ℕ) → Holds stream.old text
-        → RelaysAllPieces settings.entry text stream.new
-        (unwritten_of pending.old) (unwritten_of pending.new) (O.told outputs.old) (O.told outputs.new)) }
+    ensures rules { OnOk result (HasRules settings.entry stream.new) }
+    ensures fewer { IfOk result (λ some. some ≡ true → most_given stream.new < most_given stream.old) }
+    ensures ok { IfOk result (λ some. RelaysFirst settings.entry some stream.old stream.new
+        (stage_of pending.old (O.told outputs.old)) (stage_of pending.new (O.told outputs.new))) }
     ensures held { OnOk result (HoldsLess BLOCK pending.new) }
-    ensures fits { OnOk result (pending.new.so_far.carried + pending.new.so_far.refused ≤ usize.MAX) }
-    ensures part { OnErr result ((text : List ℕ) → Holds stream.old text
-        → RelaysSome settings.entry text (unwritten_of pending.old) (O.told outputs.old) (O.told outputs.new)) }
+    ensures fits { OnOk result (counted pending.new ≤ usize.MAX) }
+    ensures part { OnErr result ((given text : List ℕ) (before : Told) → Holds stream.old text
+        → SoFar settings.entry given text before (stage_of pending.old (O.told outputs.old))
+        → SomeSoFar settings.entry given before (O.told outputs.new)) }
     ensures counts { CountsWriteFault result (O.told outputs.old) (O.told outputs.new) }
 {
-    while let Some(piece) = stream.next() {
-        if take_given(&settings, pending, piece).is_err() {
-            return Err(RunFault::OutOfMemory);
-        }
-        pour_full(pending, outputs)?;
+    let Some(piece) = stream.next() else {
+        return Ok(false);
+    };
+    if take_given(&settings, pending, piece).is_err() {
+        return Err(RunFault::OutOfMemory);
     }
+    pour_full(pending, outputs)?;
+    Ok(true)
+}
+
+// Gives the stream a part, and takes each piece that it can give then.
+fn relay_pieces<O: ThreeWriters>(
+    settings: Settings<'_>,
+    stream: &mut BoundedLineStream,
+    pending: &mut Pending,
+    part: &[u8],
+    outputs: &mut O,
+) -> Result<(), RunFault>
+    requires rules { HasRules settings stream.old }
+    requires fits { counted pending.old ≤ usize.MAX }
+    requires few { HoldsLess BLOCK pending.old }
+    ensures rules { OnOk result (HasRules settings.entry stream.new) }
+    ensures ok { OnOk result (RelaysPart settings.entry part.now stream.old stream.new
+        (stage_of pending.old (O.told outputs.old)) (stage_of pending.new (O.told outputs.new))) }
+    ensures fits { OnOk result (counted pending.new ≤ usize.MAX) }
+    ensures part { OnErr result (RelaysSome settings.entry part.now stream.old
+        (stage_of pending.old (O.told outputs.old)) (O.told outputs.new)) }
+    ensures counts { CountsWriteFault result (O.told outputs.old) (O.told outputs.new) }
+{
+    if stream.push(part).is_err() {
+        return Err(RunFault::OutOfMemory);
+    }
+    while relay_piece(settings, stream, pending, outputs)? {}
     Ok(())
 }
 
@@ -129,22 +151,25 @@ fn whole_lines(bytes: &[u8]) -> &str
     text_of(&bytes[..last + 1]).unwrap_or("")
 }
 
-// Takes the whole lines at the start of bytes as a rebuild does, up to one that is too long. Gives how many bytes were taken.
+// Takes the whole lines at the start of bytes as a rebuild does, up to one that is too long, where nothing of the bytes before
+// is left. Gives how many bytes were taken.
 fn relay_lines<O: ThreeWriters>(
     settings: Settings<'_>,
     pending: &mut Pending,
     bytes: &[u8],
     outputs: &mut O,
 ) -> Result<usize, RunFault>
-    requires fits { pending.old.so_far.carried + pending.old.so_far.refused ≤ usize.MAX }
+    requires fits { counted pending.old ≤ usize.MAX }
     requires few { HoldsLess BLOCK pending.old }
     ensures within { IfOk result (λ taken. taken ≤ length bytes.now) }
-    ensures ok { IfOk result (λ taken. RelaysTo settings.entry bytes.now (drop taken bytes.now)
-        (unwritten_of pending.old) (unwritten_of pending.new) (O.told outputs.old) (O.told outputs.new)) }
+    ensures ok { IfOk result (λ taken. (given : List ℕ) (before : Told)
+        → SoFar settings.entry given [] before (stage_of pending.old (O.told outputs.old))
+        → SoFar settings.entry (given ++ take taken bytes.now) [] before (stage_of pending.new (O.told outputs.new))) }
     ensures held { OnOk result (HoldsLess BLOCK pending.new) }
-    ensures fits { OnOk result (pending.new.so_far.carried + pending.new.so_far.refused ≤ usize.MAX) }
-    ensures part { OnErr result (RelaysSome settings.entry bytes.now (unwritten_of pending.old)
-        (O.told outputs.old) (O.told outputs.new)) }
+    ensures fits { OnOk result (counted pending.new ≤ usize.MAX) }
+    ensures part { OnErr result ((given : List ℕ) (before : Told)
+        → SoFar settings.entry given [] before (stage_of pending.old (O.told outputs.old))
+        → SomeSoFar settings.entry (given ++ bytes.now) before (O.told outputs.new)) }
     ensures counts { CountsWriteFault result (O.told outputs.old) (O.told outputs.new) }
 {
     laws::pieces_join();
@@ -182,19 +207,17 @@ fn relay_begun<O: ThreeWriters>(
     part: &[u8],
     outputs: &mut O,
 ) -> Result<usize, RunFault>
-    requires dialect { stream.old.held.dialect ≡ rules_of settings.dialect }
-    requires limit { stream.old.limit ≡ settings.limit }
-    requires fits { pending.old.so_far.carried + pending.old.so_far.refused ≤ usize.MAX }
+    requires rules { HasRules settings stream.old }
+    requires fits { counted pending.old ≤ usize.MAX }
     requires few { HoldsLess BLOCK pending.old }
     ensures within { IfOk result (λ given. given ≤ length part.now) }
-    ensures rules { OnOk result (KeepsRules stream.old stream.new) }
-    ensures ok { IfOk result (λ given. (text : List ℕ) → Holds stream.old text → IsLastPiece (rules_of settings.entry.dialect) text
-        → RelaysBegun settings.entry text part.now given stream.new
-        (unwritten_of pending.old) (unwritten_of pending.new) (O.told outputs.old) (O.told outputs.new)) }
+    ensures rules { OnOk result (HasRules settings.entry stream.new) }
+    ensures ok { IfOk result (λ given. RelaysPart settings.entry (take given part.now) stream.old stream.new
+        (stage_of pending.old (O.told outputs.old)) (stage_of pending.new (O.told outputs.new))) }
     ensures held { OnOk result (HoldsLess BLOCK pending.new) }
-    ensures fits { OnOk result (pending.new.so_far.carried + pending.new.so_far.refused ≤ usize.MAX) }
-    ensures part { OnErr result ((text : List ℕ) → Holds stream.old text → IsLastPiece (rules_of settings.entry.dialect) text
-        → RelaysSome settings.entry (text ++ part.now) (unwritten_of pending.old) (O.told outputs.old) (O.told outputs.new)) }
+    ensures fits { OnOk result (counted pending.new ≤ usize.MAX) }
+    ensures part { OnErr result (RelaysSome settings.entry part.now stream.old
+        (stage_of pending.old (O.told outputs.old)) (O.told outputs.new)) }
     ensures counts { CountsWriteFault result (O.told outputs.old) (O.told outputs.new) }
 {
     laws::pieces_join();
@@ -205,13 +228,9 @@ fn relay_begun<O: ThreeWriters>(
     if stream.push(&part[..end]).is_err() {
         return Err(RunFault::OutOfMemory);
     }
-    let Some(piece) = stream.next() else {
+    if !relay_piece(settings, stream, pending, outputs)? {
         return Ok(end);
-    };
-    if take_given(&settings, pending, piece).is_err() {
-        return Err(RunFault::OutOfMemory);
     }
-    pour_full(pending, outputs)?;
     let taken = relay_lines(settings, pending, &part[end..], outputs)?;
     Ok(end + taken)
 }
@@ -224,28 +243,22 @@ fn relay_part<O: ThreeWriters>(
     part: &[u8],
     outputs: &mut O,
 ) -> Result<(), RunFault>
-    requires dialect { stream.old.held.dialect ≡ rules_of settings.dialect }
-    requires limit { stream.old.limit ≡ settings.limit }
-    requires holds { (text : List ℕ) × Holds stream.old text × IsLastPiece (rules_of settings.dialect) text }
-    requires fits { pending.old.so_far.carried + pending.old.so_far.refused ≤ usize.MAX }
+    requires rules { HasRules settings stream.old }
+    requires fits { counted pending.old ≤ usize.MAX }
     requires empty { HoldsNone pending.old }
     requires block { length part.now ≤ BLOCK }
-    ensures rules { OnOk result (KeepsRules stream.old stream.new) }
-    ensures ok { OnOk result ((text : List ℕ) → Holds stream.old text → IsLastPiece (rules_of settings.entry.dialect) text
-        → RelaysAllPieces settings.entry (text ++ part.now) stream.new
-        (unwritten_of pending.old) (unwritten_of pending.new) (O.told outputs.old) (O.told outputs.new)) }
+    ensures rules { OnOk result (HasRules settings.entry stream.new) }
+    ensures ok { OnOk result (RelaysPart settings.entry part.now stream.old stream.new
+        (stage_of pending.old (O.told outputs.old)) (stage_of pending.new (O.told outputs.new))) }
     ensures none { OnOk result (HoldsNone pending.new) }
-    ensures fits { OnOk result (pending.new.so_far.carried + pending.new.so_far.refused ≤ usize.MAX) }
-    ensures part { OnErr result ((text : List ℕ) → Holds stream.old text → IsLastPiece (rules_of settings.entry.dialect) text
-        → RelaysSome settings.entry (text ++ part.now) (unwritten_of pending.old) (O.told outputs.old) (O.told outputs.new)) }
+    ensures fits { OnOk result (counted pending.new ≤ usize.MAX) }
+    ensures part { OnErr result (RelaysSome settings.entry part.now stream.old
+        (stage_of pending.old (O.told outputs.old)) (O.told outputs.new)) }
     ensures counts { CountsWriteFault result (O.told outputs.old) (O.told outputs.new) }
     ensures flushed { OnOk result (AreFlushed (O.told outputs.new)) }
 {
     let given = relay_begun(settings, stream, pending, part, outputs)?;
-    if stream.push(&part[given..]).is_err() {
-        return Err(RunFault::OutOfMemory);
-    }
-    relay_pieces(settings, stream, pending, outputs)?;
+    relay_pieces(settings, stream, pending, &part[given..], outputs)?;
     pour_and_flush(pending, outputs)
 }
 
@@ -256,20 +269,21 @@ fn finish<O: ThreeWriters>(
     pending: &mut Pending,
     outputs: &mut O,
 ) -> Result<(), RunFault>
-    requires dialect { stream.old.held.dialect ≡ rules_of settings.dialect }
-    requires limit { stream.old.limit ≡ settings.limit }
-    requires holds { (text : List ℕ) × Holds stream.old text × IsLastPiece (rules_of settings.dialect) text }
-    requires fits { pending.old.so_far.carried + pending.old.so_far.refused ≤ usize.MAX }
+    requires rules { HasRules settings stream.old }
+    requires fits { counted pending.old ≤ usize.MAX }
     requires empty { HoldsNone pending.old }
-    ensures ok { OnOk result ((text : List ℕ) → Holds stream.old text → IsLastPiece (rules_of settings.entry.dialect) text
-        → RelaysLast settings.entry text
-        (unwritten_of pending.old) (unwritten_of pending.new) (O.told outputs.old) (O.told outputs.new)) }
+    ensures ok { OnOk result ((given : List ℕ) (before : Told)
+        → SoFarBy settings.entry given stream.old before (stage_of pending.old (O.told outputs.old))
+        → (pieces : List (List ℕ)) × Pieces (rules_of settings.entry.dialect) given pieces
+        × HasTaken settings.entry pieces before (stage_of pending.new (O.told outputs.new))) }
     ensures none { OnOk result (HoldsNone pending.new) }
-    ensures part { OnErr result ((text : List ℕ) → Holds stream.old text → IsLastPiece (rules_of settings.entry.dialect) text
-        → RelaysLastPart settings.entry text (unwritten_of pending.old) (O.told outputs.old) (O.told outputs.new)) }
+    ensures part { OnErr result ((given : List ℕ) (before : Told)
+        → SoFarBy settings.entry given stream.old before (stage_of pending.old (O.told outputs.old))
+        → RelaysFronts settings.entry given (bytes_of before) (bytes_of (O.told outputs.new))) }
     ensures counts { CountsWriteFault result (O.told outputs.old) (O.told outputs.new) }
     ensures flushed { OnOk result (AreFlushed (O.told outputs.new)) }
 {
+    laws::runs_give_pieces();
     if take_given(&settings, pending, stream.finish()).is_err() {
         return Err(RunFault::OutOfMemory);
     }
