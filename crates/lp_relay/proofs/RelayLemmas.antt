@@ -1,7 +1,8 @@
 -- The steps of a relay: what is made of pieces, one after another, and written.
 use Rattle.std.proofs.Common.{◌≡◌, ◌<◌, ℕ, List, [], ◌∷◌, ◌++◌, length, map}
 use Rattle.std.proofs.Common.{Result, refl, sym, ap, ◌∙◌, arith, append-nil}
-use Rattle.std.proofs.Common.{OnErr, OnOk}
+use Rattle.std.proofs.Common.{IsErr, MatchResult}
+use Rattle.std.proofs.lemmas.Result.{MatchResult-from_err}
 use Rattle.std.specs.Borrow.{Bor}
 use Rattle.std.specs.Str.{IsUtf8}
 use Rattle.std.proofs.KnownBytes.{Appends-kept, Appends-nil}
@@ -139,10 +140,10 @@ pub taken_so_far : (s : Settings) (pieces : List (List ℕ)) (a : Told) (now : S
     → HasWritten s pieces a now.told
 taken_so_far s pieces a now h = taken_some s pieces a now.told now h (front_none _ _, front_none _ _, front_none _ _)
 
--- a fact where there is no fault
-pub on_ok : {T E P : Type 0} (r : Result T E) → P → OnOk r P
-on_ok e h = grind (arith)
+-- what holds at a fault
+pub at_fault : {T E Q : Type 0} (P : T → Type 0) (r : Result T E) → IsErr r → Q → MatchResult r P (λ _. Q)
+at_fault P r failed q = MatchResult-from_err r P _ failed (λ _. q)
 
--- a fact at a fault
-pub on_err : {T E P : Type 0} (r : Result T E) → P → OnErr r P
-on_err e h = grind (arith)
+-- what holds at a fault or not
+pub either : {T E P Q : Type 0} (r : Result T E) → P → Q → MatchResult r (λ _. P) (λ _. Q)
+either r p q = grind (arith)

@@ -1,12 +1,14 @@
 -- What a relay has taken and written so far of what it was given, and what that is at the end.
 use Rattle.std.proofs.Common.{◌≡◌, ℕ, ◌+◌, ◌-◌, ◌≤◌, List, [], ◌∷◌, ◌++◌, length, Option, Some, None, IfSome, refl, sym, ap, subst, ◌∙◌}
-use Rattle.std.proofs.Common.{append-nil, append_assoc, arith, drop, take, take-append-drop, Result, Ok, Err}
+use Rattle.std.proofs.Common.{append-nil, append_assoc, arith, drop, take, take-append-drop, Result, Ok, Err, MatchResult}
 use Rattle.std.specs.Borrow.{Bor}
 use Rattle.std.specs.Io.KnownBytes.{Appends, Consumes, IsAtEnd}
 use Rattle.std.proofs.KnownBytes.{Consumes-trans}
 use Rattle.std.proofs.Math.Seq.{take-add}
 use Rattle.std.proofs.lemmas.Grind.{flat_map-append}
 use Rattle.std.proofs.lemmas.List.{take_rest}
+use Rattle.std.proofs.lemmas.Result.{MatchResult-weaker}
+use Rattle.lp_rebuild.specs.declared.program.RunFault.{RunFault}
 use Rattle.influxdb_line_protocol.specs.format.Bytes.{newline}
 use Rattle.influxdb_line_protocol.specs.format.Dialects.{Dialect}
 use Rattle.influxdb_line_protocol.specs.format.Pieces.{IsLastPiece, Pieces}
@@ -20,7 +22,7 @@ use Rattle.lp_relay.specs.declared.relaying.Relayed.{Relayed}
 use Rattle.lp_relay.specs.Kinds.{counts_if}
 use Rattle.lp_relay.specs.Relays.{RelaysAll, RelaysFronts}
 use Rattle.lp_relay.specs.Relaying.{items_of_piece, items_of, items_batch, refused_piece, refused_pieces}
-use Rattle.lp_relay.specs.RelaySteps.{HasRules, HasTaken, HasWritten, SoFar, SoFarBy, SomeSoFar, Stage, TakesGiven, Unwritten, Writes, WritesSome}
+use Rattle.lp_relay.specs.RelaySteps.{HasRules, HasTaken, HasWritten, SoFar, SoFarBy, SomeSoFar, Stage, TakesGiven, Unwritten, Writes}
 use Rattle.lp_relay.specs.RelaySteps.{faults_from, items_before, len_given, newlines_given, start_after, start_of, start_past, unwritten_of_none}
 use Rattle.lp_relay.specs.Writers.{Told, bytes_of}
 use Rattle.lp_relay.proofs.KindLemmas.{counts_add_up, kinds_of_all}
@@ -77,16 +79,14 @@ so_far_more s given text piece left result a now next h is cuts takes start =
       taken = taken_more s h.pieces piece result a now next h.taken is takes start;
     }
 
--- what was held was written
-pub so_far_written : (s : Settings) (given left : List ℕ) (a : Told) (old new : Stage) → Writes old new → SoFar s given left a old
-    → SoFar s given left a new
-so_far_written s given left a old new writes h = record { pieces = h.pieces; run = h.run; taken = writes s h.pieces a h.taken }
-
--- a front of it was
-pub some_written : (s : Settings) (given left : List ℕ) (a : Told) (old : Stage) (c : Told) → WritesSome old c → SoFar s given left a old
-    → SomeSoFar s given a c
-some_written s given left a old c writes h =
-    record { pieces = h.pieces; left = left; run = h.run; written = writes s h.pieces a h.taken }
+-- what was held was written, or after a fault a front of it
+pub so_far_written : (s : Settings) (given left : List ℕ) (a : Told) (result : Result (Unit {0}) RunFault) (old new : Stage)
+    → Writes result old new → SoFar s given left a old
+    → MatchResult result (λ _. SoFar s given left a new) (λ _. SomeSoFar s given a new.told)
+so_far_written s given left a result old new writes h =
+    MatchResult-weaker result (writes s h.pieces a h.taken)
+    (λ _ t. record { pieces = h.pieces; run = h.run; taken = t })
+    (λ _ t. record { pieces = h.pieces; left = left; run = h.run; written = t })
 
 -- what was written so far
 pub some_so_far : (s : Settings) (given left : List ℕ) (a : Told) (now : Stage) → SoFar s given left a now → SomeSoFar s given a now.told

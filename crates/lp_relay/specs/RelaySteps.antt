@@ -1,11 +1,11 @@
 -- What each step of a relay takes of the stream, and what it writes or holds of it.
 use Rattle.std.specs.Prelude.{◌≡◌, ◌<◌, ℕ, ◌+◌, ◌-◌, ◌++◌, List, [], ◌∷◌, length, string_bytes, Option, Some, None}
-use Rattle.std.specs.Prelude.{Result, Ok, Err, Bool, true, false, unwrap_or, if◌then◌else◌}
+use Rattle.std.specs.Prelude.{Result, Ok, Err, MatchResult, Bool, true, false, take, ◌^◌, unwrap_or, if◌then◌else◌}
 use Rattle.std.specs.Borrow.{Bor}
 use Rattle.std.specs.Io.KnownBytes.{Appends}
 use Rattle.influxdb_line_protocol.specs.format.Dialects.{Dialect}
 use Rattle.influxdb_line_protocol.specs.format.Bytes.{newlines_in}
-use Rattle.influxdb_line_protocol.specs.format.Pieces.{IsLastPiece}
+use Rattle.influxdb_line_protocol.specs.format.Pieces.{IsLastPiece, Pieces}
 use Rattle.influxdb_line_protocol.specs.types.PieceTooLong.{PieceTooLong}
 use Rattle.influxdb_line_protocol.specs.code.Bounded.{CutsTo, HeldWithin, Holds}
 use Rattle.influxdb_line_protocol.specs.laws.StreamLaws.{Run}
@@ -23,7 +23,9 @@ use Rattle.lp_relay.specs.LineFaults.{fault_line_at, item_text}
 use Rattle.lp_relay.specs.Objects.{item_object, stop_given, stop_of_piece}
 use Rattle.lp_relay.specs.Relaying.{Item, first_of, kept_of, too_long, is_carried_item, items_of_bytes, items_of_piece, items_of, items_batch, carried_items}
 use Rattle.lp_relay.specs.Relaying.{refused_items, refused_lines, refused_pieces}
-use Rattle.lp_relay.specs.Writers.{GainsFronts, Told}
+use Rattle.lp_rebuild.specs.declared.program.RunFault.{RunFault}
+use Rattle.lp_relay.specs.Relays.{RelaysFronts}
+use Rattle.lp_relay.specs.Writers.{GainsFronts, Told, bytes_of}
 
 -- the items of what a call gave: those of a piece, or that of one that is too long
 abbrev pub items_given : Settings → Result (Bor (List ℕ)) PieceTooLong → List Item
@@ -246,14 +248,10 @@ abbrev pub HasWritten : Settings → List (List ℕ) → (before after : Told) �
 HasWritten s pieces before after = GainsFronts before after
     (items_batch (items_of s pieces)) (faults_past s (unwritten_of_none s) pieces) (refused_pieces s pieces)
 
--- nothing of what was taken is lost from one stage to another
-abbrev pub Writes : (old new : Stage) → Type 0
-Writes old new = (s : Settings) (pieces : List (List ℕ)) (before : Told) → HasTaken s pieces before old → HasTaken s pieces before new
-
--- after a fault each writer has a front of what was taken up to a stage
-abbrev pub WritesSome : Stage → (after : Told) → Type 0
-WritesSome old after =
-    (s : Settings) (pieces : List (List ℕ)) (before : Told) → HasTaken s pieces before old → HasWritten s pieces before after
+-- nothing of what was taken is lost from one stage to another; after a fault each writer has a front of it
+abbrev pub Writes : Result (Unit {0}) RunFault → (old new : Stage) → Type 0
+Writes result old new = (s : Settings) (pieces : List (List ℕ)) (before : Told) → HasTaken s pieces before old
+    → MatchResult result (λ _. HasTaken s pieces before new) (λ _. HasWritten s pieces before new.told)
 
 -- of what was given so far, all pieces were taken but for what is left
 pub record SoFar (s : Settings) (given left : List ℕ) (before : Told) (now : Stage) : Type 0 where
@@ -272,6 +270,10 @@ pub record SomeSoFar (s : Settings) (given : List ℕ) (before after : Told) : T
 abbrev pub HasRules : Settings → HeldWithin → Type 0
 HasRules s stream = (stream.held.dialect ≡ rules_of s.dialect) × (stream.limit ≡ s.limit)
 
+-- a relay can go on: its stream has the rules of the settings, a number for the next item is left, and less than a block is held
+abbrev pub IsReady : Settings → HeldWithin → Pending → Type 0
+IsReady s stream pending = HasRules s stream × (counted pending < 2 ^ 64) × HoldsLess 65536 pending
+
 -- of what was given so far, all pieces that a newline ends were taken, and the stream holds what is left
 abbrev pub SoFarBy : Settings → (given : List ℕ) → HeldWithin → (before : Told) → (now : Stage) → Type 0
 SoFarBy s given stream before now =
@@ -283,17 +285,32 @@ TakesFirst dialect text true left = (piece : List ℕ) × CutsTo dialect text pi
 TakesFirst dialect text false left = IsLastPiece dialect left
 
 -- whatever came before, the first piece of what the stream holds was relayed; or none was, since no newline ends one
-abbrev pub RelaysFirst : Settings → Bool → (stream stream_after : HeldWithin) → (old new : Stage) → Type 0
-RelaysFirst s some stream stream_after old new =
+abbrev pub RelaysFirst : Settings → Result Bool RunFault → (stream stream_after : HeldWithin) → (old new : Stage) → Type 0
+RelaysFirst s result stream stream_after old new =
     (given text : List ℕ) (before : Told) → Holds stream text → SoFar s given text before old
-    → (left : List ℕ) × Holds stream_after left × SoFar s given left before new × TakesFirst (rules_of s.dialect) text some left
+    → MatchResult result
+    (λ some. (left : List ℕ) × Holds stream_after left × SoFar s given left before new × TakesFirst (rules_of s.dialect) text some left)
+    (λ _. SomeSoFar s given before new.told)
 
--- whatever came before, this part was given too, and all pieces that a newline ends then were relayed
-abbrev pub RelaysPart : Settings → (part : List ℕ) → (stream stream_after : HeldWithin) → (old new : Stage) → Type 0
-RelaysPart s part stream stream_after old new =
-    (given : List ℕ) (before : Told) → SoFarBy s given stream before old → SoFarBy s (given ++ part) stream_after before new
+-- whatever came before, if nothing of it was left, lines of so many of these bytes were relayed, up to the end of one
+abbrev pub RelaysLines : Settings → (bytes : List ℕ) → Result ℕ RunFault → (old new : Stage) → Type 0
+RelaysLines s bytes result old new = (given : List ℕ) (before : Told) → SoFar s given [] before old
+    → MatchResult result (λ taken. SoFar s (given ++ take taken bytes) [] before new) (λ _. SomeSoFar s (given ++ bytes) before new.told)
 
--- the same after a fault: each writer has a front of what the pieces make
-abbrev pub RelaysSome : Settings → (part : List ℕ) → (stream : HeldWithin) → (old : Stage) → (after : Told) → Type 0
-RelaysSome s part stream old after =
-    (given : List ℕ) (before : Told) → SoFarBy s given stream before old → SomeSoFar s (given ++ part) before after
+-- whatever came before, so many bytes of a part were given too, and all pieces that a newline ends then were relayed
+abbrev pub RelaysFront : Settings → (part : List ℕ) → Result ℕ RunFault → (stream stream_after : HeldWithin) → (old new : Stage) → Type 0
+RelaysFront s part result stream stream_after old new = (given : List ℕ) (before : Told) → SoFarBy s given stream before old
+    → MatchResult result (λ n. SoFarBy s (given ++ take n part) stream_after before new) (λ _. SomeSoFar s (given ++ part) before new.told)
+
+-- the same of all of the part
+abbrev pub RelaysPart : Settings → (part : List ℕ) → Result (Unit {0}) RunFault → (stream stream_after : HeldWithin) → (old new : Stage)
+    → Type 0
+RelaysPart s part result stream stream_after old new = (given : List ℕ) (before : Told) → SoFarBy s given stream before old
+    → MatchResult result (λ _. SoFarBy s (given ++ part) stream_after before new) (λ _. SomeSoFar s (given ++ part) before new.told)
+
+-- whatever came before, the last piece was relayed, and that is the end
+abbrev pub RelaysLast : Settings → Result (Unit {0}) RunFault → (stream : HeldWithin) → (old new : Stage) → Type 0
+RelaysLast s result stream old new = (given : List ℕ) (before : Told) → SoFarBy s given stream before old
+    → MatchResult result
+    (λ _. (pieces : List (List ℕ)) × Pieces (rules_of s.dialect) given pieces × HasTaken s pieces before new)
+    (λ _. RelaysFronts s given (bytes_of before) (bytes_of new.told))

@@ -1,14 +1,12 @@
 //! From a reader to three writers, line by line as they come.
-ghost use Rattle.std.specs.Prelude.{◌≡◌, ◌≢◌, ◌+◌, ◌<◌, ◌≤◌, ◌++◌, ◌∷◌, List, [], ℕ, length, take, true, IfOk, IfSome, OnOk, OnErr};
+ghost use Rattle.std.specs.Prelude.{◌≡◌, ◌≢◌, ◌+◌, ◌<◌, ◌≤◌, ◌++◌, ◌∷◌, [], length, take, true, IfOk, IfSome, OnOk};
 ghost use Rattle.std.specs.List.{All};
 ghost use Rattle.influxdb_line_protocol.specs.format.Bytes.{newline};
-ghost use Rattle.influxdb_line_protocol.specs.code.Bounded.{Holds, most_given};
-ghost use Rattle.influxdb_line_protocol.specs.code.Rules.{rules_of};
-ghost use Rattle.influxdb_line_protocol.specs.format.Pieces.{Pieces};
-ghost use Rattle.lp_relay.specs.RelaySteps.{HasRules, HasTaken, HoldsLess, HoldsNone, RelaysFirst, RelaysPart, RelaysSome};
-ghost use Rattle.lp_relay.specs.RelaySteps.{SoFar, SoFarBy, SomeSoFar, Writes, WritesSome, counted, stage_of};
-ghost use Rattle.lp_relay.specs.Relays.{Relays, RelaysFronts};
-ghost use Rattle.lp_relay.specs.Writers.{AreFlushed, CountsWriteFault, Told, bytes_of};
+ghost use Rattle.influxdb_line_protocol.specs.code.Bounded.{most_given};
+ghost use Rattle.lp_relay.specs.RelaySteps.{HoldsLess, HoldsNone, IsReady, RelaysFirst, RelaysFront, RelaysLast, RelaysLines};
+ghost use Rattle.lp_relay.specs.RelaySteps.{RelaysPart, Writes, counted, stage_of};
+ghost use Rattle.lp_relay.specs.Relays.{Relays};
+ghost use Rattle.lp_relay.specs.Writers.{AreFlushed, CountsWriteFault};
 ghost use Rattle.lp_rebuild.specs.Running.{reader_told};
 
 use crate::kinds::KindCounts;
@@ -36,9 +34,8 @@ pub struct Relayed {
 
 // Writes all that is held.
 fn pour<O: ThreeWriters>(pending: &mut Pending, outputs: &mut O) -> Result<(), RunFault>
-    ensures ok { OnOk result (Writes (stage_of pending.old (O.told outputs.old)) (stage_of pending.new (O.told outputs.new))) }
+    ensures writes { Writes result (stage_of pending.old (O.told outputs.old)) (stage_of pending.new (O.told outputs.new)) }
     ensures none { OnOk result (HoldsNone pending.new) }
-    ensures part { OnErr result (WritesSome (stage_of pending.old (O.told outputs.old)) (O.told outputs.new)) }
     ensures counts { CountsWriteFault result (O.told outputs.old) (O.told outputs.new) }
     ensures same { counted pending.new ≡ counted pending.old }
 {
@@ -56,9 +53,8 @@ fn pour<O: ThreeWriters>(pending: &mut Pending, outputs: &mut O) -> Result<(), R
 
 // Writes all that is held, if it fills a block.
 fn pour_full<O: ThreeWriters>(pending: &mut Pending, outputs: &mut O) -> Result<(), RunFault>
-    ensures ok { OnOk result (Writes (stage_of pending.old (O.told outputs.old)) (stage_of pending.new (O.told outputs.new))) }
+    ensures writes { Writes result (stage_of pending.old (O.told outputs.old)) (stage_of pending.new (O.told outputs.new)) }
     ensures held { OnOk result (HoldsLess BLOCK pending.new) }
-    ensures part { OnErr result (WritesSome (stage_of pending.old (O.told outputs.old)) (O.told outputs.new)) }
     ensures counts { CountsWriteFault result (O.told outputs.old) (O.told outputs.new) }
     ensures same { counted pending.new ≡ counted pending.old }
 {
@@ -73,9 +69,8 @@ fn pour_full<O: ThreeWriters>(pending: &mut Pending, outputs: &mut O) -> Result<
 
 // Writes all that is held, and flushes.
 fn pour_and_flush<O: ThreeWriters>(pending: &mut Pending, outputs: &mut O) -> Result<(), RunFault>
-    ensures ok { OnOk result (Writes (stage_of pending.old (O.told outputs.old)) (stage_of pending.new (O.told outputs.new))) }
+    ensures writes { Writes result (stage_of pending.old (O.told outputs.old)) (stage_of pending.new (O.told outputs.new)) }
     ensures none { OnOk result (HoldsNone pending.new) }
-    ensures part { OnErr result (WritesSome (stage_of pending.old (O.told outputs.old)) (O.told outputs.new)) }
     ensures counts { CountsWriteFault result (O.told outputs.old) (O.told outputs.new) }
     ensures same { counted pending.new ≡ counted pending.old }
     ensures flushed { OnOk result (AreFlushed (O.told outputs.new)) }
@@ -91,18 +86,11 @@ fn relay_piece<O: ThreeWriters>(
     pending: &mut Pending,
     outputs: &mut O,
 ) -> Result<bool, RunFault>
-    requires rules { HasRules settings stream.old }
-    requires fits { counted pending.old ≤ usize.MAX }
-    requires few { HoldsLess BLOCK pending.old }
-    ensures rules { OnOk result (HasRules settings.entry stream.new) }
+    requires ready { IsReady settings stream.old pending.old }
+    ensures ready { OnOk result (IsReady settings.entry stream.new pending.new) }
     ensures fewer { IfOk result (λ some. some ≡ true → most_given stream.new < most_given stream.old) }
-    ensures ok { IfOk result (λ some. RelaysFirst settings.entry some stream.old stream.new
-        (stage_of pending.old (O.told outputs.old)) (stage_of pending.new (O.told outputs.new))) }
-    ensures held { OnOk result (HoldsLess BLOCK pending.new) }
-    ensures fits { OnOk result (counted pending.new ≤ usize.MAX) }
-    ensures part { OnErr result ((given text : List ℕ) (before : Told) → Holds stream.old text
-        → SoFar settings.entry given text before (stage_of pending.old (O.told outputs.old))
-        → SomeSoFar settings.entry given before (O.told outputs.new)) }
+    ensures relays { RelaysFirst settings.entry result stream.old stream.new
+        (stage_of pending.old (O.told outputs.old)) (stage_of pending.new (O.told outputs.new)) }
     ensures counts { CountsWriteFault result (O.told outputs.old) (O.told outputs.new) }
 {
     let Some(piece) = stream.next() else {
@@ -123,15 +111,10 @@ fn relay_pieces<O: ThreeWriters>(
     part: &[u8],
     outputs: &mut O,
 ) -> Result<(), RunFault>
-    requires rules { HasRules settings stream.old }
-    requires fits { counted pending.old ≤ usize.MAX }
-    requires few { HoldsLess BLOCK pending.old }
-    ensures rules { OnOk result (HasRules settings.entry stream.new) }
-    ensures ok { OnOk result (RelaysPart settings.entry part.now stream.old stream.new
-        (stage_of pending.old (O.told outputs.old)) (stage_of pending.new (O.told outputs.new))) }
-    ensures fits { OnOk result (counted pending.new ≤ usize.MAX) }
-    ensures part { OnErr result (RelaysSome settings.entry part.now stream.old
-        (stage_of pending.old (O.told outputs.old)) (O.told outputs.new)) }
+    requires ready { IsReady settings stream.old pending.old }
+    ensures ready { OnOk result (IsReady settings.entry stream.new pending.new) }
+    ensures relays { RelaysPart settings.entry part.now result stream.old stream.new
+        (stage_of pending.old (O.told outputs.old)) (stage_of pending.new (O.told outputs.new)) }
     ensures counts { CountsWriteFault result (O.told outputs.old) (O.told outputs.new) }
 {
     if stream.push(part).is_err() {
@@ -162,14 +145,10 @@ fn relay_lines<O: ThreeWriters>(
     requires fits { counted pending.old ≤ usize.MAX }
     requires few { HoldsLess BLOCK pending.old }
     ensures within { IfOk result (λ taken. taken ≤ length bytes.now) }
-    ensures ok { IfOk result (λ taken. (given : List ℕ) (before : Told)
-        → SoFar settings.entry given [] before (stage_of pending.old (O.told outputs.old))
-        → SoFar settings.entry (given ++ take taken bytes.now) [] before (stage_of pending.new (O.told outputs.new))) }
+    ensures relays { RelaysLines settings.entry bytes.now result
+        (stage_of pending.old (O.told outputs.old)) (stage_of pending.new (O.told outputs.new)) }
     ensures held { OnOk result (HoldsLess BLOCK pending.new) }
     ensures fits { OnOk result (counted pending.new ≤ usize.MAX) }
-    ensures part { OnErr result ((given : List ℕ) (before : Told)
-        → SoFar settings.entry given [] before (stage_of pending.old (O.told outputs.old))
-        → SomeSoFar settings.entry (given ++ bytes.now) before (O.told outputs.new)) }
     ensures counts { CountsWriteFault result (O.told outputs.old) (O.told outputs.new) }
 {
     laws::pieces_join();
@@ -207,17 +186,11 @@ fn relay_begun<O: ThreeWriters>(
     part: &[u8],
     outputs: &mut O,
 ) -> Result<usize, RunFault>
-    requires rules { HasRules settings stream.old }
-    requires fits { counted pending.old ≤ usize.MAX }
-    requires few { HoldsLess BLOCK pending.old }
+    requires ready { IsReady settings stream.old pending.old }
     ensures within { IfOk result (λ given. given ≤ length part.now) }
-    ensures rules { OnOk result (HasRules settings.entry stream.new) }
-    ensures ok { IfOk result (λ given. RelaysPart settings.entry (take given part.now) stream.old stream.new
-        (stage_of pending.old (O.told outputs.old)) (stage_of pending.new (O.told outputs.new))) }
-    ensures held { OnOk result (HoldsLess BLOCK pending.new) }
-    ensures fits { OnOk result (counted pending.new ≤ usize.MAX) }
-    ensures part { OnErr result (RelaysSome settings.entry part.now stream.old
-        (stage_of pending.old (O.told outputs.old)) (O.told outputs.new)) }
+    ensures ready { OnOk result (IsReady settings.entry stream.new pending.new) }
+    ensures relays { RelaysFront settings.entry part.now result stream.old stream.new
+        (stage_of pending.old (O.told outputs.old)) (stage_of pending.new (O.told outputs.new)) }
     ensures counts { CountsWriteFault result (O.told outputs.old) (O.told outputs.new) }
 {
     laws::pieces_join();
@@ -243,17 +216,12 @@ fn relay_part<O: ThreeWriters>(
     part: &[u8],
     outputs: &mut O,
 ) -> Result<(), RunFault>
-    requires rules { HasRules settings stream.old }
-    requires fits { counted pending.old ≤ usize.MAX }
-    requires empty { HoldsNone pending.old }
+    requires ready { IsReady settings stream.old pending.old }
     requires block { length part.now ≤ BLOCK }
-    ensures rules { OnOk result (HasRules settings.entry stream.new) }
-    ensures ok { OnOk result (RelaysPart settings.entry part.now stream.old stream.new
-        (stage_of pending.old (O.told outputs.old)) (stage_of pending.new (O.told outputs.new))) }
+    ensures ready { OnOk result (IsReady settings.entry stream.new pending.new) }
+    ensures relays { RelaysPart settings.entry part.now result stream.old stream.new
+        (stage_of pending.old (O.told outputs.old)) (stage_of pending.new (O.told outputs.new)) }
     ensures none { OnOk result (HoldsNone pending.new) }
-    ensures fits { OnOk result (counted pending.new ≤ usize.MAX) }
-    ensures part { OnErr result (RelaysSome settings.entry part.now stream.old
-        (stage_of pending.old (O.told outputs.old)) (O.told outputs.new)) }
     ensures counts { CountsWriteFault result (O.told outputs.old) (O.told outputs.new) }
     ensures flushed { OnOk result (AreFlushed (O.told outputs.new)) }
 {
@@ -269,17 +237,10 @@ fn finish<O: ThreeWriters>(
     pending: &mut Pending,
     outputs: &mut O,
 ) -> Result<(), RunFault>
-    requires rules { HasRules settings stream.old }
-    requires fits { counted pending.old ≤ usize.MAX }
-    requires empty { HoldsNone pending.old }
-    ensures ok { OnOk result ((given : List ℕ) (before : Told)
-        → SoFarBy settings.entry given stream.old before (stage_of pending.old (O.told outputs.old))
-        → (pieces : List (List ℕ)) × Pieces (rules_of settings.entry.dialect) given pieces
-        × HasTaken settings.entry pieces before (stage_of pending.new (O.told outputs.new))) }
+    requires ready { IsReady settings stream.old pending.old }
+    ensures relays { RelaysLast settings.entry result stream.old
+        (stage_of pending.old (O.told outputs.old)) (stage_of pending.new (O.told outputs.new)) }
     ensures none { OnOk result (HoldsNone pending.new) }
-    ensures part { OnErr result ((given : List ℕ) (before : Told)
-        → SoFarBy settings.entry given stream.old before (stage_of pending.old (O.told outputs.old))
-        → RelaysFronts settings.entry given (bytes_of before) (bytes_of (O.told outputs.new))) }
     ensures counts { CountsWriteFault result (O.told outputs.old) (O.told outputs.new) }
     ensures flushed { OnOk result (AreFlushed (O.told outputs.new)) }
 {

@@ -2,22 +2,21 @@ use Rattle.std.proofs.Common.{subst}
 use Rattle.std.specs.Io.KnownBytes.{Appends}
 use Rattle.lp_rebuild.specs.Running.{AppendsFront}
 use Rattle.lp_relay.proofs.PassLemmas.{but_written}
-use Rattle.lp_relay.proofs.RelayLemmas.{on_err, taken_some}
+use Rattle.lp_relay.proofs.RelayLemmas.{at_fault, taken_some}
 use Rattle.lp_relay.proofs.relaying.pour.Goals as goal
 
-pub returns-in_err-put-clause-part : goal.returns-in_err-put-clause-part
-returns-in_err-put-clause-part g c =
+pub returns-in_err-put-clause-writes : goal.returns-in_err-put-clause-writes
+returns-in_err-put-clause-writes g c s pieces before h =
     let put = c.in_err-put.ensures.part in
-    on_err c.from_residual.result
-    (λ s pieces before h.
-    taken_some s pieces before (g.O.ThreeWriters.told c.put.new.self) _ h (
+    at_fault _ c.from_residual.result c.from_residual.ensures.0
+    (taken_some s pieces before (g.O.ThreeWriters.told c.put.new.self) _ h (
       subst (AppendsFront _ _) c.as_slice.ensures.value put.0,
       subst (AppendsFront _ _) c.as_bytes.ensures.value put.1,
       subst (AppendsFront _ _) c.as_slice-2.ensures.value put.2,
     ))
 
-pub returns-clause-ok : goal.returns-clause-ok
-returns-clause-ok g c s pieces before h =
+pub returns-clause-writes : goal.returns-clause-writes
+returns-clause-writes g c s pieces before h =
     let put = c.in_ok-put.ensures.ok in
     record {
       lines = but_written _ _ _ _ _ _ h.lines (subst (Appends _ _) c.as_slice.ensures.value put.0) c.clear.ensures.items;

@@ -1,4 +1,4 @@
-use Rattle.std.proofs.Common.{◌≡◌, ◌+◌, ◌++◌, ◌∙◌, [], ap, refl, subst, sym, take, arith}
+use Rattle.std.proofs.Common.{◌≡◌, ◌+◌, ◌++◌, ◌∙◌, [], ap, length, refl, subst, sym, take, arith}
 use Rattle.std.specs.Io.KnownBytes.{Consumes}
 use Rattle.std.proofs.KnownBytes.{Consumes-nil, Consumes-trans, Consumes-whole}
 use Rattle.lp_relay.specs.RelaySteps.{items_before}
@@ -12,9 +12,15 @@ pub loop-init : goal.loop-init
 loop-init g c =
     let made = c.nothing_made-pending.ensures.made in
     record {
-      rules = (c.new_in-stream.ensures.dialect, c.new_in-stream.ensures.limit);
-      fits = omega (arith, c.nothing_made-pending.ensures.fits);
-      empty = (ap (λ m. m.made.batch) made, ap (λ m. m.made.faults) made, ap (λ m. m.pieces) made);
+      ready = (
+        (c.new_in-stream.ensures.dialect, c.new_in-stream.ensures.limit),
+        omega (arith, c.nothing_made-pending.ensures.fits),
+        (
+          omega (arith, ap (λ m. length m.made.batch) made),
+          omega (arith, ap (λ m. length m.made.faults) made),
+          omega (arith, ap (λ m. length m.pieces) made),
+        ),
+      );
       block = omega (arith);
       so_far = (
         [],
@@ -44,7 +50,7 @@ returns-in_err-finish g c =
     (λ bs. RelaysFronts c.args.settings bs (bytes_of (g.O.ThreeWriters.told c.args.outputs.now))
     (bytes_of (g.O.ThreeWriters.told c.finish.new.outputs)))
     (read_none _ _ _ _ _ c.in_ok-n.n c.if-n-eq0.true h.so_far.1 read.ok) (read.end c.if-n-eq0.true)
-    (c.in_err-finish.ensures.part h.so_far.0 _ h.so_far.2))
+    (c.in_err-finish.ensures.relays h.so_far.0 _ h.so_far.2))
     c.in_err-finish.ensures.counts h.unfailed (read.counts ∙ h.reader_unfailed))
 
 pub returns-then-n-eq0 : goal.returns-then-n-eq0
@@ -52,7 +58,7 @@ returns-then-n-eq0 g c =
     let h = c.loop.invariant in
     let read = c.in_ok-n.ensures in
     let done = c.in_ok-finish.ensures in
-    let all = done.ok h.so_far.0 _ h.so_far.2 in
+    let all = done.relays h.so_far.0 _ h.so_far.2 in
     let carried : c.saturating_sub.result + items_before c.args.settings.numbering c.args.settings.first ≡ c.finish.new.pending.so_far.carried =
     omega (arith, c.saturating_sub.ensures, c.items_before.ensures, all.2.carried) in
     ended c.utf8_by_pieces.ensures c.pieces_join.ensures.one _ _ _ _ _ _
@@ -70,7 +76,7 @@ returns-in_err-relay_part g c =
     (Consumes-trans _ _ _ h.so_far.0 _ h.so_far.1
     (subst (λ bs. Consumes (g.R.Source.bytes c.loop.reader) (g.R.Source.bytes c.read_block.new.reader) (take c.in_ok-n.n bs))
     (sym c.deref.ensures.value) read.ok))
-    (c.in_err-relay_part.ensures.part h.so_far.0 _ h.so_far.2))
+    (c.in_err-relay_part.ensures.relays h.so_far.0 _ h.so_far.2))
     c.in_err-relay_part.ensures.counts h.unfailed (read.counts ∙ h.reader_unfailed))
 
 pub loop-preserved : goal.loop-preserved
@@ -79,16 +85,14 @@ loop-preserved g c =
     let read = c.in_ok-n.ensures in
     let relayed = c.in_ok-relay_part.ensures in
     record {
-      rules = relayed.rules;
-      fits = omega (arith, relayed.fits);
-      empty = relayed.none;
+      ready = relayed.ready;
       block = omega (arith, h.block, read.few);
       so_far = (
         h.so_far.0 ++ take c.in_ok-n.n c.deref.result.now,
         Consumes-trans _ _ _ h.so_far.0 _ h.so_far.1
             (subst (λ bs. Consumes (g.R.Source.bytes c.loop.reader) (g.R.Source.bytes c.read_block.new.reader) (take c.in_ok-n.n bs))
             (sym c.deref.ensures.value) read.ok),
-        relayed.ok h.so_far.0 _ h.so_far.2,
+        relayed.relays h.so_far.0 _ h.so_far.2,
       );
       reader_unfailed = read.counts ∙ h.reader_unfailed;
       unfailed = none_twice _ _ _ h.unfailed relayed.counts;

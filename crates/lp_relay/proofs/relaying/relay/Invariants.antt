@@ -1,14 +1,12 @@
-use Rattle.std.proofs.Common.{◌≡◌, ◌<◌, ◌≤◌, ◌^◌, length, List, ℕ}
+use Rattle.std.proofs.Common.{◌≡◌, ◌≤◌, length, List, ℕ}
 use Rattle.std.specs.Io.KnownBytes.{Consumes}
-use Rattle.lp_relay.specs.RelaySteps.{HasRules, HoldsNone, SoFarBy, counted, stage_of}
+use Rattle.lp_relay.specs.RelaySteps.{IsReady, SoFarBy, stage_of}
 use Rattle.lp_relay.specs.Writers.{CountsNone, failures_of}
 use Rattle.lp_relay.proofs.relaying.relay.Given as goal
 
 abbrev pub invariant-loop : goal.invariant-loop
 invariant-loop g l = record {
-  rules : HasRules l.fn.settings l.stream;
-  fits : counted l.pending < 2 ^ 64;
-  empty : HoldsNone l.pending;
+  ready : IsReady l.fn.settings l.stream l.pending;
   block : length l.block.items ≤ 65536;
   so_far : (given : List ℕ) × Consumes (g.R.Source.bytes l.initial.reader) (g.R.Source.bytes l.reader) given
       × SoFarBy l.fn.settings given l.stream (g.O.ThreeWriters.told l.initial.outputs)

@@ -1,10 +1,11 @@
 use Rattle.influxdb_line_protocol.specs.code.Rules.{rules_of}
-use Rattle.std.proofs.Common.{◌∙◌, [], ap, refl, arith}
+use Rattle.std.proofs.Common.{◌∙◌, [], Err, Ok, ap, refl, arith}
 use Rattle.influxdb_line_protocol.specs.format.Pieces.{Left}
+use Rattle.lp_relay.specs.RelaySteps.{stage_of}
 use Rattle.lp_rebuild.proofs.Parts.{at_no_fault}
-use Rattle.lp_relay.proofs.RelayLemmas.{on_err}
+use Rattle.lp_relay.proofs.RelayLemmas.{at_fault}
 use Rattle.lp_relay.proofs.RelayEnds.{none_twice}
-use Rattle.lp_relay.proofs.RelaysSoFar.{so_far_given, so_far_written, some_of_front, some_so_far, some_written}
+use Rattle.lp_relay.proofs.RelaysSoFar.{so_far_given, so_far_written, some_of_front, some_so_far}
 use Rattle.lp_relay.proofs.WholeLines.{begins_with, line_given, line_taken}
 use Rattle.lp_relay.proofs.relaying.relay_lines.Goals as goal
 
@@ -23,8 +24,8 @@ loop-piece-init g c =
       unfailed = record { lines = refl; faults = refl; refused = refl };
     }
 
-pub returns-then-is_err-clause-part : goal.returns-then-is_err-clause-part
-returns-then-is_err-clause-part g c given before h =
+pub returns-then-is_err-clause-relays : goal.returns-then-is_err-clause-relays
+returns-then-is_err-clause-relays g c given before h =
     some_of_front _ given _ c.loop-piece.taken _ _ (some_so_far _ _ _ _ _ (c.loop-piece.invariant.relays given before h))
 
 pub loop-piece-preserved : goal.loop-piece-preserved
@@ -44,7 +45,7 @@ loop-piece-preserved g c =
       fits = omega (arith, fits, poured.same);
       held = poured.held;
       relays = λ given before old.
-          so_far_written _ _ _ before _ _ poured.ok
+          so_far_written c.args.settings _ [] before (Ok tt) _ _ poured.writes
           (line_taken c.args.settings given c.args.bytes.now c.loop-piece.taken c.in-Some.piece c.next.new.self.text before _ _
           (h.relays given before old) line c.if-piece-settings.false
           (at_no_fault c.take_piece.result c.if-is_err.ensures.value taken.taken)
@@ -52,16 +53,16 @@ loop-piece-preserved g c =
       unfailed = none_twice _ _ _ h.unfailed poured.counts;
     }
 
-pub returns-in_err-pour_full-clause-part : goal.returns-in_err-pour_full-clause-part
-returns-in_err-pour_full-clause-part g c =
+pub returns-in_err-pour_full-clause-relays : goal.returns-in_err-pour_full-clause-relays
+returns-in_err-pour_full-clause-relays g c given before old =
     let h = c.loop-piece.invariant in
     let line = line_given c.pieces_join.ensures.some c.pieces_join.ensures.text (rules_of c.args.settings.dialect) c.loop-piece.lines
     c.next.new.self c.in-Some.piece c.remainder.result c.args.bytes.now c.loop-piece.taken h.dialect h.within h.left
     c.in-Some.ensures.steps c.if-is_none.ensures c.remainder.ensures in
-    on_err c.from_residual.result
-    (λ given before old.
-    some_of_front c.args.settings given c.args.bytes.now _ before _
-    (some_written c.args.settings _ _ before _ _ c.in_err-pour_full.ensures.part
+    at_fault _ c.from_residual.result c.from_residual.ensures.0
+    (some_of_front c.args.settings given c.args.bytes.now _ before _
+    (so_far_written c.args.settings _ [] before (Err c.in_err-pour_full.field-0.0) _
+    (stage_of c.pour_full.new.pending (g.O.ThreeWriters.told c.pour_full.new.outputs)) c.in_err-pour_full.ensures.writes
     (line_taken c.args.settings given c.args.bytes.now c.loop-piece.taken c.in-Some.piece c.next.new.self.text before _ _
     (h.relays given before old) line c.if-piece-settings.false
     (at_no_fault c.take_piece.result c.if-is_err.ensures.value c.take_piece.ensures.taken)

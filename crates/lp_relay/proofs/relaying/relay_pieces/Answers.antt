@@ -2,21 +2,19 @@ use Rattle.std.proofs.Common.{◌++◌, refl, subst, arith}
 use Rattle.influxdb_line_protocol.specs.code.Rules.{rules_of}
 use Rattle.lp_relay.specs.RelaySteps.{TakesFirst}
 use Rattle.lp_rebuild.proofs.Parts.{at_no_fault}
-use Rattle.lp_relay.proofs.RelayLemmas.{on_err}
+use Rattle.lp_relay.proofs.RelayLemmas.{at_fault}
 use Rattle.lp_relay.proofs.RelayEnds.{none_twice}
 use Rattle.lp_relay.proofs.RelaysSoFar.{so_far_given, some_given, some_so_far}
 use Rattle.lp_relay.proofs.relaying.relay_pieces.Goals as goal
 
-pub returns-then-is_err-clause-part : goal.returns-then-is_err-clause-part
-returns-then-is_err-clause-part g c given before h =
+pub returns-then-is_err-clause-relays : goal.returns-then-is_err-clause-relays
+returns-then-is_err-clause-relays g c given before h =
     some_given c.args.settings given c.args.part.now before _ (some_so_far c.args.settings given h.0 before _ h.2)
 
 pub loop-init : goal.loop-init
 loop-init g c =
     record {
-      rules = grind (arith);
-      fits = omega (arith, c.requires.fits);
-      held = c.requires.few;
+      ready = grind (arith);
       relays = λ given before h. (
         h.0 ++ c.args.part.now,
         at_no_fault c.push.result c.if-is_err.ensures.value c.push.ensures.ok h.0 h.1,
@@ -25,29 +23,26 @@ loop-init g c =
       unfailed = record { lines = refl; faults = refl; refused = refl };
     }
 
-pub returns-in_err-relay_piece-clause-part : goal.returns-in_err-relay_piece-clause-part
-returns-in_err-relay_piece-clause-part g c =
-    on_err c.from_residual.result
-    (λ given before h.
+pub returns-in_err-relay_piece-clause-relays : goal.returns-in_err-relay_piece-clause-relays
+returns-in_err-relay_piece-clause-relays g c given before h =
     let p = c.loop.invariant.relays given before h in
-    c.in_err-relay_piece.ensures.part (given ++ c.args.part.now) p.0 before p.1 p.2)
+    at_fault _ c.from_residual.result c.from_residual.ensures.0
+    (c.in_err-relay_piece.ensures.relays (given ++ c.args.part.now) p.0 before p.1 p.2)
 
 pub loop-preserved : goal.loop-preserved
 loop-preserved g c =
     let relayed = c.in_ok-relay_piece.ensures in
     record {
-      rules = relayed.rules;
-      fits = omega (arith, relayed.fits);
-      held = relayed.held;
+      ready = relayed.ready;
       relays = λ given before h.
           let p = c.loop.invariant.relays given before h in
-          let q = relayed.ok (given ++ c.args.part.now) p.0 before p.1 p.2 in
+          let q = relayed.relays (given ++ c.args.part.now) p.0 before p.1 p.2 in
           (q.0, q.1, q.2);
       unfailed = none_twice _ _ _ c.loop.invariant.unfailed relayed.counts;
     }
 
-pub returns-clause-ok : goal.returns-clause-ok
-returns-clause-ok g c given before h =
+pub returns-clause-relays : goal.returns-clause-relays
+returns-clause-relays g c given before h =
     let p = c.loop.invariant.relays given before h in
-    let q = c.in_ok-relay_piece.ensures.ok (given ++ c.args.part.now) p.0 before p.1 p.2 in
+    let q = c.in_ok-relay_piece.ensures.relays (given ++ c.args.part.now) p.0 before p.1 p.2 in
     (q.0, q.1, q.2, subst (λ some. TakesFirst (rules_of c.args.settings.dialect) p.0 some q.0) c.if-branch.false q.3)
