@@ -1,32 +1,16 @@
 -- How a relay ends.
-use Rattle.std.proofs.Common.{◌≡◌, ℕ, ◌<◌, ◌⊎◌, ◌≤◌, List, [], Option, Some, None, IfSome, Result, Ok, Err, IsErrAnd}
+use Rattle.std.proofs.Common.{◌≡◌, ℕ, ◌<◌, ◌⊎◌, ◌≤◌, [], Some, IfSome, Result, Ok, Err, IsErrAnd}
 use Rattle.std.proofs.Common.{arith, ◌∙◌}
+use Rattle.std.proofs.lemmas.Option.{IfSome_then}
 use Rattle.lp_rebuild.specs.declared.program.RunFault.{RunFault}
 use Rattle.lp_relay.specs.declared.taking.Settings.{Settings}
-use Rattle.influxdb_line_protocol.specs.code.Rules.{rules_of}
-use Rattle.lp_relay.specs.Relaying.{limit_of}
 use Rattle.lp_relay.specs.declared.relaying.Relayed.{Relayed}
 use Rattle.lp_rebuild.specs.Running.{CountsReadFault, ReaderTold}
-use Rattle.lp_relay.specs.Writers.{AreFlushed, CountsNone, CountsOne, CountsWriteFault, Known, Told, Writers, bytes_of, failures_of}
-use Rattle.lp_relay.specs.declared.taking.LineForm.TheVariants as going
-use Rattle.lp_relay.specs.Relays.{IfRebuilt, Relays, RelaysAll, RelaysFronts, RelaysRebuilt, RelaysRebuiltFronts}
+use Rattle.lp_relay.specs.Writers.{AreFlushed, CountsNone, CountsOne, CountsWriteFault, Told, Writers, bytes_of, failures_of}
+use Rattle.lp_relay.specs.Relays.{Relays, RelaysAll, RelaysFronts}
 use Rattle.influxdb_line_protocol.specs.laws.Laws.{PiecesAreUnique}
 use Rattle.influxdb_line_protocol.specs.laws.StreamLaws.{Utf8ByPieces}
 use Rattle.lp_relay.proofs.RelaysOfText.{all_rebuilt, fronts_rebuilt}
-
--- a front of what is relayed of bytes that are known is a front of what a rebuild of them gives
-fronts_known : Utf8ByPieces → PiecesAreUnique → (s : Settings) (bytes : Option (List ℕ)) (before after : Known)
-    → s.lines ≡ going.Rebuilt → IfSome bytes (λ bs. RelaysFronts s bs before after)
-    → IfSome bytes (λ bs. IfRebuilt (rules_of s.dialect) (limit_of s.limit) bs (λ r. RelaysRebuiltFronts s r before after))
-fronts_known law unique s None before after again fronts = tt
-fronts_known law unique s (Some bs) before after again fronts = fronts_rebuilt law unique s bs before after again fronts
-
--- what is relayed of bytes that are known is what a rebuild of them gives
-all_known : Utf8ByPieces → PiecesAreUnique → (s : Settings) (counts : Relayed) (bytes left : Option (List ℕ)) (before after : Known)
-    → s.lines ≡ going.Rebuilt → IfSome bytes (λ bs. (left ≡ Some []) × RelaysAll s bs counts before after)
-    → IfSome bytes (λ bs. IfRebuilt (rules_of s.dialect) (limit_of s.limit) bs (λ r. RelaysRebuilt s r counts before after))
-all_known law unique s counts None left before after again all = tt
-all_known law unique s counts (Some bs) left before after again all = all_rebuilt law unique s bs counts before after again all.1
 
 -- counts that are the same have not risen
 none_rose : (old new : Writers ℕ) → CountsNone old new
@@ -61,7 +45,8 @@ read_fault law unique s fault count reader reader_after before after fronts c e 
       flushed = tt;
       part = fronts;
       rebuilt = λ again. tt;
-      rebuilt_part = λ again. fronts_known law unique s reader.bytes _ _ again fronts;
+      rebuilt_part = λ again.
+          IfSome_then reader.bytes fronts (λ bs. fronts_rebuilt law unique s bs (bytes_of before) (bytes_of after) again);
       read = grind (arith);
       write = grind (arith, none_rose);
       utf8 = grind (arith);
@@ -80,7 +65,8 @@ write_fault law unique s fault reader reader_after before mid after fronts c n r
       flushed = tt;
       part = fronts;
       rebuilt = λ again. tt;
-      rebuilt_part = λ again. fronts_known law unique s reader.bytes _ _ again fronts;
+      rebuilt_part = λ again.
+          IfSome_then reader.bytes fronts (λ bs. fronts_rebuilt law unique s bs (bytes_of before) (bytes_of after) again);
       read = grind (arith);
       write = grind (arith, one_rose, none_rose, one_more, none_twice);
       utf8 = grind (arith);
@@ -99,7 +85,8 @@ ended law unique s counts reader reader_after before after all flushed r n =
       all = all;
       flushed = flushed;
       part = tt;
-      rebuilt = λ again. all_known law unique s counts reader.bytes reader_after.bytes _ _ again all;
+      rebuilt = λ again.
+          IfSome_then reader.bytes all (λ bs whole. all_rebuilt law unique s bs counts (bytes_of before) (bytes_of after) again whole.1);
       rebuilt_part = λ again. tt;
       read = grind (arith);
       write = grind (arith, none_rose);

@@ -1,5 +1,5 @@
 -- The whole lines of a part: the first one, which the stream may hold the start of, and the others, which a splitter gives.
-use Rattle.std.proofs.Common.{◌≡◌, ◌≢◌, ◌⊎◌, ℕ, List, [], ◌∷◌, ◌++◌, Option, Some, None, IfSome, refl, sym, ap, subst, ◌∙◌}
+use Rattle.std.proofs.Common.{◌≡◌, ◌≢◌, ◌⊎◌, ℕ, List, [], ◌∷◌, ◌++◌, Option, Some, refl, sym, ap, subst, ◌∙◌}
 use Rattle.std.proofs.Common.{◌+◌, ◌≤◌, length, take, drop, Ok, true, is_some, option_map, append_assoc, inl, inr, arith}
 use Rattle.std.proofs.Math.Seq.{drop-append-add, take-add, take-append-add}
 use Rattle.std.proofs.lemmas.List.{drop-drop, length-append, length-drop, take-append-drop}
@@ -79,34 +79,19 @@ first_cut : PiecesAreTheText → (dialect : Dialect) (text piece rest : List ℕ
     → all ≡ piece ∷ others → Pieces dialect rest others → CutsTo dialect text piece rest
 first_cut texts dialect text piece rest all others h e q = grind (arith, some_piece)
 
--- the first of the pieces of a text that is not all of it is cut off bytes that begin with the text
-cuts_in : PiecesExist → PiecesAreTheText → (dialect : Dialect) (before after : Option (List ℕ)) (piece rest bytes : List ℕ)
-    → after ≡ Some rest → ((others : List (List ℕ)) → PiecesLeft (record { dialect = dialect; text = after }) others
-    → PiecesLeft (record { dialect = dialect; text = before }) (piece ∷ others))
-    → IfSome before (λ text. (t : List ℕ) × (bytes ≡ text ++ t)) → (t : List ℕ) × CutsTo dialect bytes piece (rest ++ t)
-cuts_in exist texts dialect None None piece rest bytes is gives begins = absurd (cc)
-cuts_in exist texts dialect (Some text) None piece rest bytes is gives begins = absurd (cc)
-cuts_in exist texts dialect None (Some r) piece rest bytes is gives begins =
-    let others = exist dialect r in
-    let none : piece ∷ others.0 ≡ [] = gives others.0 others.1 in
-    absurd (cc)
-cuts_in exist texts dialect (Some text) (Some r) piece rest bytes is gives begins =
-    let others = exist dialect r in
-    let same : r ≡ rest = cc in
-    let cuts = first_cut texts dialect text piece rest (piece ∷ others.0) others.0 (gives others.0 others.1) refl
-    (subst (λ (l : List ℕ). Pieces dialect l others.0) same others.1) in
-    (begins.0, (begins.1 ∙ ap (λ (l : List ℕ). l ++ begins.0) cuts.0 ∙ append_assoc piece (newline ∷ rest) begins.0, cuts.1))
-
--- what a splitter gave that has a rest is cut off bytes that begin with its text
-splitter_cuts : PiecesExist → PiecesAreTheText → (dialect : Dialect) (before after : Left) (piece : Bor (List ℕ)) (rest bytes : List ℕ)
-    → before.dialect ≡ dialect → after.text ≡ Some rest → GivesPiece before (Some piece) after
-    → IfSome before.text (λ text. (t : List ℕ) × (bytes ≡ text ++ t)) → (t : List ℕ) × CutsTo dialect bytes piece.now (rest ++ t)
-splitter_cuts exist texts dialect before after piece rest bytes same is gives begins =
-    cuts_in exist texts dialect before.text after.text piece.now rest bytes is
-    (λ others left.
-    subst (λ (d : Dialect). PiecesLeft (record { dialect = d; text = before.text }) (piece.now ∷ others)) same
-    (gives.1 others (subst (λ (d : Dialect). PiecesLeft (record { dialect = d; text = after.text }) others) (sym (gives.0 ∙ same)) left)))
-    begins
+-- what a splitter gave that has a rest is cut off its text
+splitter_cuts : PiecesExist → PiecesAreTheText → (dialect : Dialect) (before after : Left) (piece : Bor (List ℕ)) (text rest : List ℕ)
+    → before.dialect ≡ dialect → before.text ≡ Some text → after.text ≡ Some rest → GivesPiece before (Some piece) after
+    → CutsTo dialect text piece.now rest
+splitter_cuts exist texts dialect before after piece text rest same has left gives =
+    let others = exist dialect rest in
+    let all = piece.now ∷ others.0 in
+    let before_is : before ≡ record { dialect = dialect; text = Some text } = grind (arith) in
+    let after_is : after ≡ record { dialect = dialect; text = Some rest } = grind (arith, gives.0) in
+    first_cut texts dialect text piece.now rest all others.0
+    (subst (λ (l : Left). PiecesLeft l all) before_is
+    (gives.1 others.0 (subst (λ (l : Left). PiecesLeft l others.0) (sym after_is) others.1)))
+    refl others.1
 
 -- what is left after a piece and its newline, which are within the bytes
 left_after : (bytes piece rest : List ℕ) (taken : ℕ) → taken ≤ length bytes → drop taken bytes ≡ piece ++ newline ∷ rest
@@ -125,41 +110,35 @@ some_rest : (rest : Option (Bor (List ℕ))) (text : Option (List ℕ)) → is_s
     → (r : List ℕ) × (text ≡ Some r)
 some_rest r text there is = grind (arith)
 
+-- bytes from a place on begin with the text that a splitter has left
+abbrev pub IsLeft : List ℕ → ℕ → Option (List ℕ) → Type 0
+IsLeft bytes taken text = (lines t : List ℕ) × (text ≡ Some lines) × (drop taken bytes ≡ lines ++ t)
+
 -- a text begins with whole lines of it
-pub begins_with : (text : Option (List ℕ)) (bytes lines : List ℕ) → text ≡ Some lines → lines ≡ take (length lines) bytes
-    → IfSome text (λ l. (t : List ℕ) × (bytes ≡ l ++ t))
-begins_with None bytes lines is front = absurd (cc)
-begins_with (Some l) bytes lines is front =
-    let same : lines ≡ l = cc in
-    let rest = drop (length lines) bytes in (
-      rest,
-      sym (take-append-drop (length lines) bytes) ∙ ap (λ (x : List ℕ). x ++ rest) (sym front ∙ same),
-    )
+pub all_left : (text : Option (List ℕ)) (bytes lines : List ℕ) → text ≡ Some lines → lines ≡ take (length lines) bytes
+    → IsLeft bytes 0 text
+all_left text bytes lines is front =
+    let rest = drop (length lines) bytes in
+    (lines, rest, is, sym (take-append-drop (length lines) bytes) ∙ ap (λ (x : List ℕ). x ++ rest) (sym front))
 
 -- a line that a splitter gave of the bytes from a place on, and what is left after it
 pub record LineGiven (dialect : Dialect) (after : Option (List ℕ)) (piece bytes : List ℕ) (taken : ℕ) : Type 0 where
   pub is_cut : IsCutPiece dialect piece
   pub within : taken + (length piece + 1) ≤ length bytes
   pub ends : take (taken + (length piece + 1)) bytes ≡ take taken bytes ++ (piece ++ newline ∷ [])
-  pub left : IfSome after (λ text. (t : List ℕ) × (drop (taken + (length piece + 1)) bytes ≡ text ++ t))
+  pub left : IsLeft bytes (taken + (length piece + 1)) after
 
 -- so is each one that is not the last
 pub line_given : PiecesExist → PiecesAreTheText → (dialect : Dialect) (before after : Left) (piece : Bor (List ℕ))
     (rest : Option (Bor (List ℕ))) (bytes : List ℕ) (taken : ℕ) → before.dialect ≡ dialect → taken ≤ length bytes
-    → IfSome before.text (λ text. (t : List ℕ) × (drop taken bytes ≡ text ++ t)) → GivesPiece before (Some piece) after
+    → IsLeft bytes taken before.text → GivesPiece before (Some piece) after
     → is_some rest ≡ true → option_map (λ r. r.now) rest ≡ after.text → LineGiven dialect after.text piece.now bytes taken
 line_given exist texts dialect before after piece rest bytes taken same within begins gives there is =
     let r = some_rest rest after.text there is in
-    let cuts = splitter_cuts exist texts dialect before after piece r.0 (drop taken bytes) same r.1 gives begins in
-    let next = left_after bytes piece.now (r.0 ++ cuts.0) taken within cuts.1.0 in
-    record {
-      is_cut = cuts.1.1;
-      within = next.1;
-      ends = next.2;
-      left = subst
-          (λ (o : Option (List ℕ)). IfSome o (λ text. (t : List ℕ) × (drop (taken + (length piece.now + 1)) bytes ≡ text ++ t)))
-          (sym r.1) (cuts.0, next.0);
-    }
+    let cuts = splitter_cuts exist texts dialect before after piece begins.0 r.0 same begins.2 r.1 gives in
+    let next = left_after bytes piece.now (r.0 ++ begins.1) taken within
+    (begins.3 ∙ ap (λ (l : List ℕ). l ++ begins.1) cuts.0 ∙ append_assoc piece.now (newline ∷ r.0) begins.1) in
+    record { is_cut = cuts.1; within = next.1; ends = next.2; left = (r.0, begins.1, r.1, next.0) }
 
 -- such a line was taken
 pub line_taken : (s : Settings) (given bytes : List ℕ) (taken : ℕ) (piece : Bor (List ℕ)) (after : Option (List ℕ)) (a : Told)

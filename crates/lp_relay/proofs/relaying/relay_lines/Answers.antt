@@ -6,7 +6,7 @@ use Rattle.lp_rebuild.proofs.Parts.{at_no_fault}
 use Rattle.lp_relay.proofs.RelayLemmas.{at_fault}
 use Rattle.lp_relay.proofs.RelayEnds.{none_twice}
 use Rattle.lp_relay.proofs.RelaysSoFar.{so_far_given, so_far_written, some_of_front, some_so_far}
-use Rattle.lp_relay.proofs.WholeLines.{begins_with, line_given, line_taken}
+use Rattle.lp_relay.proofs.WholeLines.{all_left, line_given, line_taken}
 use Rattle.lp_relay.proofs.relaying.relay_lines.Goals as goal
 
 pub loop-piece-init : goal.loop-piece-init
@@ -16,7 +16,7 @@ loop-piece-init g c =
       dialect = ap (λ (l : Left). l.dialect) is;
       reads = c.new-reader.ensures;
       within = omega arith;
-      left = begins_with c.split_lines_in-lines.result.text c.args.bytes.now c.whole_lines.result.now (ap (λ (l : Left). l.text) is)
+      left = all_left c.split_lines_in-lines.result.text c.args.bytes.now c.whole_lines.result.now (ap (λ (l : Left). l.text) is)
           c.whole_lines.ensures;
       fits = omega (arith, c.requires.fits);
       held = c.requires.few;

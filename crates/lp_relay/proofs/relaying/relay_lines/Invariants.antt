@@ -1,8 +1,9 @@
 use Rattle.influxdb_line_protocol.specs.code.Rules.{rules_of}
-use Rattle.std.proofs.Common.{◌≡◌, ◌<◌, ◌≤◌, ◌^◌, ◌++◌, [], IfSome, List, drop, length, take, ℕ}
+use Rattle.std.proofs.Common.{◌≡◌, ◌<◌, ◌≤◌, ◌^◌, ◌++◌, [], List, length, take, ℕ}
 use Rattle.influxdb_line_protocol.specs.format.Pieces.{most_pieces}
 use Rattle.lp_relay.specs.RelaySteps.{HoldsLess, SoFar, counted, stage_of}
 use Rattle.lp_relay.specs.Writers.{CountsNone, Told, failures_of}
+use Rattle.lp_relay.proofs.WholeLines.{IsLeft}
 use Rattle.lp_relay.proofs.relaying.relay_lines.Given as goal
 
 abbrev pub invariant-loop-piece : goal.invariant-loop-piece
@@ -10,7 +11,7 @@ invariant-loop-piece g l = record {
   dialect : l.lines.dialect ≡ rules_of l.fn.settings.dialect;
   reads : l.reader.dialect ≡ l.fn.settings.dialect;
   within : l.taken ≤ length l.bytes;
-  left : IfSome l.lines.text (λ text. (t : List ℕ) × (drop l.taken l.bytes ≡ text ++ t));
+  left : IsLeft l.bytes l.taken l.lines.text;
   fits : counted l.pending < 2 ^ 64;
   held : HoldsLess 65536 l.pending;
   relays : (given : List ℕ) (before : Told)
