@@ -25,25 +25,12 @@ use Rattle.lp_relay.specs.Relaying.{items_of_piece, items_of, items_batch, refus
 use Rattle.lp_relay.specs.RelaySteps.{HasRules, HasTaken, HasWritten, SoFar, SoFarBy, SomeSoFar, Stage, TakesGiven, Unwritten, Writes}
 use Rattle.lp_relay.specs.RelaySteps.{faults_from, items_before, len_given, newlines_given, start_after, start_of, start_past, unwritten_of_none}
 use Rattle.lp_relay.specs.Writers.{Told, bytes_of}
+use Rattle.lp_relay.proofs.CutLemmas.{none_is_last}
 use Rattle.lp_relay.proofs.KindLemmas.{counts_add_up, kinds_of_all}
 use Rattle.lp_relay.proofs.PassLemmas.{but_none, front_more}
 use Rattle.lp_relay.proofs.ItemLemmas.{batch_append}
 use Rattle.lp_relay.proofs.FaultLines.{faults_from_append, faults_named}
 use Rattle.lp_relay.proofs.RelayLemmas.{taken_more, taken_none, taken_so_far}
-
--- no text with a newline is empty
-not_empty : (u t : List ℕ) → u ++ newline ∷ t ≡ [] → ⊥
-not_empty [] t e = absurd (cc)
-not_empty (b ∷ u) t e = absurd (cc)
-
--- an empty text is its own last piece
-nothing_is_last : (dialect : Dialect) (text : List ℕ) (pieces : List (List ℕ)) → text ≡ [] → Pieces dialect text pieces
-    → IsLastPiece dialect text
-nothing_is_last dialect text pieces e h = grind (arith, not_empty)
-
--- a text of no bytes is one piece
-pub none_is_last : PiecesExist → (dialect : Dialect) → IsLastPiece dialect []
-none_is_last exist dialect = let p = exist dialect [] in nothing_is_last dialect [] p.0 refl p.1
 
 -- before the first read
 pub so_far_none : PiecesExist → (s : Settings) (a : Told) (stream : HeldWithin) (now : Unwritten) → Holds stream []

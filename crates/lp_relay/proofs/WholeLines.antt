@@ -16,12 +16,8 @@ use Rattle.influxdb_line_protocol.specs.laws.Laws.{PiecesAreTheText, PiecesAreUn
 use Rattle.lp_relay.specs.declared.taking.Settings.{Settings}
 use Rattle.lp_relay.specs.RelaySteps.{SoFar, Stage, TakesFirst, TakesGiven, Unwritten, len_given, newlines_given, start_after, start_of}
 use Rattle.lp_relay.specs.Writers.{Told}
+use Rattle.lp_relay.proofs.CutLemmas.{no_newline}
 use Rattle.lp_relay.proofs.RelaysSoFar.{so_far_given, so_far_more}
-
--- no text with a newline is empty
-not_empty : (u t : List ℕ) → u ++ newline ∷ t ≡ [] → ⊥
-not_empty [] t e = absurd (cc)
-not_empty (b ∷ u) t e = absurd (cc)
 
 -- each text has a piece
 some_piece : (dialect : Dialect) (text : List ℕ) (pieces : List (List ℕ)) → Pieces dialect text pieces → pieces ≡ [] → ⊥
@@ -31,7 +27,7 @@ some_piece dialect text pieces h e = grind (arith)
 ends_there : (front piece rest : List ℕ) → AllByRecursion (λ b. b ≢ newline) front → front ++ newline ∷ [] ≡ piece ++ newline ∷ rest
     → rest ≡ []
 ends_there [] [] rest none e = cc
-ends_there [] (b ∷ piece) rest none e = let f : [] ≡ piece ++ newline ∷ rest = cc in absurd (not_empty piece rest (sym f))
+ends_there [] (b ∷ piece) rest none e = let f : [] ≡ piece ++ newline ∷ rest = cc in absurd (no_newline piece rest (sym f))
 ends_there (b ∷ front) [] rest none e = let f : b ≡ newline = cc in absurd (none.0 f)
 ends_there (b ∷ front) (x ∷ piece) rest none e = ends_there front piece rest none.1 (cc)
 
