@@ -9,9 +9,7 @@ use Rattle.std.proofs.lemmas.Grind.{flat_map-append}
 use Rattle.std.proofs.lemmas.List.{take_rest}
 use Rattle.std.proofs.lemmas.Result.{MatchResult-weaker}
 use Rattle.lp_rebuild.specs.declared.program.RunFault.{RunFault}
-use Rattle.influxdb_line_protocol.specs.format.Bytes.{newline}
-use Rattle.influxdb_line_protocol.specs.format.Dialects.{Dialect}
-use Rattle.influxdb_line_protocol.specs.format.Pieces.{IsLastPiece, Pieces}
+use Rattle.influxdb_line_protocol.specs.format.Pieces.{Pieces}
 use Rattle.influxdb_line_protocol.specs.code.Bounded.{CutsTo, GivesOf, HeldWithin, Holds, IsLastOf}
 use Rattle.influxdb_line_protocol.specs.code.Rules.{rules_of}
 use Rattle.influxdb_line_protocol.specs.laws.Laws.{PiecesExist}

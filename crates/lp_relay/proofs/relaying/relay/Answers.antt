@@ -1,11 +1,12 @@
-use Rattle.std.proofs.Common.{◌≡◌, ◌+◌, ◌++◌, ◌∙◌, [], ap, length, refl, subst, sym, take, arith}
+use Rattle.std.proofs.Common.{◌≡◌, ◌+◌, ◌++◌, ◌∙◌, [], Err, ap, length, refl, subst, sym, take, arith}
 use Rattle.std.specs.Io.KnownBytes.{Consumes}
 use Rattle.std.proofs.KnownBytes.{Consumes-nil, Consumes-trans, Consumes-whole}
+use Rattle.lp_rebuild.specs.declared.program.RunFault.TheVariants.{OutOfMemory}
 use Rattle.lp_relay.specs.RelaySteps.{items_before}
 use Rattle.lp_relay.specs.Relays.{RelaysFronts}
 use Rattle.lp_relay.specs.Writers.{bytes_of}
 use Rattle.lp_relay.proofs.RelaysSoFar.{fronts_so_far, read_none, so_far_all, so_far_none, some_so_far}
-use Rattle.lp_relay.proofs.RelayEnds.{ended, handed_on, none_twice, read_fault, write_fault}
+use Rattle.lp_relay.proofs.RelayEnds.{ended, failed, none_twice, read_fault, write_fault}
 use Rattle.lp_relay.proofs.relaying.relay.Goals as goal
 
 pub loop-init : goal.loop-init
@@ -34,24 +35,24 @@ loop-init g c =
 pub returns-in_err-n : goal.returns-in_err-n
 returns-in_err-n g c =
     let h = c.loop.invariant in
-    handed_on _ c.from_residual.result c.in_err-n.field-0.0 _ _ _ _ c.from_residual.ensures.1
-    (read_fault c.utf8_by_pieces.ensures c.pieces_join.ensures.one _ c.in_err-n.field-0.0 _ _ _ _ _
+    failed c.utf8_by_pieces.ensures c.pieces_join.ensures.one _ c.from_residual.result _ _ _ _ c.from_residual.ensures.0
     (fronts_so_far c.pieces_join.ensures.some c.runs_give_pieces.ensures.runs _ _ _ h.so_far.0 _ _ h.so_far.1
     (some_so_far _ _ _ _ _ h.so_far.2.2))
-    c.in_err-n.ensures.counts h.reader_unfailed h.unfailed)
+    (read_fault _ c.in_err-n.field-0.0 _ _ _ _ _ c.from_residual.ensures.1 c.in_err-n.ensures.counts h.reader_unfailed h.unfailed)
 
 pub returns-in_err-finish : goal.returns-in_err-finish
 returns-in_err-finish g c =
     let h = c.loop.invariant in
     let read = c.in_ok-n.ensures in
-    handed_on _ c.from_residual-in_err-finish.result c.in_err-finish.field-0.0 _ _ _ _ c.from_residual-in_err-finish.ensures.1
-    (write_fault c.utf8_by_pieces.ensures c.pieces_join.ensures.one _ c.in_err-finish.field-0.0 _ _ _ _ _
+    failed c.utf8_by_pieces.ensures c.pieces_join.ensures.one _ c.from_residual-in_err-finish.result _ _ _ _
+    c.from_residual-in_err-finish.ensures.0
     (Consumes-whole _ _ h.so_far.0
     (λ bs. RelaysFronts c.args.settings bs (bytes_of (g.O.ThreeWriters.told c.args.outputs.now))
     (bytes_of (g.O.ThreeWriters.told c.finish.new.outputs)))
     (read_none _ _ _ _ _ c.in_ok-n.n c.if-n-eq0.true h.so_far.1 read.ok) (read.end c.if-n-eq0.true)
     (c.in_err-finish.ensures.relays h.so_far.0 _ h.so_far.2))
-    c.in_err-finish.ensures.counts h.unfailed (read.counts ∙ h.reader_unfailed))
+    (write_fault _ c.in_err-finish.field-0.0 _ _ _ _ _ c.from_residual-in_err-finish.ensures.1 c.in_err-finish.ensures.counts h.unfailed
+    (read.counts ∙ h.reader_unfailed))
 
 pub returns-then-n-eq0 : goal.returns-then-n-eq0
 returns-then-n-eq0 g c =
@@ -70,14 +71,15 @@ pub returns-in_err-relay_part : goal.returns-in_err-relay_part
 returns-in_err-relay_part g c =
     let h = c.loop.invariant in
     let read = c.in_ok-n.ensures in
-    handed_on _ c.from_residual-in_err-relay_part.result c.in_err-relay_part.field-0.0 _ _ _ _ c.from_residual-in_err-relay_part.ensures.1
-    (write_fault c.utf8_by_pieces.ensures c.pieces_join.ensures.one _ c.in_err-relay_part.field-0.0 _ _ _ _ _
+    failed c.utf8_by_pieces.ensures c.pieces_join.ensures.one _ c.from_residual-in_err-relay_part.result _ _ _ _
+    c.from_residual-in_err-relay_part.ensures.0
     (fronts_so_far c.pieces_join.ensures.some c.runs_give_pieces.ensures.runs _ _ _ _ _ _
     (Consumes-trans _ _ _ h.so_far.0 _ h.so_far.1
     (subst (λ bs. Consumes (g.R.Source.bytes c.loop.reader) (g.R.Source.bytes c.read_block.new.reader) (take c.in_ok-n.n bs))
     (sym c.deref.ensures.value) read.ok))
     (c.in_err-relay_part.ensures.relays h.so_far.0 _ h.so_far.2))
-    c.in_err-relay_part.ensures.counts h.unfailed (read.counts ∙ h.reader_unfailed))
+    (write_fault _ c.in_err-relay_part.field-0.0 _ _ _ _ _ c.from_residual-in_err-relay_part.ensures.1 c.in_err-relay_part.ensures.counts
+    h.unfailed (read.counts ∙ h.reader_unfailed))
 
 pub loop-preserved : goal.loop-preserved
 loop-preserved g c =
@@ -101,7 +103,7 @@ loop-preserved g c =
 pub returns : goal.returns
 returns g c =
     let h = c.loop.invariant in
-    read_fault c.utf8_by_pieces.ensures c.pieces_join.ensures.one _ _ _ _ _ _ _
+    failed c.utf8_by_pieces.ensures c.pieces_join.ensures.one _ (Err OutOfMemory) _ _ _ _ refl
     (fronts_so_far c.pieces_join.ensures.some c.runs_give_pieces.ensures.runs _ _ _ h.so_far.0 _ _ h.so_far.1
     (some_so_far _ _ _ _ _ h.so_far.2.2))
-    refl h.reader_unfailed h.unfailed
+    (read_fault (Err OutOfMemory) OutOfMemory _ _ _ _ _ refl refl h.reader_unfailed h.unfailed)
