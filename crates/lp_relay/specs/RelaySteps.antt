@@ -297,16 +297,11 @@ abbrev pub RelaysLines : Settings → (bytes : List ℕ) → Result ℕ RunFault
 RelaysLines s bytes result old new = (given : List ℕ) (before : Told) → SoFar s given [] before old
     → MatchResult result (λ taken. SoFar s (given ++ take taken bytes) [] before new) (λ _. SomeSoFar s (given ++ bytes) before new.told)
 
--- whatever came before, so many bytes of a part were given too, and all pieces that a newline ends then were relayed
-abbrev pub RelaysFront : Settings → (part : List ℕ) → Result ℕ RunFault → (stream stream_after : HeldWithin) → (old new : Stage) → Type 0
-RelaysFront s part result stream stream_after old new = (given : List ℕ) (before : Told) → SoFarBy s given stream before old
-    → MatchResult result (λ n. SoFarBy s (given ++ take n part) stream_after before new) (λ _. SomeSoFar s (given ++ part) before new.told)
-
--- the same of all of the part
-abbrev pub RelaysPart : Settings → (part : List ℕ) → Result (Unit {0}) RunFault → (stream stream_after : HeldWithin) → (old new : Stage)
-    → Type 0
-RelaysPart s part result stream stream_after old new = (given : List ℕ) (before : Told) → SoFarBy s given stream before old
-    → MatchResult result (λ _. SoFarBy s (given ++ part) stream_after before new) (λ _. SomeSoFar s (given ++ part) before new.told)
+-- whatever came before, so much of a part was given too, and all pieces that a newline ends then were relayed
+abbrev pub RelaysPart : {T : Type 0} → Settings → (part : List ℕ) → Result T RunFault → (taken : T → List ℕ)
+    → (stream stream_after : HeldWithin) → (old new : Stage) → Type 0
+RelaysPart s part result taken stream stream_after old new = (given : List ℕ) (before : Told) → SoFarBy s given stream before old
+    → MatchResult result (λ x. SoFarBy s (given ++ taken x) stream_after before new) (λ _. SomeSoFar s (given ++ part) before new.told)
 
 -- whatever came before, the last piece was relayed, and that is the end
 abbrev pub RelaysLast : Settings → Result (Unit {0}) RunFault → (stream : HeldWithin) → (old new : Stage) → Type 0

@@ -3,7 +3,7 @@ ghost use Rattle.std.specs.Prelude.{◌≡◌, ◌≢◌, ◌+◌, ◌<◌, ◌�
 ghost use Rattle.std.specs.List.{All};
 ghost use Rattle.influxdb_line_protocol.specs.format.Bytes.{newline};
 ghost use Rattle.influxdb_line_protocol.specs.code.Bounded.{most_given};
-ghost use Rattle.lp_relay.specs.RelaySteps.{HoldsLess, HoldsNone, IsReady, RelaysFirst, RelaysFront, RelaysLast, RelaysLines};
+ghost use Rattle.lp_relay.specs.RelaySteps.{HoldsLess, HoldsNone, IsReady, RelaysFirst, RelaysLast, RelaysLines};
 ghost use Rattle.lp_relay.specs.RelaySteps.{RelaysPart, Writes, counted, stage_of};
 ghost use Rattle.lp_relay.specs.Relays.{Relays};
 ghost use Rattle.lp_relay.specs.Writers.{AreFlushed, CountsWriteFault};
@@ -113,7 +113,7 @@ fn relay_pieces<O: ThreeWriters>(
 ) -> Result<(), RunFault>
     requires ready { IsReady settings stream.old pending.old }
     ensures ready { OnOk result (IsReady settings.entry stream.new pending.new) }
-    ensures relays { RelaysPart settings.entry part.now result stream.old stream.new
+    ensures relays { RelaysPart settings.entry part.now result (λ _. part.now) stream.old stream.new
         (stage_of pending.old (O.told outputs.old)) (stage_of pending.new (O.told outputs.new)) }
     ensures counts { CountsWriteFault result (O.told outputs.old) (O.told outputs.new) }
 {
@@ -189,7 +189,7 @@ fn relay_begun<O: ThreeWriters>(
     requires ready { IsReady settings stream.old pending.old }
     ensures within { IfOk result (λ given. given ≤ length part.now) }
     ensures ready { OnOk result (IsReady settings.entry stream.new pending.new) }
-    ensures relays { RelaysFront settings.entry part.now result stream.old stream.new
+    ensures relays { RelaysPart settings.entry part.now result (λ n. take n part.now) stream.old stream.new
         (stage_of pending.old (O.told outputs.old)) (stage_of pending.new (O.told outputs.new)) }
     ensures counts { CountsWriteFault result (O.told outputs.old) (O.told outputs.new) }
 {
@@ -219,7 +219,7 @@ fn relay_part<O: ThreeWriters>(
     requires ready { IsReady settings stream.old pending.old }
     requires block { length part.now ≤ BLOCK }
     ensures ready { OnOk result (IsReady settings.entry stream.new pending.new) }
-    ensures relays { RelaysPart settings.entry part.now result stream.old stream.new
+    ensures relays { RelaysPart settings.entry part.now result (λ _. part.now) stream.old stream.new
         (stage_of pending.old (O.told outputs.old)) (stage_of pending.new (O.told outputs.new)) }
     ensures none { OnOk result (HoldsNone pending.new) }
     ensures counts { CountsWriteFault result (O.told outputs.old) (O.told outputs.new) }
