@@ -1,9 +1,8 @@
 -- Lines that go out only if they are as they would be written.
-use Rattle.std.proofs.Common.{◌≡◌, ◌≢◌, ◌-◌, ℕ, false, true, List, [], ◌∷◌, ◌++◌, length, take, drop, string_bytes}
-use Rattle.std.proofs.Common.{None, Option, Some, Result, Ok, append-nil, refl, sym, ap, subst, ◌∙◌, arith, inl, inr}
+use Rattle.std.proofs.Common.{◌≡◌, ◌≢◌, ℕ, false, true, List, [], ◌∷◌, ◌++◌, length, take, drop, string_bytes}
+use Rattle.std.proofs.Common.{None, Option, Some, Result, Ok, append-nil, refl, sym, ap, subst, ◌∙◌, inl, inr}
 use Rattle.std.proofs.Math.Seq.{drop-append_seam, take-append_seam}
 use Rattle.std.proofs.lemmas.Bool.{cases_Bool}
-use Rattle.std.proofs.lemmas.List.{length-drop, take_all}
 use Rattle.std.proofs.lemmas.Slice.Eq.{bytes_eq-Decides}
 use Rattle.std.specs.Str.{bytes_eq}
 use Rattle.influxdb_line_protocol.specs.format.Bytes.{newline}
@@ -76,10 +75,6 @@ pub no_refusal : (before after : List ℕ) (refusal : Option LineRefusal) (a : R
     → TakesLine before refusal a after → TakesLine before None a after
 no_refusal before after None a none t = t
 no_refusal before after (Some r) a none t = absurd (none r refl)
-
--- what follows the first bytes of a list
-pub rest_is : (n : ℕ) (l : List ℕ) → take (length l - n) (drop n l) ≡ drop n l
-rest_is n l = take_all (length l - n) (drop n l) (omega (arith, length-drop n l))
 
 -- a line that is not as written was written again, to find the part in which it differs, and taken back
 pub takes_differing : (dialect : Dialect) (piece text before mid after : List ℕ) (start : ℕ) (part : Part) (wrong : _)

@@ -5,7 +5,7 @@ use Rattle.std.proofs.lemmas.List.{append_cancel_right, length-take-le, take-app
 use Rattle.std.proofs.lemmas.List.Folds.{drop_split}
 use Rattle.std.proofs.Math.Seq.{take-append-add}
 use Rattle.influxdb_line_protocol.specs.format.Dialects.{Dialect}
-use Rattle.influxdb_line_protocol.specs.format.Pieces.{Pieces, Pieces.cut, Pieces.last}
+use Rattle.influxdb_line_protocol.specs.format.Pieces.{IsLastPiece, Pieces, Pieces.cut, Pieces.last}
 use Rattle.influxdb_line_protocol.specs.laws.Laws.{PiecesExist, PiecesAreUnique}
 use Rattle.lp_relay.specs.Cuts.{IsCutAt}
 use Rattle.influxdb_line_protocol.specs.format.Bytes.{newline}
@@ -31,19 +31,22 @@ first_piece : (dialect : Dialect) (text : List ℕ) (pieces : List (List ℕ)) �
 first_piece dialect text pieces h = grind (arith)
 
 -- no text with a newline is empty
-holds_newline : (u t : List ℕ) → u ++ newline ∷ t ≡ [] → ⊥
-holds_newline [] t e = absurd (cc)
-holds_newline (b ∷ u) t e = absurd (cc)
+pub no_newline : (u t : List ℕ) → u ++ newline ∷ t ≡ [] → ⊥
+no_newline [] t e = absurd (cc)
+no_newline (b ∷ u) t e = absurd (cc)
 
--- a text of no bytes is one piece of none
-nothing_has : (dialect : Dialect) (text : List ℕ) (pieces : List (List ℕ)) → text ≡ [] → Pieces dialect text pieces → pieces ≡ [] ∷ []
-nothing_has dialect text pieces e h = grind (arith, holds_newline)
+-- an empty text is its own last piece
+nothing_is_last : (dialect : Dialect) (text : List ℕ) (pieces : List (List ℕ)) → text ≡ [] → Pieces dialect text pieces
+    → IsLastPiece dialect text
+nothing_is_last dialect text pieces e h = grind (arith, no_newline)
+
+-- so no bytes are one piece
+pub none_is_last : PiecesExist → (dialect : Dialect) → IsLastPiece dialect []
+none_is_last exist dialect = let p = exist dialect [] in nothing_is_last dialect [] p.0 refl p.1
 
 -- an empty text is one empty piece
 pub nothing_is_piece : PiecesExist → (dialect : Dialect) → Pieces dialect [] ([] ∷ [])
-nothing_is_piece exist dialect =
-    let p = exist dialect [] in
-    subst (Pieces dialect []) (nothing_has dialect [] p.0 refl p.1) p.1
+nothing_is_piece exist dialect = last [] (none_is_last exist dialect)
 
 -- the pieces of a text that ends with a newline that ends a piece, and those of a text after it, are joined
 pub pieces_joined : (dialect : Dialect) (u t : List ℕ) (us fs ts : List (List ℕ)) → us ≡ fs ++ [] ∷ [] → Pieces dialect u us

@@ -4,7 +4,7 @@ use Rattle.lp_relay.specs.declared.taking.Numbering.{Numbering}
 use Rattle.lp_relay.specs.declared.taking.Numbering.TheVariants as named
 use Rattle.lp_relay.specs.declared.taking.Settings.{Settings}
 use Rattle.lp_relay.specs.declared.telling.Place.{Place}
-use Rattle.lp_relay.specs.FaultsTold.{after_piece, first_item, first_place, told_faults, told_from, told_piece}
+use Rattle.lp_relay.specs.FaultsTold.{after_piece, first_item, first_place, told_from, told_piece}
 use Rattle.lp_relay.specs.RelaySteps.{items_before, next_place, place_past, unwritten_of_none}
 
 -- the place after pieces and others
@@ -30,7 +30,3 @@ first_number named.Lines first = refl
 -- before the first item, the next place is the first
 pub first_is : (s : Settings) → next_place s (unwritten_of_none s) ≡ first_place s
 first_is s = ap (λ (n : ℕ). record (first_place s) { number = n }) (first_number s.numbering s.first)
-
--- so what is told from there on is what is told of all
-pub told_all : (s : Settings) (pieces : List (List ℕ)) → told_from s (next_place s (unwritten_of_none s)) pieces ≡ told_faults s pieces
-told_all s pieces = ap (λ (place : Place). told_from s place pieces) (first_is s)

@@ -3,13 +3,14 @@ use Rattle.std.proofs.Common.{◌≡◌, ℕ, ◌+◌, ◌<◌, List, [], ◌∷
 use Rattle.std.proofs.Common.{IsErrAnd, ◌∙◌, ap, subst, sym, refl, append_assoc, append-nil, arith}
 use Rattle.std.specs.Borrow.{Bor}
 use Rattle.std.proofs.lemmas.List.{drop-drop, drop_all}
+use Rattle.std.proofs.lemmas.Option.{IfSome_then}
 use Rattle.influxdb_line_protocol.specs.laws.Laws.{PiecesExist}
 use Rattle.influxdb_line_protocol.specs.code.Rules.{rules_of}
 use Rattle.lp_rebuild.specs.declared.program.RunFault.{RunFault}
 use Rattle.lp_rebuild.specs.declared.program.RunFault.TheVariants.{Read}
 use Rattle.lp_relay.specs.declared.relaying.Relayed.{Relayed}
 use Rattle.lp_relay.specs.declared.taking.Settings.{Settings}
-use Rattle.lp_relay.specs.Inputs.{AddsUp, Input, InputsTold, RelaysEach, RelaysEach.none, RelaysEach.more, RelaysInputs, RelaysNext, RelaysUpTo, TellsFaults}
+use Rattle.lp_relay.specs.Inputs.{AddsUp, Input, InputsTold, RelaysEach, RelaysEach.none, RelaysEach.more, RelaysInputs, RelaysNext, TellsFaults}
 use Rattle.lp_relay.specs.Inputs.{are_several, inputs_of, next_text, nothing_relayed, settings_after, settings_for, settings_past}
 use Rattle.lp_relay.specs.Relays.{RelaysAll, RelaysFronts}
 use Rattle.lp_relay.specs.Writers.{AreFlushed, CountsNone, Known, Told, bytes_of, failures_of}
@@ -86,34 +87,6 @@ settings_then : (s : Settings) (done : List Input) (input : Input) (total : Rela
 settings_then s [] input total = refl
 settings_then s (first ∷ done) input total = refl
 
--- one input more
-texts_more : (s : Settings) (names : List (Bor (List ℕ))) (name : Bor (List ℕ)) (taken : ℕ)
-    (start left left_after : Option (List (List ℕ))) (a b c : Known) (so_far counts total : Relayed) (now now_after : Settings)
-    → drop taken names ≡ name ∷ drop (taken + 1) names
-    → IfSome start (λ texts. RelayedTexts s names texts taken a b so_far now left)
-    → IfSome left (λ texts. (left_after ≡ Some (drop 1 texts))
-    × RelaysAll (settings_for (are_several names) name now) (next_text texts) counts b c)
-    → AddsUp so_far counts total → now_after ≡ settings_after s total
-    → IfSome start (λ texts. RelayedTexts s names texts (taken + 1) a c total now_after left_after)
-texts_more s names name taken None left left_after a b c so_far counts total now now_after first h n sum is = tt
-texts_more s names name taken (Some texts) left left_after a b c so_far counts total now now_after first h n sum is =
-    let left_is = h.left_is in
-    let read : (left_after ≡ Some (drop 1 (drop taken texts)))
-    × RelaysAll (settings_for (are_several names) name now) (next_text (drop taken texts)) counts b c =
-    subst (λ l. IfSome l (λ texts. (left_after ≡ Some (drop 1 texts))
-    × RelaysAll (settings_for (are_several names) name now) (next_text texts) counts b c)) left_is n in
-    let input : Input = record { name = name; text = next_text (drop taken texts) } in
-    record {
-      done = h.done ++ input ∷ [];
-      left_is = read.0 ∙ ap Some (drop-drop 1 taken texts);
-      are = h.are ∙ ap (λ l. h.done ++ inputs_of l (drop taken texts)) first
-          ∙ ap (λ t. h.done ++ input ∷ inputs_of (drop (taken + 1) names) t) (drop-drop 1 taken texts)
-          ∙ sym (append_assoc h.done (input ∷ []) (inputs_of (drop (taken + 1) names) (drop (taken + 1) texts)));
-      each = more h.done so_far counts total input b c h.each
-          (subst (λ t. RelaysAll (settings_for (are_several names) name t) (next_text (drop taken texts)) counts b c) h.now_is read.1) sum;
-      now_is = is ∙ settings_then s h.done input total;
-    }
-
 -- no count of failures has changed
 none_failed : (counts : Relayed) (f f1 : ℕ) (a b : Told) → TellsFaults (Ok counts) f f1 a b
     → (f1 ≡ f) × CountsNone (failures_of a) (failures_of b)
@@ -134,35 +107,29 @@ pub inputs_more : (s : Settings) (names : List (Bor (List ℕ))) (name : Bor (Li
     → RelayedSoFar s names taken inputs mid a b so_far now → RelaysNext own (Ok counts) mid after b c
     → AddsUp so_far counts total → now_after ≡ settings_after s total
     → RelayedSoFar s names (taken + 1) inputs after a c total now_after
-inputs_more s names name taken inputs mid after a b c so_far counts total own now now_after first own_is h q sum is =
-    let n = subst (λ t. RelaysNext t (Ok counts) mid after b c) own_is q in
-    let none = none_failed counts mid.failures after.failures b c n.faults in
+inputs_more s names name taken inputs mid after a b c so_far counts total own now now_after first own_is h next sum is =
+    let none = none_failed counts mid.failures after.failures b c next.faults in
     record {
-      texts = texts_more s names name taken inputs.left mid.left after.left _ _ _ so_far counts total now now_after first h.texts n.all sum is;
-      flushed = λ some. n.flushed;
+      texts = IfSome_then inputs.left h.texts
+          (λ texts t.
+          let input : Input = record { name = name; text = next_text (drop taken texts) } in
+          let read = subst
+          (λ l. IfSome l (λ xs. (after.left ≡ Some (drop 1 xs)) × RelaysAll own (next_text xs) counts (bytes_of b) (bytes_of c)))
+          t.left_is next.all in
+          record {
+            done = t.done ++ input ∷ [];
+            left_is = read.0 ∙ ap Some (drop-drop 1 taken texts);
+            are = t.are ∙ ap (λ l. t.done ++ inputs_of l (drop taken texts)) first
+                ∙ ap (λ l. t.done ++ input ∷ inputs_of (drop (taken + 1) names) l) (drop-drop 1 taken texts)
+                ∙ sym (append_assoc t.done (input ∷ []) (inputs_of (drop (taken + 1) names) (drop (taken + 1) texts)));
+            each = more t.done so_far counts total input (bytes_of b) (bytes_of c) t.each
+                (subst (λ k. RelaysAll k (next_text (drop taken texts)) counts (bytes_of b) (bytes_of c))
+                (own_is ∙ ap (settings_for (are_several names) name) t.now_is) read.1) sum;
+            now_is = is ∙ settings_then s t.done input total;
+          });
+      flushed = λ some. next.flushed;
       unread = none.0 ∙ h.unread;
       unfailed = none_twice _ _ _ h.unfailed none.1;
-    }
-
--- a front of the next input was written
-texts_some : (s : Settings) (names : List (Bor (List ℕ))) (name : Bor (List ℕ)) (taken : ℕ) (start left : Option (List (List ℕ)))
-    (a b c : Known) (so_far : Relayed) (now : Settings) → drop taken names ≡ name ∷ drop (taken + 1) names
-    → IfSome start (λ texts. RelayedTexts s names texts taken a b so_far now left)
-    → IfSome left (λ texts. RelaysFronts (settings_for (are_several names) name now) (next_text texts) b c)
-    → IfSome start (λ texts. RelaysUpTo s (are_several names) (inputs_of names texts) a c)
-texts_some s names name taken None left a b c so_far now first h n = tt
-texts_some s names name taken (Some texts) left a b c so_far now first h n =
-    let fronts : RelaysFronts (settings_for (are_several names) name now) (next_text (drop taken texts)) b c =
-    subst (λ l. IfSome l (λ texts. RelaysFronts (settings_for (are_several names) name now) (next_text texts) b c)) h.left_is n in
-    record {
-      done = h.done;
-      input = record { name = name; text = next_text (drop taken texts) };
-      others = inputs_of (drop (taken + 1) names) (drop 1 (drop taken texts));
-      are = h.are ∙ ap (λ l. h.done ++ inputs_of l (drop taken texts)) first;
-      so_far = so_far;
-      mid = b;
-      each = h.each;
-      fronts = subst (λ t. RelaysFronts (settings_for (are_several names) name t) (next_text (drop taken texts)) b c) h.now_is fronts;
     }
 
 -- the next input was relayed with a fault, which was handed on
@@ -172,29 +139,28 @@ pub inputs_failed : (s : Settings) (names : List (Bor (List ℕ))) (name : Bor (
     → own ≡ settings_for (are_several names) name now
     → RelayedSoFar s names taken inputs mid a b so_far now → RelaysNext own (Err fault) mid after b c
     → RelaysInputs s names result inputs after a c
-inputs_failed s names name taken (Ok counts) fault inputs mid after a b c so_far own now failed first own_is h q = absurd failed
-inputs_failed s names name taken (Err e) fault inputs mid after a b c so_far own now failed first own_is h q =
-    let n = subst (λ t. RelaysNext t (Err fault) mid after b c) own_is q in
+inputs_failed s names name taken (Ok counts) fault inputs mid after a b c so_far own now failed first own_is h next = absurd failed
+inputs_failed s names name taken (Err e) fault inputs mid after a b c so_far own now failed first own_is h next =
     record {
       all = tt;
       flushed = tt;
-      part = texts_some s names name taken inputs.left mid.left _ _ _ so_far now first h.texts n.part;
+      part = IfSome_then inputs.left h.texts
+          (λ texts t.
+          record {
+            done = t.done;
+            input = record { name = name; text = next_text (drop taken texts) };
+            others = inputs_of (drop (taken + 1) names) (drop 1 (drop taken texts));
+            are = t.are ∙ ap (λ l. t.done ++ inputs_of l (drop taken texts)) first;
+            so_far = so_far;
+            mid = bytes_of b;
+            each = t.each;
+            fronts = subst (λ k. RelaysFronts k (next_text (drop taken texts)) (bytes_of b) (bytes_of c))
+                (own_is ∙ ap (settings_for (are_several names) name) t.now_is)
+                (subst (λ l. IfSome l (λ xs. RelaysFronts own (next_text xs) (bytes_of b) (bytes_of c))) t.left_is next.part);
+          });
       faults = subst (λ (f : RunFault). TellsFaults (Err f) inputs.failures after.failures a c) (sym failed)
-          (faults_on (Err fault) _ _ _ a b c h.unread h.unfailed n.faults);
+          (faults_on (Err fault) _ _ _ a b c h.unread h.unfailed next.faults);
     }
-
--- all were relayed
-texts_all : (s : Settings) (names : List (Bor (List ℕ))) (taken : ℕ) (start left : Option (List (List ℕ))) (a b : Known)
-    (total : Relayed) (now : Settings) → taken ≡ length names
-    → IfSome start (λ texts. RelayedTexts s names texts taken a b total now left)
-    → IfSome start (λ texts. (left ≡ Some (drop (length names) texts)) × RelaysEach s (are_several names) a (inputs_of names texts) total b)
-texts_all s names taken None left a b total now end h = tt
-texts_all s names taken (Some texts) left a b total now end h = (
-  h.left_is ∙ ap (λ n. Some (drop n texts)) end,
-  subst (λ l. RelaysEach s (are_several names) a l total b)
-      (sym (h.are ∙ ap (λ l. h.done ++ inputs_of l (drop taken texts)) (drop_all taken names (omega (arith, end))) ∙ append-nil h.done))
-      h.each,
-)
 
 -- no device failed
 none_fail : (total : Relayed) (f f1 : ℕ) (a b : Told) → f1 ≡ f → CountsNone (failures_of a) (failures_of b) → TellsFaults (Ok total) f f1 a b
@@ -206,7 +172,13 @@ pub inputs_all : (s : Settings) (names : List (Bor (List ℕ))) (taken : ℕ) (i
     → RelaysInputs s names (Ok total) inputs after a b
 inputs_all s names taken inputs after a b total now end h =
     record {
-      all = texts_all s names taken inputs.left after.left _ _ total now end h.texts;
+      all = IfSome_then inputs.left h.texts
+          (λ texts t. (
+            t.left_is ∙ ap (λ n. Some (drop n texts)) end,
+            subst (λ l. RelaysEach s (are_several names) (bytes_of a) l total (bytes_of b))
+                (sym (t.are ∙ ap (λ l. t.done ++ inputs_of l (drop taken texts)) (drop_all taken names (omega (arith, end))) ∙ append-nil t.done))
+                t.each,
+          ));
       flushed = λ some. h.flushed (omega (arith, end, some));
       part = tt;
       faults = none_fail total _ _ a b h.unread h.unfailed;

@@ -13,7 +13,6 @@ pub mod ToldLemmas
 pub mod JsonTexts
 pub mod RefusalLemmas
 pub mod OneLine
-pub mod RelayPieces
 pub mod WholeLines
 pub mod RelaysSoFar
 pub mod RelaysOfText

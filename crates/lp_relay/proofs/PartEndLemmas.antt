@@ -84,21 +84,23 @@ cuts_from dialect text start (at ∷ ats) within each low rise =
     )
 
 -- all were found, but for the last
-pub ends_all : (dialect : Dialect) (text : List ℕ) (count : ℕ) (ends : List ℕ) (at : ℕ) → EndsSoFar dialect text count ends at
-    → at ≤ length text → length ends ≡ count - 1 → ArePartEnds dialect text count (ends ++ length text ∷ [])
-ends_all dialect text count ends at so_far within is =
-    record {
+pub ends_all : (dialect : Dialect) (text : List ℕ) (count : ℕ) (ends all : List ℕ) (at : ℕ) → EndsSoFar dialect text count ends at
+    → at ≤ length text → length ends ≡ count - 1 → all ≡ ends ++ length text ∷ [] → ArePartEnds dialect text count all
+ends_all dialect text count ends all at so_far within is are =
+    subst (λ (l : List ℕ). ArePartEnds dialect text count l) (sym are)
+    (record {
       cuts = ends;
       are = refl;
       count_is = is;
       each = so_far.each;
       rise = IsNonDecreasingBy-push (λ x. x) ends (length text) so_far.rise
           (λ d some. omega (arith, so_far.below (length ends - 1) d (omega arith)));
-    }
+    })
 
 -- then the parts have the pieces of the text
-pub ends_join : PiecesExist → PiecesAreUnique → (dialect : Dialect) (text : List ℕ) (count : ℕ) (ends : List ℕ) (at : ℕ)
-    → EndsSoFar dialect text count ends at → JoinsPieces dialect text (parts_from 0 text (ends ++ length text ∷ []))
-ends_join exist unique dialect text count ends at so_far =
-    parts_after exist unique dialect text 0 ends (start_is_cut exist dialect text)
-    (cuts_from dialect text 0 ends (omega arith) (λ k h. (so_far.each k h).is_cut) (λ k h. omega arith) so_far.rise)
+pub ends_join : PiecesExist → PiecesAreUnique → (dialect : Dialect) (text : List ℕ) (count : ℕ) (ends all : List ℕ) (at : ℕ)
+    → EndsSoFar dialect text count ends at → all ≡ ends ++ length text ∷ [] → JoinsPieces dialect text (parts_from 0 text all)
+ends_join exist unique dialect text count ends all at so_far are =
+    subst (λ (l : List ℕ). JoinsPieces dialect text (parts_from 0 text l)) (sym are)
+    (parts_after exist unique dialect text 0 ends (start_is_cut exist dialect text)
+    (cuts_from dialect text 0 ends (omega arith) (λ k h. (so_far.each k h).is_cut) (λ k h. omega arith) so_far.rise))

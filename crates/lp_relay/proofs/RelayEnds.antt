@@ -1,32 +1,17 @@
 -- How a relay ends.
-use Rattle.std.proofs.Common.{◌≡◌, ℕ, ◌<◌, ◌⊎◌, ◌≤◌, List, [], Option, Some, None, IfSome, Result, Ok, Err, IsErrAnd}
+use Rattle.std.proofs.Common.{◌≡◌, ℕ, ◌<◌, ◌⊎◌, ◌≤◌, [], Some, IfSome, Result, Ok, Err, IsErr, IsErrAnd}
 use Rattle.std.proofs.Common.{arith, ◌∙◌}
+use Rattle.std.proofs.lemmas.Option.{IfSome_then}
 use Rattle.lp_rebuild.specs.declared.program.RunFault.{RunFault}
 use Rattle.lp_relay.specs.declared.taking.Settings.{Settings}
-use Rattle.influxdb_line_protocol.specs.code.Rules.{rules_of}
-use Rattle.lp_relay.specs.Relaying.{limit_of}
 use Rattle.lp_relay.specs.declared.relaying.Relayed.{Relayed}
 use Rattle.lp_rebuild.specs.Running.{CountsReadFault, ReaderTold}
-use Rattle.lp_relay.specs.Writers.{AreFlushed, CountsNone, CountsOne, CountsWriteFault, Known, Told, Writers, bytes_of, failures_of}
-use Rattle.lp_relay.specs.declared.taking.LineForm.TheVariants as going
-use Rattle.lp_relay.specs.Relays.{IfRebuilt, Relays, RelaysAll, RelaysFronts, RelaysRebuilt, RelaysRebuiltFronts}
+use Rattle.lp_relay.specs.Writers.{AreFlushed, CountsNone, CountsOne, CountsWriteFault, Told, Writers, bytes_of, failures_of}
+use Rattle.lp_relay.specs.Inputs.{TellsFaults}
+use Rattle.lp_relay.specs.Relays.{Relays, RelaysAll, RelaysFronts}
 use Rattle.influxdb_line_protocol.specs.laws.Laws.{PiecesAreUnique}
 use Rattle.influxdb_line_protocol.specs.laws.StreamLaws.{Utf8ByPieces}
 use Rattle.lp_relay.proofs.RelaysOfText.{all_rebuilt, fronts_rebuilt}
-
--- a front of what is relayed of bytes that are known is a front of what a rebuild of them gives
-fronts_known : Utf8ByPieces → PiecesAreUnique → (s : Settings) (bytes : Option (List ℕ)) (before after : Known)
-    → s.lines ≡ going.Rebuilt → IfSome bytes (λ bs. RelaysFronts s bs before after)
-    → IfSome bytes (λ bs. IfRebuilt (rules_of s.dialect) (limit_of s.limit) bs (λ r. RelaysRebuiltFronts s r before after))
-fronts_known law unique s None before after again fronts = tt
-fronts_known law unique s (Some bs) before after again fronts = fronts_rebuilt law unique s bs before after again fronts
-
--- what is relayed of bytes that are known is what a rebuild of them gives
-all_known : Utf8ByPieces → PiecesAreUnique → (s : Settings) (counts : Relayed) (bytes left : Option (List ℕ)) (before after : Known)
-    → s.lines ≡ going.Rebuilt → IfSome bytes (λ bs. (left ≡ Some []) × RelaysAll s bs counts before after)
-    → IfSome bytes (λ bs. IfRebuilt (rules_of s.dialect) (limit_of s.limit) bs (λ r. RelaysRebuilt s r counts before after))
-all_known law unique s counts None left before after again all = tt
-all_known law unique s counts (Some bs) left before after again all = all_rebuilt law unique s bs counts before after again all.1
 
 -- counts that are the same have not risen
 none_rose : (old new : Writers ℕ) → CountsNone old new
@@ -49,42 +34,42 @@ one_more old mid new n h = grind (arith)
 pub none_twice : (old mid new : Writers ℕ) → CountsNone old mid → CountsNone mid new → CountsNone old new
 none_twice old mid new n h = record { lines = h.lines ∙ n.lines; faults = h.faults ∙ n.faults; refused = h.refused ∙ n.refused }
 
--- a fault of the reader, or memory that was refused
-pub read_fault : Utf8ByPieces → PiecesAreUnique → (s : Settings)
-    (fault : RunFault) (count : ℕ) (reader reader_after : ReaderTold) (before after : Told)
-    → IfSome reader.bytes (λ bs. RelaysFronts s bs (bytes_of before) (bytes_of after))
-    → CountsReadFault {T = ℕ} (Err fault) count reader_after.failures → count ≡ reader.failures
-    → CountsNone (failures_of before) (failures_of after) → Relays s (Err fault) reader reader_after before after
-read_fault law unique s fault count reader reader_after before after fronts c e n =
-    record {
-      all = tt;
-      flushed = tt;
-      part = fronts;
-      rebuilt = λ again. tt;
-      rebuilt_part = λ again. fronts_known law unique s reader.bytes _ _ again fronts;
-      read = grind (arith);
-      write = grind (arith, none_rose);
-      utf8 = grind (arith);
-      counts = grind (arith);
-    }
+-- which fault is told, if the reader failed or memory was refused
+pub read_fault : (result : Result Relayed RunFault) (fault : RunFault) (start count count_after : ℕ) (before after : Told)
+    → IsErrAnd result (λ e. e ≡ fault) → CountsReadFault {T = ℕ} (Err fault) count count_after → count ≡ start
+    → CountsNone (failures_of before) (failures_of after) → TellsFaults result start count_after before after
+read_fault e fault start count count_after before after is c same n =
+    record { read = grind (arith); write = grind (arith, none_rose); utf8 = grind (arith); counts = grind (arith) }
 
--- a fault of a writer, or memory that was refused
-pub write_fault : Utf8ByPieces → PiecesAreUnique → (s : Settings) (fault : RunFault) (reader reader_after : ReaderTold)
-    (before mid after : Told)
-    → IfSome reader.bytes (λ bs. RelaysFronts s bs (bytes_of before) (bytes_of after))
-    → CountsWriteFault {T = Unit {0}} (Err fault) mid after → CountsNone (failures_of before) (failures_of mid)
-    → reader_after.failures ≡ reader.failures → Relays s (Err fault) reader reader_after before after
-write_fault law unique s fault reader reader_after before mid after fronts c n r =
+-- which one is told, if a writer failed or memory was refused
+pub write_fault : (result : Result Relayed RunFault) (fault : RunFault) (start count : ℕ) (before mid after : Told)
+    → IsErrAnd result (λ e. e ≡ fault) → CountsWriteFault {T = Unit {0}} (Err fault) mid after
+    → CountsNone (failures_of before) (failures_of mid) → count ≡ start → TellsFaults result start count before after
+write_fault e fault start count before mid after is c n same =
     record {
-      all = tt;
-      flushed = tt;
-      part = fronts;
-      rebuilt = λ again. tt;
-      rebuilt_part = λ again. fronts_known law unique s reader.bytes _ _ again fronts;
       read = grind (arith);
       write = grind (arith, one_rose, none_rose, one_more, none_twice);
       utf8 = grind (arith);
       counts = grind (arith, none_fell, one_more, none_twice);
+    }
+
+-- after a fault each writer has a front
+pub failed : Utf8ByPieces → PiecesAreUnique → (s : Settings) (result : Result Relayed RunFault) (reader reader_after : ReaderTold)
+    (before after : Told) → IsErr result → IfSome reader.bytes (λ bs. RelaysFronts s bs (bytes_of before) (bytes_of after))
+    → TellsFaults result reader.failures reader_after.failures before after → Relays s result reader reader_after before after
+failed law unique s (Ok counts) reader reader_after before after is fronts told = absurd (cc)
+failed law unique s (Err fault) reader reader_after before after is fronts told =
+    record {
+      all = tt;
+      flushed = tt;
+      part = fronts;
+      rebuilt = λ again. tt;
+      rebuilt_part = λ again.
+          IfSome_then reader.bytes fronts (λ bs. fronts_rebuilt law unique s bs (bytes_of before) (bytes_of after) again);
+      read = told.read;
+      write = told.write;
+      utf8 = told.utf8;
+      counts = told.counts;
     }
 
 -- all was written
@@ -99,16 +84,11 @@ ended law unique s counts reader reader_after before after all flushed r n =
       all = all;
       flushed = flushed;
       part = tt;
-      rebuilt = λ again. all_known law unique s counts reader.bytes reader_after.bytes _ _ again all;
+      rebuilt = λ again.
+          IfSome_then reader.bytes all (λ bs whole. all_rebuilt law unique s bs counts (bytes_of before) (bytes_of after) again whole.1);
       rebuilt_part = λ again. tt;
       read = grind (arith);
       write = grind (arith, none_rose);
       utf8 = grind (arith);
       counts = grind (arith);
     }
-
--- a fault that was handed on
-pub handed_on : (s : Settings) (result : Result Relayed RunFault) (fault : RunFault)
-    (reader reader_after : ReaderTold) (before after : Told) → IsErrAnd result (λ e. e ≡ fault)
-    → Relays s (Err fault) reader reader_after before after → Relays s result reader reader_after before after
-handed_on s e fault reader reader_after before after is h = grind (arith)

@@ -1,29 +1,37 @@
--- The steps of a relay, one after another.
-use Rattle.std.proofs.Common.{◌≡◌, ◌<◌, ℕ, List, [], ◌∷◌, ◌++◌, length, map, string_bytes}
-use Rattle.std.proofs.Common.{Result, refl, sym, ap, subst, ◌∙◌, arith, append-nil}
-use Rattle.std.proofs.Common.{OnErr}
+-- The steps of a relay: what is made of pieces, one after another, and written.
+use Rattle.std.proofs.Common.{◌≡◌, ◌<◌, ℕ, List, [], ◌∷◌, ◌++◌, length, map}
+use Rattle.std.proofs.Common.{Result, refl, sym, ap, ◌∙◌, arith, append-nil}
+use Rattle.std.proofs.Common.{IsErr, MatchResult}
+use Rattle.std.proofs.lemmas.Result.{MatchResult-from_err}
 use Rattle.std.specs.Borrow.{Bor}
 use Rattle.std.specs.Str.{IsUtf8}
-use Rattle.std.proofs.KnownBytes.{Appends-nil}
+use Rattle.std.proofs.KnownBytes.{Appends-kept, Appends-nil}
+use Rattle.std.proofs.lemmas.Grind.{flat_map-append}
+use Rattle.influxdb_line_protocol.specs.format.Bytes.{newlines_in}
 use Rattle.influxdb_line_protocol.specs.format.Dialects.{Dialect}
 use Rattle.influxdb_line_protocol.specs.format.Readings.{Fault}
 use Rattle.influxdb_line_protocol.specs.format.Lines.{Line, answer}
 use Rattle.influxdb_line_protocol.specs.format.Trimming.{trimmed}
-use Rattle.lp_rebuild.specs.Running.{AppendsFront}
-use Rattle.lp_relay.specs.declared.taking.LineForm.{LineForm}
-use Rattle.lp_relay.specs.Kinds.{kinds_after}
-use Rattle.lp_relay.specs.Relaying.{Item, item_of, items_of_bytes, items_batch}
+use Rattle.influxdb_line_protocol.specs.code.Bounded.{IsLastOf}
+use Rattle.influxdb_line_protocol.specs.code.Rules.{rules_of}
 use Rattle.influxdb_line_protocol.specs.types.PieceTooLong.{PieceTooLong}
-use Rattle.lp_relay.specs.declared.taking.Pending.{Pending}
+use Rattle.lp_relay.specs.declared.taking.LineForm.{LineForm}
 use Rattle.lp_relay.specs.declared.taking.Settings.{Settings}
-use Rattle.lp_relay.specs.RelaySteps.{Passes, RelaysItems, RelaysPart, TakesGiven, Unwritten}
-use Rattle.lp_relay.specs.RelaySteps.{items_given, next_place, refused_given, told_given, unwritten_of}
-use Rattle.lp_relay.specs.Writers.{GainsFronts, Told}
+use Rattle.lp_relay.specs.Kinds.{kinds_after, kinds_of_none}
+use Rattle.lp_relay.specs.Objects.{stop_given, stop_of_piece}
+use Rattle.lp_relay.specs.Relaying.{item_of, items_batch, items_of, items_of_bytes, items_of_piece, refused_piece, refused_pieces}
+use Rattle.lp_relay.specs.Relaying.{carried_items, refused_items}
+use Rattle.lp_relay.specs.declared.telling.Place.{Place}
+use Rattle.lp_relay.specs.FaultsTold.{after_piece, first_place, place_after, told_faults, told_items, told_piece}
+use Rattle.lp_relay.specs.RelaySteps.{HasTaken, HasWritten, Stage, TakesGiven, Unwritten, after_given, items_given, len_given, newlines_given}
+use Rattle.lp_relay.specs.RelaySteps.{next_place, place_past, refused_given, told_given, unwritten_of_none}
+use Rattle.lp_relay.specs.Writers.{GainsFronts, KeepsBytes, Told}
 use Rattle.lp_rebuild.proofs.RebuildLemmas.{blank_answers, piece_answers}
-use Rattle.lp_relay.proofs.PassLemmas.{passes_more, passes_front}
-use Rattle.lp_relay.proofs.ItemLemmas.{batch_append, carried_append, refused_append}
+use Rattle.lp_relay.proofs.PassLemmas.{but_front, but_more, front_none}
+use Rattle.lp_relay.proofs.ItemLemmas.{batch_append, carried_append, item_of_long, items_of_short, items_of_text, items_push}
+use Rattle.lp_relay.proofs.ItemLemmas.{refused_append, refused_long, refused_short, stop_long, stop_short}
+use Rattle.lp_relay.proofs.FaultLines.{first_is, place_append, told_append}
 use Rattle.lp_relay.proofs.KindLemmas.{kinds_of_more, kinds_of_nothing}
-use Rattle.lp_relay.proofs.ItemLemmas.{items_of_text}
 
 -- a blank text has no item
 pub blank_items : (lines : LineForm) (dialect : Dialect) (piece : List ℕ) → IsUtf8 piece → length (trimmed piece) ≡ 0
@@ -38,139 +46,112 @@ text_item lines dialect piece u some =
     items_of_text lines dialect piece u
     ∙ ap (λ (l : List (Result Line Fault)). map (item_of lines piece) l) (piece_answers dialect piece some)
 
--- what was taken is held
-pub relays_taken : (s : Settings) (old new : Unwritten) (a : Told) (result : Result (Bor (List ℕ)) PieceTooLong)
-    → TakesGiven s old result new
-    → RelaysItems old new a a (items_given s result) (told_given s (next_place s old) result) (refused_given s result)
-relays_taken s old new a result t =
+-- the items of a piece that a call gave
+given_items : (s : Settings) (piece : List ℕ) (result : Result (Bor (List ℕ)) PieceTooLong) → IsLastOf s.limit piece result
+    → items_given s result ≡ items_of_piece s piece
+given_items s piece e h = grind (arith, items_of_short, item_of_long)
+
+-- where reading stops in it
+given_stop : (s : Settings) (piece : List ℕ) (result : Result (Bor (List ℕ)) PieceTooLong) → IsLastOf s.limit piece result
+    → stop_given (rules_of s.dialect) result ≡ stop_of_piece s piece
+given_stop s piece e h = grind (arith, stop_short, stop_long)
+
+-- what goes out of it as refused
+given_refused : (s : Settings) (piece : List ℕ) (result : Result (Bor (List ℕ)) PieceTooLong) → IsLastOf s.limit piece result
+    → refused_given s result ≡ refused_piece s piece
+given_refused s piece e h = grind (arith, items_of_short, refused_short, refused_long)
+
+-- how many newlines and bytes it has
+given_size : (s : Settings) (piece : List ℕ) (result : Result (Bor (List ℕ)) PieceTooLong) → IsLastOf s.limit piece result
+    → (newlines_given result ≡ newlines_in piece) × (len_given result ≡ length piece)
+given_size s piece e h = grind (arith)
+
+-- the place after it
+given_place : (s : Settings) (pieces : List (List ℕ)) (piece : List ℕ) (result : Result (Bor (List ℕ)) PieceTooLong) (now next : Place)
+    → IsLastOf s.limit piece result → now ≡ place_past s (first_place s) pieces → next ≡ after_given s now result
+    → next ≡ place_past s (first_place s) (pieces ++ piece ∷ [])
+given_place s pieces piece result now next is place step =
+    let size = given_size s piece result is in
+    step ∙ ap (λ l. place_after now (length l) (newlines_given result) (len_given result)) (given_items s piece result is)
+    ∙ ap (λ n. place_after now (length (items_of_piece s piece)) n (len_given result)) size.0
+    ∙ ap (λ n. place_after now (length (items_of_piece s piece)) (newlines_in piece) n) size.1 ∙ ap (λ q. after_piece s q piece) place
+    ∙ sym (place_append s (first_place s) pieces (piece ∷ []))
+
+-- what is told of pieces and of one more, which a call gave
+given_told : (s : Settings) (pieces : List (List ℕ)) (piece : List ℕ) (result : Result (Bor (List ℕ)) PieceTooLong) (now : Place)
+    → IsLastOf s.limit piece result → now ≡ place_past s (first_place s) pieces
+    → told_faults s (pieces ++ piece ∷ []) ≡ told_faults s pieces ++ told_given s now result
+given_told s pieces piece result now is place =
+    told_append s (first_place s) pieces (piece ∷ [])
+    ∙ ap (λ l. told_faults s pieces ++ l)
+    (append-nil (told_piece s (place_past s (first_place s) pieces) piece) ∙ ap (λ q. told_piece s q piece) (sym place)
+    ∙ ap (λ e. told_items s.faults now e (items_of_piece s piece)) (sym (given_stop s piece result is))
+    ∙ ap (told_items s.faults now (stop_given (rules_of s.dialect) result)) (sym (given_items s piece result is)))
+
+-- before the first piece
+pub taken_none : (s : Settings) (a : Told) → HasTaken s [] a (record { unwritten = unwritten_of_none s; told = a })
+taken_none s a =
     record {
-      batch = ([], Appends-nil a.lines.bytes, t.batch);
-      faults = ([], Appends-nil a.faults.bytes, t.faults);
-      pieces = ([], Appends-nil a.refused.bytes, t.pieces);
-      carried = t.carried;
-      refused = t.refused;
-      kinds = t.kinds;
-    }
-
--- one step, and then another
-pub relays_more : (old mid new : Unwritten) (a b c : Told) (xs ys : List Item) (fs gs ps qs : List ℕ)
-    → RelaysItems old mid a b xs fs ps → RelaysItems mid new b c ys gs qs → RelaysItems old new a c (xs ++ ys) (fs ++ gs) (ps ++ qs)
-relays_more old mid new a b c xs ys fs gs ps qs p q =
-    record {
-      batch = subst (λ l. Passes a.lines.bytes c.lines.bytes old.made.batch l new.made.batch) (sym (batch_append xs ys))
-          (passes_more a.lines.bytes b.lines.bytes c.lines.bytes old.made.batch _ mid.made.batch _ new.made.batch p.batch q.batch);
-      faults = passes_more a.faults.bytes b.faults.bytes c.faults.bytes old.made.faults fs mid.made.faults gs new.made.faults p.faults q.faults;
-      pieces = passes_more a.refused.bytes b.refused.bytes c.refused.bytes old.pieces ps mid.pieces qs new.pieces p.pieces q.pieces;
-      carried = omega (arith, p.carried, q.carried, carried_append xs ys);
-      refused = omega (arith, p.refused, q.refused, refused_append xs ys);
-      kinds = q.kinds ∙ ap (kinds_after ys) p.kinds ∙ kinds_of_more xs ys old.kinds;
-    }
-
--- the same, if the other wrote a beginning
-pub part_more : (old mid : Unwritten) (a b c : Told) (xs ys : List Item) (fs gs ps qs : List ℕ)
-    → RelaysItems old mid a b xs fs ps → RelaysPart mid b c ys gs qs → RelaysPart old a c (xs ++ ys) (fs ++ gs) (ps ++ qs)
-part_more old mid a b c xs ys fs gs ps qs p q =
-    record {
-      batch_left = q.batch_left;
-      faults_left = q.faults_left;
-      pieces_left = q.pieces_left;
-      batch = subst (λ l. Passes a.lines.bytes c.lines.bytes old.made.batch l q.batch_left) (sym (batch_append xs ys))
-          (passes_more a.lines.bytes b.lines.bytes c.lines.bytes old.made.batch _ mid.made.batch _ q.batch_left p.batch q.batch);
-      faults = passes_more a.faults.bytes b.faults.bytes c.faults.bytes old.made.faults fs mid.made.faults gs q.faults_left p.faults q.faults;
-      pieces = passes_more a.refused.bytes b.refused.bytes c.refused.bytes old.pieces ps mid.pieces qs q.pieces_left p.pieces q.pieces;
-    }
-
--- the same items, the same fault lines and the same refused pieces
-pub relays_same : (old new : Unwritten) (a c : Told) (xs ys : List Item) (fs gs ps qs : List ℕ) → xs ≡ ys → fs ≡ gs → ps ≡ qs
-    → RelaysItems old new a c xs fs ps → RelaysItems old new a c ys gs qs
-relays_same old new a c xs ys fs gs ps qs items lines pieces p = grind (arith)
-
--- the same, if a beginning was written
-pub part_same : (old : Unwritten) (a c : Told) (xs ys : List Item) (fs gs ps qs : List ℕ) → xs ≡ ys → fs ≡ gs → ps ≡ qs
-    → RelaysPart old a c xs fs ps → RelaysPart old a c ys gs qs
-part_same old a c xs ys fs gs ps qs items lines pieces p = grind (arith)
-
--- one step, and then what is held was written
-pub relays_then : (old mid new : Unwritten) (a b c : Told) (xs : List Item) (fs ps : List ℕ)
-    → RelaysItems old mid a b xs fs ps → RelaysItems mid new b c [] [] [] → RelaysItems old new a c xs fs ps
-relays_then old mid new a b c xs fs ps p q =
-    relays_same old new a c (xs ++ []) xs (fs ++ []) fs (ps ++ []) ps (append-nil xs) (append-nil fs) (append-nil ps)
-    (relays_more old mid new a b c xs [] fs [] ps [] p q)
-
--- the same, if a beginning of it was written
-pub part_then : (old mid : Unwritten) (a b c : Told) (xs : List Item) (fs ps : List ℕ)
-    → RelaysItems old mid a b xs fs ps → RelaysPart mid b c [] [] [] → RelaysPart old a c xs fs ps
-part_then old mid a b c xs fs ps p q =
-    part_same old a c (xs ++ []) xs (fs ++ []) fs (ps ++ []) ps (append-nil xs) (append-nil fs) (append-nil ps)
-    (part_more old mid a b c xs [] fs [] ps [] p q)
-
--- what is held is a beginning too
-pub part_so_far : (old new : Unwritten) (a b : Told) (xs : List Item) (fs ps : List ℕ) → RelaysItems old new a b xs fs ps
-    → RelaysPart old a b xs fs ps
-part_so_far old new a b xs fs ps p = grind (arith)
-
--- a front of all that is held was written
-pub part_of_fronts : (old : Pending) (a b : Told) (lines faults refused : List ℕ) → lines ≡ old.so_far.batch.items
-    → faults ≡ string_bytes old.so_far.faults → refused ≡ old.pieces.items → GainsFronts a b lines faults refused
-    → RelaysPart (unwritten_of old) a b [] [] []
-part_of_fronts old a b lines faults refused lines_are faults_are refused_are p =
-    let batch = passes_front a.lines.bytes b.lines.bytes _ (subst (AppendsFront a.lines.bytes b.lines.bytes) lines_are p.0) in
-    let told = passes_front a.faults.bytes b.faults.bytes _ (subst (AppendsFront a.faults.bytes b.faults.bytes) faults_are p.1) in
-    let put = passes_front a.refused.bytes b.refused.bytes _
-    (subst (AppendsFront a.refused.bytes b.refused.bytes) refused_are p.2) in
-    record {
-      batch_left = batch.0;
-      faults_left = told.0;
-      pieces_left = put.0;
-      batch = batch.1;
-      faults = told.1;
-      pieces = put.1;
-    }
-
--- nothing was written, whatever is made then
-pub part_of_none : (old : Unwritten) (a : Told) (xs : List Item) (fs ps : List ℕ) → RelaysPart old a a xs fs ps
-part_of_none old a xs fs ps =
-    record {
-      batch_left = old.made.batch ++ items_batch xs;
-      faults_left = old.made.faults ++ fs;
-      pieces_left = old.pieces ++ ps;
-      batch = ([], Appends-nil a.lines.bytes, refl);
+      lines = ([], Appends-nil a.lines.bytes, refl);
       faults = ([], Appends-nil a.faults.bytes, refl);
-      pieces = ([], Appends-nil a.refused.bytes, refl);
-    }
-
--- a piece was taken after items, and then what is held was written
-pub relays_poured : (s : Settings) (old now next poured : Unwritten) (a b c : Told) (xs : List Item) (fs ps : List ℕ)
-    (result : Result (Bor (List ℕ)) PieceTooLong) → RelaysItems old now a b xs fs ps → TakesGiven s now result next
-    → RelaysItems next poured b c [] [] []
-    → RelaysItems old poured a c (xs ++ items_given s result)
-    (fs ++ told_given s (next_place s now) result) (ps ++ refused_given s result)
-relays_poured s old now next poured a b c xs fs ps result p t q =
-    relays_then old next poured a b c _ _ _
-    (relays_more old now next a b b xs _ fs _ ps _ p (relays_taken s now next b result t)) q
-
--- the same, if a beginning of it was written
-pub part_poured : (s : Settings) (old now next : Unwritten) (a b c : Told) (xs : List Item) (fs ps : List ℕ)
-    (result : Result (Bor (List ℕ)) PieceTooLong) → RelaysItems old now a b xs fs ps → TakesGiven s now result next
-    → RelaysPart next b c [] [] []
-    → RelaysPart old a c (xs ++ items_given s result)
-    (fs ++ told_given s (next_place s now) result) (ps ++ refused_given s result)
-part_poured s old now next a b c xs fs ps result p t q =
-    part_then old next a b c _ _ _
-    (relays_more old now next a b b xs _ fs _ ps _ p (relays_taken s now next b result t)) q
-
--- nothing was made so far
-pub relays_none : (old : Unwritten) (a : Told) → RelaysItems old old a a [] [] []
-relays_none old a =
-    record {
-      batch = ([], Appends-nil a.lines.bytes, sym (append-nil old.made.batch));
-      faults = ([], Appends-nil a.faults.bytes, sym (append-nil old.made.faults));
-      pieces = ([], Appends-nil a.refused.bytes, sym (append-nil old.pieces));
+      refused = ([], Appends-nil a.refused.bytes, refl);
       carried = omega arith;
-      refused = omega arith;
-      kinds = sym (kinds_of_nothing old.kinds);
+      refusals = refl;
+      kinds = sym (kinds_of_nothing (kinds_of_none s));
+      place = first_is s;
     }
 
--- a fact at a fault
-pub on_err : {T E P : Type 0} (r : Result T E) → P → OnErr r P
-on_err e h = grind (arith)
+-- one piece more was taken, which a call gave
+pub taken_more : (s : Settings) (pieces : List (List ℕ)) (piece : List ℕ) (result : Result (Bor (List ℕ)) PieceTooLong) (a : Told)
+    (now : Stage) (next : Unwritten) → HasTaken s pieces a now → IsLastOf s.limit piece result → TakesGiven s now.unwritten result next
+    → next_place s next ≡ after_given s (next_place s now.unwritten) result
+    → HasTaken s (pieces ++ piece ∷ []) a (record { unwritten = next; told = now.told })
+taken_more s pieces piece result a now next h is takes start =
+    let items : items_of s (pieces ++ piece ∷ []) ≡ items_of s pieces ++ items_given s result =
+    items_push s pieces piece ∙ ap (λ l. items_of s pieces ++ l) (sym (given_items s piece result is)) in
+    let put : refused_pieces s (pieces ++ piece ∷ []) ≡ refused_pieces s pieces ++ refused_given s result =
+    flat_map-append (refused_piece s) pieces (piece ∷ [])
+    ∙ ap (λ l. refused_pieces s pieces ++ l) (append-nil (refused_piece s piece) ∙ sym (given_refused s piece result is)) in
+    record {
+      lines = but_more _ _ _ _ _ _ _ h.lines takes.batch (ap items_batch items ∙ batch_append (items_of s pieces) (items_given s result));
+      faults = but_more _ _ _ _ _ _ _ h.faults takes.faults (given_told s pieces piece result (next_place s now.unwritten) is h.place);
+      refused = but_more _ _ _ _ _ _ _ h.refused takes.pieces put;
+      carried = omega (arith, takes.carried, h.carried, ap carried_items items, carried_append (items_of s pieces) (items_given s result));
+      refusals = omega (arith, takes.refused, h.refusals, ap refused_items items, refused_append (items_of s pieces) (items_given s result));
+      kinds = takes.kinds ∙ ap (kinds_after (items_given s result)) h.kinds ∙ kinds_of_more (items_of s pieces) (items_given s result) (kinds_of_none s)
+          ∙ ap (λ l. kinds_after l (kinds_of_none s)) (sym items);
+      place = given_place s pieces piece result _ _ is h.place start;
+    }
+
+-- the bytes of the writers stayed
+pub taken_kept : (s : Settings) (pieces : List (List ℕ)) (a c : Told) (now : Stage) → HasTaken s pieces a now → KeepsBytes now.told c
+    → HasTaken s pieces a (record { unwritten = now.unwritten; told = c })
+taken_kept s pieces a c now h k =
+    record {
+      lines = (h.lines.0, Appends-kept _ _ _ _ h.lines.1 k.0, h.lines.2);
+      faults = (h.faults.0, Appends-kept _ _ _ _ h.faults.1 k.1, h.faults.2);
+      refused = (h.refused.0, Appends-kept _ _ _ _ h.refused.1 k.2, h.refused.2);
+      carried = h.carried;
+      refusals = h.refusals;
+      kinds = h.kinds;
+      place = h.place;
+    }
+
+-- a front of what was held was written
+pub taken_some : (s : Settings) (pieces : List (List ℕ)) (a c : Told) (now : Stage) → HasTaken s pieces a now
+    → GainsFronts now.told c now.unwritten.made.batch now.unwritten.made.faults now.unwritten.pieces → HasWritten s pieces a c
+taken_some s pieces a c now h p =
+    (but_front _ _ _ _ _ h.lines p.0, but_front _ _ _ _ _ h.faults p.1, but_front _ _ _ _ _ h.refused p.2)
+
+-- what was written so far is one
+pub taken_so_far : (s : Settings) (pieces : List (List ℕ)) (a : Told) (now : Stage) → HasTaken s pieces a now
+    → HasWritten s pieces a now.told
+taken_so_far s pieces a now h = taken_some s pieces a now.told now h (front_none _ _, front_none _ _, front_none _ _)
+
+-- what holds at a fault
+pub at_fault : {T E Q : Type 0} (P : T → Type 0) (r : Result T E) → IsErr r → Q → MatchResult r P (λ _. Q)
+at_fault P r failed q = MatchResult-from_err r P _ failed (λ _. q)
+
+-- what holds at a fault or not
+pub either : {T E P Q : Type 0} (r : Result T E) → P → Q → MatchResult r (λ _. P) (λ _. Q)
+either r p q = grind (arith)

@@ -1,223 +1,177 @@
--- What a relay has read and written so far, and what is left at its end.
-use Rattle.std.proofs.Common.{◌≡◌, ℕ, ◌+◌, List, [], ◌∷◌, ◌++◌, Option, Some, None, IfSome, refl, sym, ap, subst, ◌∙◌}
-use Rattle.std.proofs.Common.{append-nil, arith, take}
-use Rattle.std.specs.Io.KnownBytes.{Appends, Consumes, IsAtEnd}
-use Rattle.std.proofs.KnownBytes.{Consumes-nil, Consumes-trans, Consumes-whole}
+-- What a relay has taken and written so far of what it was given, and what that is at the end.
+use Rattle.std.proofs.Common.{◌≡◌, ℕ, ◌+◌, ◌-◌, ◌≤◌, List, [], ◌∷◌, ◌++◌, length, Option, Some, None, IfSome, refl, sym, ap, subst, ◌∙◌}
+use Rattle.std.proofs.Common.{append-nil, append_assoc, arith, drop, take, take-append-drop, Result, Ok, Err, MatchResult}
+use Rattle.std.specs.Borrow.{Bor}
+use Rattle.std.specs.Io.KnownBytes.{Consumes, IsAtEnd}
+use Rattle.std.proofs.KnownBytes.{Consumes-trans}
+use Rattle.std.proofs.Math.Seq.{take-add}
 use Rattle.std.proofs.lemmas.Grind.{flat_map-append}
-use Rattle.influxdb_line_protocol.specs.format.Dialects.{Dialect}
-use Rattle.influxdb_line_protocol.specs.format.Pieces.{IsLastPiece, Pieces}
-use Rattle.influxdb_line_protocol.specs.code.Bounded.{HeldWithin, Holds}
-use Rattle.influxdb_line_protocol.specs.laws.Laws.{PiecesExist}
-use Rattle.influxdb_line_protocol.specs.laws.StreamLaws.{Run, Run.begun, Run.pushed, RunsEnd, RunsGivePieces}
-use Rattle.lp_relay.specs.declared.taking.Settings.{Settings}
+use Rattle.std.proofs.lemmas.List.{take_rest}
+use Rattle.std.proofs.lemmas.Result.{MatchResult-weaker}
+use Rattle.lp_rebuild.specs.declared.program.RunFault.{RunFault}
+use Rattle.influxdb_line_protocol.specs.format.Pieces.{Pieces}
+use Rattle.influxdb_line_protocol.specs.code.Bounded.{CutsTo, GivesOf, HeldWithin, Holds, IsLastOf}
 use Rattle.influxdb_line_protocol.specs.code.Rules.{rules_of}
+use Rattle.influxdb_line_protocol.specs.laws.Laws.{PiecesExist}
+use Rattle.influxdb_line_protocol.specs.laws.StreamLaws.{Run, Run.begun, Run.pushed, Run.taken, RunsGivePieces}
+use Rattle.influxdb_line_protocol.specs.types.PieceTooLong.{PieceTooLong}
+use Rattle.lp_relay.specs.declared.taking.Settings.{Settings}
 use Rattle.lp_relay.specs.declared.relaying.Relayed.{Relayed}
-use Rattle.lp_relay.specs.Relays.{RelaysAll, RelaysFronts}
-use Rattle.lp_relay.specs.Relaying.{items_of_piece, items_of, items_batch, refused_pieces}
-use Rattle.lp_relay.specs.Writers.{Told, bytes_of}
-use Rattle.lp_relay.specs.RelaySteps.{RelaysAllPieces, RelaysItems, RelaysLast, RelaysLastPart, RelaysPart, RelaysSome, Unwritten}
-use Rattle.lp_relay.specs.RelaySteps.{items_before, next_place, place_past, unwritten_of_none}
-use Rattle.lp_relay.specs.FaultsTold.{told_from}
 use Rattle.lp_relay.specs.Kinds.{counts_if}
+use Rattle.lp_relay.specs.Relays.{RelaysAll, RelaysFronts}
+use Rattle.lp_relay.specs.Relaying.{items_of_piece, items_of, items_batch, refused_piece, refused_pieces}
+use Rattle.lp_relay.specs.RelaySteps.{HasRules, HasTaken, HasWritten, SoFar, SoFarBy, SomeSoFar, Stage, TakesGiven, Unwritten, Writes}
+use Rattle.lp_relay.specs.RelaySteps.{after_given, items_before, next_place, place_past, unwritten_of_none}
+use Rattle.lp_relay.specs.FaultsTold.{first_place, told_from}
+use Rattle.lp_relay.specs.Writers.{Told, bytes_of}
+use Rattle.lp_relay.proofs.CutLemmas.{none_is_last}
 use Rattle.lp_relay.proofs.KindLemmas.{counts_add_up, kinds_of_all}
-use Rattle.lp_relay.proofs.PassLemmas.{passes_all, passes_some}
-use Rattle.lp_relay.proofs.ItemLemmas.{batch_append, items_push}
-use Rattle.lp_relay.proofs.FaultLines.{place_append, told_all, told_append}
-use Rattle.lp_relay.proofs.RelayLemmas.{relays_more, relays_none, relays_same, part_more, part_same, part_so_far}
-use Rattle.lp_relay.proofs.RelayPieces.{faults_then, next_faults, next_put, put_append, run_on}
-use Rattle.influxdb_line_protocol.specs.format.Bytes.{newline}
-
--- these bytes were read, these of their pieces were taken, what was made of them is written or held, and the stream holds the
--- rest, which is one piece
-pub record RelaysSoFar (s : Settings) (reader reader_after : Option (List ℕ)) (stream : HeldWithin) (now : Unwritten)
-    (before after : Told) : Type 0 where
-  pub given : List ℕ
-  pub pieces : List (List ℕ)
-  pub held : List ℕ
-  pub holds : Holds stream held
-  pub last : IsLastPiece (rules_of s.dialect) held
-  pub consumed : Consumes reader reader_after given
-  pub run : Run (rules_of s.dialect) given pieces held
-  pub start_is : next_place s now ≡ place_past s (next_place s (unwritten_of_none s)) pieces
-  pub relays : RelaysItems (unwritten_of_none s) now before after (items_of s pieces) (told_from s (next_place s (unwritten_of_none s)) pieces)
-      (refused_pieces s pieces)
-
--- no text with a newline is empty
-not_empty : (u t : List ℕ) → u ++ newline ∷ t ≡ [] → ⊥
-not_empty [] t e = absurd (cc)
-not_empty (b ∷ u) t e = absurd (cc)
-
--- an empty text is its own last piece
-nothing_is_last : (dialect : Dialect) (text : List ℕ) (pieces : List (List ℕ)) → text ≡ [] → Pieces dialect text pieces
-    → IsLastPiece dialect text
-nothing_is_last dialect text pieces e h = grind (arith, not_empty)
-
--- a text of no bytes is one piece
-none_is_last : PiecesExist → (dialect : Dialect) → IsLastPiece dialect []
-none_is_last exist dialect = let p = exist dialect [] in nothing_is_last dialect [] p.0 refl p.1
+use Rattle.lp_relay.proofs.PassLemmas.{but_none, front_more}
+use Rattle.lp_relay.proofs.ItemLemmas.{batch_append}
+use Rattle.lp_relay.proofs.FaultLines.{told_append}
+use Rattle.lp_relay.proofs.RelayLemmas.{taken_more, taken_none, taken_so_far}
 
 -- before the first read
-pub so_far_none : PiecesExist → (s : Settings) (r : Option (List ℕ)) (a : Told) (stream : HeldWithin) (now : Unwritten)
-    → Holds stream [] → now ≡ unwritten_of_none s → RelaysSoFar s r r stream now a a
-so_far_none exist s r a stream now none is =
-    subst (λ m. RelaysSoFar s r r stream m a a) (sym is)
-    (record {
-      given = [];
-      pieces = [];
-      held = [];
-      holds = none;
-      last = none_is_last exist (rules_of s.dialect);
-      consumed = Consumes-nil r;
-      run = begun;
-      start_is = refl;
-      relays = relays_none (unwritten_of_none s) a;
-    })
+pub so_far_none : PiecesExist → (s : Settings) (a : Told) (stream : HeldWithin) (now : Unwritten) → Holds stream []
+    → now ≡ unwritten_of_none s → SoFarBy s [] stream a (record { unwritten = now; told = a })
+so_far_none exist s a stream now none is = (
+  [],
+  none,
+  subst (λ u. SoFar s [] [] a (record { unwritten = u; told = a })) (sym is) (record { pieces = []; run = begun; taken = taken_none s a }),
+  none_is_last exist (rules_of s.dialect),
+)
 
--- the items of pieces and others
-items_append : (s : Settings) (ps qs : List (List ℕ)) → items_of s (ps ++ qs) ≡ items_of s ps ++ items_of s qs
-items_append s ps qs = flat_map-append (items_of_piece s) ps qs
+-- more was given
+pub so_far_given : (s : Settings) (given left part : List ℕ) (a : Told) (now : Stage) → SoFar s given left a now
+    → SoFar s (given ++ part) (left ++ part) a now
+so_far_given s given left part a now h =
+    record { pieces = h.pieces; run = pushed given h.pieces left part h.run; taken = h.taken }
 
--- a part more was read, and its pieces taken
-pub so_far_more : (s : Settings) (r m t : Option (List ℕ)) (part : List ℕ) (stream after : HeldWithin) (now new : Unwritten)
-    (a b c : Told) → RelaysSoFar s r m stream now a b → Consumes m t part
-    → ((text : List ℕ) → Holds stream text → IsLastPiece (rules_of s.dialect) text
-    → RelaysAllPieces s (text ++ part) after now new b c) → RelaysSoFar s r t after new a c
-so_far_more s r m t part stream after now new a b c h read q =
-    let p = q h.held h.holds h.last in
-    let more = p.0.to in
+-- so it is if nothing was
+pub nothing_given : (s : Settings) (given : List ℕ) (stream : HeldWithin) (a : Told) (now : Stage) → SoFarBy s given stream a now
+    → SoFarBy s (given ++ []) stream a now
+nothing_given s given stream a now h = subst (λ l. SoFarBy s l stream a now) (sym (append-nil given)) h
+
+-- one piece more was taken
+pub so_far_more : (s : Settings) (given text piece left : List ℕ) (result : Result (Bor (List ℕ)) PieceTooLong) (a : Told) (now : Stage)
+    (next : Unwritten) → SoFar s given text a now → IsLastOf s.limit piece result → CutsTo (rules_of s.dialect) text piece left
+    → TakesGiven s now.unwritten result next
+    → next_place s next ≡ after_given s (next_place s now.unwritten) result
+    → SoFar s given left a (record { unwritten = next; told = now.told })
+so_far_more s given text piece left result a now next h is cuts takes start =
     record {
-      given = h.given ++ part;
-      pieces = h.pieces ++ more.pieces;
-      held = p.0.rest;
-      holds = p.0.holds;
-      last = p.1;
-      consumed = Consumes-trans r m t h.given part h.consumed read;
-      run = run_on (rules_of s.dialect) (h.given ++ part) (h.held ++ part) p.0.rest h.pieces more.pieces
-          (pushed h.given h.pieces h.held part h.run) more.taken;
-      start_is =
-          more.start ∙ ap (λ q. place_past s q more.pieces) h.start_is ∙ sym (place_append s (next_place s (unwritten_of_none s)) h.pieces more.pieces);
-      relays = relays_same (unwritten_of_none s) new a c _ _ _ _ _ _
-          (sym (items_append s h.pieces more.pieces))
-          (faults_then s (next_place s (unwritten_of_none s)) (next_place s now) h.pieces more.pieces h.start_is)
-          (put_append s h.pieces more.pieces)
-          (relays_more (unwritten_of_none s) now new a b c _ _ _ _ _ _ h.relays more.relays);
+      pieces = h.pieces ++ piece ∷ [];
+      run = taken given h.pieces piece left (subst (Run (rules_of s.dialect) given h.pieces) cuts.0 h.run) cuts.1;
+      taken = taken_more s h.pieces piece result a now next h.taken is takes start;
     }
 
--- a beginning of what the items of all bytes are was written, since that of the items so far was
-fronts_of : PiecesExist → RunsGivePieces → (s : Settings) (r m : Option (List ℕ))
-    (given : List ℕ) (pieces : List (List ℕ)) (held : List ℕ) (a c : Told) → Consumes r m given
-    → Run (rules_of s.dialect) given pieces held
-    → RelaysPart (unwritten_of_none s) a c (items_of s pieces) (told_from s (next_place s (unwritten_of_none s)) pieces) (refused_pieces s pieces)
-    → IfSome r (λ bs. RelaysFronts s bs (bytes_of a) (bytes_of c))
-fronts_of exist give s None m given pieces held a c read run p = tt
-fronts_of exist give s (Some x) None given pieces held a c read run p = absurd read
-fronts_of exist give s (Some x) (Some y) given pieces held a c read run p =
-    let others = exist (rules_of s.dialect) (held ++ y) in
+-- what was held was written, or after a fault a front of it
+pub so_far_written : (s : Settings) (given left : List ℕ) (a : Told) (result : Result (Unit {0}) RunFault) (old new : Stage)
+    → Writes result old new → SoFar s given left a old
+    → MatchResult result (λ _. SoFar s given left a new) (λ _. SomeSoFar s given a new.told)
+so_far_written s given left a result old new writes h =
+    MatchResult-weaker result (writes s h.pieces a h.taken)
+    (λ _ t. record { pieces = h.pieces; run = h.run; taken = t })
+    (λ _ t. record { pieces = h.pieces; left = left; run = h.run; written = t })
+
+-- what was written so far
+pub some_so_far : (s : Settings) (given left : List ℕ) (a : Told) (now : Stage) → SoFar s given left a now → SomeSoFar s given a now.told
+some_so_far s given left a now h =
+    record { pieces = h.pieces; left = left; run = h.run; written = taken_so_far s h.pieces a now h.taken }
+
+-- so it is if more was given
+pub some_given : (s : Settings) (given part : List ℕ) (a c : Told) → SomeSoFar s given a c → SomeSoFar s (given ++ part) a c
+some_given s given part a c h =
+    record { pieces = h.pieces; left = h.left ++ part; run = pushed given h.pieces h.left part h.run; written = h.written }
+
+-- a part is its front and its rest
+part_is : (given part : List ℕ) (n : ℕ) → (given ++ take n part) ++ drop n part ≡ given ++ part
+part_is given part n = append_assoc given (take n part) (drop n part) ∙ ap (λ l. given ++ l) (take-append-drop n part)
+
+-- the same, if the rest is told by its length
+pub rest_is : (given part : List ℕ) (n : ℕ) → (given ++ take n part) ++ take (length part - n) (drop n part) ≡ given ++ part
+rest_is given part n = ap (λ l. (given ++ take n part) ++ l) (take_rest part n) ∙ part_is given part n
+
+-- a front of a part, and a front of the rest
+pub front_is : (given part : List ℕ) (n more : ℕ)
+    → (given ++ take n part) ++ take more (take (length part - n) (drop n part)) ≡ given ++ take (n + more) part
+front_is given part n more =
+    append_assoc given (take n part) _ ∙ ap (λ l. given ++ (take n part ++ take more l)) (take_rest part n)
+    ∙ ap (λ l. given ++ l) (sym (take-add n more part))
+
+-- so it is if a part was given of which this is a front
+pub some_of_front : (s : Settings) (given part : List ℕ) (n : ℕ) (a c : Told) → SomeSoFar s (given ++ take n part) a c
+    → SomeSoFar s (given ++ part) a c
+some_of_front s given part n a c h =
+    subst (λ l. SomeSoFar s l a c) (part_is given part n) (some_given s (given ++ take n part) (drop n part) a c h)
+
+-- a piece or a fault that the stream gave is the first piece of what it held
+pub first_of_held : (s : Settings) (before after : HeldWithin) (text : List ℕ) (result : Result (Bor (List ℕ)) PieceTooLong)
+    → HasRules s before → GivesOf before text (Some result) after
+    → (piece left : List ℕ) × IsLastOf s.limit piece result × CutsTo (rules_of s.dialect) text piece left × Holds after left
+first_of_held s before after text (Ok piece) rules h =
+    (piece.now, h.0, (refl, subst (λ l. length piece.now ≤ l) rules.1 h.1), subst (λ d. CutsTo d text piece.now h.0) rules.0 h.2, h.3)
+first_of_held s before after text (Err fault) rules h =
+    (h.0, h.1, subst (λ l. IsLastOf l h.0 (Err fault)) rules.1 h.2, subst (λ d. CutsTo d text h.0 h.1) rules.0 h.3, h.4)
+
+-- a front of what pieces make is one of what they and others make
+pub fronts_of : (s : Settings) (given : List ℕ) (pieces others all : List (List ℕ)) (a c : Told) → HasWritten s pieces a c
+    → all ≡ pieces ++ others → Pieces (rules_of s.dialect) given all → RelaysFronts s given (bytes_of a) (bytes_of c)
+fronts_of s given pieces others all a c h is are =
     let xs = items_of s pieces in
-    let ys = items_of s others.0 in
     record {
-      pieces = pieces ++ others.0;
-      are = subst (λ (l : List ℕ). Pieces (rules_of s.dialect) l (pieces ++ others.0)) (sym read)
-          (give (rules_of s.dialect) given pieces held y others.0 run others.1);
-      batch = passes_some a.lines.bytes c.lines.bytes (items_batch xs) p.batch_left (items_batch ys) _ p.batch
-          (ap items_batch (items_append s pieces others.0) ∙ batch_append xs ys);
-      faults = passes_some a.faults.bytes c.faults.bytes (told_from s (next_place s (unwritten_of_none s)) pieces) p.faults_left
-          (told_from s (place_past s (next_place s (unwritten_of_none s)) pieces) others.0) _ p.faults
-          (sym (told_all s (pieces ++ others.0)) ∙ told_append s (next_place s (unwritten_of_none s)) pieces others.0);
-      put = passes_some a.refused.bytes c.refused.bytes (refused_pieces s pieces) p.pieces_left (refused_pieces s others.0) _ p.pieces
-          (sym (put_append s pieces others.0));
+      pieces = all;
+      are = are;
+      batch = front_more _ _ _ (items_batch (items_of s others)) _ h.0
+          (ap (λ l. items_batch (items_of s l)) is ∙ ap items_batch (flat_map-append (items_of_piece s) pieces others)
+          ∙ batch_append xs (items_of s others));
+      faults = front_more _ _ _ (told_from s (place_past s (first_place s) pieces) others) _ h.1
+          (ap (told_from s (first_place s)) is ∙ told_append s (first_place s) pieces others);
+      put = front_more _ _ _ _ _ h.2 (ap (λ l. refused_pieces s l) is ∙ flat_map-append (refused_piece s) pieces others);
     }
 
--- so it is between two steps
-pub so_far_fronts : PiecesExist → RunsGivePieces → (s : Settings) (r m : Option (List ℕ)) (stream : HeldWithin) (now : Unwritten)
-    (a c : Told) → RelaysSoFar s r m stream now a c → IfSome r (λ bs. RelaysFronts s bs (bytes_of a) (bytes_of c))
-so_far_fronts exist give s r m stream now a c h = grind (arith, fronts_of, part_so_far)
+-- so it is of all bytes of a reader that gave these and may give more
+pub fronts_so_far : PiecesExist → RunsGivePieces → (s : Settings) (r m : Option (List ℕ)) (given : List ℕ) (a c : Told)
+    → Consumes r m given → SomeSoFar s given a c → IfSome r (λ bs. RelaysFronts s bs (bytes_of a) (bytes_of c))
+fronts_so_far exist give s None m given a c read h = tt
+fronts_so_far exist give s (Some x) None given a c read h = absurd read
+fronts_so_far exist give s (Some x) (Some y) given a c read h =
+    let others = exist (rules_of s.dialect) (h.left ++ y) in
+    fronts_of s x h.pieces others.0 (h.pieces ++ others.0) a c h.written refl
+    (subst (λ (l : List ℕ). Pieces (rules_of s.dialect) l (h.pieces ++ others.0)) (sym read)
+    (give (rules_of s.dialect) given h.pieces h.left y others.0 h.run others.1))
 
--- and if a step had a fault
-pub some_fronts : PiecesExist → RunsGivePieces → (s : Settings) (r m t : Option (List ℕ)) (part : List ℕ) (stream : HeldWithin)
-    (now : Unwritten) (a b c : Told) → RelaysSoFar s r m stream now a b → Consumes m t part
-    → ((text : List ℕ) → Holds stream text → IsLastPiece (rules_of s.dialect) text → RelaysSome s (text ++ part) now b c)
-    → IfSome r (λ bs. RelaysFronts s bs (bytes_of a) (bytes_of c))
-some_fronts exist give s r m t part stream now a b c h read q =
-    let p = q h.held h.holds h.last in
-    fronts_of exist give s r t (h.given ++ part) (h.pieces ++ p.pieces) p.rest a c
-    (Consumes-trans r m t h.given part h.consumed read)
-    (run_on (rules_of s.dialect) (h.given ++ part) (h.held ++ part) p.rest h.pieces p.pieces (pushed h.given h.pieces h.held part h.run) p.taken)
-    (part_same (unwritten_of_none s) a c _ _ _ _ _ _
-    (sym (items_append s h.pieces p.pieces))
-    (faults_then s (next_place s (unwritten_of_none s)) (next_place s now) h.pieces p.pieces h.start_is)
-    (put_append s h.pieces p.pieces)
-    (part_more (unwritten_of_none s) now a b c _ _ _ _ _ _ h.relays p.part))
+-- a read of no bytes
+pub read_none : (r m t : Option (List ℕ)) (given bytes : List ℕ) (n : ℕ) → n ≡ 0 → Consumes r m given → Consumes m t (take n bytes)
+    → Consumes r t given
+read_none r m t given bytes n none h k =
+    subst (Consumes r t) (append-nil given) (Consumes-trans r m t given [] h (subst (λ i. Consumes m t (take i bytes)) none k))
 
 -- all was read
 all_read : (a b : Option (List ℕ)) (bs : List ℕ) (P : List ℕ → Type 0) → Consumes a b bs → IsAtEnd b → P bs
     → IfSome a (λ xs. (b ≡ Some []) × P xs)
 all_read x b bs x3 p q h = grind (arith, append-nil)
 
--- a read of no bytes
-pub reads_none : (m t : Option (List ℕ)) (bytes : List ℕ) (n : ℕ) → n ≡ 0 → Consumes m t (take n bytes) → Consumes m t []
-reads_none m t bytes n none h = subst (λ k. Consumes m t (take k bytes)) none h
-
--- nothing was read
-read_none : (r m t : Option (List ℕ)) (bs : List ℕ) → Consumes r m bs → Consumes m t [] → Consumes r t bs
-read_none r m t bs h k = subst (Consumes r t) (append-nil bs) (Consumes-trans r m t bs [] h k)
-
--- at the end, if the last piece was taken and nothing is held, all was written
-pub so_far_all : RunsEnd → (s : Settings) (r m t : Option (List ℕ)) (stream : HeldWithin) (now end : Unwritten) (counts : Relayed)
-    (a b c : Told) → RelaysSoFar s r m stream now a b → Consumes m t [] → IsAtEnd t
-    → ((text : List ℕ) → Holds stream text → IsLastPiece (rules_of s.dialect) text → RelaysLast s text now end b c)
-    → end.made.batch ≡ [] → end.made.faults ≡ [] → end.pieces ≡ []
-    → counts.carried + items_before s.numbering s.first ≡ end.made.carried → counts.refused ≡ end.made.refused
-    → counts_if counts.kinds ≡ end.kinds → IfSome r (λ bs. (t ≡ Some []) × RelaysAll s bs counts (bytes_of a) (bytes_of c))
-so_far_all ends s r m t stream now end counts a b c h read at_end p no_batch no_faults no_pieces carried refused kinds =
-    let old = unwritten_of_none s in
-    let pieces = h.pieces ++ h.held ∷ [] in
+-- at the end, if all pieces were taken and nothing is held, all was written
+pub so_far_all : (s : Settings) (r t : Option (List ℕ)) (given : List ℕ) (pieces : List (List ℕ)) (counts : Relayed) (a : Told)
+    (end : Stage) → Consumes r t given → IsAtEnd t → Pieces (rules_of s.dialect) given pieces → HasTaken s pieces a end
+    → end.unwritten.made.batch ≡ [] → end.unwritten.made.faults ≡ [] → end.unwritten.pieces ≡ []
+    → counts.carried + items_before s.numbering s.first ≡ end.unwritten.made.carried → counts.refused ≡ end.unwritten.made.refused
+    → counts_if counts.kinds ≡ end.unwritten.kinds
+    → IfSome r (λ bs. (t ≡ Some []) × RelaysAll s bs counts (bytes_of a) (bytes_of end.told))
+so_far_all s r t given pieces counts a end read at_end are h no_batch no_faults no_pieces carried refused kinds =
     let items = items_of s pieces in
-    let told = told_from s (next_place s old) pieces in
-    let put = refused_pieces s pieces in
-    let last = p h.held h.holds h.last in
-    let all : RelaysItems old end a c items told put =
-    relays_same old end a c _ items _ told _ put (sym (items_push s h.pieces h.held))
-    (next_faults s (next_place s old) (next_place s now) h.pieces h.held _ h.start_is refl)
-    (next_put s h.pieces h.held _ refl)
-    (relays_more old now end a b c _ _ _ _ _ _ h.relays last) in
-    all_read r t h.given (λ bs. RelaysAll s bs counts (bytes_of a) (bytes_of c)) (read_none r m t h.given h.consumed read) at_end
+    let kinds_are = kinds ∙ h.kinds ∙ kinds_of_all s items in
+    let refusals = refused ∙ h.refusals in
+    all_read r t given (λ bs. RelaysAll s bs counts (bytes_of a) (bytes_of end.told)) read at_end
     (record {
       pieces = pieces;
-      are = ends (rules_of s.dialect) h.given h.pieces h.held h.run h.last;
-      batch = passes_all a.lines.bytes c.lines.bytes (items_batch items) end.made.batch all.batch no_batch;
-      faults = subst (Appends a.faults.bytes c.faults.bytes) (told_all s _) (passes_all a.faults.bytes c.faults.bytes told end.made.faults all.faults no_faults);
-      put = passes_all a.refused.bytes c.refused.bytes put end.pieces all.pieces no_pieces;
-      carried = omega (arith, carried, all.carried);
-      refused = omega (arith, refused, all.refused);
-      kinds = kinds ∙ all.kinds ∙ kinds_of_all s items;
-      kinds_add_up = counts_add_up s items counts.kinds counts.refused (kinds ∙ all.kinds ∙ kinds_of_all s items)
-          (omega (arith, refused, all.refused));
-    })
-
--- there, if a writer had a fault
-pub end_fronts : RunsEnd → (s : Settings) (r m t : Option (List ℕ)) (stream : HeldWithin) (now : Unwritten) (a b c : Told)
-    → RelaysSoFar s r m stream now a b → Consumes m t [] → IsAtEnd t
-    → ((text : List ℕ) → Holds stream text → IsLastPiece (rules_of s.dialect) text → RelaysLastPart s text now b c)
-    → IfSome r (λ bs. RelaysFronts s bs (bytes_of a) (bytes_of c))
-end_fronts ends s r m t stream now a b c h read at_end p =
-    let old = unwritten_of_none s in
-    let pieces = h.pieces ++ h.held ∷ [] in
-    let items = items_of s pieces in
-    let told = told_from s (next_place s old) pieces in
-    let put = refused_pieces s pieces in
-    let last = p h.held h.holds h.last in
-    let part : RelaysPart old a c items told put =
-    part_same old a c _ items _ told _ put (sym (items_push s h.pieces h.held))
-    (next_faults s (next_place s old) (next_place s now) h.pieces h.held _ h.start_is refl)
-    (next_put s h.pieces h.held _ refl)
-    (part_more old now a b c _ _ _ _ _ _ h.relays last) in
-    Consumes-whole r t h.given (λ bs. RelaysFronts s bs (bytes_of a) (bytes_of c)) (read_none r m t h.given h.consumed read) at_end
-    (record {
-      pieces = pieces;
-      are = ends (rules_of s.dialect) h.given h.pieces h.held h.run h.last;
-      batch = passes_some a.lines.bytes c.lines.bytes (items_batch items) part.batch_left [] _ part.batch (sym (append-nil _));
-      faults = passes_some a.faults.bytes c.faults.bytes told part.faults_left [] _ part.faults
-          (sym (told_all s _) ∙ sym (append-nil _));
-      put = passes_some a.refused.bytes c.refused.bytes put part.pieces_left [] _ part.pieces (sym (append-nil _));
+      are = are;
+      batch = but_none _ _ _ _ h.lines no_batch;
+      faults = but_none _ _ _ _ h.faults no_faults;
+      put = but_none _ _ _ _ h.refused no_pieces;
+      carried = omega (arith, carried, h.carried);
+      refused = refusals;
+      kinds = kinds_are;
+      kinds_add_up = counts_add_up s items counts.kinds counts.refused kinds_are refusals;
     })

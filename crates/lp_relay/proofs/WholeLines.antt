@@ -1,7 +1,7 @@
 -- The whole lines of a part: the first one, which the stream may hold the start of, and the others, which a splitter gives.
-use Rattle.std.proofs.Common.{◌≡◌, ◌≢◌, ◌⊎◌, ℕ, List, [], ◌∷◌, ◌++◌, Option, Some, None, IfSome, refl, sym, ap, subst, ◌∙◌}
-use Rattle.std.proofs.Common.{◌+◌, ◌≤◌, length, take, drop, Result, Ok, true, is_some, option_map, append_assoc, inl, inr, arith}
-use Rattle.std.proofs.Math.Seq.{drop-append-add}
+use Rattle.std.proofs.Common.{◌≡◌, ◌≢◌, ◌⊎◌, ℕ, List, [], ◌∷◌, ◌++◌, Option, Some, refl, sym, ap, subst, ◌∙◌}
+use Rattle.std.proofs.Common.{◌+◌, ◌≤◌, length, take, drop, Ok, true, is_some, option_map, append_assoc, inl, inr, arith}
+use Rattle.std.proofs.Math.Seq.{drop-append-add, take-add, take-append-add}
 use Rattle.std.proofs.lemmas.List.{drop-drop, length-append, length-drop, take-append-drop}
 use Rattle.std.proofs.lemmas.List.Elements.{recursion_from_All}
 use Rattle.std.specs.Borrow.{Bor}
@@ -10,19 +10,14 @@ use Rattle.influxdb_line_protocol.specs.format.Bytes.{newline}
 use Rattle.influxdb_line_protocol.specs.format.Dialects.{Dialect}
 use Rattle.influxdb_line_protocol.specs.format.Pieces.{GivesPiece, IsCutPiece, IsLastPiece, Left, Pieces, Pieces.cut, Pieces.last}
 use Rattle.influxdb_line_protocol.specs.format.Pieces.{PiecesLeft}
-use Rattle.influxdb_line_protocol.specs.code.Bounded.{CutsTo, GivesOf, HeldWithin, Holds}
-use Rattle.influxdb_line_protocol.specs.types.PieceTooLong.{PieceTooLong}
-use Rattle.lp_relay.specs.declared.taking.Settings.{Settings}
+use Rattle.influxdb_line_protocol.specs.code.Bounded.{CutsTo, HeldWithin, Holds}
 use Rattle.influxdb_line_protocol.specs.code.Rules.{rules_of}
-use Rattle.lp_relay.specs.RelaySteps.{RelaysBegun, RelaysTo, Unwritten}
-use Rattle.lp_relay.specs.Writers.{Told}
-use Rattle.lp_relay.proofs.RelayPieces.{Given, given_on, given_piece, given_short, to_none, to_then}
 use Rattle.influxdb_line_protocol.specs.laws.Laws.{PiecesAreTheText, PiecesAreUnique, PiecesExist}
-
--- no text with a newline is empty
-not_empty : (u t : List ℕ) → u ++ newline ∷ t ≡ [] → ⊥
-not_empty [] t e = absurd (cc)
-not_empty (b ∷ u) t e = absurd (cc)
+use Rattle.lp_relay.specs.declared.taking.Settings.{Settings}
+use Rattle.lp_relay.specs.RelaySteps.{SoFar, Stage, TakesFirst, TakesGiven, Unwritten, after_given, next_place}
+use Rattle.lp_relay.specs.Writers.{Told}
+use Rattle.lp_relay.proofs.CutLemmas.{no_newline}
+use Rattle.lp_relay.proofs.RelaysSoFar.{so_far_given, so_far_more}
 
 -- each text has a piece
 some_piece : (dialect : Dialect) (text : List ℕ) (pieces : List (List ℕ)) → Pieces dialect text pieces → pieces ≡ [] → ⊥
@@ -32,7 +27,7 @@ some_piece dialect text pieces h e = grind (arith)
 ends_there : (front piece rest : List ℕ) → AllByRecursion (λ b. b ≢ newline) front → front ++ newline ∷ [] ≡ piece ++ newline ∷ rest
     → rest ≡ []
 ends_there [] [] rest none e = cc
-ends_there [] (b ∷ piece) rest none e = let f : [] ≡ piece ++ newline ∷ rest = cc in absurd (not_empty piece rest (sym f))
+ends_there [] (b ∷ piece) rest none e = let f : [] ≡ piece ++ newline ∷ rest = cc in absurd (no_newline piece rest (sym f))
 ends_there (b ∷ front) [] rest none e = let f : b ≡ newline = cc in absurd (none.0 f)
 ends_there (b ∷ front) (x ∷ piece) rest none e = ends_there front piece rest none.1 (cc)
 
@@ -57,84 +52,53 @@ cut_nowhere exist unique dialect text piece rest is_last is_cut e =
     some_piece dialect rest others.0 others.1 (cc)
 
 -- of a text that is one piece, and a line after it that a newline ends, a cut leaves nothing
-pub nothing_left : PiecesExist → PiecesAreUnique → (dialect : Dialect) (text front piece rest : List ℕ) → IsLastPiece dialect text
+nothing_left : PiecesExist → PiecesAreUnique → (dialect : Dialect) (text front piece rest : List ℕ) → IsLastPiece dialect text
     → AllByRecursion (λ b. b ≢ newline) front → CutsTo dialect (text ++ (front ++ newline ∷ [])) piece rest → rest ≡ []
 nothing_left exist unique dialect text front piece rest is_last none cuts = grind (arith, cut_there, cut_nowhere)
+
+-- so if the first newline of a part ended a piece, nothing is left of what was given up to there
+pub line_ended : PiecesExist → PiecesAreUnique → (s : Settings) (given text part : List ℕ) (at : ℕ) (stream : HeldWithin) (a : Told)
+    (now : Stage) → IsLastPiece (rules_of s.dialect) text → take (at + 1) part ≡ take at part ++ newline ∷ []
+    → All (λ b. b ≢ newline) (take at part)
+    → ((left : List ℕ) × Holds stream left × SoFar s given left a now
+    × TakesFirst (rules_of s.dialect) (text ++ take (at + 1) part) true left)
+    → Holds stream [] × SoFar s given [] a now
+line_ended exist unique s given text part at stream a now is_last ends none h =
+    let nothing : h.0 ≡ [] =
+    nothing_left exist unique (rules_of s.dialect) text (take at part) h.3.0 h.0 is_last
+    (recursion_from_All (λ b. b ≢ newline) (take at part) none)
+    (subst (λ (l : List ℕ). CutsTo (rules_of s.dialect) (text ++ l) h.3.0 h.0) ends h.3.1) in
+    subst (λ (l : List ℕ). Holds stream l × SoFar s given l a now) nothing (h.1, h.2)
 
 -- the first of pieces is cut off before the text of the others
 first_cut : PiecesAreTheText → (dialect : Dialect) (text piece rest : List ℕ) (all others : List (List ℕ)) → Pieces dialect text all
     → all ≡ piece ∷ others → Pieces dialect rest others → CutsTo dialect text piece rest
 first_cut texts dialect text piece rest all others h e q = grind (arith, some_piece)
 
--- if the stream holds a text that is one piece and was given a part up to its first newline, a piece that it gives leaves
--- nothing of these, and is the first of all
-pub first_given : PiecesExist → PiecesAreUnique → (s : Settings) (text part : List ℕ) (at : ℕ) (stream after : HeldWithin)
-    (result : Result (Bor (List ℕ)) PieceTooLong) (rest : List ℕ) → stream.held.dialect ≡ (rules_of s.dialect) → stream.limit ≡ s.limit
-    → IsLastPiece (rules_of s.dialect) text → rest ≡ drop (at + 1) part → take (at + 1) part ≡ take at part ++ newline ∷ [] → All (λ b. b ≢ newline) (take at part)
-    → GivesOf stream (text ++ take (at + 1) part) (Some result) after → Holds after [] × Given s (text ++ part) result rest
-first_given exist unique s text part at stream after result rest same bound is_last others ends none gives =
-    let front = take (at + 1) part in
-    let one = given_piece s stream after (text ++ front) result same bound gives in
-    let left : one.0 ≡ [] = nothing_left exist unique (rules_of s.dialect) text (take at part) one.2.piece one.0 is_last
-    (recursion_from_All (λ b. b ≢ newline) (take at part) none)
-    (ap (λ (l : List ℕ). text ++ l) (sym ends) ∙ one.2.text_is, one.2.is_cut) in
-    let whole : (text ++ front) ++ rest ≡ text ++ part =
-    append_assoc text front rest ∙ ap (λ (l : List ℕ). text ++ (front ++ l)) others
-    ∙ ap (λ (l : List ℕ). text ++ l) (take-append-drop (at + 1) part) in (
-      subst (Holds after) left one.1,
-      subst (λ (l : List ℕ). Given s l result rest) whole
-          (subst (λ (l : List ℕ). Given s ((text ++ front) ++ rest) result (l ++ rest)) left
-          (given_on s (text ++ front) result one.0 rest one.2)),
-    )
-
--- no piece was taken of a text and of a part, of which the stream was given a front
-pub begun_none : (s : Settings) (text part : List ℕ) (given : ℕ) (stream : HeldWithin) (old : Unwritten) (a : Told)
-    → Holds stream (text ++ take given part) → RelaysBegun s text part given stream old old a a
-begun_none s text part given stream old a holds = grind (arith, take-append-drop, append_assoc, to_none)
-
--- the line that the stream began was taken, and then lines of the rest of the part
-pub begun_then : (s : Settings) (text part rest : List ℕ) (end taken : ℕ) (stream : HeldWithin)
-    (old now new : Unwritten) (a b c : Told) → rest ≡ drop end part → Holds stream []
-    → RelaysTo s (text ++ part) rest old now a b → RelaysTo s rest (drop taken rest) now new b c
-    → RelaysBegun s text part (end + taken) stream old new a c
-begun_then s text part rest end taken stream old now new a b c others holds first next = grind (arith, drop-drop, to_then)
-
--- the first of the pieces of a text that is not all of it is cut off bytes that begin with the text
-cuts_in : PiecesExist → PiecesAreTheText → (dialect : Dialect) (before after : Option (List ℕ)) (piece rest bytes : List ℕ)
-    → after ≡ Some rest → ((others : List (List ℕ)) → PiecesLeft (record { dialect = dialect; text = after }) others
-    → PiecesLeft (record { dialect = dialect; text = before }) (piece ∷ others))
-    → IfSome before (λ text. (t : List ℕ) × (bytes ≡ text ++ t)) → (t : List ℕ) × CutsTo dialect bytes piece (rest ++ t)
-cuts_in exist texts dialect None None piece rest bytes is gives begins = absurd (cc)
-cuts_in exist texts dialect (Some text) None piece rest bytes is gives begins = absurd (cc)
-cuts_in exist texts dialect None (Some r) piece rest bytes is gives begins =
-    let others = exist dialect r in
-    let none : piece ∷ others.0 ≡ [] = gives others.0 others.1 in
-    absurd (cc)
-cuts_in exist texts dialect (Some text) (Some r) piece rest bytes is gives begins =
-    let others = exist dialect r in
-    let same : r ≡ rest = cc in
-    let cuts = first_cut texts dialect text piece rest (piece ∷ others.0) others.0 (gives others.0 others.1) refl
-    (subst (λ (l : List ℕ). Pieces dialect l others.0) same others.1) in
-    (begins.0, (begins.1 ∙ ap (λ (l : List ℕ). l ++ begins.0) cuts.0 ∙ append_assoc piece (newline ∷ rest) begins.0, cuts.1))
-
--- what a splitter gave that has a rest is cut off bytes that begin with its text
-splitter_cuts : PiecesExist → PiecesAreTheText → (dialect : Dialect) (before after : Left) (piece : Bor (List ℕ)) (rest bytes : List ℕ)
-    → before.dialect ≡ dialect → after.text ≡ Some rest → GivesPiece before (Some piece) after
-    → IfSome before.text (λ text. (t : List ℕ) × (bytes ≡ text ++ t)) → (t : List ℕ) × CutsTo dialect bytes piece.now (rest ++ t)
-splitter_cuts exist texts dialect before after piece rest bytes same is gives begins =
-    cuts_in exist texts dialect before.text after.text piece.now rest bytes is
-    (λ others left.
-    subst (λ (d : Dialect). PiecesLeft (record { dialect = d; text = before.text }) (piece.now ∷ others)) same
-    (gives.1 others (subst (λ (d : Dialect). PiecesLeft (record { dialect = d; text = after.text }) others) (sym (gives.0 ∙ same)) left)))
-    begins
+-- what a splitter gave that has a rest is cut off its text
+splitter_cuts : PiecesExist → PiecesAreTheText → (dialect : Dialect) (before after : Left) (piece : Bor (List ℕ)) (text rest : List ℕ)
+    → before.dialect ≡ dialect → before.text ≡ Some text → after.text ≡ Some rest → GivesPiece before (Some piece) after
+    → CutsTo dialect text piece.now rest
+splitter_cuts exist texts dialect before after piece text rest same has left gives =
+    let others = exist dialect rest in
+    let all = piece.now ∷ others.0 in
+    let before_is : before ≡ record { dialect = dialect; text = Some text } = grind (arith) in
+    let after_is : after ≡ record { dialect = dialect; text = Some rest } = grind (arith, gives.0) in
+    first_cut texts dialect text piece.now rest all others.0
+    (subst (λ (l : Left). PiecesLeft l all) before_is
+    (gives.1 others.0 (subst (λ (l : Left). PiecesLeft l others.0) (sym after_is) others.1)))
+    refl others.1
 
 -- what is left after a piece and its newline, which are within the bytes
 left_after : (bytes piece rest : List ℕ) (taken : ℕ) → taken ≤ length bytes → drop taken bytes ≡ piece ++ newline ∷ rest
     → (drop (taken + (length piece + 1)) bytes ≡ rest) × (taken + (length piece + 1) ≤ length bytes)
+    × (take (taken + (length piece + 1)) bytes ≡ take taken bytes ++ (piece ++ newline ∷ []))
 left_after bytes piece rest taken within is = (
   sym (drop-drop (length piece + 1) taken bytes) ∙ ap (λ (l : List ℕ). drop (length piece + 1) l) is
       ∙ drop-append-add piece (newline ∷ rest) 1,
   omega (arith, ap (λ (l : List ℕ). length l) is, length-drop taken bytes, length-append piece (newline ∷ rest)),
+  take-add taken (length piece + 1) bytes ∙ ap (λ (l : List ℕ). take taken bytes ++ take (length piece + 1) l) is
+      ∙ ap (λ (l : List ℕ). take taken bytes ++ l) (take-append-add piece (newline ∷ rest) 1),
 )
 
 -- a rest that is there
@@ -142,39 +106,46 @@ some_rest : (rest : Option (Bor (List ℕ))) (text : Option (List ℕ)) → is_s
     → (r : List ℕ) × (text ≡ Some r)
 some_rest r text there is = grind (arith)
 
+-- bytes from a place on begin with the text that a splitter has left
+abbrev pub IsLeft : List ℕ → ℕ → Option (List ℕ) → Type 0
+IsLeft bytes taken text = (lines t : List ℕ) × (text ≡ Some lines) × (drop taken bytes ≡ lines ++ t)
+
 -- a text begins with whole lines of it
-pub begins_with : (text : Option (List ℕ)) (bytes lines : List ℕ) → text ≡ Some lines → lines ≡ take (length lines) bytes
-    → IfSome text (λ l. (t : List ℕ) × (bytes ≡ l ++ t))
-begins_with None bytes lines is front = absurd (cc)
-begins_with (Some l) bytes lines is front =
-    let same : lines ≡ l = cc in
-    let rest = drop (length lines) bytes in (
-      rest,
-      sym (take-append-drop (length lines) bytes) ∙ ap (λ (x : List ℕ). x ++ rest) (sym front ∙ same),
-    )
+pub all_left : (text : Option (List ℕ)) (bytes lines : List ℕ) → text ≡ Some lines → lines ≡ take (length lines) bytes
+    → IsLeft bytes 0 text
+all_left text bytes lines is front =
+    let rest = drop (length lines) bytes in
+    (lines, rest, is, sym (take-append-drop (length lines) bytes) ∙ ap (λ (x : List ℕ). x ++ rest) (sym front))
 
 -- a line that a splitter gave of the bytes from a place on, and what is left after it
-pub record LineGiven (s : Settings) (after : Option (List ℕ)) (piece : Bor (List ℕ)) (bytes : List ℕ) (taken : ℕ)
-    : Type 0 where
-  pub given : Given s (drop taken bytes) (Ok piece) (drop (taken + (length piece.now + 1)) bytes)
-  pub within : taken + (length piece.now + 1) ≤ length bytes
-  pub left : IfSome after (λ text. (t : List ℕ) × (drop (taken + (length piece.now + 1)) bytes ≡ text ++ t))
+pub record LineGiven (dialect : Dialect) (after : Option (List ℕ)) (piece bytes : List ℕ) (taken : ℕ) : Type 0 where
+  pub is_cut : IsCutPiece dialect piece
+  pub within : taken + (length piece + 1) ≤ length bytes
+  pub ends : take (taken + (length piece + 1)) bytes ≡ take taken bytes ++ (piece ++ newline ∷ [])
+  pub left : IsLeft bytes (taken + (length piece + 1)) after
 
--- so is each one that is not the last and not too long
-pub line_given : PiecesExist → PiecesAreTheText → (s : Settings) (before after : Left) (piece : Bor (List ℕ))
-    (rest : Option (Bor (List ℕ))) (bytes : List ℕ) (taken : ℕ) → before.dialect ≡ (rules_of s.dialect) → taken ≤ length bytes
-    → IfSome before.text (λ text. (t : List ℕ) × (drop taken bytes ≡ text ++ t)) → GivesPiece before (Some piece) after
-    → is_some rest ≡ true → option_map (λ r. r.now) rest ≡ after.text → length piece.now ≤ s.limit
-    → LineGiven s after.text piece bytes taken
-line_given exist texts s before after piece rest bytes taken same within begins gives there is short =
+-- so is each one that is not the last
+pub line_given : PiecesExist → PiecesAreTheText → (dialect : Dialect) (before after : Left) (piece : Bor (List ℕ))
+    (rest : Option (Bor (List ℕ))) (bytes : List ℕ) (taken : ℕ) → before.dialect ≡ dialect → taken ≤ length bytes
+    → IsLeft bytes taken before.text → GivesPiece before (Some piece) after
+    → is_some rest ≡ true → option_map (λ r. r.now) rest ≡ after.text → LineGiven dialect after.text piece.now bytes taken
+line_given exist texts dialect before after piece rest bytes taken same within begins gives there is =
     let r = some_rest rest after.text there is in
-    let cuts = splitter_cuts exist texts (rules_of s.dialect) before after piece r.0 (drop taken bytes) same r.1 gives begins in
-    let next = left_after bytes piece.now (r.0 ++ cuts.0) taken within cuts.1.0 in
-    record {
-      given = subst (λ (l : List ℕ). Given s (drop taken bytes) (Ok piece) l) (sym next.0)
-          (given_short s (drop taken bytes) piece (r.0 ++ cuts.0) short cuts.1);
-      within = next.1;
-      left = subst
-          (λ (o : Option (List ℕ)). IfSome o (λ text. (t : List ℕ) × (drop (taken + (length piece.now + 1)) bytes ≡ text ++ t)))
-          (sym r.1) (cuts.0, next.0);
-    }
+    let cuts = splitter_cuts exist texts dialect before after piece begins.0 r.0 same begins.2 r.1 gives in
+    let next = left_after bytes piece.now (r.0 ++ begins.1) taken within
+    (begins.3 ∙ ap (λ (l : List ℕ). l ++ begins.1) cuts.0 ∙ append_assoc piece.now (newline ∷ r.0) begins.1) in
+    record { is_cut = cuts.1; within = next.1; ends = next.2; left = (r.0, begins.1, r.1, next.0) }
+
+-- such a line was taken
+pub line_taken : (s : Settings) (given bytes : List ℕ) (taken : ℕ) (piece : Bor (List ℕ)) (after : Option (List ℕ)) (a : Told)
+    (now : Stage) (next : Unwritten) → SoFar s (given ++ take taken bytes) [] a now
+    → LineGiven (rules_of s.dialect) after piece.now bytes taken → length piece.now ≤ s.limit → TakesGiven s now.unwritten (Ok piece) next
+    → next_place s next ≡ after_given s (next_place s now.unwritten) (Ok piece)
+    → SoFar s (given ++ take (taken + (length piece.now + 1)) bytes) [] a (record { unwritten = next; told = now.told })
+line_taken s given bytes taken piece after a now next h line short takes start =
+    let front = given ++ take taken bytes in
+    let ended = piece.now ++ newline ∷ [] in
+    subst (λ (l : List ℕ). SoFar s l [] a (record { unwritten = next; told = now.told }))
+    (append_assoc given (take taken bytes) ended ∙ ap (λ (l : List ℕ). given ++ l) (sym line.ends))
+    (so_far_more s (front ++ ended) ended piece.now [] (Ok piece) a now next (so_far_given s front [] ended a now h)
+    (refl, short) (refl, line.is_cut) takes start)

@@ -1,13 +1,13 @@
 -- What each step of a relay takes of the stream, and what it writes or holds of it.
-use Rattle.std.specs.Prelude.{◌≡◌, ◌<◌, ℕ, ◌+◌, ◌-◌, ◌++◌, List, [], ◌∷◌, length, drop, string_bytes, Option}
-use Rattle.std.specs.Prelude.{Result, Ok, Err}
+use Rattle.std.specs.Prelude.{◌≡◌, ◌<◌, ℕ, ◌+◌, ◌-◌, ◌++◌, ◌^◌, List, [], ◌∷◌, length, take, string_bytes, Option}
+use Rattle.std.specs.Prelude.{Bool, true, false, Result, Ok, Err, MatchResult}
 use Rattle.std.specs.Borrow.{Bor}
 use Rattle.std.specs.Io.KnownBytes.{Appends}
 use Rattle.influxdb_line_protocol.specs.format.Dialects.{Dialect}
 use Rattle.influxdb_line_protocol.specs.format.Bytes.{newlines_in}
-use Rattle.influxdb_line_protocol.specs.format.Pieces.{IsLastPiece}
+use Rattle.influxdb_line_protocol.specs.format.Pieces.{IsLastPiece, Pieces}
 use Rattle.influxdb_line_protocol.specs.types.PieceTooLong.{PieceTooLong}
-use Rattle.influxdb_line_protocol.specs.code.Bounded.{HeldWithin, Holds}
+use Rattle.influxdb_line_protocol.specs.code.Bounded.{CutsTo, HeldWithin, Holds}
 use Rattle.influxdb_line_protocol.specs.laws.StreamLaws.{Run}
 use Rattle.influxdb_line_protocol.specs.code.Rules.{rules_of}
 use Rattle.lp_relay.specs.declared.taking.Progress.{Progress}
@@ -16,12 +16,14 @@ use Rattle.lp_relay.specs.declared.taking.Numbering.{Numbering}
 use Rattle.lp_relay.specs.declared.taking.Numbering.TheVariants as named
 use Rattle.lp_relay.specs.declared.taking.Settings.{Settings}
 use Rattle.lp_relay.specs.declared.telling.Place.{Place}
-use Rattle.lp_relay.specs.FaultsTold.{after_piece, first_line, place_after, told_from, told_items, told_piece}
+use Rattle.lp_relay.specs.FaultsTold.{after_piece, first_line, first_place, place_after, told_faults, told_items}
 use Rattle.lp_relay.specs.Kinds.{Counts, counts_if, kinds_after, kinds_of_none}
 use Rattle.lp_relay.specs.Objects.{stop_given}
-use Rattle.lp_relay.specs.Relaying.{Item, kept_of, too_long, items_of_bytes, items_of_piece, items_of, items_batch, carried_items}
-use Rattle.lp_relay.specs.Relaying.{refused_items, refused_lines, refused_piece, refused_pieces}
-use Rattle.lp_relay.specs.Writers.{Told}
+use Rattle.lp_relay.specs.Relaying.{Item, kept_of, too_long, items_of_bytes, items_of, items_batch, carried_items}
+use Rattle.lp_relay.specs.Relaying.{refused_items, refused_lines, refused_pieces}
+use Rattle.lp_rebuild.specs.declared.program.RunFault.{RunFault}
+use Rattle.lp_relay.specs.Relays.{RelaysFronts}
+use Rattle.lp_relay.specs.Writers.{GainsFronts, Told, bytes_of}
 
 -- the items of what a call gave: those of a piece, or that of one that is too long
 abbrev pub items_given : Settings → Result (Bor (List ℕ)) PieceTooLong → List Item
@@ -46,11 +48,6 @@ bytes_given (Err fault) = fault.front.now
 -- what goes out as refused of what a call gave, if refused pieces go out
 abbrev pub refused_given : Settings → Result (Bor (List ℕ)) PieceTooLong → List ℕ
 refused_given s given = refused_lines s.puts_refused (bytes_given given) (items_given s given)
-
--- these pieces were taken of a text, one after another, after whatever came before, and the rest is left, whatever comes then
-abbrev pub TakesPieces : Dialect → (text : List ℕ) → List (List ℕ) → (rest : List ℕ) → Type 0
-TakesPieces dialect text pieces rest =
-    (given t : List ℕ) (first : List (List ℕ)) → Run dialect given first (text ++ t) → Run dialect given (first ++ pieces) (rest ++ t)
 
 -- what was made so far and is not written yet, how many items that was made of, together with what was written and with those that
 -- are counted before the first item, and what the fault line of the next item names
@@ -107,10 +104,6 @@ unwritten_of pending =
 abbrev pub next_place : Settings → Unwritten → Place
 next_place s u = record { file = s.file; number = u.made.carried + u.made.refused + 1; line = u.made.line; offset = u.offset }
 
--- the place of the next item stays
-abbrev pub KeepsPlace : (old new : Unwritten) → Type 0
-KeepsPlace old new = (s : Settings) → next_place s new ≡ next_place s old
-
 -- nothing that was made is held: all of it was written
 abbrev pub HoldsNone : Pending → Type 0
 HoldsNone pending =
@@ -121,6 +114,10 @@ abbrev pub HoldsLess : ℕ → Pending → Type 0
 HoldsLess room pending =
     (length pending.so_far.batch.items < room) × (length (string_bytes pending.so_far.faults) < room)
     × (length pending.pieces.items < room)
+
+-- how many items were counted, with those before the first one
+abbrev pub counted : Pending → ℕ
+counted pending = pending.so_far.carried + pending.so_far.refused
 
 -- the place after these pieces
 abbrev pub place_past : Settings → Place → List (List ℕ) → Place
@@ -146,70 +143,92 @@ pub record TakesGiven (s : Settings) (old : Unwritten) (result : Result (Bor (Li
   pub pieces : new.pieces ≡ old.pieces ++ refused_given s result
   pub kinds : new.kinds ≡ kinds_after (items_given s result) old.kinds
 
--- a writer gained all that was held and that was made, but for what is left
-abbrev pub Passes : Option (List ℕ) → Option (List ℕ) → (held added left : List ℕ) → Type 0
-Passes old new held added left = (written : List ℕ) × Appends old new written × (written ++ left ≡ held ++ added)
+-- a stage of a relay: what it has not written yet, and what its writers tell
+pub record Stage : Type 0 where
+  pub unwritten : Unwritten
+  pub told : Told
 
--- the lines of these items were written, or are held, and so was what is told of them, and these refused pieces; and the items were
--- counted
-pub record RelaysItems (old new : Unwritten) (before after : Told) (items : List Item) (told put : List ℕ) : Type 0 where
-  pub batch : Passes before.lines.bytes after.lines.bytes old.made.batch (items_batch items) new.made.batch
-  pub faults : Passes before.faults.bytes after.faults.bytes old.made.faults told new.made.faults
-  pub pieces : Passes before.refused.bytes after.refused.bytes old.pieces put new.pieces
-  pub carried : new.made.carried ≡ old.made.carried + carried_items items
-  pub refused : new.made.refused ≡ old.made.refused + refused_items items
-  pub kinds : new.kinds ≡ kinds_after items old.kinds
+-- where a relay is
+abbrev pub stage_of : Pending → Told → Stage
+stage_of pending told = record { unwritten = unwritten_of pending; told = told }
 
--- a beginning of the lines of these items was written, one of what is told of them, and one of these refused pieces
-pub record RelaysPart (old : Unwritten) (before after : Told) (items : List Item) (told put : List ℕ) : Type 0 where
-  pub batch_left : List ℕ
-  pub faults_left : List ℕ
-  pub pieces_left : List ℕ
-  pub batch : Passes before.lines.bytes after.lines.bytes old.made.batch (items_batch items) batch_left
-  pub faults : Passes before.faults.bytes after.faults.bytes old.made.faults told faults_left
-  pub pieces : Passes before.refused.bytes after.refused.bytes old.pieces put pieces_left
+-- a writer gained all of these bytes, but for what is left
+abbrev pub GainsBut : Option (List ℕ) → Option (List ℕ) → (all left : List ℕ) → Type 0
+GainsBut before after all left = (written : List ℕ) × Appends before after written × (all ≡ written ++ left)
 
--- pieces of a text were taken up to this rest, and their lines were written, or are held
-pub record RelaysTo (s : Settings) (text rest : List ℕ) (old new : Unwritten) (before after : Told) : Type 0 where
+-- these pieces were taken, from the first one on: what they make was written, or is held, and their items were counted
+pub record HasTaken (s : Settings) (pieces : List (List ℕ)) (before : Told) (now : Stage) : Type 0 where
+  pub lines : GainsBut before.lines.bytes now.told.lines.bytes (items_batch (items_of s pieces)) now.unwritten.made.batch
+  pub faults : GainsBut before.faults.bytes now.told.faults.bytes (told_faults s pieces) now.unwritten.made.faults
+  pub refused : GainsBut before.refused.bytes now.told.refused.bytes (refused_pieces s pieces) now.unwritten.pieces
+  pub carried : now.unwritten.made.carried ≡ items_before s.numbering s.first + carried_items (items_of s pieces)
+  pub refusals : now.unwritten.made.refused ≡ refused_items (items_of s pieces)
+  pub kinds : now.unwritten.kinds ≡ kinds_after (items_of s pieces) (kinds_of_none s)
+  pub place : next_place s now.unwritten ≡ place_past s (first_place s) pieces
+
+-- each writer gained a front of what these pieces make
+abbrev pub HasWritten : Settings → List (List ℕ) → (before after : Told) → Type 0
+HasWritten s pieces before after = GainsFronts before after
+    (items_batch (items_of s pieces)) (told_faults s pieces) (refused_pieces s pieces)
+
+-- nothing of what was taken is lost from one stage to another; after a fault each writer has a front of it
+abbrev pub Writes : Result (Unit {0}) RunFault → (old new : Stage) → Type 0
+Writes result old new = (s : Settings) (pieces : List (List ℕ)) (before : Told) → HasTaken s pieces before old
+    → MatchResult result (λ _. HasTaken s pieces before new) (λ _. HasWritten s pieces before new.told)
+
+-- of what was given so far, all pieces were taken but for what is left
+pub record SoFar (s : Settings) (given left : List ℕ) (before : Told) (now : Stage) : Type 0 where
   pub pieces : List (List ℕ)
-  pub taken : TakesPieces (rules_of s.dialect) text pieces rest
-  pub start : next_place s new ≡ place_past s (next_place s old) pieces
-  pub relays : RelaysItems old new before after (items_of s pieces) (told_from s (next_place s old) pieces) (refused_pieces s pieces)
+  pub run : Run (rules_of s.dialect) given pieces left
+  pub taken : HasTaken s pieces before now
 
--- so they were up to a rest that the stream holds
-pub record RelaysPieces (s : Settings) (text : List ℕ) (stream : HeldWithin) (old new : Unwritten) (before after : Told)
-    : Type 0 where
-  pub rest : List ℕ
-  pub holds : Holds stream rest
-  pub to : RelaysTo s text rest old new before after
-
--- so were all that a newline ends
-abbrev pub RelaysAllPieces : Settings → (text : List ℕ) → (stream : HeldWithin) → (old new : Unwritten) → (before after : Told)
-    → Type 0
-RelaysAllPieces s text stream old new before after =
-    (relays : RelaysPieces s text stream old new before after) × IsLastPiece (rules_of s.dialect) relays.rest
-
--- pieces of a text and of a part after it were taken up to a rest: the stream holds the start of it, and so many bytes of the
--- part come before the end
-pub record RelaysBegun (s : Settings) (text part : List ℕ) (given : ℕ) (stream : HeldWithin) (old new : Unwritten)
-    (before after : Told) : Type 0 where
-  pub held : List ℕ
-  pub holds : Holds stream held
-  pub to : RelaysTo s (text ++ part) (held ++ drop given part) old new before after
-
--- pieces of a text were taken, and a beginning of their lines was written
-pub record RelaysSome (s : Settings) (text : List ℕ) (old : Unwritten) (before after : Told) : Type 0 where
+-- of what was given so far, pieces were taken, and each writer has a front of what they make
+pub record SomeSoFar (s : Settings) (given : List ℕ) (before after : Told) : Type 0 where
   pub pieces : List (List ℕ)
-  pub rest : List ℕ
-  pub taken : TakesPieces (rules_of s.dialect) text pieces rest
-  pub part : RelaysPart old before after (items_of s pieces) (told_from s (next_place s old) pieces) (refused_pieces s pieces)
+  pub left : List ℕ
+  pub run : Run (rules_of s.dialect) given pieces left
+  pub written : HasWritten s pieces before after
 
--- the last piece was taken, which is all of this text, and its line was written, or is held
-abbrev pub RelaysLast : Settings → (text : List ℕ) → (old new : Unwritten) → (before after : Told) → Type 0
-RelaysLast s text old new before after = RelaysItems old new before after (items_of_piece s text)
-    (told_piece s (next_place s old) text) (refused_piece s text)
+-- a stream has the rules of the settings
+abbrev pub HasRules : Settings → HeldWithin → Type 0
+HasRules s stream = (stream.held.dialect ≡ rules_of s.dialect) × (stream.limit ≡ s.limit)
 
--- the same, if a beginning of it was written
-abbrev pub RelaysLastPart : Settings → (text : List ℕ) → (old : Unwritten) → (before after : Told) → Type 0
-RelaysLastPart s text old before after = RelaysPart old before after (items_of_piece s text)
-    (told_piece s (next_place s old) text) (refused_piece s text)
+-- a relay can go on: its stream has the rules of the settings, a number for the next item is left, and less than a block is held
+abbrev pub IsReady : Settings → HeldWithin → Pending → Type 0
+IsReady s stream pending = HasRules s stream × (counted pending < 2 ^ 64) × HoldsLess 65536 pending
+
+-- of what was given so far, all pieces that a newline ends were taken, and the stream holds what is left
+abbrev pub SoFarBy : Settings → (given : List ℕ) → HeldWithin → (before : Told) → (now : Stage) → Type 0
+SoFarBy s given stream before now =
+    (left : List ℕ) × Holds stream left × SoFar s given left before now × IsLastPiece (rules_of s.dialect) left
+
+-- the first piece of a text was taken; or none was, since no newline ends one
+abbrev pub TakesFirst : Dialect → (text : List ℕ) → Bool → (left : List ℕ) → Type 0
+TakesFirst dialect text true left = (piece : List ℕ) × CutsTo dialect text piece left
+TakesFirst dialect text false left = IsLastPiece dialect left
+
+-- whatever came before, the first piece of what the stream holds was relayed; or none was, since no newline ends one
+abbrev pub RelaysFirst : Settings → Result Bool RunFault → (stream stream_after : HeldWithin) → (old new : Stage) → Type 0
+RelaysFirst s result stream stream_after old new =
+    (given text : List ℕ) (before : Told) → Holds stream text → SoFar s given text before old
+    → MatchResult result
+    (λ some. (left : List ℕ) × Holds stream_after left × SoFar s given left before new × TakesFirst (rules_of s.dialect) text some left)
+    (λ _. SomeSoFar s given before new.told)
+
+-- whatever came before, if nothing of it was left, lines of so many of these bytes were relayed, up to the end of one
+abbrev pub RelaysLines : Settings → (bytes : List ℕ) → Result ℕ RunFault → (old new : Stage) → Type 0
+RelaysLines s bytes result old new = (given : List ℕ) (before : Told) → SoFar s given [] before old
+    → MatchResult result (λ taken. SoFar s (given ++ take taken bytes) [] before new) (λ _. SomeSoFar s (given ++ bytes) before new.told)
+
+-- whatever came before, so much of a part was given too, and all pieces that a newline ends then were relayed
+abbrev pub RelaysPart : {T : Type 0} → Settings → (part : List ℕ) → Result T RunFault → (taken : T → List ℕ)
+    → (stream stream_after : HeldWithin) → (old new : Stage) → Type 0
+RelaysPart s part result taken stream stream_after old new = (given : List ℕ) (before : Told) → SoFarBy s given stream before old
+    → MatchResult result (λ x. SoFarBy s (given ++ taken x) stream_after before new) (λ _. SomeSoFar s (given ++ part) before new.told)
+
+-- whatever came before, the last piece was relayed, and that is the end
+abbrev pub RelaysLast : Settings → Result (Unit {0}) RunFault → (stream : HeldWithin) → (old new : Stage) → Type 0
+RelaysLast s result stream old new = (given : List ℕ) (before : Told) → SoFarBy s given stream before old
+    → MatchResult result
+    (λ _. (pieces : List (List ℕ)) × Pieces (rules_of s.dialect) given pieces × HasTaken s pieces before new)
+    (λ _. RelaysFronts s given (bytes_of before) (bytes_of new.told))

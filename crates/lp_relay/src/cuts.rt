@@ -49,8 +49,8 @@ fn give_block(dialect: Dialect, walk: &mut Walk, input: &[u8]) -> Result<(), All
 // Goes on to the next cut, and tells whether there is one.
 fn next_cut(dialect: Dialect, walk: &mut Walk, input: &[u8]) -> Result<bool, AllocError>
     requires { IsWalkOf (rules_of dialect) input.now walk.old }
-    ensures walk { OnOk result (IsWalkOf (rules_of dialect) input.now walk.new) }
-    ensures goes_on { IfOk result (λ found. GoesOn (rules_of dialect) input.now walk.old.at found walk.new.at) }
+    ensures { IfOk result (λ found. IsWalkOf (rules_of dialect) input.now walk.new
+        × GoesOn (rules_of dialect) input.now walk.old.at found walk.new.at) }
 {
     laws::pieces_join();
     loop {

@@ -1,12 +1,10 @@
 //! From a reader to three writers, line by line as they come.
-ghost use Rattle.std.specs.Prelude.{◌≡◌, ◌≢◌, ◌+◌, ◌<◌, ◌≤◌, ◌++◌, ◌∷◌, List, [], ℕ, drop, length, take, true, IfOk, IfSome, OnOk, OnErr};
+ghost use Rattle.std.specs.Prelude.{◌≡◌, ◌≢◌, ◌+◌, ◌<◌, ◌≤◌, ◌++◌, ◌∷◌, [], length, take, true, IfOk, IfSome, OnOk};
 ghost use Rattle.std.specs.List.{All};
 ghost use Rattle.influxdb_line_protocol.specs.format.Bytes.{newline};
-ghost use Rattle.influxdb_line_protocol.specs.code.Bounded.{Holds, KeepsRules};
-ghost use Rattle.influxdb_line_protocol.specs.code.Rules.{rules_of};
-ghost use Rattle.influxdb_line_protocol.specs.format.Pieces.{IsLastPiece};
-ghost use Rattle.lp_relay.specs.RelaySteps.{HoldsLess, HoldsNone, KeepsPlace, RelaysAllPieces, RelaysBegun, RelaysItems};
-ghost use Rattle.lp_relay.specs.RelaySteps.{RelaysLast, RelaysLastPart, RelaysPart, RelaysSome, RelaysTo, unwritten_of};
+ghost use Rattle.influxdb_line_protocol.specs.code.Bounded.{most_given};
+ghost use Rattle.lp_relay.specs.RelaySteps.{HoldsLess, HoldsNone, IsReady, RelaysFirst, RelaysLast, RelaysLines};
+ghost use Rattle.lp_relay.specs.RelaySteps.{RelaysPart, Writes, counted, stage_of};
 ghost use Rattle.lp_relay.specs.Relays.{Relays};
 ghost use Rattle.lp_relay.specs.Writers.{AreFlushed, CountsWriteFault};
 ghost use Rattle.lp_rebuild.specs.Running.{reader_told};
@@ -35,14 +33,11 @@ pub struct Relayed {
 }
 
 // Writes all that is held.
-#[tactic(auto, using(crate::proofs::KindLemmas::kinds_of_nothing))]
 fn pour<O: ThreeWriters>(pending: &mut Pending, outputs: &mut O) -> Result<(), RunFault>
-    ensures start { KeepsPlace (unwritten_of pending.old) (unwritten_of pending.new) }
-    ensures ok { OnOk result (RelaysItems (unwritten_of pending.old) (unwritten_of pending.new)
-        (O.told outputs.old) (O.told outputs.new) [] [] []) }
+    ensures writes { Writes result (stage_of pending.old (O.told outputs.old)) (stage_of pending.new (O.told outputs.new)) }
     ensures none { OnOk result (HoldsNone pending.new) }
-    ensures part { OnErr result (RelaysPart (unwritten_of pending.old) (O.told outputs.old) (O.told outputs.new) [] [] []) }
     ensures counts { CountsWriteFault result (O.told outputs.old) (O.told outputs.new) }
+    ensures same { counted pending.new ≡ counted pending.old }
 {
     let so_far = &pending.so_far;
     outputs.put(
@@ -58,12 +53,10 @@ fn pour<O: ThreeWriters>(pending: &mut Pending, outputs: &mut O) -> Result<(), R
 
 // Writes all that is held, if it fills a block.
 fn pour_full<O: ThreeWriters>(pending: &mut Pending, outputs: &mut O) -> Result<(), RunFault>
-    ensures start { KeepsPlace (unwritten_of pending.old) (unwritten_of pending.new) }
-    ensures ok { OnOk result (RelaysItems (unwritten_of pending.old) (unwritten_of pending.new)
-        (O.told outputs.old) (O.told outputs.new) [] [] []) }
+    ensures writes { Writes result (stage_of pending.old (O.told outputs.old)) (stage_of pending.new (O.told outputs.new)) }
     ensures held { OnOk result (HoldsLess BLOCK pending.new) }
-    ensures part { OnErr result (RelaysPart (unwritten_of pending.old) (O.told outputs.old) (O.told outputs.new) [] [] []) }
     ensures counts { CountsWriteFault result (O.told outputs.old) (O.told outputs.new) }
+    ensures same { counted pending.new ≡ counted pending.old }
 {
     if pending.so_far.batch.len() < BLOCK
         && pending.so_far.faults.len() < BLOCK
@@ -76,46 +69,58 @@ fn pour_full<O: ThreeWriters>(pending: &mut Pending, outputs: &mut O) -> Result<
 
 // Writes all that is held, and flushes.
 fn pour_and_flush<O: ThreeWriters>(pending: &mut Pending, outputs: &mut O) -> Result<(), RunFault>
-    ensures start { KeepsPlace (unwritten_of pending.old) (unwritten_of pending.new) }
-    ensures ok { OnOk result (RelaysItems (unwritten_of pending.old) (unwritten_of pending.new)
-        (O.told outputs.old) (O.told outputs.new) [] [] []) }
+    ensures writes { Writes result (stage_of pending.old (O.told outputs.old)) (stage_of pending.new (O.told outputs.new)) }
     ensures none { OnOk result (HoldsNone pending.new) }
-    ensures part { OnErr result (RelaysPart (unwritten_of pending.old) (O.told outputs.old) (O.told outputs.new) [] [] []) }
     ensures counts { CountsWriteFault result (O.told outputs.old) (O.told outputs.new) }
+    ensures same { counted pending.new ≡ counted pending.old }
     ensures flushed { OnOk result (AreFlushed (O.told outputs.new)) }
 {
     pour(pending, outputs)?;
     outputs.flush()
 }
 
-// Takes each piece that the stream can give.
-fn relay_pieces<O: ThreeWriters>(
+// Takes the next piece, and tells whether the stream could give one.
+fn relay_piece<O: ThreeWriters>(
     settings: Settings<'_>,
     stream: &mut BoundedLineStream,
     pending: &mut Pending,
     outputs: &mut O,
-) -> Result<(), RunFault>
-    requires dialect { stream.old.held.dialect ≡ rules_of settings.dialect }
-    requires limit { stream.old.limit ≡ settings.limit }
-    requires holds { (text : List ℕ) × Holds stream.old text }
-    requires fits { pending.old.so_far.carried + pending.old.so_far.refused ≤ usize.MAX }
-    requires few { HoldsLess BLOCK pending.old }
-    ensures rules { OnOk result (KeepsRules stream.old stream.new) }
-    ensures ok { OnOk result ((text : List ℕ) → Holds stream.old text
-        → RelaysAllPieces settings.entry text stream.new
-        (unwritten_of pending.old) (unwritten_of pending.new) (O.told outputs.old) (O.told outputs.new)) }
-    ensures held { OnOk result (HoldsLess BLOCK pending.new) }
-    ensures fits { OnOk result (pending.new.so_far.carried + pending.new.so_far.refused ≤ usize.MAX) }
-    ensures part { OnErr result ((text : List ℕ) → Holds stream.old text
-        → RelaysSome settings.entry text (unwritten_of pending.old) (O.told outputs.old) (O.told outputs.new)) }
+) -> Result<bool, RunFault>
+    requires ready { IsReady settings stream.old pending.old }
+    ensures ready { OnOk result (IsReady settings.entry stream.new pending.new) }
+    ensures fewer { IfOk result (λ some. some ≡ true → most_given stream.new < most_given stream.old) }
+    ensures relays { RelaysFirst settings.entry result stream.old stream.new
+        (stage_of pending.old (O.told outputs.old)) (stage_of pending.new (O.told outputs.new)) }
     ensures counts { CountsWriteFault result (O.told outputs.old) (O.told outputs.new) }
 {
-    while let Some(piece) = stream.next() {
-        if take_given(&settings, pending, piece).is_err() {
-            return Err(RunFault::OutOfMemory);
-        }
-        pour_full(pending, outputs)?;
+    let Some(piece) = stream.next() else {
+        return Ok(false);
+    };
+    if take_given(&settings, pending, piece).is_err() {
+        return Err(RunFault::OutOfMemory);
     }
+    pour_full(pending, outputs)?;
+    Ok(true)
+}
+
+// Gives the stream a part, and takes each piece that it can give then.
+fn relay_pieces<O: ThreeWriters>(
+    settings: Settings<'_>,
+    stream: &mut BoundedLineStream,
+    pending: &mut Pending,
+    part: &[u8],
+    outputs: &mut O,
+) -> Result<(), RunFault>
+    requires ready { IsReady settings stream.old pending.old }
+    ensures ready { OnOk result (IsReady settings.entry stream.new pending.new) }
+    ensures relays { RelaysPart settings.entry part.now result (λ _. part.now) stream.old stream.new
+        (stage_of pending.old (O.told outputs.old)) (stage_of pending.new (O.told outputs.new)) }
+    ensures counts { CountsWriteFault result (O.told outputs.old) (O.told outputs.new) }
+{
+    if stream.push(part).is_err() {
+        return Err(RunFault::OutOfMemory);
+    }
+    while relay_piece(settings, stream, pending, outputs)? {}
     Ok(())
 }
 
@@ -129,22 +134,21 @@ fn whole_lines(bytes: &[u8]) -> &str
     text_of(&bytes[..last + 1]).unwrap_or("")
 }
 
-// Takes the whole lines at the start of bytes as a rebuild does, up to one that is too long. Gives how many bytes were taken.
+// Takes the whole lines at the start of bytes as a rebuild does, up to one that is too long, where nothing of the bytes before
+// is left. Gives how many bytes were taken.
 fn relay_lines<O: ThreeWriters>(
     settings: Settings<'_>,
     pending: &mut Pending,
     bytes: &[u8],
     outputs: &mut O,
 ) -> Result<usize, RunFault>
-    requires fits { pending.old.so_far.carried + pending.old.so_far.refused ≤ usize.MAX }
+    requires fits { counted pending.old ≤ usize.MAX }
     requires few { HoldsLess BLOCK pending.old }
     ensures within { IfOk result (λ taken. taken ≤ length bytes.now) }
-    ensures ok { IfOk result (λ taken. RelaysTo settings.entry bytes.now (drop taken bytes.now)
-        (unwritten_of pending.old) (unwritten_of pending.new) (O.told outputs.old) (O.told outputs.new)) }
+    ensures relays { RelaysLines settings.entry bytes.now result
+        (stage_of pending.old (O.told outputs.old)) (stage_of pending.new (O.told outputs.new)) }
     ensures held { OnOk result (HoldsLess BLOCK pending.new) }
-    ensures fits { OnOk result (pending.new.so_far.carried + pending.new.so_far.refused ≤ usize.MAX) }
-    ensures part { OnErr result (RelaysSome settings.entry bytes.now (unwritten_of pending.old)
-        (O.told outputs.old) (O.told outputs.new)) }
+    ensures fits { OnOk result (counted pending.new ≤ usize.MAX) }
     ensures counts { CountsWriteFault result (O.told outputs.old) (O.told outputs.new) }
 {
     laws::pieces_join();
@@ -182,19 +186,11 @@ fn relay_begun<O: ThreeWriters>(
     part: &[u8],
     outputs: &mut O,
 ) -> Result<usize, RunFault>
-    requires dialect { stream.old.held.dialect ≡ rules_of settings.dialect }
-    requires limit { stream.old.limit ≡ settings.limit }
-    requires fits { pending.old.so_far.carried + pending.old.so_far.refused ≤ usize.MAX }
-    requires few { HoldsLess BLOCK pending.old }
+    requires ready { IsReady settings stream.old pending.old }
     ensures within { IfOk result (λ given. given ≤ length part.now) }
-    ensures rules { OnOk result (KeepsRules stream.old stream.new) }
-    ensures ok { IfOk result (λ given. (text : List ℕ) → Holds stream.old text → IsLastPiece (rules_of settings.entry.dialect) text
-        → RelaysBegun settings.entry text part.now given stream.new
-        (unwritten_of pending.old) (unwritten_of pending.new) (O.told outputs.old) (O.told outputs.new)) }
-    ensures held { OnOk result (HoldsLess BLOCK pending.new) }
-    ensures fits { OnOk result (pending.new.so_far.carried + pending.new.so_far.refused ≤ usize.MAX) }
-    ensures part { OnErr result ((text : List ℕ) → Holds stream.old text → IsLastPiece (rules_of settings.entry.dialect) text
-        → RelaysSome settings.entry (text ++ part.now) (unwritten_of pending.old) (O.told outputs.old) (O.told outputs.new)) }
+    ensures ready { OnOk result (IsReady settings.entry stream.new pending.new) }
+    ensures relays { RelaysPart settings.entry part.now result (λ n. take n part.now) stream.old stream.new
+        (stage_of pending.old (O.told outputs.old)) (stage_of pending.new (O.told outputs.new)) }
     ensures counts { CountsWriteFault result (O.told outputs.old) (O.told outputs.new) }
 {
     laws::pieces_join();
@@ -205,13 +201,9 @@ fn relay_begun<O: ThreeWriters>(
     if stream.push(&part[..end]).is_err() {
         return Err(RunFault::OutOfMemory);
     }
-    let Some(piece) = stream.next() else {
+    if !relay_piece(settings, stream, pending, outputs)? {
         return Ok(end);
-    };
-    if take_given(&settings, pending, piece).is_err() {
-        return Err(RunFault::OutOfMemory);
     }
-    pour_full(pending, outputs)?;
     let taken = relay_lines(settings, pending, &part[end..], outputs)?;
     Ok(end + taken)
 }
@@ -224,28 +216,17 @@ fn relay_part<O: ThreeWriters>(
     part: &[u8],
     outputs: &mut O,
 ) -> Result<(), RunFault>
-    requires dialect { stream.old.held.dialect ≡ rules_of settings.dialect }
-    requires limit { stream.old.limit ≡ settings.limit }
-    requires holds { (text : List ℕ) × Holds stream.old text × IsLastPiece (rules_of settings.dialect) text }
-    requires fits { pending.old.so_far.carried + pending.old.so_far.refused ≤ usize.MAX }
-    requires empty { HoldsNone pending.old }
+    requires ready { IsReady settings stream.old pending.old }
     requires block { length part.now ≤ BLOCK }
-    ensures rules { OnOk result (KeepsRules stream.old stream.new) }
-    ensures ok { OnOk result ((text : List ℕ) → Holds stream.old text → IsLastPiece (rules_of settings.entry.dialect) text
-        → RelaysAllPieces settings.entry (text ++ part.now) stream.new
-        (unwritten_of pending.old) (unwritten_of pending.new) (O.told outputs.old) (O.told outputs.new)) }
+    ensures ready { OnOk result (IsReady settings.entry stream.new pending.new) }
+    ensures relays { RelaysPart settings.entry part.now result (λ _. part.now) stream.old stream.new
+        (stage_of pending.old (O.told outputs.old)) (stage_of pending.new (O.told outputs.new)) }
     ensures none { OnOk result (HoldsNone pending.new) }
-    ensures fits { OnOk result (pending.new.so_far.carried + pending.new.so_far.refused ≤ usize.MAX) }
-    ensures part { OnErr result ((text : List ℕ) → Holds stream.old text → IsLastPiece (rules_of settings.entry.dialect) text
-        → RelaysSome settings.entry (text ++ part.now) (unwritten_of pending.old) (O.told outputs.old) (O.told outputs.new)) }
     ensures counts { CountsWriteFault result (O.told outputs.old) (O.told outputs.new) }
     ensures flushed { OnOk result (AreFlushed (O.told outputs.new)) }
 {
     let given = relay_begun(settings, stream, pending, part, outputs)?;
-    if stream.push(&part[given..]).is_err() {
-        return Err(RunFault::OutOfMemory);
-    }
-    relay_pieces(settings, stream, pending, outputs)?;
+    relay_pieces(settings, stream, pending, &part[given..], outputs)?;
     pour_and_flush(pending, outputs)
 }
 
@@ -256,20 +237,14 @@ fn finish<O: ThreeWriters>(
     pending: &mut Pending,
     outputs: &mut O,
 ) -> Result<(), RunFault>
-    requires dialect { stream.old.held.dialect ≡ rules_of settings.dialect }
-    requires limit { stream.old.limit ≡ settings.limit }
-    requires holds { (text : List ℕ) × Holds stream.old text × IsLastPiece (rules_of settings.dialect) text }
-    requires fits { pending.old.so_far.carried + pending.old.so_far.refused ≤ usize.MAX }
-    requires empty { HoldsNone pending.old }
-    ensures ok { OnOk result ((text : List ℕ) → Holds stream.old text → IsLastPiece (rules_of settings.entry.dialect) text
-        → RelaysLast settings.entry text
-        (unwritten_of pending.old) (unwritten_of pending.new) (O.told outputs.old) (O.told outputs.new)) }
+    requires ready { IsReady settings stream.old pending.old }
+    ensures relays { RelaysLast settings.entry result stream.old
+        (stage_of pending.old (O.told outputs.old)) (stage_of pending.new (O.told outputs.new)) }
     ensures none { OnOk result (HoldsNone pending.new) }
-    ensures part { OnErr result ((text : List ℕ) → Holds stream.old text → IsLastPiece (rules_of settings.entry.dialect) text
-        → RelaysLastPart settings.entry text (unwritten_of pending.old) (O.told outputs.old) (O.told outputs.new)) }
     ensures counts { CountsWriteFault result (O.told outputs.old) (O.told outputs.new) }
     ensures flushed { OnOk result (AreFlushed (O.told outputs.new)) }
 {
+    laws::runs_give_pieces();
     if take_given(&settings, pending, stream.finish()).is_err() {
         return Err(RunFault::OutOfMemory);
     }

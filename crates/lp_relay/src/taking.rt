@@ -420,13 +420,7 @@ fn take_uncopied<'a>(
     ensures counted { OnOk result (pending.new.so_far.carried + pending.new.so_far.refused ≤ usize.MAX) }
     ensures dialect { reader.new.dialect ≡ reader.old.dialect }
 {
-    let taken = take_line(
-        settings,
-        &mut pending.so_far.batch,
-        reader,
-        piece,
-        text,
-    )?;
+    let taken = take_line(settings, &mut pending.so_far.batch, reader, piece, text)?;
     end_piece(settings, pending, taken, Piece::Text(piece))
 }
 

@@ -1,6 +1,6 @@
 use Rattle.influxdb_line_protocol.specs.code.Rules.{rules_of}
 use Rattle.std.proofs.Common.{ℕ, List, [], ◌∷◌, ◌≤◌, length, length-append, ap, sym, subst, arith}
-use Rattle.lp_relay.specs.Cuts.{ArePartEnds, IsCutFor, JoinsPieces, parts_from}
+use Rattle.lp_relay.specs.Cuts.{IsCutFor, parts_from}
 use Rattle.lp_relay.proofs.PartLemmas.{parts_answer}
 use Rattle.lp_relay.proofs.PartEndLemmas.{EndsSoFar, ends_all, ends_join, ends_more, ends_none, none_passed, start_is_cut}
 use Rattle.lp_relay.proofs.cuts.part_ends.Goals as goal
@@ -50,22 +50,16 @@ loop-k-preserved c =
 pub returns-clause-ends : goal.returns-clause-ends
 returns-clause-ends c =
     let h = c.loop-k.invariant in
-    subst (λ (l : List ℕ). ArePartEnds (rules_of c.args.dialect) c.args.input.now c.args.count l) (sym c.in_ok-push-2.ensures.items)
-    (ends_all (rules_of c.args.dialect) c.args.input.now c.args.count c.loop-k.ends.items c.loop-k.walk.at h.so_far h.walk.is_cut.within
-    (omega (arith, h.found, h.few)))
+    ends_all (rules_of c.args.dialect) c.args.input.now c.args.count c.loop-k.ends.items _ c.loop-k.walk.at h.so_far h.walk.is_cut.within
+    (omega (arith, h.found, h.few)) c.in_ok-push-2.ensures.items
 
 pub returns-clause-pieces : goal.returns-clause-pieces
 returns-clause-pieces c =
-    subst (λ (l : List ℕ). JoinsPieces (rules_of c.args.dialect) c.args.input.now (parts_from 0 c.args.input.now l))
-    (sym c.in_ok-push-2.ensures.items)
-    (ends_join c.pieces_join.ensures.some c.pieces_join.ensures.one (rules_of c.args.dialect) c.args.input.now c.args.count
-    c.loop-k.ends.items c.loop-k.walk.at c.loop-k.invariant.so_far)
+    ends_join c.pieces_join.ensures.some c.pieces_join.ensures.one (rules_of c.args.dialect) c.args.input.now c.args.count
+    c.loop-k.ends.items _ c.loop-k.walk.at c.loop-k.invariant.so_far c.in_ok-push-2.ensures.items
 
 pub returns-clause-answers : goal.returns-clause-answers
 returns-clause-answers c =
-    parts_answer c.pieces_join.ensures.one (rules_of c.args.dialect) c.args.input.now
-    (parts_from 0 c.args.input.now c.push-2.new.self.items)
-    (subst (λ (l : List ℕ). JoinsPieces (rules_of c.args.dialect) c.args.input.now (parts_from 0 c.args.input.now l))
-    (sym c.in_ok-push-2.ensures.items)
+    parts_answer c.pieces_join.ensures.one (rules_of c.args.dialect) c.args.input.now (parts_from 0 c.args.input.now c.push-2.new.self.items)
     (ends_join c.pieces_join.ensures.some c.pieces_join.ensures.one (rules_of c.args.dialect) c.args.input.now c.args.count
-    c.loop-k.ends.items c.loop-k.walk.at c.loop-k.invariant.so_far))
+    c.loop-k.ends.items _ c.loop-k.walk.at c.loop-k.invariant.so_far c.in_ok-push-2.ensures.items)

@@ -1,34 +1,32 @@
-use Rattle.std.proofs.Common.{subst, sym}
-use Rattle.std.proofs.lemmas.Result.{on_err_weaker, on_ok_weaker}
-use Rattle.influxdb_line_protocol.specs.format.Pieces.{IsLastPiece}
+use Rattle.std.proofs.Common.{◌++◌, ◌∷◌, [], append-nil, refl, subst, sym}
+use Rattle.std.proofs.lemmas.Result.{MatchResult-weaker}
 use Rattle.influxdb_line_protocol.specs.code.Bounded.{IsLastOf}
-use Rattle.lp_relay.specs.RelaySteps.{unwritten_of}
+use Rattle.influxdb_line_protocol.specs.code.Rules.{rules_of}
+use Rattle.influxdb_line_protocol.specs.format.Pieces.{IsLastPiece}
 use Rattle.lp_rebuild.proofs.Parts.{at_no_fault}
-use Rattle.lp_relay.proofs.RelayLemmas.{part_of_none}
-use Rattle.lp_relay.proofs.RelayPieces.{last_part, last_relayed}
+use Rattle.lp_relay.proofs.RelayLemmas.{taken_more, taken_so_far}
+use Rattle.lp_relay.proofs.RelaysSoFar.{fronts_of}
 use Rattle.lp_relay.proofs.relaying.finish.Goals as goal
 
-pub returns-then-is_err-clause-part : goal.returns-then-is_err-clause-part
-returns-then-is_err-clause-part g c text holds is_last = part_of_none (unwritten_of c.args.pending.now) _ _ _ _
+pub returns-then-is_err-clause-relays : goal.returns-then-is_err-clause-relays
+returns-then-is_err-clause-relays g c given before h =
+    let pieces = h.2.pieces in
+    fronts_of c.args.settings given pieces (h.0 ∷ []) (pieces ++ h.0 ∷ []) before (g.O.ThreeWriters.told c.args.outputs.now)
+    (taken_so_far c.args.settings pieces before _ h.2.taken) refl
+    (c.runs_give_pieces.ensures.end (rules_of c.args.settings.dialect) given pieces h.0 h.2.run h.3)
 
-pub returns-clause-ok : goal.returns-clause-ok
-returns-clause-ok g c =
-    let gives = c.finish.follows.holds-at-none in
-    on_ok_weaker c.pour_and_flush.result
-    (λ poured text holds is_last.
-    let last = subst (λ l. IsLastOf l text c.finish.result) c.requires.limit
-    (gives.2 text holds (subst (λ e. IsLastPiece e text) (sym c.requires.dialect) is_last)) in
-    last_relayed c.args.settings _ _ _ _ _ text c.finish.result last
-    (at_no_fault c.take_given.result c.if-is_err.ensures.value c.take_given.ensures.taken) poured)
-    c.pour_and_flush.ensures.ok
-
-pub returns-clause-part : goal.returns-clause-part
-returns-clause-part g c =
-    let gives = c.finish.follows.holds-at-none in
-    on_err_weaker c.pour_and_flush.result
-    (λ part text holds is_last.
-    let last = subst (λ l. IsLastOf l text c.finish.result) c.requires.limit
-    (gives.2 text holds (subst (λ e. IsLastPiece e text) (sym c.requires.dialect) is_last)) in
-    last_part c.args.settings _ _ _ _ text c.finish.result last
-    (at_no_fault c.take_given.result c.if-is_err.ensures.value c.take_given.ensures.taken) part)
-    c.pour_and_flush.ensures.part
+pub returns-clause-relays : goal.returns-clause-relays
+returns-clause-relays g c given before h =
+    let pieces = h.2.pieces in
+    let all = pieces ++ h.0 ∷ [] in
+    let last = subst (λ l. IsLastOf l h.0 c.finish.result) c.requires.ready.0.1
+    (c.finish.follows.holds-at-none.2 h.0 h.1 (subst (λ d. IsLastPiece d h.0) (sym c.requires.ready.0.0) h.3)) in
+    let ends = c.runs_give_pieces.ensures.end (rules_of c.args.settings.dialect) given pieces h.0 h.2.run h.3 in
+    MatchResult-weaker c.pour_and_flush.result
+    (c.pour_and_flush.ensures.writes c.args.settings all before
+    (taken_more c.args.settings pieces h.0 c.finish.result before _ _ h.2.taken last
+    (at_no_fault c.take_given.result c.if-is_err.ensures.value c.take_given.ensures.taken)
+    (at_no_fault c.take_given.result c.if-is_err.ensures.value c.take_given.ensures.start)))
+    (λ _ t. (all, ends, t))
+    (λ _ t.
+    fronts_of c.args.settings given all [] all before (g.O.ThreeWriters.told c.pour_and_flush.new.outputs) t (sym (append-nil all)) ends)

@@ -1,8 +1,29 @@
-use Rattle.lp_relay.proofs.RelayLemmas.{on_err, part_of_fronts}
+use Rattle.std.proofs.Common.{subst}
+use Rattle.std.specs.Io.KnownBytes.{Appends}
+use Rattle.lp_rebuild.specs.Running.{AppendsFront}
+use Rattle.lp_relay.proofs.PassLemmas.{but_written}
+use Rattle.lp_relay.proofs.RelayLemmas.{at_fault, taken_some}
 use Rattle.lp_relay.proofs.relaying.pour.Goals as goal
 
-pub returns-in_err-put-clause-part : goal.returns-in_err-put-clause-part
-returns-in_err-put-clause-part g c =
-    on_err c.from_residual.result
-    (part_of_fronts c.args.pending.now _ _ _ _ _ c.as_slice.ensures.value c.as_bytes.ensures.value c.as_slice-2.ensures.value
-    c.in_err-put.ensures.part)
+pub returns-in_err-put-clause-writes : goal.returns-in_err-put-clause-writes
+returns-in_err-put-clause-writes g c s pieces before h =
+    let put = c.in_err-put.ensures.part in
+    at_fault _ c.from_residual.result c.from_residual.ensures.0
+    (taken_some s pieces before (g.O.ThreeWriters.told c.put.new.self) _ h (
+      subst (AppendsFront _ _) c.as_slice.ensures.value put.0,
+      subst (AppendsFront _ _) c.as_bytes.ensures.value put.1,
+      subst (AppendsFront _ _) c.as_slice-2.ensures.value put.2,
+    ))
+
+pub returns-clause-writes : goal.returns-clause-writes
+returns-clause-writes g c s pieces before h =
+    let put = c.in_ok-put.ensures.ok in
+    record {
+      lines = but_written _ _ _ _ _ _ h.lines (subst (Appends _ _) c.as_slice.ensures.value put.0) c.clear.ensures.items;
+      faults = but_written _ _ _ _ _ _ h.faults (subst (Appends _ _) c.as_bytes.ensures.value put.1) c.clear-2.ensures.bytes;
+      refused = but_written _ _ _ _ _ _ h.refused (subst (Appends _ _) c.as_slice-2.ensures.value put.2) c.clear-3.ensures.items;
+      carried = h.carried;
+      refusals = h.refusals;
+      kinds = h.kinds;
+      place = h.place;
+    }

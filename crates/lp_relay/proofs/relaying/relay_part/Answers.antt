@@ -1,50 +1,28 @@
-use Rattle.influxdb_line_protocol.specs.code.Rules.{rules_of}
-use Rattle.std.proofs.Common.{◌++◌, drop, subst}
-use Rattle.std.proofs.lemmas.List.{take_rest}
-use Rattle.std.proofs.lemmas.Result.{on_err_weaker, on_ok_weaker}
-use Rattle.influxdb_line_protocol.specs.code.Bounded.{Holds}
-use Rattle.lp_rebuild.proofs.Parts.{at_no_fault}
-use Rattle.lp_relay.proofs.RelayLemmas.{on_err}
-use Rattle.lp_relay.proofs.RelayPieces.{some_then, to_all, to_all_part, to_so_far}
+use Rattle.std.proofs.Common.{◌++◌, subst, take}
+use Rattle.std.proofs.lemmas.Result.{MatchResult-weaker}
+use Rattle.lp_relay.specs.RelaySteps.{SoFarBy, SomeSoFar, stage_of}
+use Rattle.lp_relay.proofs.RelayLemmas.{at_fault}
+use Rattle.lp_relay.proofs.RelaysSoFar.{rest_is, so_far_written}
 use Rattle.lp_relay.proofs.relaying.relay_part.Goals as goal
 
-pub returns-then-is_err-clause-part : goal.returns-then-is_err-clause-part
-returns-then-is_err-clause-part g c text holds is_last =
-    let begun = c.in_ok-given.ensures.ok text holds is_last in
-    to_so_far c.args.settings (text ++ c.args.part.now) _ _ _ _ _ begun.to
+pub returns-in_err-given-clause-relays : goal.returns-in_err-given-clause-relays
+returns-in_err-given-clause-relays g c given before h =
+    at_fault _ c.from_residual.result c.from_residual.ensures.0 (c.in_err-given.ensures.relays given before h)
 
-pub returns-in_err-relay_pieces-clause-part : goal.returns-in_err-relay_pieces-clause-part
-returns-in_err-relay_pieces-clause-part g c =
-    let d = rules_of c.args.settings.dialect in
-    let part = c.args.part.now in
-    let pushed = at_no_fault c.push.result c.if-is_err.ensures.value c.push.ensures.ok in
-    on_err c.from_residual-in_err-relay_pieces.result
-    (λ text holds is_last.
-    let begun = c.in_ok-given.ensures.ok text holds is_last in
-    let rest = begun.held ++ drop c.in_ok-given.given part in
-    some_then c.args.settings (text ++ part) rest _ _ _ _ _ begun.to
-    (c.in_err-relay_pieces.ensures.part rest (subst (λ l. Holds c.push.new.self (begun.held ++ l)) (take_rest part c.in_ok-given.given) (pushed begun.held begun.holds))))
+pub returns-in_err-relay_pieces-clause-relays : goal.returns-in_err-relay_pieces-clause-relays
+returns-in_err-relay_pieces-clause-relays g c given before h =
+    let n = c.in_ok-given.given in
+    at_fault _ c.from_residual-in_err-relay_pieces.result c.from_residual-in_err-relay_pieces.ensures.0
+    (subst (λ l. SomeSoFar c.args.settings l before (g.O.ThreeWriters.told c.relay_pieces.new.outputs)) (rest_is given c.args.part.now n)
+    (c.in_err-relay_pieces.ensures.relays (given ++ take n c.args.part.now) before (c.in_ok-given.ensures.relays given before h)))
 
-pub returns-clause-ok : goal.returns-clause-ok
-returns-clause-ok g c =
-    let part = c.args.part.now in
-    let pushed = at_no_fault c.push.result c.if-is_err.ensures.value c.push.ensures.ok in
-    on_ok_weaker c.pour_and_flush.result
-    (λ poured text holds is_last.
-    let begun = c.in_ok-given.ensures.ok text holds is_last in
-    let rest = begun.held ++ drop c.in_ok-given.given part in
-    to_all c.args.settings (text ++ part) rest _ _ _ _ _ _ _ _ _ begun.to
-    (c.in_ok-relay_pieces.ensures.ok rest (subst (λ l. Holds c.push.new.self (begun.held ++ l)) (take_rest part c.in_ok-given.given) (pushed begun.held begun.holds))) (c.pour_and_flush.ensures.start c.args.settings) poured)
-    c.pour_and_flush.ensures.ok
-
-pub returns-clause-part : goal.returns-clause-part
-returns-clause-part g c =
-    let part = c.args.part.now in
-    let pushed = at_no_fault c.push.result c.if-is_err.ensures.value c.push.ensures.ok in
-    on_err_weaker c.pour_and_flush.result
-    (λ poured text holds is_last.
-    let begun = c.in_ok-given.ensures.ok text holds is_last in
-    let rest = begun.held ++ drop c.in_ok-given.given part in
-    to_all_part c.args.settings (text ++ part) rest _ _ _ _ _ _ _ _ begun.to
-    (c.in_ok-relay_pieces.ensures.ok rest (subst (λ l. Holds c.push.new.self (begun.held ++ l)) (take_rest part c.in_ok-given.given) (pushed begun.held begun.holds))) poured)
-    c.pour_and_flush.ensures.part
+pub returns-clause-relays : goal.returns-clause-relays
+returns-clause-relays g c given before h =
+    let n = c.in_ok-given.given in
+    let new = stage_of c.pour_and_flush.new.pending (g.O.ThreeWriters.told c.pour_and_flush.new.outputs) in
+    let whole = rest_is given c.args.part.now n in
+    let q = c.in_ok-relay_pieces.ensures.relays (given ++ take n c.args.part.now) before (c.in_ok-given.ensures.relays given before h) in
+    MatchResult-weaker c.pour_and_flush.result
+    (so_far_written c.args.settings _ q.0 before c.pour_and_flush.result _ _ c.pour_and_flush.ensures.writes q.2)
+    (λ _ t. subst (λ l. SoFarBy c.args.settings l c.relay_pieces.new.stream before new) whole (q.0, q.1, t, q.3))
+    (λ _ t. subst (λ l. SomeSoFar c.args.settings l before new.told) whole t)

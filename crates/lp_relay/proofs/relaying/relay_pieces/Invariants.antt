@@ -1,19 +1,18 @@
-use Rattle.std.proofs.Common.{◌+◌, ◌<◌, ◌^◌, List, ℕ}
-use Rattle.influxdb_line_protocol.specs.code.Bounded.{Holds, KeepsRules, most_given}
-use Rattle.lp_relay.specs.RelaySteps.{HoldsLess, RelaysPieces, unwritten_of}
-use Rattle.lp_relay.specs.Writers.{CountsNone, failures_of}
+use Rattle.std.proofs.Common.{◌++◌, List, ℕ}
+use Rattle.influxdb_line_protocol.specs.code.Bounded.{Holds, most_given}
+use Rattle.lp_relay.specs.RelaySteps.{IsReady, SoFar, SoFarBy, stage_of}
+use Rattle.lp_relay.specs.Writers.{CountsNone, Told, failures_of}
 use Rattle.lp_relay.proofs.relaying.relay_pieces.Given as goal
 
-abbrev pub invariant-loop-piece : goal.invariant-loop-piece
-invariant-loop-piece g l = record {
-  rules : KeepsRules l.initial.stream l.stream;
-  fits : l.pending.so_far.carried + l.pending.so_far.refused < 2 ^ 64;
-  held : HoldsLess 65536 l.pending;
-  relays : (text : List ℕ) → Holds l.initial.stream text
-      → RelaysPieces l.fn.settings text l.stream (unwritten_of l.initial.pending) (unwritten_of l.pending)
-      (g.O.ThreeWriters.told l.initial.outputs) (g.O.ThreeWriters.told l.outputs);
+abbrev pub invariant-loop : goal.invariant-loop
+invariant-loop g l = record {
+  ready : IsReady l.fn.settings l.stream l.pending;
+  relays : (given : List ℕ) (before : Told)
+      → SoFarBy l.fn.settings given l.fn.stream before (stage_of l.initial.pending (g.O.ThreeWriters.told l.initial.outputs))
+      → (left : List ℕ) × Holds l.stream left
+      × SoFar l.fn.settings (given ++ l.part) left before (stage_of l.pending (g.O.ThreeWriters.told l.outputs));
   unfailed : CountsNone (failures_of (g.O.ThreeWriters.told l.initial.outputs)) (failures_of (g.O.ThreeWriters.told l.outputs));
 }
 
-abbrev pub decreases-loop-piece : goal.decreases-loop-piece
-decreases-loop-piece g l = most_given l.stream
+abbrev pub decreases-loop : goal.decreases-loop
+decreases-loop g l = most_given l.stream

@@ -1,7 +1,8 @@
+use Rattle.std.proofs.lemmas.List.{take_rest}
 use Rattle.std.proofs.Common.{◌≡◌, List, ℕ, ap, drop, ◌∙◌, arith}
 use Rattle.influxdb_line_protocol.specs.code.Rules.{rules_of}
 use Rattle.lp_relay.specs.Differing.{differing_part}
-use Rattle.lp_relay.proofs.CanonicalLemmas.{no_refusal, rest_is, takes_differing}
+use Rattle.lp_relay.proofs.CanonicalLemmas.{no_refusal, takes_differing}
 use Rattle.lp_relay.proofs.taking.take_canonical.Goals as goal
 
 pub returns-clause-taken : goal.returns-clause-taken
@@ -10,7 +11,7 @@ returns-clause-taken c =
     let start = c.len-start.result in
     let part : c.differing_part-part.result ≡ differing_part text (drop start c.take_text.new.batch.items) =
     c.differing_part-part.ensures
-    ∙ ap (differing_part text) (rest_is start c.deref.result.now)
+    ∙ ap (differing_part text) (take_rest c.deref.result.now start)
     ∙ ap (λ (l : List ℕ). differing_part text (drop start l)) c.deref.ensures.value in
     takes_differing (rules_of c.args.reader.now.dialect) c.args.piece.now text c.args.batch.now.items c.take_text.new.batch.items
     c.truncate.new.self.items start c.differing_part-part.result c.in_ok-wrong.wrong c.requires.text c.written_lines_stay.ensures.written
