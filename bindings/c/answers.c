@@ -71,9 +71,9 @@ static void put_item(FILE *out, uint32_t answer, const lp_line *line, const lp_p
     else fprintf(out, "the answer %u", (unsigned)answer);
 }
 
-static lp_lines begin(lp_text text, bool strict) {
+static lp_lines begin(lp_text text, uint32_t dialect) {
     lp_lines lines = LP_NO_LINES;
-    if (!lp_lines_begin(text.at, text.len, strict, &lines)) stop("a text is no UTF-8", LP_NOT_UTF8);
+    if (!lp_lines_begin(text.at, text.len, dialect, &lines)) stop("a text is no UTF-8", LP_NOT_UTF8);
     return lines;
 }
 
@@ -89,12 +89,12 @@ static void put_series(FILE *out, uint32_t answer, const lp_line *line, const lp
 }
 
 /* Writes what a call gives for a text. */
-typedef void giver(FILE *out, lp_text text, bool strict);
+typedef void giver(FILE *out, lp_text text, uint32_t dialect);
 typedef void putter(FILE *out, uint32_t answer, const lp_line *line, const lp_part *part);
 typedef uint32_t writer(const lp_line *line, const lp_part *part, size_t parts_len, uint8_t *out, size_t room, size_t *len);
 
-static void give_each(FILE *out, lp_text text, bool strict, putter *put) {
-    lp_lines lines = begin(text, strict);
+static void give_each(FILE *out, lp_text text, uint32_t dialect, putter *put) {
+    lp_lines lines = begin(text, dialect);
     lp_line line = LP_EMPTY_LINE;
     uint32_t answer = next(&lines, &line);
     while (answer != LP_END) {
@@ -105,16 +105,16 @@ static void give_each(FILE *out, lp_text text, bool strict, putter *put) {
     }
 }
 
-static void give_items(FILE *out, lp_text text, bool strict) {
-    give_each(out, text, strict, put_item);
+static void give_items(FILE *out, lp_text text, uint32_t dialect) {
+    give_each(out, text, dialect, put_item);
 }
 
-static void give_series(FILE *out, lp_text text, bool strict) {
-    give_each(out, text, strict, put_series);
+static void give_series(FILE *out, lp_text text, uint32_t dialect) {
+    give_each(out, text, dialect, put_series);
 }
 
-static void give_items_of_blocks(FILE *out, lp_text text, bool strict) {
-    lp_lines lines = begin(text, strict);
+static void give_items_of_blocks(FILE *out, lp_text text, uint32_t dialect) {
+    lp_lines lines = begin(text, dialect);
     lp_row rows[ROWS] = { LP_EMPTY_ROW, LP_EMPTY_ROW };
     uint32_t answer = LP_LINE;
     for (size_t item = 0, filled = 0; answer == LP_LINE;) {
@@ -128,8 +128,8 @@ static void give_items_of_blocks(FILE *out, lp_text text, bool strict) {
     if (answer != LP_END) put_item(out, answer, NULL, NULL);
 }
 
-static void give_pieces(FILE *out, lp_text text, bool strict) {
-    lp_lines lines = begin(text, strict);
+static void give_pieces(FILE *out, lp_text text, uint32_t dialect) {
+    lp_lines lines = begin(text, dialect);
     lp_view piece = LP_NO_VIEW;
     while (lp_lines_piece(&lines, &piece)) put_within(out, piece.copied ? "a copy " : "", piece.text);
 }
@@ -139,16 +139,16 @@ static void put_rest(FILE *out, const lp_lines *lines) {
     else put_within(out, "", lines->rest);
 }
 
-static void give_rests_of_pieces(FILE *out, lp_text text, bool strict) {
-    lp_lines lines = begin(text, strict);
+static void give_rests_of_pieces(FILE *out, lp_text text, uint32_t dialect) {
+    lp_lines lines = begin(text, dialect);
     lp_view piece = LP_NO_VIEW;
     do put_rest(out, &lines);
     while (lp_lines_piece(&lines, &piece));
     put_rest(out, &lines);
 }
 
-static void give_rests_of_items(FILE *out, lp_text text, bool strict) {
-    lp_lines lines = begin(text, strict);
+static void give_rests_of_items(FILE *out, lp_text text, uint32_t dialect) {
+    lp_lines lines = begin(text, dialect);
     lp_line line = LP_EMPTY_LINE;
     uint32_t answer;
     put_rest(out, &lines);
@@ -159,8 +159,8 @@ static void give_rests_of_items(FILE *out, lp_text text, bool strict) {
 }
 
 /* What a call writes for the first line. */
-static uint32_t write_first(writer *write, lp_text text, bool strict, lp_text *out) {
-    lp_lines lines = begin(text, strict);
+static uint32_t write_first(writer *write, lp_text text, uint32_t dialect, lp_text *out) {
+    lp_lines lines = begin(text, dialect);
     lp_line line = LP_EMPTY_LINE;
     uint32_t answer = next(&lines, &line);
     out->at = written, out->len = 0;
@@ -174,16 +174,16 @@ static void put_message(FILE *out, const lp_line *line) {
     else fprintf(out, "the answer %u", (unsigned)answer);
 }
 
-static void give_fault(FILE *out, lp_text text, bool strict) {
-    lp_lines lines = begin(text, strict);
+static void give_fault(FILE *out, lp_text text, uint32_t dialect) {
+    lp_lines lines = begin(text, dialect);
     lp_line line = LP_EMPTY_LINE;
     if (next(&lines, &line) == LP_FAULT) put_message(out, &line);
 }
 
 /* A buffer does not tell whether a base is a part of the text or a copy. */
-static void give_base(FILE *out, lp_text text, bool strict) {
+static void give_base(FILE *out, lp_text text, uint32_t dialect) {
     lp_text base;
-    uint32_t answer = write_first(lp_line_base, text, strict, &base);
+    uint32_t answer = write_first(lp_line_base, text, dialect, &base);
     if (answer == LP_WRITTEN) put_within(out, "", base);
     else if (answer == LP_FAULT) {
         lp_line repeated = LP_EMPTY_LINE;
@@ -192,44 +192,44 @@ static void give_base(FILE *out, lp_text text, bool strict) {
     }
 }
 
-static void give_shown(FILE *out, lp_text text, bool strict) {
+static void give_shown(FILE *out, lp_text text, uint32_t dialect) {
     lp_text shown;
-    if (write_first(lp_line_show, text, strict, &shown) == LP_WRITTEN) put_text(out, shown);
+    if (write_first(lp_line_show, text, dialect, &shown) == LP_WRITTEN) put_text(out, shown);
 }
 
-static lp_counts rebuild(lp_text text, bool strict) {
+static lp_counts rebuild(lp_text text, uint32_t dialect) {
     lp_counts counts = { 0, 0, 0, 0 };
-    uint32_t answer = lp_rebuild(strict, text.at, text.len, written, BYTES, faults, BYTES, &counts);
+    uint32_t answer = lp_rebuild(dialect, text.at, text.len, written, BYTES, faults, BYTES, &counts);
     if (answer != LP_WRITTEN) stop("a text is not rebuilt", answer);
     return counts;
 }
 
-static void give_rebuilt(FILE *out, lp_text text, bool strict) {
-    lp_counts counts = rebuild(text, strict);
+static void give_rebuilt(FILE *out, lp_text text, uint32_t dialect) {
+    lp_counts counts = rebuild(text, dialect);
     fprintf(out, "%zu of %zu", counts.carried, counts.carried + counts.refused);
     put_within(out, " ", (lp_text){ written, counts.batch_len });
 }
 
 /* The status of the program, which is 1 if an item is refused, and what it writes. */
-static void give_run(FILE *out, lp_text text, bool strict) {
-    lp_counts counts = rebuild(text, strict);
+static void give_run(FILE *out, lp_text text, uint32_t dialect) {
+    lp_counts counts = rebuild(text, dialect);
     put_within(out, counts.refused > 0 ? "1 " : "0 ", (lp_text){ written, counts.batch_len });
     put_within(out, " ", (lp_text){ faults, counts.faults_len });
 }
 
 /* Whether a field is taken whose value is a float with this literal. */
-static void give_float(FILE *out, lp_text text, bool strict) {
+static void give_float(FILE *out, lp_text text, uint32_t dialect) {
     const lp_part field = { VIEW("f"), { text, false }, 0, 0, LP_FLOAT, false };
     const lp_line line = { LP_NO_TEXT, VIEW("m"), LP_NO_TEXT, 0, 1, 0, 0, 0, 0, false, false };
     size_t len = 0;
-    uint32_t answer = lp_line_write(strict ? LP_STRICT : LP_CRATE, &line, &field, 1, written, BYTES, &len);
+    uint32_t answer = lp_line_write(dialect, &line, &field, 1, written, BYTES, &len);
     if (answer == LP_WRITTEN || answer == LP_NOT_A_LINE) fputs(answer == LP_WRITTEN ? "true" : "false", out);
 }
 
 /* Whether the text has a number. */
-static void give_number(FILE *out, lp_text text, bool strict) {
+static void give_number(FILE *out, lp_text text, uint32_t dialect) {
     double value = 0;
-    (void)strict;
+    (void)dialect;
     fputs(lp_float_value(text.at, text.len, &value) ? "true" : "false", out);
 }
 
@@ -274,17 +274,17 @@ static bool unescape(char *cell, lp_text *text) {
 
 /* Whether a call gives the answer that is wanted. The text is in a block of just its length, so that the address sanitizer sees
  * what is read past it. */
-static bool gives(giver *give, lp_text text, bool strict, lp_text wanted) {
+static bool gives(giver *give, lp_text text, uint32_t dialect, lp_text wanted) {
     uint8_t *copy = malloc(text.len > 0 ? text.len : 1);
     char *given = NULL;
     size_t len = 0;
     FILE *out = open_memstream(&given, &len);
     memcpy(copy, text.at, text.len);
-    give(out, (lp_text){ copy, text.len }, strict);
+    give(out, (lp_text){ copy, text.len }, dialect);
     fclose(out);
     if (give == give_base && wanted.len > 1 && wanted.at[1] == '<') wanted.at++, wanted.len--;
     bool is_given = len == wanted.len && memcmp(given, wanted.at, len) == 0;
-    if (!is_given) printf("%s: the library gives %s\n", strict ? "the strict dialect" : "the dialect of the crate", given);
+    if (!is_given) printf("%s: the library gives %s\n", dialect == LP_STRICT ? "the strict dialect" : "the dialect of the crate", given);
     free(given);
     free(copy);
     return is_given;
@@ -298,10 +298,10 @@ static bool is_right(char **cells, size_t count, size_t *strict_answers) {
     if (!is_given) return false;
     kind->rows++;
     for (size_t at = 2; at < count && kind->give; at++) {
-        bool strict = at == 3;
-        *strict_answers += strict;
-        is_given &= unescape(cells[at], &wanted) && gives(kind->give, text, strict, wanted) &&
-                    (!kind->again || gives(kind->again, text, strict, wanted));
+        uint32_t dialect = at == 3 ? LP_STRICT : LP_CRATE;
+        *strict_answers += at == 3;
+        is_given &= unescape(cells[at], &wanted) && gives(kind->give, text, dialect, wanted) &&
+                    (!kind->again || gives(kind->again, text, dialect, wanted));
     }
     return is_given;
 }

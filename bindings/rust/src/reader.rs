@@ -111,7 +111,7 @@ impl<R: BufRead> LineReader<R> {
     pub fn new_in(reader: R, dialect: Dialect, limit: usize) -> Self {
         Self {
             reader,
-            cuts: Cuts::begin(dialect == Dialect::Strict, limit),
+            cuts: Cuts::begin(dialect.number(), limit),
             held: vec![],
             too_long: None,
             is_given: false,

@@ -1,12 +1,12 @@
 //! Lines that are written, shown or tested, and bases of series: each into a buffer that the caller lends.
 
-ghost use Rattle.std.specs.Prelude.{◌≡◌, ◌≢◌, ◌≤◌, ◌++◌, length, take, drop, false};
+ghost use Rattle.std.specs.Prelude.{◌≡◌, ◌≢◌, ◌↔◌, ◌≤◌, ◌++◌, length, take, drop, false};
 ghost use Rattle.influxdb_line_protocol.specs.code.Bases.{is_base_safe};
 ghost use Rattle.influxdb_line_protocol.specs.format.Lines.{some_tags};
 ghost use Rattle.influxdb_line_protocol.specs.format.Points.{is_admitted_point};
-ghost use Rattle.lp_c.specs.declared.views.Answer.TheVariants.{MoreRoom, NotALine, OutOfMemory, Written};
+ghost use Rattle.lp_c.specs.declared.views.Answer.TheVariants.{MoreRoom, NotADialect, NotALine, OutOfMemory, Written};
 ghost use Rattle.lp_c.specs.Handed.{IsLineIn, IsSeriesIn, tag_set_in, text_in};
-ghost use Rattle.lp_c.specs.Numbers.{answer_number};
+ghost use Rattle.lp_c.specs.Numbers.{IsNoDialect, answer_number};
 ghost use Rattle.lp_c.specs.Writing.{PutsOut, ReadsAs, Writes, WritesAdmittedLine, answer_for_base, base_in, point_in, shown_in, text_of_base};
 
 use crate::handed::{empty_line, take_line, take_series};
@@ -38,24 +38,29 @@ fn put_out(done: Answer, text: &[u8], out: &mut [u8], len: &mut usize) -> u32
     done.number()
 }
 
-/// Whether [`lp_line_write`] writes a line: whether each of its names is admitted.
+/// Whether [`lp_line_write`] writes a line in the [`Dialect`] of this number: whether the line is admitted there.
 ///
-/// Answers `Written` and sets `admitted`; or `NotALine` or `OutOfMemory`, and changes nothing. With at most eight tags and
-/// four fields it takes no memory.
+/// Answers `Written` and sets `admitted`; or `NotADialect`, `NotALine` or `OutOfMemory`, and changes nothing. With at most eight
+/// tags and four fields it takes no memory.
 #[unsafe(no_mangle)]
 pub extern "C" fn lp_line_is_admitted(
     alloc: Global,
+    dialect: u32,
     line: &Line<'_>,
     parts: &[Part<'_>],
     admitted: &mut bool,
 ) -> u32
-    ensures not_a_line { result ≡ answer_number NotALine → (¬ IsLineIn line.now parts.now) × (admitted.new ≡ admitted.old) }
-    ensures out_of_memory { result ≡ answer_number OutOfMemory → admitted.new ≡ admitted.old }
+    ensures not_a_dialect { result ≡ answer_number NotADialect ↔ IsNoDialect dialect }
+    ensures not_a_line { result ≡ answer_number NotALine → ¬ IsLineIn line.now parts.now }
+    ensures kept { result ≢ answer_number Written → admitted.new ≡ admitted.old }
     ensures memory { line.now.tags ≤ 8 → line.now.fields ≤ 4 → result ≢ answer_number OutOfMemory }
-    ensures told { result ≢ answer_number NotALine → result ≢ answer_number OutOfMemory →
+    ensures told { result ≢ answer_number NotADialect → result ≢ answer_number NotALine → result ≢ answer_number OutOfMemory →
         (result ≡ answer_number Written) × IsLineIn line.now parts.now
         × (admitted.new ≡ is_admitted_point (point_in line.now parts.now)) }
 {
+    if Dialect::numbered(dialect).is_none() {
+        return Answer::NotADialect.number();
+    }
     let mut taken = empty_line(alloc);
     match take_line(alloc, false, line, parts, &mut taken) {
         Ok(()) => {

@@ -4,7 +4,7 @@ from __future__ import annotations
 
 import sys
 from math import isfinite
-from typing import Any, List, NoReturn, Optional
+from typing import Any, List, Literal, NoReturn, Optional
 
 from .items import FloatText, Unsigned, Value, as_integer, short
 
@@ -98,6 +98,26 @@ def plain_value(key: str, value: Any) -> Value:
         return str.__str__(value)
     raise TypeError(
         f"the field {short(key)}: a value is an int, an Unsigned, a float, a str or a bool, not {told(value)}")
+
+
+Dialect = Literal["crate", "strict"]
+"""By whose rules a text is read, and a line reads back: those of the Rust crate, or the strict ones."""
+
+_DIALECTS = {"crate": 0, "strict": 1}
+"""The number of each dialect."""
+
+
+def as_dialect(strict: Optional[bool], dialect: Optional[str]) -> int:
+    """The number of a dialect, which is that of the Rust crate if nothing else is asked for."""
+    if dialect is None:
+        return int(bool(strict))
+    if strict is not None:
+        raise TypeError("strict and dialect are not both given: dialect says all that strict says")
+    if not isinstance(dialect, str):
+        raise TypeError(f"a dialect is a str, not {told(dialect)}")
+    if dialect not in _DIALECTS:
+        raise ValueError(f"a dialect is {' or '.join(map(repr, _DIALECTS))}, not {short(dialect)}")
+    return _DIALECTS[dialect]
 
 
 def refuse(what: str, key: Any, value: Any) -> NoReturn:
