@@ -6,7 +6,8 @@ use Rattle.std.proofs.lemmas.{Grind.common_steps, Grind.flat_map-append, List.dr
 use Rattle.std.proofs.lemmas.List.Elements.{All-head, All-tail, All-cons, All-push, All-take, All-append}
 use Rattle.std.proofs.lemmas.Bool.{cases_lt, cases_eq, cases_Bool, false≢true, both_ways}
 use Rattle.std.specs.List.{join_with_byte}
-use Rattle.lp_format.specs.format.{Dialect, Crate, Strict, is_escaped_after, begins_comment, IsComment, IsCutPiece, IsLastPiece}
+use Rattle.lp_format.specs.format.{Dialect, Crate, Strict, NewlineDelimited, is_escaped_after, begins_comment, HasNoNewline, IsComment}
+use Rattle.lp_format.specs.format.{IsCutPiece, IsLastPiece}
 use Rattle.lp_format.specs.format.{IsFirstCut, comma, equals, newline, quote, space, Fault, HasAnswers, answers_of_piece, Line}
 use Rattle.lp_format.specs.format.{Pieces.Pieces, Pieces.Pieces.last, Pieces.Pieces.cut}
 use Rattle.lp_format.specs.laws.Laws.{CommentTextIsIgnored}
@@ -82,6 +83,10 @@ goes_on Strict front b (inr h) = elim (cases_Bool (begins_comment (front ++ b �
     | inr w ↦ inr (inr (c, w))
   ]
 ]
+goes_on NewlineDelimited front b h = elim (cases_eq b newline) [
+  | inl n ↦ inl (n, h)
+  | inr n ↦ inr (All-push (λ c. c ≢ newline) front b h n)
+]
 
 -- bytes without a newline cut nothing
 pub IsLastPiece-extend : (dialect : Dialect) (front more : List ℕ) → IsLastPiece dialect front → All (λ b. b ≢ newline) more
@@ -101,14 +106,19 @@ IsLastPiece-nil dialect = grind arith
 pub IsLastPiece-cut : (dialect : Dialect) (piece : List ℕ) → IsCutPiece dialect piece → IsLastPiece dialect piece
 IsLastPiece-cut dialect piece h = grind arith
 
+-- a text with a newline in it is not without one
+newline_within : (piece rest : List ℕ) → HasNoNewline (piece ++ newline ∷ rest) → ⊥
+newline_within piece rest h =
+    h (length piece) 0 (omega (arith, length-append piece (newline ∷ rest))) (get_or_at piece newline rest 0 (length piece) refl)
+
 -- a cut is within no piece
 pub no_cut_within : (dialect : Dialect) (piece rest : List ℕ) → IsCutPiece dialect piece → IsLastPiece dialect (piece ++ newline ∷ rest) → ⊥
 no_cut_within Crate piece rest c h = cut_not_within piece rest c.0 c.1 h
-no_cut_within Strict piece rest (inl c) (inl h) =
-    h.1 (length piece) 0 (omega (arith, length-append piece (newline ∷ rest))) (get_or_at piece newline rest 0 (length piece) refl)
+no_cut_within Strict piece rest (inl c) (inl h) = newline_within piece rest h.1
 no_cut_within Strict piece rest (inl c) (inr h) = false≢true (sym h.0 ∙ begins_comment-append piece (newline ∷ rest) c.0)
 no_cut_within Strict piece rest (inr c) (inl h) = false≢true (sym (begins_comment-newline piece rest c.0) ∙ h.0)
 no_cut_within Strict piece rest (inr c) (inr h) = cut_not_within piece rest c.1 c.2 h.1
+no_cut_within NewlineDelimited piece rest c h = newline_within piece rest h
 
 -- some list
 abbrev HasPieces : Dialect → List ℕ → Type 0
