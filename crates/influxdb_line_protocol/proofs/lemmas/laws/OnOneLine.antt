@@ -1,33 +1,35 @@
 -- Points whose lines hold no newline: those that are read from a text without one, and those that are admitted if each newline ends a line.
-use Rattle.std.proofs.Common.{◌≡◌, ◌≢◌, ℕ, ◌<◌, ◌^◌, ℤ, List, [], ◌∷◌, ◌++◌, drop, take, map, Bool, cond, true, false, not, ◌&&◌, ◌==◌}
-use Rattle.std.proofs.Common.{refl, sym, ap, ◌∙◌, subst, arith, All, Option, Some, None, Ok, Err, Result, IfSome, Contains, flat_map, take-append-drop}
-use Rattle.std.proofs.Common.{decimal, ne_eqb, append_assoc}
+use Rattle.std.proofs.Common.{◌≡◌, ◌≢◌, ℕ, length, ℤ, List, [], ◌∷◌, ◌++◌, drop, take, Bool, cond, true, false, not, ◌==◌}
+use Rattle.std.proofs.Common.{refl, sym, ap, ◌∙◌, subst, arith, Option, Some, None, Ok, Err, Result, IfSome, Contains, flat_map, take-append-drop}
+use Rattle.std.proofs.Common.{decimal, ne_eqb}
 use Rattle.std.proofs.lemmas.{Grind.common_steps, List.Folds.list_all-append}
 use Rattle.std.proofs.lemmas.Bool.{and_from, and_parts, cases_Bool, eqb-false, not-true}
 use Rattle.std.proofs.Common.{inl, inr, eqb-true}
 use Rattle.std.proofs.lemmas.List.Elements.{All-contains, All-from_recursion, All-head, All-tail}
 use Rattle.std.specs.{List.AllByRecursion, List.list_all, Fmt.signed_decimal}
 use Rattle.lp_format.specs.format.{answer, answers_of, answers_of_piece, a_field_key, a_measurement, a_tag_key, a_tag_value, boolean, boolean_at}
-use Rattle.lp_format.specs.format.{built_field, built_fields, built_tag, built_timestamp, built_value, comma, Dialect, equals, escaped, Fault, Field}
-use Rattle.lp_format.specs.format.{field, field_set, fits_i64, float, float_at, HasAnswers, HasNoNewline, integer, integer_at, IsPoint, IsValue}
-use Rattle.lp_format.specs.format.{is_admitted_in, is_admitted_name, is_admitted_point, is_on_one_line, is_one_of, is_value_on_one_line, letter_i}
+use Rattle.lp_format.specs.format.{built_field, escaped_byte, built_fields, built_tag, built_timestamp, built_value, comma, Dialect, equals, escaped, Fault, Field}
+use Rattle.lp_format.specs.format.{field, fits_i64, float, float_at, HasAnswers, HasNoNewline, integer, integer_at, IsPoint, IsValue}
+use Rattle.lp_format.specs.format.{is_admitted_name, is_admitted_point, is_on_one_line, is_one_of, is_value_on_one_line, letter_i}
 use Rattle.lp_format.specs.format.{letter_u, Line, line_of, logical_field, logical_value, name, NameKind, newline, NewlineDelimited, Pair, Point}
-use Rattle.lp_format.specs.format.{point_of, quotable, logical_tag, read_text, Reading, reads, miss, fatal, some_tags, space, spaces, spelling, Strict, string, string_at}
-use Rattle.lp_format.specs.format.{Tag, tag, tag_set, Text, trimmed, unsigned, unsigned_at, Value, value, without_escapes, ◌otherwise◌, quote}
-use Rattle.lp_format.specs.format.Pieces.{Pieces}
-use Rattle.lp_format.specs.laws.Laws.{StringsAreOnOneLine}
+use Rattle.lp_format.specs.format.{point_of, quotable, logical_tag, Reading, reads, miss, fatal, some_tags, space, spaces, spelling, string, string_at}
+use Rattle.lp_format.specs.format.{Tag, tag, Text, trimmed, unsigned, unsigned_at, Value, value, without_escapes, ◌otherwise◌, quote}
+use Rattle.lp_format.specs.laws.Laws.{IsAdmittedIn, StringsAreOnOneLine}
 use Rattle.lp_format.specs.laws.Meanings.{SeparatedAfterComma, SeparatedBy}
 use Rattle.lp_format.proofs.lemmas.{line.TrimLemmas.left_of, line.TrimLemmas.trimmed_is, literals.FloatLemmas.float_bytes}
 use Rattle.lp_format.proofs.lemmas.{split.SplitPieces.pieces_on_one_line, meanings.JoinedMeaning.the_most_is_read}
 use Rattle.lp_format.proofs.lemmas.meanings.ShorterRests.{field_no_longer}
-use Rattle.lp_values.proofs.lemmas.fields.ReadingLemmas.{EndsIn, EndsIn-end, name_ends, pair_parts, tag_ends}
-use Rattle.lp_events.proofs.lemmas.fields.ManyLemmas.{fields_joined, series_ends, set_separated, tag_set_ends}
-use Rattle.lp_lines.proofs.lemmas.names.ParsedNames.{all_made, answer_parts, nothing_in_nil}
-use Rattle.lp_lines.proofs.lemmas.read_back.LinePieces.{IsSimple, is_simple, line_parts, simple_decimal, simple_number, simple_signed}
+use Rattle.lp_values.proofs.lemmas.fields.ReadingLemmas.{EndsIn, name_ends, pair_parts, tag_ends}
+use Rattle.lp_events.proofs.lemmas.fields.ManyLemmas.{fields_joined, set_separated, tag_set_ends}
+use Rattle.lp_lines.proofs.lemmas.names.ParsedNames.{all_made, answer_parts}
+use Rattle.lp_lines.proofs.lemmas.read_back.LinePieces.{AdmittedField, AdmittedTag, admitted_point, IsSimple, is_simple, line_parts}
+use Rattle.lp_lines.proofs.lemmas.read_back.LinePieces.{simple_decimal, simple_number, simple_signed}
+use Rattle.lp_format.proofs.lemmas.read_back.NameReadsBack.{admitted_parts, may_hold}
+use Rattle.lp_written.proofs.lemmas.points.LinesArePoints.{lines_are_points}
 use Rattle.influxdb_line_protocol.proofs.lemmas.laws.StopEnds.{field_ends}
 
 -- a text without a newline, as a test
-abbrev OnOne : List ℕ → Type 0
+abbrev pub OnOne : List ℕ → Type 0
 OnOne text = is_on_one_line text ≡ true
 
 -- the test of a byte
@@ -51,7 +53,7 @@ no_newline text h = All-from_recursion (λ c. c ≢ newline) text (each text h)
         (eqb-false b newline (not-true (b == newline) parts.0), each text parts.1)
 
 -- two texts after another
-joined : (xs ys : List ℕ) → OnOne xs → OnOne ys → OnOne (xs ++ ys)
+pub joined : (xs ys : List ℕ) → OnOne xs → OnOne ys → OnOne (xs ++ ys)
 joined xs ys h k = list_all-append is_other xs ys ∙ and_from _ _ h k
 
 -- both parts of a text
@@ -143,8 +145,7 @@ tag_read text t rest e h =
 field_read : (text : List ℕ) (f : Pair Text (Value Text)) (rest : List ℕ) → field text ≡ reads f rest → OnOne text → FieldOn f
 unfolding field
 field_read text f rest e h =
-    let p = pair_parts a_field_key value text f rest e in
-    (
+    let p = pair_parts a_field_key value text f rest e in (
       name_read a_field_key text f.key (equals ∷ p.mid) p.key h,
       (value_read p.mid (after_key a_field_key text p.mid f.key p.key h)).holds f.value rest p.value,
     )
@@ -166,7 +167,7 @@ module _ {A : Type 0} (P : A → Type 0) (one : List ℕ → Reading A)
       (each text x h.0 h.1 on, many_read xs h.0 rest h.2 (end_of text h.0 (ends text x h.0 h.1) on))
 
 -- a point of which no name and no string holds a newline
-record PointOn (p : Point) : Type 0 where
+pub record PointOn (p : Point) : Type 0 where
   measurement : OnOne p.measurement
   tags : AllByRecursion (λ t. OnOne t.key × OnOne t.value) p.tags
   fields : AllByRecursion (λ f. OnOne f.key × (is_value_on_one_line f.value ≡ true)) p.fields
@@ -213,8 +214,8 @@ simple_on (b ∷ text) h =
 
 -- a value as it is written
 value_on : (v : Value (List ℕ)) → IsValue v → is_value_on_one_line v ≡ true → OnOne (built_value v)
-value_on (integer z) fits h = joined (signed_decimal z) (letter_i ∷ []) (simple_on _ (simple_signed z fits)) refl
-value_on (unsigned n) fits h = joined (decimal n) (letter_u ∷ []) (simple_on _ (simple_decimal n fits)) refl
+value_on (integer z) fits h = joined (signed_decimal z) (letter_i ∷ []) (simple_on (signed_decimal z) (simple_signed z fits)) refl
+value_on (unsigned n) fits h = joined (decimal n) (letter_u ∷ []) (simple_on (decimal n) (simple_decimal n fits)) refl
 value_on (float t) ok h = simple_on t (simple_number t (float_bytes t ok))
 value_on (string s) ok h = joined (escaped quotable s) (quote ∷ []) (escaped_on quotable s h) refl
 value_on (boolean true) ok h = refl
@@ -246,3 +247,116 @@ point_on p is on = no_newline (line_of p) (subst OnOne (sym (line_parts p))
     (joined (spelling a_measurement p.measurement) _ (escaped_on _ p.measurement on.measurement)
     (joined (flat_map built_tag p.tags) _ (tags_on p.tags on.tags)
     (joined (built_fields space p.fields) _ (fields_on space p.fields refl is.values on.fields) (stamp_on p.timestamp is.timestamp)))))
+
+-- a name that is admitted
+name_on : (kind : NameKind) (n : List ℕ) → is_admitted_name kind n ≡ true → OnOne n
+name_on kind n h = bytes n (admitted_parts kind n h).may
+  where
+    -- a byte that a name may hold
+    byte_on : (kind : NameKind) (b : ℕ) → may_hold kind b ≡ true → is_other b ≡ true
+    byte_on kind b h = grind (arith, common_steps, cases_Bool)
+
+    -- and all of them
+    bytes : (n : List ℕ) → list_all (may_hold kind) n ≡ true → OnOne n
+    bytes [] all = refl
+    bytes (b ∷ n) all =
+        let parts = and_parts (may_hold kind b) (list_all (may_hold kind) n) all in
+        and_from _ _ (byte_on kind b parts.0) (bytes n parts.1)
+
+-- tags and fields that are admitted
+admitted_tags_on : (ts : List Tag) → AllByRecursion AdmittedTag ts → AllByRecursion (λ t. OnOne t.key × OnOne t.value) ts
+admitted_tags_on [] all = tt
+admitted_tags_on (t ∷ ts) all = ((name_on a_tag_key t.key all.0.0, name_on a_tag_value t.value all.0.1), admitted_tags_on ts all.1)
+
+admitted_fields_on : (fs : List Field) → AllByRecursion AdmittedField fs → list_all (λ f. is_value_on_one_line f.value) fs ≡ true
+    → AllByRecursion (λ f. OnOne f.key × (is_value_on_one_line f.value ≡ true)) fs
+admitted_fields_on [] all h = tt
+admitted_fields_on (f ∷ fs) all h =
+    let parts = and_parts (is_value_on_one_line f.value) (list_all (λ f. is_value_on_one_line f.value) fs) h in
+    ((name_on a_field_key f.key all.0.0, parts.0), admitted_fields_on fs all.1 parts.1)
+
+-- the line of a point that is admitted if each newline ends a line
+pub admitted_on : (p : Point) → IsAdmittedIn NewlineDelimited p → HasNoNewline (line_of p)
+admitted_on p h =
+    let parts = and_parts (is_admitted_point p) (list_all (λ f. is_value_on_one_line f.value) p.fields) h.admitted in
+    let ok = admitted_point p h.is_point parts.0 in
+    point_on p h.is_point (record {
+      measurement = name_on a_measurement p.measurement ok.measurement;
+      tags = admitted_tags_on p.tags ok.tags;
+      fields = admitted_fields_on p.fields ok.fields parts.1;
+    })
+
+-- a text that was escaped
+unescaped_on : (bytes text : List ℕ) → OnOne (escaped bytes text) → OnOne text
+unfolding escaped
+unescaped_on bytes [] h = refl
+unescaped_on bytes (b ∷ text) h =
+    let parts = parts_of (escaped_byte bytes b) (escaped bytes text) h in
+    and_from _ _ (first bytes b parts.0) (unescaped_on bytes text parts.1)
+  where
+    -- its first byte
+    first : (bytes : List ℕ) (b : ℕ) → OnOne (escaped_byte bytes b) → is_other b ≡ true
+    first bytes b h = grind (arith, cases_Bool, and_parts)
+
+-- the strings of a point whose line holds no newline
+fields_of : (b : ℕ) (fs : List Field) → OnOne (built_fields b fs) → list_all (λ f. is_value_on_one_line f.value) fs ≡ true
+fields_of b [] h = refl
+fields_of b (f ∷ fs) h =
+    let parts = parts_of (built_field f) (built_fields comma fs) (and_parts (is_other b) _ h).1 in
+    let written = (and_parts true _ (parts_of (spelling a_field_key f.key) (equals ∷ built_value f.value) parts.0).1).1 in
+    and_from _ _ (value_of f.value written) (fields_of comma fs parts.1)
+  where
+    -- a string by its text
+    value_of : (v : Value (List ℕ)) → OnOne (built_value v) → is_value_on_one_line v ≡ true
+    value_of (string s) h = unescaped_on quotable s (parts_of (escaped quotable s) (quote ∷ []) h).0
+    value_of (integer z) h = refl
+    value_of (unsigned n) h = refl
+    value_of (float t) h = refl
+    value_of (boolean b) h = refl
+
+pub strings_on : (p : Point) → HasNoNewline (line_of p) → list_all (λ f. is_value_on_one_line f.value) p.fields ≡ true
+strings_on p h =
+    let whole = subst OnOne (line_parts p) (one_line (line_of p) h) in
+    let after_name = (parts_of (spelling a_measurement p.measurement) _ whole).1 in
+    let after_tags = (parts_of (flat_map built_tag p.tags) _ after_name).1 in
+    fields_of space p.fields (parts_of (built_fields space p.fields) _ after_tags).0
+
+-- what is left of a text after blanks and comments
+trimmed_on : (in_comment : Bool) (text : List ℕ) → OnOne text → OnOne (left_of in_comment text)
+trimmed_on in_comment [] h = refl
+trimmed_on in_comment (b ∷ text) h =
+    let rest = (and_parts (is_other b) (is_on_one_line text) h).1 in
+    grind (arith, cases_Bool, h, trimmed_on true text rest, trimmed_on false text rest)
+
+-- the points that are answered for lines
+abbrev AnswerOn : Result Line Fault → Type 0
+AnswerOn (Ok line) = IsPoint (point_of line) × PointOn (point_of line)
+AnswerOn (Err fault) = Unit {0}
+
+-- what is answered for a trimmed text
+answer_on : (text : List ℕ) (a : Result Line Fault) → answer NewlineDelimited text ≡ a → OnOne text → AnswerOn a
+answer_on text (Ok line) e h = (lines_are_points NewlineDelimited text line e, line_read NewlineDelimited text line e h)
+answer_on text (Err fault) e h = tt
+
+answers_on : (lines : List (List ℕ)) → AllByRecursion HasNoNewline lines → AllByRecursion AnswerOn (answers_of NewlineDelimited lines)
+unfolding answers_of_piece
+answers_on [] all = tt
+answers_on (line ∷ lines) all =
+    let others = answers_on lines all.1 in
+    let left : OnOne (trimmed line) = subst OnOne (sym (trimmed_is line)) (trimmed_on false line (one_line line all.0)) in
+    elim (cases_Bool (length (trimmed line) == 0)) [
+      | inl none ↦ rw none others
+      | inr some ↦ rw some (answer_on (trimmed line) (answer NewlineDelimited (trimmed line)) refl left, others)
+    ]
+
+-- so it is with each line of a text that is answered
+pub answered_on : (text : List ℕ) (answers : List (Result Line Fault)) (line : Line) → HasAnswers NewlineDelimited text answers
+    → Contains answers (Ok line) → HasNoNewline (line_of (point_of line))
+answered_on text answers line has here =
+    let all = subst (AllByRecursion AnswerOn) (sym has.answered) (answers_on has.pieces (pieces_on_one_line has.are)) in
+    let on = All-contains AnswerOn answers (Ok line) (All-from_recursion AnswerOn answers all) here in
+    point_on (point_of line) on.0 on.1
+
+-- and with its strings
+pub strings_are_on_one_line : StringsAreOnOneLine
+strings_are_on_one_line text answers line has here = strings_on (point_of line) (answered_on text answers line has here)

@@ -14,6 +14,7 @@ use Rattle.lp_format.specs.format.{Point, IsPoint, Tag, Field, IsValue, is_admit
 use Rattle.lp_format.specs.format.{line_of, built_tag, built_field, built_fields, built_timestamp, built_value, spelling, is_admitted_name}
 use Rattle.lp_format.specs.format.{IsCutPiece, begins_comment, Bytes.comma, Bytes.equals, Bytes.letter_i, Bytes.letter_u, Bytes.space}
 use Rattle.lp_format.proofs.lemmas.{literals.FloatLemmas.digits_float, literals.FloatLemmas.float_bytes, literals.FloatLemmas.in_float}
+use Rattle.lp_format.specs.laws.NamesOfLines.{IsOneLineIn}
 use Rattle.lp_format.proofs.lemmas.values.ValueLemmas.{fits_from_test}
 use Rattle.lp_lines.proofs.lemmas.names.Spellings.{Leads, leads_by_none, leads_then, turns, reaches_gap, reaches_other, Reaches}
 use Rattle.lp_lines.proofs.lemmas.names.Spellings.{reaches_start, ChangesNothing, reaches_byte, reaches_pair, admitted_spelled}
@@ -131,7 +132,7 @@ reaches_tags (t ∷ ts) all = leads_then (Reaches Head 0 0) (comma ∷ []) _ (re
     (reaches_tags ts all.1))
 
 -- what a newline may end, in each dialect
-is_cut_piece : (dialect : Dialect) (text : List ℕ) → (dialect ≡ NewlineDelimited → HasNoNewline text) → begins_comment text ≡ false → AfterFields text
+is_cut_piece : (dialect : Dialect) (text : List ℕ) → IsOneLineIn dialect text → begins_comment text ≡ false → AfterFields text
     → IsCutPiece dialect text
 is_cut_piece Crate text one none r = grind (arith)
 is_cut_piece Strict text one none r = grind (arith)
@@ -168,7 +169,7 @@ unfolding line_of
 line_parts p = simp append_assoc
 
 -- the line of an admitted point is a piece that a newline ends
-pub line_is_cut_piece : (dialect : Dialect) (p : Point) → IsAdmitted p → (dialect ≡ NewlineDelimited → HasNoNewline (line_of p))
+pub line_is_cut_piece : (dialect : Dialect) (p : Point) → IsAdmitted p → IsOneLineIn dialect (line_of p)
     → IsCutPiece dialect (line_of p)
 line_is_cut_piece dialect p ok one = subst (IsCutPiece dialect) (sym (line_parts p))
     (whole p.measurement p.tags p.fields p.timestamp ok.measurement ok.tags ok.fields ok.some_field ok.timestamp
@@ -178,7 +179,7 @@ line_is_cut_piece dialect p ok one = subst (IsCutPiece dialect) (sym (line_parts
     whole : (n : List ℕ) (ts : List Tag) (fs : List Field) (t : Option ℤ)
         → is_admitted_name a_measurement n ≡ true → AllByRecursion AdmittedTag ts → AllByRecursion AdmittedField fs
         → 0 < length fs → IfSome t (λ z. fits_i64 z ≡ true)
-        → (dialect ≡ NewlineDelimited → HasNoNewline (spelling a_measurement n ++ (flat_map built_tag ts ++ (built_fields space fs ++ built_timestamp t))))
+        → IsOneLineIn dialect (spelling a_measurement n ++ (flat_map built_tag ts ++ (built_fields space fs ++ built_timestamp t)))
         → IsCutPiece dialect (spelling a_measurement n ++ (flat_map built_tag ts ++ (built_fields space fs ++ built_timestamp t)))
     whole n ts [] t named tagged fielded some stamped one = absurd (omega arith)
     whole n ts (f ∷ fs) t named tagged fielded some stamped one = is_cut_piece dialect _ one (line_no_comment _ (measurement_begins n _ named))
