@@ -1,7 +1,7 @@
 -- What a search for cuts knows, and what a call of it finds.
 use Rattle.std.specs.Prelude.{◌≡◌, ◌≢◌, ◌+◌, ◌<◌, ◌≤◌, ◌==◌, ◌||◌, ℕ, Bool, List, [], ◌++◌, length, min, if◌then◌else◌, Some, Result, Ok, Err}
 use Rattle.lp_format.specs.format.{Dialect, IsFirstCut, IsLastPiece}
-use Rattle.lp_split.specs.code.{Region, Head, Plain, Quoted, Place, Track, Comment, Blanks, Line, IsTrackOf, most_counted}
+use Rattle.lp_split.specs.code.{Region, Head, Plain, Quoted, Place, Track, ToNewline, Blanks, Line, IsTrackOf, most_counted}
 use Rattle.lp_c.specs.Crossing.{dialect_of}
 use Rattle.lp_c.specs.Numbers.{answer_number}
 use Rattle.lp_c.specs.declared.cuts.Cuts.{Cuts}
@@ -23,7 +23,7 @@ place_in cuts = record {
 -- the track that a search names
 abbrev pub track_in : Cuts → Track
 track_in cuts =
-    if cuts.begins == 1 then Comment else if cuts.begins == 2 then Blanks (place_in cuts) else Line (place_in cuts)
+    if cuts.begins == 1 then ToNewline else if cuts.begins == 2 then Blanks (place_in cuts) else Line (place_in cuts)
 
 -- these are the bytes of the piece that came so far: there are none, or the search has their track
 abbrev pub HasCome : Cuts → List ℕ → Type 0

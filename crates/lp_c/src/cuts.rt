@@ -66,7 +66,7 @@ fn track_of(cuts: &Cuts) -> Track
         commas: cuts.commas.min(cuts.len),
     };
     match cuts.begins {
-        1 => Track::Comment,
+        1 => Track::ToNewline,
         2 => Track::Blanks(place),
         _ => Track::Line(place),
     }
@@ -97,7 +97,7 @@ fn on_track(cuts: &Cuts, len: usize, track: Track) -> Cuts
     ensures names { (track_in result ≡ track) × (result.len ≡ len) }
 {
     match track {
-        Track::Comment => Cuts {
+        Track::ToNewline => Cuts {
             len,
             begins: 1,
             ..*cuts

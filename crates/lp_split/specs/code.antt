@@ -9,8 +9,8 @@ pub mod Bounded
 pub use Rules.{rules_of}
 pub use Stops.{is_stop}
 pub use Ahead.{IsAhead, AreSeen}
-pub use Tracks.{IsCountOf, EndsIn, IsPlace, Steps, NeverComment, IsTrackOf, Leads, LeadsTo, most_counted, TracksOn, Region, Head, Plain}
-pub use Tracks.{Quoted, Place, Track, Comment, Blanks, Line}
+pub use Tracks.{IsCountOf, EndsIn, IsPlace, Steps, NeverComment, EndsAtNewline, IsTrackOf, Leads, LeadsTo, most_counted, TracksOn, Region, Head, Plain}
+pub use Tracks.{Quoted, Place, Track, ToNewline, Blanks, Line}
 pub use Searches.{IsKnown, IsHeldAt, FindsCut, SearchesOn, CutsOrTracks}
 pub use Streams.{Held, HoldsThen, TakesPiece, GivesCut, GivesCutText, GivesFront, GivesLast, GivesLastText}
 pub use Bounded.{HeldWithin, IsTooLong, CutsTo, Counts, HoldsBy, IsKept, Holds, kept, most_given, KeepsRules, TellsOf, GivesWithin}

@@ -36,6 +36,9 @@ pub enum Dialect {
     /// The same but for two: a comment ends at its own newline, whatever it holds, and the comma after the first
     /// field is taken only together with a second field.
     Strict,
+    /// The strict rules, and each newline ends a line, whatever is open: a quote, a comment or a backslash. So whatever a
+    /// line holds, each other line is read as if it were alone. No string holds a newline.
+    NewlineDelimited,
 }
 
 // The bytes that end a stretch, of which both may be the same.
@@ -333,6 +336,7 @@ fn late_cut(dialect: Dialect, text: &[u8]) -> Option<usize>
         Dialect::Crate => cut_by_stretches(text),
         Dialect::Strict if is_comment(text) => first_newline(text),
         Dialect::Strict => cut_by_stretches(text),
+        Dialect::NewlineDelimited => first_newline(text),
     }
 }
 
@@ -393,11 +397,13 @@ pub fn split_lines(input: &str) -> SplitLines<'_>
 /// Splits a text into its pieces by the rules of a dialect.
 ///
 /// [`split_lines`] does so by those of the crate. In the strict dialect a piece that begins with any spaces and tabs
-/// and then `#` ends at the first newline, even after a backslash or an open quote. No memory is taken.
+/// and then `#` ends at the first newline, even after a backslash or an open quote. In the newline-delimited dialect each
+/// piece does. No memory is taken.
 ///
 /// ```text
 /// split_lines_in(Dialect::Crate, "# a=\"\nm b=1i")   gives  "# a=\"\nm b=1i"
 /// split_lines_in(Dialect::Strict, "# a=\"\nm b=1i")  gives  "# a=\""  and  "m b=1i"
+/// split_lines_in(Dialect::NewlineDelimited, "m a=\"\nm b=1i")  gives  "m a=\""  and  "m b=1i"
 /// ```
 pub fn split_lines_in(dialect: Dialect, input: &str) -> SplitLines<'_>
     ensures { result ≡ record { dialect = rules_of dialect; text = Some input.now } }

@@ -2,7 +2,8 @@
 use Rattle.std.specs.Prelude.{◌≡◌, ◌≢◌, ℕ, ◌+◌, ◌<◌, ◌⊎◌, ◌||◌, ◌&&◌, Bool, false, IsTrue, List, [], ◌∷◌, ◌++◌, ◌==◌, length, take}
 use Rattle.std.specs.Prelude.{slice_index, Option, Some, None, MatchOption, All}
 use Rattle.std.specs.Borrow.{Bor}
-use Rattle.lp_format.specs.format.{Dialects.Dialect, Dialects.Crate, Dialects.Strict, Escapes.IsBareAfter, Piece.IsClosed, Piece.IsOpen}
+use Rattle.lp_format.specs.format.{Dialects.Dialect, Dialects.Crate, Dialects.Strict, Dialects.NewlineDelimited}
+use Rattle.lp_format.specs.format.{Escapes.IsBareAfter, Piece.IsClosed, Piece.IsOpen}
 use Rattle.lp_format.specs.format.Bytes.{tab, newline, space, hash}
 
 -- spaces and tabs, and then `#`
@@ -10,19 +11,25 @@ abbrev pub begins_comment : List ℕ → Bool
 begins_comment [] = false
 begins_comment (b ∷ bs) = b == hash || (b == space || b == tab) && begins_comment bs
 
+-- a text without a newline
+abbrev pub HasNoNewline : List ℕ → Type 0
+HasNoNewline text = All (λ b. b ≢ newline) text
+
 -- a comment piece
 abbrev pub IsComment : List ℕ → Type 0
-IsComment text = IsTrue (begins_comment text) × All (λ b. b ≢ newline) text
+IsComment text = IsTrue (begins_comment text) × HasNoNewline text
 
--- a piece that a newline ends: it is closed, and that newline is bare; or it is a comment
+-- a piece that a newline ends: it is closed, and that newline is bare; or it is a comment; or any newline ends it
 abbrev pub IsCutPiece : Dialect → List ℕ → Type 0
 IsCutPiece Crate piece = IsClosed piece × IsBareAfter piece
 IsCutPiece Strict piece = IsComment piece ⊎ ((begins_comment piece ≡ false) × IsClosed piece × IsBareAfter piece)
+IsCutPiece NewlineDelimited piece = HasNoNewline piece
 
--- a piece that the text's end ends: closed or open; or a comment
+-- a piece that the text's end ends: closed or open; or a comment; or without a newline
 abbrev pub IsLastPiece : Dialect → List ℕ → Type 0
 IsLastPiece Crate piece = IsClosed piece ⊎ IsOpen piece
 IsLastPiece Strict piece = IsComment piece ⊎ ((begins_comment piece ≡ false) × (IsClosed piece ⊎ IsOpen piece))
+IsLastPiece NewlineDelimited piece = HasNoNewline piece
 
 -- the place of the newline that ends the first piece, or none if the text is one piece
 abbrev pub IsFirstCut : Dialect → List ℕ → Option ℕ → Type 0

@@ -3,6 +3,7 @@ use Rattle.std.specs.Prelude.{ℕ, ◌<◌, ℤ, ◌≡◌, ◌==◌, ◌&&◌, 
 use Rattle.std.specs.Prelude.{Option, Some, None, decimal, IfSome, flat_map}
 use Rattle.std.specs.{List.list_all, List.AllByRecursion, Fmt.signed_decimal}
 use Rattle.lp_format.specs.format.Bytes.{nul, tab, newline, space, quote, hash, comma, equals, letter_i, letter_u, is_one_of}
+use Rattle.lp_format.specs.format.Dialects.{Dialect, NewlineDelimited}
 use Rattle.lp_format.specs.format.Escapes.{escaped}
 use Rattle.lp_format.specs.format.Names.{NameKind, a_measurement, a_tag_key, a_tag_value, a_field_key, escapable, ends_in_backslash}
 use Rattle.lp_format.specs.format.Values.{IsFloat, Value, integer, unsigned, float, string, boolean, quotable, fits_i64}
@@ -67,6 +68,20 @@ is_admitted_field f = is_admitted_name a_field_key f.key
 -- whether all names of a point are admitted
 unfoldable pub is_admitted_point : Point → Bool
 is_admitted_point p = is_admitted_name a_measurement p.measurement && list_all is_admitted_tag p.tags && list_all is_admitted_field p.fields
+
+-- whether a text holds no newline
+abbrev pub is_on_one_line : List ℕ → Bool
+is_on_one_line text = list_all (λ b. not (b == newline)) text
+
+-- whether a value is written without a newline: it is no string that holds one
+abbrev pub is_value_on_one_line : Value (List ℕ) → Bool
+is_value_on_one_line (string t) = is_on_one_line t
+is_value_on_one_line other = true
+
+-- whether a point is admitted in a dialect: all its names are, and if each newline ends a line, no string holds one
+abbrev pub is_admitted_in : Dialect → Point → Bool
+is_admitted_in NewlineDelimited p = is_admitted_point p && list_all (λ f. is_value_on_one_line f.value) p.fields
+is_admitted_in other p = is_admitted_point p
 
 -- a name as the builder spells it
 abbrev pub spelling : NameKind → List ℕ → List ℕ

@@ -1,44 +1,46 @@
 -- What the definitions say of one another: the statements of the laws.
-use Rattle.std.specs.Prelude.{◌≡◌, ◌≢◌, ◌↔◌, ℕ, true, false, List, [], ◌∷◌, ◌++◌, map, Result, Ok, Err, All, Contains, IsUtf8}
+use Rattle.std.specs.Prelude.{◌≡◌, ◌≢◌, ◌↔◌, ℕ, ◌<◌, true, false, List, [], ◌∷◌, ◌++◌, length, map, flat_map, slice_set, Result, Ok}
+use Rattle.std.specs.Prelude.{Err, All, Contains, IsUtf8}
 use Rattle.std.specs.List.{AllByRecursion, list_all, join_with_byte}
-use Rattle.lp_format.specs.format.{Dialect, Strict, newline, Fault, ends_with_backslash, Point, IsPoint, is_admitted_point, built_all}
+use Rattle.lp_format.specs.format.{Dialect, Strict, NewlineDelimited, newline, Fault, ends_with_backslash, Point, IsPoint, built_all}
+use Rattle.lp_format.specs.format.{is_admitted_in, is_admitted_point, is_value_on_one_line, HasNoNewline, answers_of_piece}
 use Rattle.lp_format.specs.format.{IsCutPiece, begins_comment, Line, point_of, answer, NameKind, HasAnswers, HasItems}
 use Rattle.lp_format.specs.format.Pieces.{Pieces}
-use Rattle.lp_format.specs.laws.NamesOfLines.{names_of, IsParsedName, HasReadableNames, EndsItsFields}
+use Rattle.lp_format.specs.laws.NamesOfLines.{names_of, IsParsedName, IsReadableIn, EndsItsFields}
 
--- a point whose names are all admitted
-pub record IsAdmittedPoint (p : Point) : Type 0 where
+-- a point that is admitted in a dialect
+pub record IsAdmittedIn (dialect : Dialect) (p : Point) : Type 0 where
   pub is_point : IsPoint p
-  pub names_are : is_admitted_point p ≡ true
+  pub admitted : is_admitted_in dialect p ≡ true
 
--- Batches of points with admitted names read back: the lines that are built for them, with any text after them, are answered
--- first, each with its point; the answers after them are those of that text alone. So it is in both dialects.
+-- Batches of admitted points read back: the lines that are built for them, with any text after them, are answered first, each
+-- with its point; the answers after them are those of that text alone. So it is in each dialect, for what is admitted there.
 abbrev pub AdmittedBatchesReadBack : Type 0
 AdmittedBatchesReadBack =
     (dialect : Dialect) (points : List Point) (t : List ℕ) (answers : List (Result Line Fault))
-    → AllByRecursion IsAdmittedPoint points → HasAnswers dialect t answers
+    → AllByRecursion (IsAdmittedIn dialect) points → HasAnswers dialect t answers
     → (lines : List Line) × (map point_of lines ≡ points)
     × HasAnswers dialect (built_all points ++ t) (map Ok lines ++ answers)
 
--- Batches with another name do not: what is answered is not their points and then the items of the text after them.
+-- Batches with another point do not: what is answered is not their points and then the items of the text after them.
 abbrev pub OtherBatchesDoNotReadBack : Type 0
 OtherBatchesDoNotReadBack =
     (dialect : Dialect) (points : List Point) (t : List ℕ) (items others : List (Result Point Fault))
-    → AllByRecursion IsPoint points → list_all is_admitted_point points ≡ false
+    → AllByRecursion IsPoint points → list_all (is_admitted_in dialect) points ≡ false
     → HasItems dialect (built_all points ++ t) items → HasItems dialect t others → items ≢ map Ok points ++ others
 
--- No item of a text is a point with a name that no line has.
+-- No item of a text is a point with a name that no line has, or, if each newline ends a line, with a newline in its line.
 abbrev pub ItemsHaveReadableNames : Type 0
 ItemsHaveReadableNames =
     (dialect : Dialect) (text : List ℕ) (items : List (Result Point Fault)) (p : Point)
-    → HasItems dialect text items → Contains items (Ok p) → HasReadableNames p
+    → HasItems dialect text items → Contains items (Ok p) → IsReadableIn dialect p
 
--- After the lines of admitted points, the line of a point that is not admitted, though lines can have each of its names,
--- is answered `EndsWithBackslash` in its place, whatever follows it.
+-- After the lines of admitted points, the line of a point with a name that is not admitted, though lines can have each, is
+-- answered `EndsWithBackslash` in its place, whatever follows it.
 abbrev pub OtherPointsEndWithBackslash : Type 0
 OtherPointsEndWithBackslash =
     (dialect : Dialect) (before : List Point) (p : Point) (after : List Point) (t : List ℕ) (answers : List (Result Line Fault))
-    → AllByRecursion IsAdmittedPoint before → IsPoint p → is_admitted_point p ≡ false → HasReadableNames p
+    → AllByRecursion (IsAdmittedIn dialect) before → IsPoint p → is_admitted_point p ≡ false → IsReadableIn dialect p
     → HasAnswers dialect (built_all (before ++ p ∷ after) ++ t) answers
     → (lines : List Line) × (others : List (Result Line Fault)) × (map point_of lines ≡ before)
     × (answers ≡ map Ok lines ++ Err ends_with_backslash ∷ others)
@@ -98,3 +100,44 @@ CommentTextIsIgnored =
     → begins_comment front ≡ true → All (λ b. b ≢ newline) new → Pieces Strict text (before ++ (front ++ old) ∷ after)
     → HasAnswers Strict text answers
     → (other : List ℕ) × Pieces Strict other (before ++ (front ++ new) ∷ after) × HasAnswers Strict other answers
+
+-- In the newline-delimited dialect a line is read as in the strict one.
+abbrev pub LinesAreReadStrictly : Type 0
+LinesAreReadStrictly = (text : List ℕ) → answer NewlineDelimited text ≡ answer Strict text
+
+-- There the pieces of a text are what its newlines divide.
+abbrev pub LinesArePieces : Type 0
+LinesArePieces =
+    (line : List ℕ) (lines : List (List ℕ)) → AllByRecursion HasNoNewline (line ∷ lines)
+    → Pieces NewlineDelimited (join_with_byte newline (line ∷ lines)) (line ∷ lines)
+
+-- The pieces of two texts with a newline between them are those of the first and then those of the second, whatever either leaves open.
+abbrev pub LinesJoin : Type 0
+LinesJoin =
+    (u t : List ℕ) (lines others : List (List ℕ)) → Pieces NewlineDelimited u lines → Pieces NewlineDelimited t others
+    → Pieces NewlineDelimited (u ++ newline ∷ t) (lines ++ others)
+
+-- what each line of a text is answered alone, by its number: one answer, or none if it holds only blanks and a comment
+abbrev pub HasAnswersByLine : List ℕ → List (List (Result Line Fault)) → Type 0
+HasAnswersByLine text answers =
+    (lines : List (List ℕ)) × Pieces NewlineDelimited text lines × (answers ≡ map (answers_of_piece NewlineDelimited) lines)
+
+-- The answers for a text are those of its lines, each read alone.
+abbrev pub EachLineIsReadAlone : Type 0
+EachLineIsReadAlone =
+    (text : List ℕ) (answers : List (List (Result Line Fault)))
+    → HasAnswersByLine text answers → HasAnswers NewlineDelimited text (flat_map (λ one. one) answers)
+
+-- If one line is replaced by any bytes without a newline, the answer of every other line stays.
+abbrev pub OtherLinesStay : Type 0
+OtherLinesStay =
+    (text : List ℕ) (lines : List (List ℕ)) (n : ℕ) (line : List ℕ) (answers : List (List (Result Line Fault)))
+    → Pieces NewlineDelimited text lines → n < length lines → HasNoNewline line → HasAnswersByLine text answers
+    → HasAnswersByLine (join_with_byte newline (slice_set lines n line)) (slice_set answers n (answers_of_piece NewlineDelimited line))
+
+-- No string of a line that is answered holds a newline.
+abbrev pub StringsAreOnOneLine : Type 0
+StringsAreOnOneLine =
+    (text : List ℕ) (answers : List (Result Line Fault)) (line : Line)
+    → HasAnswers NewlineDelimited text answers → Contains answers (Ok line)
+    → list_all (λ f. is_value_on_one_line f.value) (point_of line).fields ≡ true

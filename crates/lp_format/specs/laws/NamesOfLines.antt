@@ -1,6 +1,6 @@
 -- Which names the lines of a text have, and where their fields end.
 use Rattle.std.specs.Prelude.{◌≡◌, ◌≢◌, ◌⊎◌, ℕ, ◌<◌, true, false, List, [], ◌∷◌, ◌++◌, length, drop, map, slice_index, Ok, Contains}
-use Rattle.lp_format.specs.format.{Strict, space, hash, is_one_of, reads, NameKind, a_measurement, a_tag_key, a_tag_value, a_field_key}
+use Rattle.lp_format.specs.format.{Dialect, Strict, NewlineDelimited, HasNoNewline, line_of, space, hash, is_one_of, reads, NameKind, a_measurement, a_tag_key, a_tag_value, a_field_key}
 use Rattle.lp_format.specs.format.{ends_in_backslash, name, Point, never_in, Line, tag_set, field_set, spaces}
 
 -- the names of one kind in a point
@@ -30,6 +30,11 @@ pub record IsParsedName (kind : NameKind) (n : List ℕ) : Type 0 where
 -- no name of the point is one that no line has
 abbrev pub HasReadableNames : Point → Type 0
 HasReadableNames p = (kind : NameKind) (n : List ℕ) → Contains (names_of kind p) n → IsParsedName kind n
+
+-- lines of the dialect can have each name of the point, and if each newline ends a line, the point's line holds none
+abbrev pub IsReadableIn : Dialect → Point → Type 0
+IsReadableIn NewlineDelimited p = HasReadableNames p × HasNoNewline (line_of p)
+IsReadableIn other p = HasReadableNames p
 
 -- nothing, or a text that begins with a space
 abbrev pub IsNothingOrSpaced : List ℕ → Type 0

@@ -1,13 +1,13 @@
 -- What the bytes of a piece that are not kept say of the byte after them.
 use Rattle.std.specs.Prelude.{◌≡◌, ◌⊎◌, ℕ, ◌+◌, ◌<◌, ◌≤◌, ◌==◌, false, max, List, [], ◌∷◌, ◌++◌, length, take, slice_index, Option, Some}
 use Rattle.std.specs.Prelude.{None, Result, Ok, Err, All, count_by}
-use Rattle.lp_format.specs.format.{Dialect, Crate, Strict, comma, equals, newline, space, tab, is_escaped_after, IsBareAfter, EndsPlain}
-use Rattle.lp_format.specs.format.{EndsQuoted, IsClosed, IsHead, begins_comment, IsComment, IsCutPiece}
+use Rattle.lp_format.specs.format.{Dialect, Crate, Strict, NewlineDelimited, comma, equals, newline, space, tab, is_escaped_after, IsBareAfter, EndsPlain}
+use Rattle.lp_format.specs.format.{EndsQuoted, IsClosed, IsHead, begins_comment, HasNoNewline, IsComment, IsCutPiece}
 pub use Rattle.lp_split.specs.declared.split.resumed.Region.{Region}
 pub use Rattle.lp_split.specs.declared.split.resumed.Region.TheVariants.{Head, Plain, Quoted}
 pub use Rattle.lp_split.specs.declared.split.tracked.Place.{Place}
 pub use Rattle.lp_split.specs.declared.split.tracked.Track.{Track}
-pub use Rattle.lp_split.specs.declared.split.tracked.Track.TheVariants.{Comment, Blanks, Line}
+pub use Rattle.lp_split.specs.declared.split.tracked.Track.TheVariants.{ToNewline, Blanks, Line}
 
 -- as many `=` and as many `,` are counted
 pub record IsCountOf (counted : List ℕ) (equal_signs commas : ℕ) : Type 0 where
@@ -30,15 +30,22 @@ abbrev pub Steps : Place → ℕ → Option Place → Type 0
 Steps place b None = (b ≡ newline) × ((bytes : List ℕ) → IsPlace bytes place → IsClosed bytes × IsBareAfter bytes)
 Steps place b (Some next) = (bytes : List ℕ) → IsPlace bytes place → IsPlace (bytes ++ b ∷ []) next
 
--- whatever comes after it, the text begins no comment by the rules of the dialect
+-- by the rules of the dialect a newline can be escaped or quoted, and whatever comes after the text, it begins no comment
 abbrev pub NeverComment : Dialect → List ℕ → Type 0
 NeverComment Crate text = Unit {0}
 NeverComment Strict text = (rest : List ℕ) → begins_comment (text ++ rest) ≡ false
+NeverComment NewlineDelimited text = ⊥
 
--- the track of these bytes by the rules of a dialect: they begin a comment, or are blanks, which may yet begin one, or
--- never do
+-- the next newline ends the piece: it is a comment, or every newline ends a line
+abbrev pub EndsAtNewline : Dialect → List ℕ → Type 0
+EndsAtNewline Crate bytes = ⊥
+EndsAtNewline Strict bytes = IsComment bytes
+EndsAtNewline NewlineDelimited bytes = HasNoNewline bytes
+
+-- the track of these bytes by the rules of a dialect: the next newline ends their piece, or they are blanks, which may yet begin
+-- a comment, or never do
 abbrev pub IsTrackOf : Dialect → List ℕ → Track → Type 0
-IsTrackOf dialect bytes Comment = (dialect ≡ Strict) × IsComment bytes
+IsTrackOf dialect bytes ToNewline = EndsAtNewline dialect bytes
 IsTrackOf dialect bytes (Blanks place) = (dialect ≡ Strict) × All (λ b. (b ≡ space) ⊎ (b ≡ tab)) bytes × IsPlace bytes place
 IsTrackOf dialect bytes (Line place) = NeverComment dialect bytes × IsPlace bytes place
 
@@ -53,7 +60,7 @@ LeadsTo text from to = (dialect : Dialect) (bytes : List ℕ) → IsTrackOf dial
 
 -- the greater one of its counts
 abbrev pub most_counted : Track → ℕ
-most_counted Comment = 0
+most_counted ToNewline = 0
 most_counted (Blanks place) = max place.equals place.commas
 most_counted (Line place) = max place.equals place.commas
 

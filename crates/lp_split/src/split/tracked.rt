@@ -39,8 +39,8 @@ impl Place {
 /// What the bytes of a piece so far tell.
 #[derive(Clone, Copy)]
 pub enum Track {
-    /// They begin a comment.
-    Comment,
+    /// The next newline ends it: they begin a comment, or each newline ends a line.
+    ToNewline,
     /// They are blanks, which may yet begin one.
     Blanks(Place),
     /// They begin none.
@@ -79,9 +79,9 @@ fn after(track: Track, byte: u8) -> Option<Track>
     ensures few { IfSome result (λ next. most_counted next ≤ most_counted track + 1) }
 {
     match track {
-        Track::Comment if byte == b'\n' => None,
-        Track::Comment => Some(Track::Comment),
-        Track::Blanks(_) if byte == b'#' => Some(Track::Comment),
+        Track::ToNewline if byte == b'\n' => None,
+        Track::ToNewline => Some(Track::ToNewline),
+        Track::Blanks(_) if byte == b'#' => Some(Track::ToNewline),
         Track::Blanks(place) if byte == b' ' || byte == b'\t' => {
             Some(Track::Blanks(after_byte(place, byte)?))
         }
@@ -101,6 +101,7 @@ impl Track {
         match dialect {
             Dialect::Crate => Track::Line(place),
             Dialect::Strict => Track::Blanks(place),
+            Dialect::NewlineDelimited => Track::ToNewline,
         }
     }
 }

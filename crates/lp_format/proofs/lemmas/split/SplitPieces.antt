@@ -1,15 +1,17 @@
 -- Each text has exactly one list of pieces, the pieces and the answers of joined texts are joined, and a comment changes none.
 use Rattle.std.proofs.Common.{◌≡◌, ◌≢◌, ℕ, ◌+◌, ◌<◌, true, false, ◌⊎◌, inl, inr, eqb, List, [], ◌∷◌, ◌++◌, length, get_or, take}
 use Rattle.std.proofs.Common.{drop, Option, Some, None, MatchOption, slice_range, sym, ◌∙◌, ap, refl, subst, arith, append_assoc}
-use Rattle.std.proofs.Common.{append-nil, All, count_by, take_at, take-append-drop, length-append, Result, ◌==◌, ne_eqb}
+use Rattle.std.proofs.Common.{append-nil, All, count_by, take_at, take-append-drop, length-append, Result, ◌==◌, ne_eqb, zero, suc, map, flat_map, slice_set, length-set}
 use Rattle.std.proofs.lemmas.{Grind.common_steps, Grind.flat_map-append, List.drop_more, List.get_or_at}
 use Rattle.std.proofs.lemmas.List.Elements.{All-head, All-tail, All-cons, All-push, All-take, All-append}
 use Rattle.std.proofs.lemmas.Bool.{cases_lt, cases_eq, cases_Bool, false≢true, both_ways}
-use Rattle.std.specs.List.{join_with_byte}
-use Rattle.lp_format.specs.format.{Dialect, Crate, Strict, is_escaped_after, begins_comment, IsComment, IsCutPiece, IsLastPiece}
-use Rattle.lp_format.specs.format.{IsFirstCut, comma, equals, newline, quote, space, Fault, HasAnswers, answers_of_piece, Line}
+use Rattle.std.specs.List.{AllByRecursion, join_with_byte}
+use Rattle.lp_format.specs.format.{Dialect, Crate, Strict, NewlineDelimited, is_escaped_after, begins_comment, HasNoNewline, IsComment}
+use Rattle.lp_format.specs.format.{IsCutPiece, IsLastPiece}
+use Rattle.lp_format.specs.format.{IsFirstCut, comma, equals, newline, quote, space, Fault, HasAnswers, answers_of, answers_of_piece, answer, Line}
 use Rattle.lp_format.specs.format.{Pieces.Pieces, Pieces.Pieces.last, Pieces.Pieces.cut}
-use Rattle.lp_format.specs.laws.Laws.{CommentTextIsIgnored}
+use Rattle.lp_format.specs.laws.Laws.{CommentTextIsIgnored, LinesArePieces, LinesJoin, EachLineIsReadAlone, OtherLinesStay}
+use Rattle.lp_format.specs.laws.Laws.{LinesAreReadStrictly}
 use Rattle.lp_format.proofs.lemmas.split.SplitBare.{IsHead-escaped, IsHead-bare, EndsPlain-escaped, EndsPlain-bare}
 use Rattle.lp_format.proofs.lemmas.split.SplitBare.{EndsPlain-start, EndsQuoted-escaped, EndsQuoted-bare, EndsQuoted-start}
 use Rattle.lp_format.proofs.lemmas.split.SplitBare.{EndsQuoted-close, place_in_append, nil_has_no_place, cut_not_within}
@@ -82,6 +84,10 @@ goes_on Strict front b (inr h) = elim (cases_Bool (begins_comment (front ++ b �
     | inr w ↦ inr (inr (c, w))
   ]
 ]
+goes_on NewlineDelimited front b h = elim (cases_eq b newline) [
+  | inl n ↦ inl (n, h)
+  | inr n ↦ inr (All-push (λ c. c ≢ newline) front b h n)
+]
 
 -- bytes without a newline cut nothing
 pub IsLastPiece-extend : (dialect : Dialect) (front more : List ℕ) → IsLastPiece dialect front → All (λ b. b ≢ newline) more
@@ -101,14 +107,19 @@ IsLastPiece-nil dialect = grind arith
 pub IsLastPiece-cut : (dialect : Dialect) (piece : List ℕ) → IsCutPiece dialect piece → IsLastPiece dialect piece
 IsLastPiece-cut dialect piece h = grind arith
 
+-- a text with a newline in it is not without one
+newline_within : (piece rest : List ℕ) → HasNoNewline (piece ++ newline ∷ rest) → ⊥
+newline_within piece rest h =
+    h (length piece) 0 (omega (arith, length-append piece (newline ∷ rest))) (get_or_at piece newline rest 0 (length piece) refl)
+
 -- a cut is within no piece
 pub no_cut_within : (dialect : Dialect) (piece rest : List ℕ) → IsCutPiece dialect piece → IsLastPiece dialect (piece ++ newline ∷ rest) → ⊥
 no_cut_within Crate piece rest c h = cut_not_within piece rest c.0 c.1 h
-no_cut_within Strict piece rest (inl c) (inl h) =
-    h.1 (length piece) 0 (omega (arith, length-append piece (newline ∷ rest))) (get_or_at piece newline rest 0 (length piece) refl)
+no_cut_within Strict piece rest (inl c) (inl h) = newline_within piece rest h.1
 no_cut_within Strict piece rest (inl c) (inr h) = false≢true (sym h.0 ∙ begins_comment-append piece (newline ∷ rest) c.0)
 no_cut_within Strict piece rest (inr c) (inl h) = false≢true (sym (begins_comment-newline piece rest c.0) ∙ h.0)
 no_cut_within Strict piece rest (inr c) (inr h) = cut_not_within piece rest c.1 c.2 h.1
+no_cut_within NewlineDelimited piece rest c h = newline_within piece rest h
 
 -- some list
 abbrev HasPieces : Dialect → List ℕ → Type 0
@@ -287,6 +298,70 @@ unfolding answers_of_piece
 comment_text_is_ignored front old new before after text answers f n h k =
     let other = comment_replaced before front old new after text f n h in
     grind (arith, piece_is_comment, begins_comment-append, same_pieces, trimmed_is, comment_left, flat_map-append)
+
+-- no piece holds a newline if each ends one
+pub pieces_on_one_line : {text : List ℕ} {pieces : List (List ℕ)} → Pieces NewlineDelimited text pieces → AllByRecursion HasNoNewline pieces
+pieces_on_one_line (last piece h) = (h, tt)
+pieces_on_one_line (cut piece text pieces c h) = (c, pieces_on_one_line h)
+
+-- what newlines divide are pieces
+pub lines_are_pieces : LinesArePieces
+lines_are_pieces line [] all = last line all.0
+lines_are_pieces line (next ∷ lines) all = cut line (join_with_byte newline (next ∷ lines)) (next ∷ lines) all.0 (lines_are_pieces next lines all.1)
+
+-- two texts with a newline between them
+pub lines_join : LinesJoin
+lines_join u t lines others (last piece h) k = cut u t others h k
+lines_join u t lines others (cut piece text pieces c h) k =
+    rw append_assoc (cut piece (text ++ newline ∷ t) (pieces ++ others) c (lines_join text t pieces others h k))
+
+-- answers by line are all answers
+joined_answers : (lines : List (List ℕ)) → flat_map (λ one. one) (map (answers_of_piece NewlineDelimited) lines) ≡ answers_of NewlineDelimited lines
+joined_answers [] = refl
+joined_answers (line ∷ lines) = ap (λ xs. answers_of_piece NewlineDelimited line ++ xs) (joined_answers lines)
+
+pub each_line_is_read_alone : EachLineIsReadAlone
+each_line_is_read_alone text answers h = record {
+  pieces = h.0;
+  are = h.1;
+  answered = ap (flat_map (λ one. one)) h.2 ∙ joined_answers h.0;
+}
+
+-- a line in the place of another
+set_line : (lines : List (List ℕ)) (n : ℕ) (line : List ℕ) → HasNoNewline line → AllByRecursion HasNoNewline lines
+    → AllByRecursion HasNoNewline (slice_set lines n line)
+set_line [] n line h all = all
+set_line (first ∷ lines) zero line h all = (h, all.1)
+set_line (first ∷ lines) (suc n) line h all = (all.0, set_line lines n line h all.1)
+
+set_answer : (lines : List (List ℕ)) (n : ℕ) (line : List ℕ) → slice_set (map (answers_of_piece NewlineDelimited) lines) n (answers_of_piece NewlineDelimited line)
+    ≡ map (answers_of_piece NewlineDelimited) (slice_set lines n line)
+set_answer [] n line = refl
+set_answer (first ∷ lines) zero line = refl
+set_answer (first ∷ lines) (suc n) line = ap (λ xs. answers_of_piece NewlineDelimited first ∷ xs) (set_answer lines n line)
+
+-- lines, if there are some, are pieces
+some_lines : (lines : List (List ℕ)) → 0 < length lines → AllByRecursion HasNoNewline lines → Pieces NewlineDelimited (join_with_byte newline lines) lines
+some_lines [] some all = absurd (omega arith)
+some_lines (line ∷ lines) some all = lines_are_pieces line lines all
+
+-- a replaced line changes no other answer
+pub other_lines_stay : OtherLinesStay
+other_lines_stay text lines n line answers are within h k =
+    let some : 0 < length (slice_set lines n line) = grind (arith, length-set) in (
+      slice_set lines n line,
+      some_lines (slice_set lines n line) some (set_line lines n line h (pieces_on_one_line are)),
+      ap (λ xs. slice_set xs n (answers_of_piece NewlineDelimited line))
+          (k.2 ∙ ap (map (answers_of_piece NewlineDelimited)) (same_pieces NewlineDelimited refl k.1 are)) ∙ set_answer lines n line,
+    )
+
+-- a line is read by the strict rules
+pub lines_are_read_strictly : LinesAreReadStrictly
+unfolding answer
+lines_are_read_strictly text = refl
+
+-- the laws of the dialect in which each newline ends a line
+pub ruleset line_laws = (lines_are_pieces, lines_join, each_line_is_read_alone, other_lines_stay, lines_are_read_strictly)
 
 -- the laws of pieces
 pub ruleset piece_laws = (pieces_exist, same_pieces, pieces_are_text, cut_from_join, join_from_cut, answers_join)

@@ -9,7 +9,7 @@ use Rattle.memchr.specs.Find.{IsFirstByte, is_byte3, Nowhere, Passes}
 use Rattle.lp_scan.specs.code.{AllPassBetween, IsRunIn, first_set, mask_of}
 use Rattle.lp_split.specs.code.{AreSeen}
 use Rattle.lp_scan.proofs.lemmas.scan.MaskLemmas.{run_is, shifted, tz_below}
-use Rattle.lp_format.specs.format.{backslash, quote, Dialect, IsFirstCut, IsLastPiece, IsBareAfter, EndsQuoted}
+use Rattle.lp_format.specs.format.{backslash, quote, Dialect, HasNoNewline, IsFirstCut, IsLastPiece, IsBareAfter, EndsQuoted}
 use Rattle.lp_format.specs.format.{Piece.EndsQuoted.opened, Bytes.newline}
 use Rattle.lp_format.proofs.lemmas.{split.SplitBare.is_escaped-nil, split.SplitPieces.IsLastPiece-extend, split.SplitPieces.IsLastPiece-nil}
 use Rattle.lp_split.proofs.lemmas.split.SplitStretches.{bare_past}
@@ -133,6 +133,7 @@ cut_at_newline dialect text n found newline =
     let last = others_last dialect (take n text) others in
     let is_bare = others_bare text n (omega (arith, found.0.high)) others in
     let closed : (counted : List ℕ) → EndsQuoted (take n text) counted → ⊥ = λ counted e. others_closed e others in
+    let no_newline : HasNoNewline (take n text) = All-weaker IsOther (λ b. b ≢ 10) (λ b o. o.0) (take n text) others in
     (found.0.high, newline, grind arith)
 
 -- a text without any of them is one piece

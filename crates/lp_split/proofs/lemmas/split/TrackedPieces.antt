@@ -1,12 +1,12 @@
--- The track of a piece, and what a search knows of a text, by the rules of both dialects.
+-- The track of a piece, and what a search knows of a text, by the rules of each dialect.
 use Rattle.std.proofs.Common.{◌≡◌, ◌≢◌, ℕ, false, List, [], length, take, drop, Err, sym, ap, ◌∙◌, subst, arith, append-nil}
 use Rattle.std.proofs.Common.{take-append-drop, ◌⊎◌, inl, inr, eqb, ◌∷◌, ◌++◌, refl, append_assoc, Some, None, Ok, ◌+◌, ◌≤◌, length-drop}
 use Rattle.std.proofs.Common.{All, take_all, get_or-drop, take-add, ne_eqb, Result}
-use Rattle.lp_format.specs.format.{Dialect, Strict, Crate, begins_comment, IsLastPiece, IsCutPiece, IsFirstCut, newline, IsBareAfter}
+use Rattle.lp_format.specs.format.{Dialect, Strict, Crate, NewlineDelimited, begins_comment, IsLastPiece, IsCutPiece, IsFirstCut, newline, IsBareAfter}
 use Rattle.lp_format.specs.format.{IsClosed, IsOpen}
 use Rattle.lp_split.specs.declared.split.resumed.Search.TheVariants.{Quiet}
 use Rattle.lp_split.specs.code.{SearchesOn, CutsOrTracks, most_counted, NeverComment, EndsIn, IsPlace, IsTrackOf, Leads, LeadsTo, Steps, TracksOn, Region, Head}
-use Rattle.lp_split.specs.code.{Track, Place, Comment, Blanks, Line}
+use Rattle.lp_split.specs.code.{Track, Place, ToNewline, Blanks, Line, EndsAtNewline}
 use Rattle.lp_format.proofs.lemmas.split.{SplitPieces.IsLastPiece-extend, SplitPieces.begins_comment-append, SplitBare.is_escaped-nil}
 use Rattle.std.proofs.lemmas.List.Elements.{All-head, All-nil, All-tail, All-push, All-weaker}
 use Rattle.lp_split.proofs.lemmas.split.SplitStretches.{bare_joined}
@@ -46,22 +46,29 @@ pub cut_of_line : (dialect : Dialect) (bytes : List ℕ) → NeverComment dialec
     → IsCutPiece dialect bytes
 cut_of_line dialect bytes never closed is_bare = grind (arith, no_comment)
 
+-- the newline that ends it
+pub ends_at_newline : (dialect : Dialect) (bytes : List ℕ) → EndsAtNewline dialect bytes → IsCutPiece dialect bytes
+ends_at_newline Crate bytes h = absurd h
+ends_at_newline Strict bytes h = inl h
+ends_at_newline NewlineDelimited bytes h = h
+
 -- another byte does not
-pub comment_goes_on : (b : ℕ) → b ≢ newline → Leads Comment b (Some Comment)
-comment_goes_on b n = λ dialect bytes h.
-    (h.0, (begins_comment-append bytes (b ∷ []) h.1.0, All-push (λ c. c ≢ newline) bytes b h.1.1 n))
+to_newline : (dialect : Dialect) (bytes : List ℕ) (b : ℕ) → b ≢ newline → EndsAtNewline dialect bytes → EndsAtNewline dialect (bytes ++ b ∷ [])
+to_newline Crate bytes b n h = absurd h
+to_newline Strict bytes b n h = (begins_comment-append bytes (b ∷ []) h.0, All-push (λ c. c ≢ newline) bytes b h.1 n)
+to_newline NewlineDelimited bytes b n h = All-push (λ c. c ≢ newline) bytes b h n
+
+pub goes_on_to_newline : (b : ℕ) → b ≢ newline → Leads ToNewline b (Some ToNewline)
+goes_on_to_newline b n = λ dialect bytes h. to_newline dialect bytes b n h
 
 -- after blanks a `#` begins one
-pub comment_begins : (place : Place) → Leads (Blanks place) hash (Some Comment)
-comment_begins place = λ dialect bytes h. (
-  h.0,
-  (
-    after_blanks bytes (hash ∷ []) h.1,
-    All-push (λ c. c ≢ newline) bytes hash
-        (All-weaker (λ c. (c ≡ space) ⊎ (c ≡ tab)) (λ c. c ≢ newline)
-        (λ c k e. elim k [ inl s ↦ absurd (omega (arith, s, e)) | inr s ↦ absurd (omega (arith, s, e)) ]) bytes h.1)
-        (omega arith),
-  ),
+pub comment_begins : (place : Place) → Leads (Blanks place) hash (Some ToNewline)
+comment_begins place = λ dialect bytes h. subst (λ d. EndsAtNewline d (bytes ++ hash ∷ [])) (sym h.0) (
+  after_blanks bytes (hash ∷ []) h.1,
+  All-push (λ c. c ≢ newline) bytes hash
+      (All-weaker (λ c. (c ≡ space) ⊎ (c ≡ tab)) (λ c. c ≢ newline)
+      (λ c k e. elim k [ inl s ↦ absurd (omega (arith, s, e)) | inr s ↦ absurd (omega (arith, s, e)) ]) bytes h.1)
+      (omega arith),
 )
 
 -- a blank after blanks

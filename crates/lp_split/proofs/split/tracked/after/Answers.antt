@@ -1,5 +1,5 @@
 use Rattle.std.proofs.Common.{◌≡◌, ◌⊎◌, arith}
-use Rattle.lp_split.proofs.lemmas.split.TrackedPieces.{blanks_end, blanks_go_on, comment_begins, comment_goes_on, line_ends}
+use Rattle.lp_split.proofs.lemmas.split.TrackedPieces.{blanks_end, blanks_go_on, comment_begins, goes_on_to_newline, line_ends}
 use Rattle.lp_split.proofs.split.tracked.after.Goals.{then-byte-eq32, else-byte-eq32}
 use Rattle.lp_split.proofs.split.tracked.after.Goals as goal
 use Rattle.lp_format.specs.format.{space, tab}
@@ -8,9 +8,9 @@ pub returns-in_err-after_byte-in-Line-clause-leads : goal.returns-in_err-after_b
 returns-in_err-after_byte-in-Line-clause-leads c =
     rw (c.from_residual-in_err-after_byte-in-Line.ensures, c.in-Line.is) (line_ends _ _ c.in_err-after_byte-in-Line.ensures.steps)
 
-pub returns-in-Comment-2-clause-leads : goal.returns-in-Comment-2-clause-leads
-returns-in-Comment-2-clause-leads c =
-    rw c.in-Comment-2.is (comment_goes_on c.args.byte c.if-byte-eq10.false)
+pub returns-in-ToNewline-2-clause-leads : goal.returns-in-ToNewline-2-clause-leads
+returns-in-ToNewline-2-clause-leads c =
+    rw c.in-ToNewline-2.is (goes_on_to_newline c.args.byte c.if-byte-eq10.false)
 
 pub returns-in-Blanks-clause-leads : goal.returns-in-Blanks-clause-leads
 returns-in-Blanks-clause-leads c =
