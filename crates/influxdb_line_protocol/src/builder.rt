@@ -6,9 +6,9 @@
 
 mod admitted;
 
-pub use admitted::{Unwritten, write_admitted_line, write_admitted_line_in};
+pub use admitted::{Unwritten, is_as_written_in, write_admitted_line, write_admitted_line_in};
 pub use lp_build::builder::{
     AfterField, AfterMeasurement, AfterTag, AfterTimestamp, BeforeMeasurement, BufMut, FieldValue,
-    LineProtocolBuilder, NoRoom, Refused, is_admitted, write_line,
+    LineProtocolBuilder, NoRoom, Refused, is_admitted, is_admitted_in, write_line,
 };
 pub use lp_written::is_as_written;

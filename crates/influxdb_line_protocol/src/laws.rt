@@ -3,6 +3,8 @@
 ghost use Rattle.lp_format.specs.laws.Laws.{AdmittedBatchesReadBack, OtherBatchesDoNotReadBack, ItemsHaveReadableNames};
 ghost use Rattle.lp_format.specs.laws.Laws.{OtherPointsEndWithBackslash, NamesAreParsed, ParsedNamesAreInLines, StrictFieldsEnd};
 ghost use Rattle.lp_format.specs.laws.Laws.{PiecesExist, PiecesAreUnique, PiecesAreTheText, PiecesJoin, AnswersJoin, CommentTextIsIgnored};
+ghost use Rattle.lp_format.specs.laws.Laws.{LinesArePieces, LinesAreReadStrictly, LinesJoin, EachLineIsReadAlone, OtherLinesStay};
+ghost use Rattle.lp_format.specs.laws.Laws.{StringsAreOnOneLine};
 ghost use Rattle.lp_format.specs.laws.PointsOfLines.{LinesArePoints, LinesThatStayAreWritten, WrittenLinesStay};
 ghost use Rattle.influxdb_line_protocol.specs.laws.AdmittedLines.{AdmittedLinesAddPoints, EndedLinesAreClosed, EmptyTextIsClosed};
 ghost use Rattle.influxdb_line_protocol.specs.laws.GivenEvents.{AllEventsCome, EventsSoFar};
@@ -21,7 +23,8 @@ ghost use Rattle.lp_format.specs.format.Lines.{tag, field};
 
 /// If memory and room suffice, a batch built from points, followed by any text, parses to exactly
 /// those points in order and then to what that text alone gives, if and only if every name is
-/// admitted. So it is in both dialects: if a name is not admitted, the batch parses to other items.
+/// admitted. So it is in the dialects of the crate and strict; if each newline ends a line, it is so if and only if, besides, no
+/// string holds a newline. If a point is not admitted, the batch parses to other items.
 /// Some of these names no line has, so no text parses to such a point: a name that is empty or ends
 /// in a backslash, a measurement that begins with `#`, a name with a tab or a newline, or a
 /// measurement with a NUL, that is not directly after a backslash. If the names of the
@@ -34,8 +37,8 @@ pub fn batch_reads_back()
     ensures in_place { OtherPointsEndWithBackslash }
 {}
 
-/// Lines of admitted points that come after closed lines add these points and no others: in each dialect, and with any text after
-/// them, the items are those of the lines before, then just these points in order, and then those of the text. An empty text is closed
+/// Lines of points that come after closed lines add these points and no others: in each dialect in which all are admitted, and with
+/// any text after them, the items are those of the lines before, then just these points in order, and then those of the text. An empty text is closed
 /// lines, and so is a text with a newline after it that may end its last piece.
 ///
 /// After any number of calls of [`write_admitted_line`](crate::write_admitted_line) a buffer holds what it held, and then the lines
@@ -121,6 +124,19 @@ pub fn runs_give_pieces()
     ensures end { RunsEnd }
     ensures answers { StreamsGiveAnswers }
     ensures all_answers { StreamsAnswerAll }
+{}
+
+/// If each newline ends a line, whatever a line holds, each other line is read as if it were alone. What newlines divide are the
+/// pieces of a text, and each is read by the strict rules. The pieces of two texts with a newline between them are those of the
+/// first and then those of the second, whatever either leaves open. The answers are those of each line alone, and if one line is
+/// replaced by any bytes without a newline, the answer of each other line stays. No string of a line that is read holds a newline.
+pub fn lines_are_read_alone()
+    ensures pieces { LinesArePieces }
+    ensures strict { LinesAreReadStrictly }
+    ensures join { LinesJoin }
+    ensures alone { EachLineIsReadAlone }
+    ensures others { OtherLinesStay }
+    ensures strings { StringsAreOnOneLine }
 {}
 
 /// Bytes are UTF-8 exactly if each of their pieces is.

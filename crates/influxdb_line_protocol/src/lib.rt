@@ -11,8 +11,8 @@ pub mod builder;
 pub mod laws;
 
 pub use builder::{
-    LineProtocolBuilder, is_admitted, is_as_written, write_admitted_line, write_admitted_line_in,
-    write_line,
+    LineProtocolBuilder, is_admitted, is_admitted_in, is_as_written, is_as_written_in,
+    write_admitted_line, write_admitted_line_in, write_line,
 };
 pub use lp_events::{
     Event, EventSink, ParseEvents, parse_events, parse_events_in, read_events_in, read_line_events,

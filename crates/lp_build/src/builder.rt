@@ -21,7 +21,7 @@ mod texts;
 mod values;
 
 pub use buffer::{BufMut, NoRoom};
-pub use lines::{is_admitted, write_line};
+pub use lines::{is_admitted, is_admitted_in, write_line};
 use texts::{escaped_len, put_escaped};
 pub use values::FieldValue;
 

@@ -27,7 +27,7 @@ unfoldable pub use Values.{integer_at, unsigned_at, float_at, string_at, boolean
 pub use Trimming.{without_front, without_blanks, is_comment_or_empty}
 unfoldable pub use Trimming.{trimmed}
 pub use Points.{Pair, Tag, Field, Point, IsValue, IsPoint, never_in, is_admitted_tag, is_admitted_field, spelling, built_value, built_tag}
-pub use Points.{is_on_one_line, is_value_on_one_line, is_admitted_in, field_text, written_value, built_field, built_fields, built_timestamp, built, built_all, IsAsWritten}
+pub use Points.{is_on_one_line, is_value_on_one_line, is_admitted_in, field_text, written_value, built_field, built_fields, built_timestamp, built, built_all, IsAsWritten, IsAsWrittenIn}
 unfoldable pub use Points.{is_admitted_name, is_admitted_point, line_of}
 pub use Piece.{IsHead, HasMoreEquals, IsPlain, Opens, IsQuoted, EndsPlain, EndsQuoted, IsClosed, IsOpen}
 pub use Pieces.{begins_comment, HasNoNewline, IsComment, IsCutPiece, IsLastPiece, IsFirstCut, Left, PiecesLeft, GivesPiece, most_pieces}

@@ -12,6 +12,8 @@ pub mod parsed;
 mod shown;
 mod unread;
 
-pub use line::{ParseLines, parse_lines, parse_lines_in, read_into, read_spelled_into};
+pub use line::{
+    ParseLines, parse_lines, parse_lines_in, read_into, read_spelled_into, refill_line,
+};
 pub use parsed::{FieldSet, ParsedLine, Series, TagSet};
 pub use unread::Unread;

@@ -190,15 +190,17 @@ fn refuse(alloc: Global, item: &mut Result<ParsedLine<'_>>, fault: Error)
     }
 }
 
-/// Reads a trimmed text into a line that is used again, as [`read_into`] does, but hands the fault of the text up as it is spelled.
-/// After an error the line is filled in part, and may be filled again.
+/// Fills a line that is used again with what a trimmed text says, or hands the fault of the text up as it is spelled.
+///
+/// The sets of the line keep their room. One of tags that has grown is kept at `spare` while the line has no tags.
 ///
 /// # Errors
 ///
-/// `Fault` with the fault of the text, if it has one, and else `OutOfMemory` if memory for the line was refused.
+/// `Fault` with the fault of the text, if it has one, and else `OutOfMemory` if memory for the line was refused. The line is then
+/// filled in part, and may be filled again.
 #[tactic(auto, using(crate::proofs::lemmas::line::AnsweredLines::more_room))]
 #[inline(always)]
-pub fn read_spelled_into<'a>(
+pub fn refill_line<'a>(
     alloc: Global,
     dialect: Dialect,
     text: &'a str,
@@ -214,6 +216,35 @@ pub fn read_spelled_into<'a>(
     let _at_least_inline = line.field_set.capacity();
     ready_tags(alloc, &mut line.series.tag_set, spare);
     fill(alloc, dialect, text, line, Some(spare))
+}
+
+/// Reads a trimmed text into a line that is used again, as [`read_into`] does, but hands the fault of the text up as it is spelled.
+///
+/// # Errors
+///
+/// Those of [`refill_line`]. The line is then empty.
+#[inline(always)]
+pub fn read_spelled_into<'a>(
+    alloc: Global,
+    dialect: Dialect,
+    text: &'a str,
+    line: &mut ParsedLine<'a>,
+    spare: &mut Option<TagSet<'a>>,
+) -> std::result::Result<(), Unread<'a>>
+    ensures value { FillsSpelled line.new result (answer (rules_of dialect) text.now) }
+    ensures fault { OnErr result (IsEmptyLine line.new) }
+    ensures tag_room { KeepsTagRoom line.old line.new }
+    ensures field_room { line.old.field_set.capacity ≤ line.new.field_set.capacity }
+    ensures light { is_light_in (max inline_tags (room_of line.old.series.tag_set)) (max inline_fields line.old.field_set.capacity)
+        (rules_of dialect) text.now ≡ true → result ≢ Err Unread.OutOfMemory }
+{
+    match refill_line(alloc, dialect, text, line, spare) {
+        Ok(()) => Ok(()),
+        Err(unread) => {
+            empty(line);
+            Err(unread)
+        }
+    }
 }
 
 /// Reads a trimmed text into a line that is used again: the line is then what the text says, or empty if that is at fault.
@@ -237,10 +268,7 @@ pub fn read_into<'a>(
 {
     match read_spelled_into(alloc, dialect, text, line, spare) {
         Ok(()) => Ok(()),
-        Err(unread) => {
-            empty(line);
-            Err(unread.to_error(alloc))
-        }
+        Err(unread) => Err(unread.to_error(alloc)),
     }
 }
 

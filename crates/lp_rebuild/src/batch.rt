@@ -16,7 +16,7 @@ use influxdb_line_protocol::{
     laws, split_lines_in, write_line,
 };
 use lp_lines::freeing::{forget_line, free_line};
-use lp_lines::{Unread, read_spelled_into};
+use lp_lines::{Unread, refill_line};
 use lp_scan::trim::trimmed;
 use std::alloc::{AllocError, Global};
 use std::mem;
@@ -144,7 +144,7 @@ pub fn take_text<'a>(
         TakesLine batch.old.items refusal (answer (rules_of reader.old.dialect) text.now) batch.new.items) }
     ensures dialect { reader.new.dialect ≡ reader.old.dialect }
 {
-    let read = read_spelled_into(
+    let read = refill_line(
         reader.alloc,
         reader.dialect,
         text,

@@ -49,8 +49,8 @@ bytes_given (Err fault) = fault.front.now
 abbrev pub refused_given : Settings → Result (Bor (List ℕ)) PieceTooLong → List ℕ
 refused_given s given = refused_lines s.puts_refused (bytes_given given) (items_given s given)
 
--- what was made so far and is not written yet, how many items that was made of, together with what was written and with those that
--- are counted before the first item, and what the fault line of the next item names
+-- what was made so far and is not written yet, how many items were carried and refused, with those already written and those counted
+-- before the first one, and what the next fault line names
 pub record Made : Type 0 where
   pub batch : List ℕ
   pub faults : List ℕ
@@ -83,8 +83,8 @@ made so_far = record {
   line = so_far.line;
 }
 
--- what was made so far, the refused pieces that go out and are not written yet, how many bytes come before the next piece, and how
--- many items were refused for each kind of fault, if that is counted
+-- what was made so far, the refused pieces that are not written yet, how many bytes come before the next piece, and how many items
+-- were refused for each kind of fault, if that is counted
 pub record Unwritten : Type 0 where
   pub made : Made
   pub pieces : List ℕ

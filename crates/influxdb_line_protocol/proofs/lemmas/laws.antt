@@ -4,6 +4,7 @@ pub mod BatchesReadBack
 pub mod FatalLines
 pub mod GivenItems
 pub mod NamesInLines
+pub mod OnOneLine
 pub mod StopEnds
 pub mod StopRows
 pub mod WordsAndKeys

@@ -1,7 +1,7 @@
 -- What a call does that writes a line only if it reads back.
 use Rattle.std.specs.Prelude.{◌≡◌, ◌⊎◌, ℕ, true, false, List, [], map, Result, Ok, Err}
 use Rattle.std.specs.List.{AllByRecursion}
-use Rattle.lp_format.specs.format.{Point, IsPoint, IsValue, built, is_admitted_point, logical_field}
+use Rattle.lp_format.specs.format.{Dialect, Point, IsPoint, IsValue, built, is_admitted_in, logical_field}
 use Rattle.lp_values.specs.declared.{escaped.EscapedStr.EscapedStr, values.FieldValue.FieldValue}
 use Rattle.lp_lines.specs.code.Parsed.{field_of}
 use Rattle.lp_build.specs.declared.builder.{BeforeMeasurement.BeforeMeasurement, LineProtocolBuilder.LineProtocolBuilder}
@@ -19,20 +19,20 @@ abbrev pub builder_in : {B : Type 0} → Unwritten B → LineProtocolBuilder B B
 builder_in (NotAdmitted builder) = builder
 builder_in (WasRefused refused) = refused.builder
 
--- a point without a field, or with a name that is not admitted
-abbrev pub IsNotAdmitted : Point → Type 0
-IsNotAdmitted p = (p.fields ≡ []) ⊎ (is_admitted_point p ≡ false)
+-- a point without a field, or that is not admitted
+abbrev pub IsNotAdmitted : Dialect → Point → Type 0
+IsNotAdmitted dialect p = (p.fields ≡ []) ⊎ (is_admitted_in dialect p ≡ false)
 
--- the line of a point whose names are all admitted is written, or refused
-abbrev pub WritesLine : {B : Type 0} → (B → List ℕ) → (B → ℕ) → (NoRoom → Type 0) → Point → B
+-- the line of a point that is admitted is written, or refused
+abbrev pub WritesLine : {B : Type 0} → Dialect → (B → List ℕ) → (B → ℕ) → (NoRoom → Type 0) → Point → B
     → Result (LineProtocolBuilder B BeforeMeasurement) (Refused B BeforeMeasurement) → Type 0
-WritesLine bytes room refuses p before result =
-    IsPoint p × (is_admitted_point p ≡ true) × Writes bytes room refuses (built p) before result
+WritesLine dialect bytes room refuses p before result =
+    IsPoint p × (is_admitted_in dialect p ≡ true) × Writes bytes room refuses (built p) before result
 
--- The line of a point is written, or refused, if the point has a field and each of its names is admitted. Of any other point
+-- The line of a point is written, or refused, if the point has a field and is admitted in the dialect. Of any other point
 -- nothing is written, and the buffer is handed back as it was.
-abbrev pub WritesAdmitted : {B : Type 0} → (B → List ℕ) → (B → ℕ) → (NoRoom → Type 0) → Point → B
+abbrev pub WritesAdmitted : {B : Type 0} → Dialect → (B → List ℕ) → (B → ℕ) → (NoRoom → Type 0) → Point → B
     → Result (LineProtocolBuilder B BeforeMeasurement) (Unwritten B) → Type 0
-WritesAdmitted bytes room refuses p before (Ok longer) = WritesLine bytes room refuses p before (Ok longer)
-WritesAdmitted bytes room refuses p before (Err (WasRefused refused)) = WritesLine bytes room refuses p before (Err refused)
-WritesAdmitted bytes room refuses p before (Err (NotAdmitted builder)) = IsNotAdmitted p × (buffer_of builder ≡ before)
+WritesAdmitted dialect bytes room refuses p before (Ok longer) = WritesLine dialect bytes room refuses p before (Ok longer)
+WritesAdmitted dialect bytes room refuses p before (Err (WasRefused refused)) = WritesLine dialect bytes room refuses p before (Err refused)
+WritesAdmitted dialect bytes room refuses p before (Err (NotAdmitted builder)) = IsNotAdmitted dialect p × (buffer_of builder ≡ before)

@@ -1,8 +1,7 @@
 -- What is read of closed lines, and of lines that are written after them.
-use Rattle.std.specs.Prelude.{◌≡◌, ℕ, List, [], ◌∷◌, ◌++◌, map, Result, Ok, MatchResult}
-use Rattle.std.specs.List.{AllByRecursion}
-use Rattle.lp_format.specs.format.{Dialect, Fault, newline, Point, built_all, IsCutPiece, HasItems, Pieces.Pieces}
-use Rattle.lp_format.specs.laws.Laws.{IsAdmittedPoint}
+use Rattle.std.specs.Prelude.{◌≡◌, ℕ, true, List, [], ◌∷◌, ◌++◌, map, Result, Ok, MatchResult}
+use Rattle.std.specs.List.{AllByRecursion, list_all}
+use Rattle.lp_format.specs.format.{Dialect, Fault, is_admitted_in, newline, Point, IsPoint, built_all, IsCutPiece, HasItems, Pieces.Pieces}
 use Rattle.lp_build.specs.declared.builder.{BeforeMeasurement.BeforeMeasurement, LineProtocolBuilder.LineProtocolBuilder}
 use Rattle.lp_build.specs.code.Built.{buffer_of}
 use Rattle.influxdb_line_protocol.specs.declared.builder.admitted.Unwritten.{Unwritten}
@@ -13,23 +12,24 @@ abbrev pub AreClosedLines : Dialect → List ℕ → List (Result Point Fault) �
 AreClosedLines dialect lines items =
     (t : List ℕ) (others : List (Result Point Fault)) → HasItems dialect t others → HasItems dialect (lines ++ t) (items ++ others)
 
--- Closed lines became closed lines that have, in each dialect, the same items, and then just these points.
+-- Closed lines became closed lines that have, in each dialect in which these points are admitted, the same items, and then just
+-- these points.
 abbrev pub AddsPoints : List ℕ → List Point → List ℕ → Type 0
 AddsPoints before points after =
-    (dialect : Dialect) (items : List (Result Point Fault))
+    (dialect : Dialect) (items : List (Result Point Fault)) → list_all (is_admitted_in dialect) points ≡ true
     → AreClosedLines dialect before items → AreClosedLines dialect after (items ++ map Ok points)
 
--- A call that is accepted adds this point and no other. Any other call leaves the bytes as they were.
-abbrev pub AddsPointOrNothing : {B : Type 0} → (B → List ℕ) → Point → B
+-- A call that is accepted adds this point, which is admitted, and no other. Any other call leaves the bytes as they were.
+abbrev pub AddsPointOrNothing : {B : Type 0} → Dialect → (B → List ℕ) → Point → B
     → Result (LineProtocolBuilder B BeforeMeasurement) (Unwritten B) → Type 0
-AddsPointOrNothing bytes p before result =
-    MatchResult result (λ longer. AddsPoints (bytes before) (p ∷ []) (bytes (buffer_of longer)))
+AddsPointOrNothing dialect bytes p before result =
+    MatchResult result (λ longer. (is_admitted_in dialect p ≡ true) × AddsPoints (bytes before) (p ∷ []) (bytes (buffer_of longer)))
     (λ unwritten. bytes (buffer_of (builder_in unwritten)) ≡ bytes before)
 
--- The lines that are built for admitted points add these points and no others.
+-- The lines that are built for points add these points and no others, in each dialect in which all are admitted.
 abbrev pub AdmittedLinesAddPoints : Type 0
 AdmittedLinesAddPoints =
-    (before : List ℕ) (points : List Point) → AllByRecursion IsAdmittedPoint points → AddsPoints before points (before ++ built_all points)
+    (before : List ℕ) (points : List Point) → AllByRecursion IsPoint points → AddsPoints before points (before ++ built_all points)
 
 -- An empty text is closed lines without items.
 abbrev pub EmptyTextIsClosed : Type 0

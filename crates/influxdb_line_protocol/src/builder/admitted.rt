@@ -1,8 +1,9 @@
 //! Lines that are written only if they read back.
 
-ghost use Rattle.std.specs.Prelude.{◌≡◌, true, false, IfSome};
-ghost use Rattle.lp_format.specs.format.{IsValue, fits_i64, logical_value};
-ghost use Rattle.lp_format.specs.laws.Laws.{IsAdmittedPoint};
+ghost use Rattle.std.specs.Prelude.{◌≡◌, ◌↔◌, true, false, IfSome};
+ghost use Rattle.lp_format.specs.format.{Crate, IsAsWrittenIn, IsValue, fits_i64, logical_value};
+ghost use Rattle.lp_format.specs.laws.Laws.{IsAdmittedIn};
+ghost use Rattle.lp_split.specs.code.{rules_of};
 ghost use Rattle.lp_values.specs.code.ReadValues.{value_of};
 ghost use Rattle.lp_lines.specs.code.Parsed.{parsed_point};
 ghost use Rattle.lp_build.specs.code.Built.{buffer_of};
@@ -10,16 +11,18 @@ ghost use Rattle.influxdb_line_protocol.specs.code.WritingAdmitted.{AreValues, I
 ghost use Rattle.influxdb_line_protocol.specs.laws.AdmittedLines.{AddsPointOrNothing};
 
 use lp_build::builder::{
-    BeforeMeasurement, BufMut, LineProtocolBuilder, Refused, is_admitted, write_line,
+    BeforeMeasurement, BufMut, LineProtocolBuilder, Refused, is_admitted_in, write_line,
 };
 use lp_lines::ParsedLine;
+use lp_scan::newlines::newlines_in;
 use lp_split::Dialect;
 use lp_values::{EscapedStr, FieldValue};
+use lp_written::is_as_written;
 
 /// Why a line was not written, with the builder as it was before the call.
 #[derive(Drop)]
 pub enum Unwritten<B: BufMut> {
-    /// A name of the line is not admitted, or the line has no field.
+    /// The line is not admitted in the dialect, or has no field.
     NotAdmitted(LineProtocolBuilder<B, BeforeMeasurement>),
     /// The buffer has no room for the line, or no `usize` holds its length.
     Refused(Refused<B, BeforeMeasurement>),
@@ -58,17 +61,14 @@ fn timestamp_fits(timestamp: Option<i64>)
     ensures { IfSome timestamp (λ t. fits_i64 t ≡ true) }
 {}
 
-// Whether a line is written in this dialect: whether it has a field, and each of its names is admitted.
+// Whether a line is written in this dialect: whether it has a field and is admitted.
 fn is_written_in(dialect: Dialect, line: &ParsedLine<'_>) -> bool
-    ensures written { result ≡ true → IsAdmittedPoint (parsed_point line.now) }
-    ensures unwritten { result ≡ false → IsNotAdmitted (parsed_point line.now) }
+    ensures written { result ≡ true → IsAdmittedIn (rules_of dialect) (parsed_point line.now) }
+    ensures unwritten { result ≡ false → IsNotAdmitted (rules_of dialect) (parsed_point line.now) }
 {
     values_fit(line.field_set.as_slice());
     timestamp_fits(line.timestamp);
-    let admitted = match dialect {
-        Dialect::Crate | Dialect::Strict => is_admitted(line),
-    };
-    admitted && line.field_set.len() > 0
+    is_admitted_in(dialect, line) && line.field_set.len() > 0
 }
 
 /// Appends a parsed line, with its newline, if it reads back: [`write_admitted_line_in`] in the dialect of the Rust crate.
@@ -89,32 +89,32 @@ pub fn write_admitted_line<B: BufMut>(
     builder: LineProtocolBuilder<B, BeforeMeasurement>,
     line: &ParsedLine<'_>,
 ) -> Result<LineProtocolBuilder<B, BeforeMeasurement>, Unwritten<B>>
-    ensures writes { WritesAdmitted B.bytes B.room B.refuses (parsed_point line.now) (buffer_of builder) result }
-    ensures reads_back { AddsPointOrNothing B.bytes (parsed_point line.now) (buffer_of builder) result }
+    ensures writes { WritesAdmitted Crate B.bytes B.room B.refuses (parsed_point line.now) (buffer_of builder) result }
+    ensures reads_back { AddsPointOrNothing Crate B.bytes (parsed_point line.now) (buffer_of builder) result }
 {
     write_admitted_line_in(builder, Dialect::Crate, line)
 }
 
-/// Appends a parsed line, with its newline, if it reads back: if it has a field, and each of its names is admitted, as
-/// [`is_admitted`] says. It is written as [`write_line`] writes it. What is admitted is the same in both dialects.
+/// Appends a parsed line, with its newline, if it reads back: if it has a field and is admitted in the dialect, as
+/// [`is_admitted_in`] says. It is written as [`write_line`] writes it.
 ///
-/// If the buffer held closed lines, as an empty one does, it does so again, and in each dialect it then says what it said and the
-/// point of this line, and nothing else, whatever text comes after it. So no text in a name begins a line of its own, or
+/// If the buffer held closed lines, as an empty one does, it does so again, and in each dialect in which the line is admitted it then
+/// says what it said and the point of this line, and nothing else, whatever text comes after it. So no text in a name begins a line of its own, or
 /// changes another line.
 ///
 /// It asks for memory only if the buffer has to grow. It goes over the line for its names, its length and its text.
 ///
 /// # Errors
 ///
-/// `NotAdmitted` if a name of the line is not admitted, or if it has no field; `Refused` if the buffer has no room for the whole line,
+/// `NotAdmitted` if the line is not admitted, or if it has no field; `Refused` if the buffer has no room for the whole line,
 /// or no `usize` holds its length. No part of the line is written, and the builder is handed back with the bytes that it had.
 pub fn write_admitted_line_in<B: BufMut>(
     builder: LineProtocolBuilder<B, BeforeMeasurement>,
     dialect: Dialect,
     line: &ParsedLine<'_>,
 ) -> Result<LineProtocolBuilder<B, BeforeMeasurement>, Unwritten<B>>
-    ensures writes { WritesAdmitted B.bytes B.room B.refuses (parsed_point line.now) (buffer_of builder) result }
-    ensures reads_back { AddsPointOrNothing B.bytes (parsed_point line.now) (buffer_of builder) result }
+    ensures writes { WritesAdmitted (rules_of dialect) B.bytes B.room B.refuses (parsed_point line.now) (buffer_of builder) result }
+    ensures reads_back { AddsPointOrNothing (rules_of dialect) B.bytes (parsed_point line.now) (buffer_of builder) result }
 {
     if !is_written_in(dialect, line) {
         return Err(Unwritten::NotAdmitted(builder));
@@ -122,5 +122,23 @@ pub fn write_admitted_line_in<B: BufMut>(
     match write_line(builder, line) {
         Ok(longer) => Ok(longer),
         Err(refused) => Err(Unwritten::Refused(refused)),
+    }
+}
+
+/// Whether the builder writes this text, before a newline, for a point that is admitted in this dialect, and it is one line there.
+///
+/// In the two dialects where a string may hold a newline this is what [`is_as_written`] says. If each newline ends a line, the text,
+/// besides, holds none. It takes no memory.
+///
+/// ```text
+/// m s="a
+/// b"       is as written in Crate and in Strict, and not in NewlineDelimited
+/// ```
+pub fn is_as_written_in(dialect: Dialect, line: &str) -> bool
+    ensures { (result ≡ true) ↔ IsAsWrittenIn (rules_of dialect) line.now }
+{
+    match dialect {
+        Dialect::Crate | Dialect::Strict => is_as_written(line),
+        Dialect::NewlineDelimited => newlines_in(line.as_bytes()) == 0 && is_as_written(line),
     }
 }

@@ -4,7 +4,10 @@ ghost use Rattle.std.specs.Prelude.{◌≡◌, ℕ, ◌+◌, ◌<◌, ◌≤◌,
 ghost use Rattle.std.specs.List.{list_all};
 ghost use Rattle.smallvec.specs.SmallVec.{small_vec_len};
 ghost use Rattle.lp_format.specs.format.{is_one_of, space, built, built_timestamp, built_value, field_text, is_admitted_field};
-ghost use Rattle.lp_format.specs.format.{is_admitted_name, is_admitted_point, is_admitted_tag, logical_field, never_in, float};
+ghost use Rattle.lp_format.specs.format.{is_admitted_in, is_admitted_name, is_admitted_point, is_admitted_tag, is_value_on_one_line};
+ghost use Rattle.lp_format.specs.format.{logical_field, logical_value, never_in, float};
+ghost use Rattle.lp_values.specs.code.ReadValues.{value_of};
+ghost use Rattle.lp_split.specs.code.{rules_of};
 ghost use Rattle.lp_values.specs.code.{Outcomes.kind_of, Texts.literal_of, Texts.text_of};
 ghost use Rattle.lp_lines.specs.code.Parsed.{field_of, parsed_point};
 ghost use Rattle.lp_build.specs.code.WrittenAgain.{fields_text, line_text, point_tag, tag_text, value_text};
@@ -19,6 +22,7 @@ use super::{
 use lp_lines::ParsedLine;
 use lp_lines::parsed::tags_in;
 use lp_scan::sets::TokenKind;
+use lp_split::Dialect;
 use lp_values::names::NameKind;
 use lp_values::{EscapedStr, FloatText, values};
 
@@ -89,6 +93,44 @@ pub fn is_admitted(line: &ParsedLine<'_>) -> bool
     is_admitted_name(NameKind::Measurement, &line.series.measurement)
         && are_tags_admitted(tags_in(&line.series))
         && are_fields_admitted(line.field_set.as_slice())
+}
+
+// Whether the value is written without a newline.
+fn is_value_on_one_line(value: &values::FieldValue<'_>) -> bool
+    ensures { result ≡ is_value_on_one_line (logical_value (value_of value.now)) }
+{
+    match value {
+        values::FieldValue::String(text) => is_free_of(*b"\n\n\n\n", text.as_str().as_bytes()),
+        _ => true,
+    }
+}
+
+// Whether each value is.
+fn are_values_on_one_line(fields: &[(EscapedStr<'_>, values::FieldValue<'_>)]) -> bool
+    ensures { result ≡ list_all (λ f. is_value_on_one_line (logical_field (field_of f)).value) fields.now }
+{
+    fields.iter().all(|(_, value)| is_value_on_one_line(value))
+}
+
+/// Whether a line reads back in a dialect if it is written again: whether each of its names is admitted, and, if each newline
+/// ends a line, no string holds one.
+///
+/// In the other two dialects this is what [`is_admitted`] says. It takes no memory.
+///
+/// ```text
+/// m s="a
+/// b"       is admitted in Crate and in Strict, and not in NewlineDelimited
+/// ```
+#[tactic(auto, using(crate::proofs::lemmas::builder::WrittenAgainLemmas::sets))]
+pub fn is_admitted_in(dialect: Dialect, line: &ParsedLine<'_>) -> bool
+    ensures { result ≡ is_admitted_in (rules_of dialect) (parsed_point line.now) }
+{
+    match dialect {
+        Dialect::Crate | Dialect::Strict => is_admitted(line),
+        Dialect::NewlineDelimited => {
+            is_admitted(line) && are_values_on_one_line(line.field_set.as_slice())
+        }
+    }
 }
 
 /// The value, as the call for its own type writes it.

@@ -2,7 +2,7 @@
 use Rattle.std.specs.Prelude.{ℕ, ◌<◌, ℤ, ◌≡◌, ◌==◌, ◌&&◌, ◌^◌, Bool, true, false, not, List, [], ◌∷◌, ◌++◌, length, slice_index, codes}
 use Rattle.std.specs.Prelude.{Option, Some, None, decimal, IfSome, flat_map}
 use Rattle.std.specs.{List.list_all, List.AllByRecursion, Fmt.signed_decimal}
-use Rattle.lp_format.specs.format.Bytes.{nul, tab, newline, space, quote, hash, comma, equals, letter_i, letter_u, is_one_of}
+use Rattle.lp_format.specs.format.Bytes.{nul, tab, newline, space, quote, hash, comma, equals, letter_i, letter_u, is_one_of, newlines_in}
 use Rattle.lp_format.specs.format.Dialects.{Dialect, NewlineDelimited}
 use Rattle.lp_format.specs.format.Escapes.{escaped}
 use Rattle.lp_format.specs.format.Names.{NameKind, a_measurement, a_tag_key, a_tag_value, a_field_key, escapable, ends_in_backslash}
@@ -140,3 +140,8 @@ pub record IsAsWritten (text : List ℕ) : Type 0 where
   pub is_point : IsPoint point
   pub admitted : is_admitted_point point ≡ true
   pub written : line_of point ≡ text
+
+-- a text is as written in a dialect if, besides, it is one line there
+abbrev pub IsAsWrittenIn : Dialect → List ℕ → Type 0
+IsAsWrittenIn NewlineDelimited text = (newlines_in text ≡ 0) × IsAsWritten text
+IsAsWrittenIn other text = IsAsWritten text

@@ -6,7 +6,7 @@ use Rattle.lp_format.specs.format.{Dialect, Strict, NewlineDelimited, newline, F
 use Rattle.lp_format.specs.format.{is_admitted_in, is_admitted_point, is_value_on_one_line, HasNoNewline, answers_of_piece}
 use Rattle.lp_format.specs.format.{IsCutPiece, begins_comment, Line, point_of, answer, NameKind, HasAnswers, HasItems}
 use Rattle.lp_format.specs.format.Pieces.{Pieces}
-use Rattle.lp_format.specs.laws.NamesOfLines.{names_of, IsParsedName, IsReadableIn, EndsItsFields}
+use Rattle.lp_format.specs.laws.NamesOfLines.{names_of, IsParsedName, IsOneLineIn, IsReadableIn, EndsItsFields}
 
 -- a point that is admitted in a dialect
 pub record IsAdmittedIn (dialect : Dialect) (p : Point) : Type 0 where
@@ -52,10 +52,10 @@ NamesAreParsed =
     → HasAnswers dialect text answers → Contains answers (Ok line) → Contains (names_of kind (point_of line)) n
     → IsParsedName kind n
 
--- Each such name is a name of that kind in some line, and the text of that line is UTF-8 if the name is.
+-- Each such name that is one line is a name of that kind in some line, and the text of that line is UTF-8 if the name is.
 abbrev pub ParsedNamesAreInLines : Type 0
 ParsedNamesAreInLines =
-    (dialect : Dialect) (kind : NameKind) (n : List ℕ) → IsParsedName kind n
+    (dialect : Dialect) (kind : NameKind) (n : List ℕ) → IsParsedName kind n → IsOneLineIn dialect n
     → (text : List ℕ) × (line : Line) × HasAnswers dialect text (Ok line ∷ []) × Contains (names_of kind (point_of line)) n
     × (IsUtf8 n → IsUtf8 text)
 

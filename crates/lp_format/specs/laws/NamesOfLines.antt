@@ -31,10 +31,13 @@ pub record IsParsedName (kind : NameKind) (n : List ℕ) : Type 0 where
 abbrev pub HasReadableNames : Point → Type 0
 HasReadableNames p = (kind : NameKind) (n : List ℕ) → Contains (names_of kind p) n → IsParsedName kind n
 
--- lines of the dialect can have each name of the point, and if each newline ends a line, the point's line holds none
+-- the text holds no newline if each newline ends a line
+abbrev pub IsOneLineIn : Dialect → List ℕ → Type 0
+IsOneLineIn dialect text = dialect ≡ NewlineDelimited → HasNoNewline text
+
+-- lines of the dialect can have each name of the point, and the point's line is one line there
 abbrev pub IsReadableIn : Dialect → Point → Type 0
-IsReadableIn NewlineDelimited p = HasReadableNames p × HasNoNewline (line_of p)
-IsReadableIn other p = HasReadableNames p
+IsReadableIn dialect p = HasReadableNames p × IsOneLineIn dialect (line_of p)
 
 -- nothing, or a text that begins with a space
 abbrev pub IsNothingOrSpaced : List ℕ → Type 0

@@ -1,14 +1,14 @@
 -- Batches of points: those with admitted names read back, and no others do.
 use Rattle.std.proofs.Common.{◌≡◌, [], ◌∷◌, ◌++◌, refl, ap, subst, append_assoc, Ok, ℕ, ◌+◌, List, map, true, false, ◌&&◌, sym, ◌∙◌, arith}
 use Rattle.std.proofs.Common.{inl, inr, Err, Result, Contains, flat_map}
-use Rattle.lp_format.specs.format.{Dialect, Point, line_of, built_all, IsPoint, Tag, Field, IsValue, is_admitted_name, is_admitted_tag}
+use Rattle.lp_format.specs.format.{Dialect, Crate, Strict, NewlineDelimited, HasNoNewline, HasItems, is_admitted_in, Point, line_of, built_all, IsPoint, Tag, Field, IsValue, is_admitted_name, is_admitted_tag}
 use Rattle.lp_format.specs.format.{is_admitted_field, is_admitted_point, spelling, built_tag, built_field, built_fields, built_value}
 use Rattle.lp_format.specs.format.{built_timestamp, answers_of_piece, HasAnswers, item_of, answers_of, newline, equals, space, comma, Fault}
 use Rattle.lp_format.specs.format.{ends_with_backslash, a_measurement, a_field_key, a_tag_key, a_tag_value}
 use Rattle.lp_format.specs.format.{EndsPlain, Line, point_of, field, spaces, answer, Pieces.Pieces, Pieces.Pieces.cut}
-use Rattle.lp_format.specs.laws.Laws.{IsAdmittedPoint, AdmittedBatchesReadBack, OtherBatchesDoNotReadBack, ItemsHaveReadableNames}
+use Rattle.lp_format.specs.laws.Laws.{IsAdmittedIn, AdmittedBatchesReadBack, OtherBatchesDoNotReadBack, ItemsHaveReadableNames}
 use Rattle.lp_format.specs.laws.Laws.{OtherPointsEndWithBackslash}
-use Rattle.lp_format.specs.laws.NamesOfLines.{IsParsedName, names_of, HasReadableNames}
+use Rattle.lp_format.specs.laws.NamesOfLines.{IsParsedName, IsOneLineIn, IsReadableIn, names_of, HasReadableNames}
 use Rattle.lp_lines.proofs.lemmas.read_back.LinePieces.{IsAdmitted, admitted_point, line_begins, line_is_cut_piece, reaches_tags}
 use Rattle.lp_lines.proofs.lemmas.read_back.LinePieces.{reaches_field, AdmittedTag, admitted_tags, line_parts}
 use Rattle.lp_lines.proofs.lemmas.read_back.LineReadsBack.{line_reads_back, measurement_reads_back, tag_set_reads_back, field_reads_back}
@@ -18,7 +18,8 @@ use Rattle.lp_lines.proofs.lemmas.names.Spellings.{spelled_spaces, reaches_name,
 use Rattle.lp_lines.proofs.lemmas.names.Spellings.{reaches_start, Leads, leads_then, turns}
 use Rattle.lp_lines.proofs.lemmas.names.ParsedNames.{names_are_parsed, nothing_in_nil}
 use Rattle.std.specs.List.{AllByRecursion, list_all}
-use Rattle.std.proofs.lemmas.Bool.{and_parts, cases_Bool, and_from}
+use Rattle.std.proofs.lemmas.Bool.{and_parts, cases_Bool, and_from, both_ways}
+use Rattle.influxdb_line_protocol.proofs.lemmas.laws.OnOneLine.{admitted_on, answered_on, strings_on}
 use Rattle.std.proofs.lemmas.{List.length-map, List.get_or-map, List.map-append, Simd.map-map}
 use Rattle.std.proofs.lemmas.List.Elements.{All-contains, All-from_recursion, Contains-append_left, Contains-append_right}
 use Rattle.lp_split.specs.code.{Head, Plain}
@@ -35,12 +36,22 @@ line_answers : (dialect : Dialect) (p : Point) → IsAdmitted p → answers_of_p
 unfolding answers_of_piece
 line_answers dialect p ok = grind (arith, line_begins, line_trimmed, line_some, line_reads_back)
 
--- batches of points with admitted names read back
+-- the names of a point that is admitted in a dialect
+admitted_names : (dialect : Dialect) (p : Point) → is_admitted_in dialect p ≡ true → is_admitted_point p ≡ true
+admitted_names Crate p h = h
+admitted_names Strict p h = h
+admitted_names NewlineDelimited p h = (and_parts (is_admitted_point p) _ h).0
+
+-- its line
+admitted_line : (dialect : Dialect) (p : Point) → IsAdmittedIn dialect p → IsOneLineIn dialect (line_of p)
+admitted_line dialect p h e = admitted_on p (subst (λ d. IsAdmittedIn d p) e h)
+
+-- batches of admitted points read back
 pub admitted_batches_read_back : AdmittedBatchesReadBack
 admitted_batches_read_back dialect [] t answers all h = ([], refl, h)
 admitted_batches_read_back dialect (p ∷ points) t answers all h =
     let more = admitted_batches_read_back dialect points t answers all.1 h in
-    let ok = admitted_point p all.0.is_point all.0.names_are in
+    let ok = admitted_point p all.0.is_point (admitted_names dialect p all.0.admitted) in
     let pieces = more.2.pieces in
     let regrouped : line_of p ++ newline ∷ (built_all points ++ t) ≡ built_all (p ∷ points) ++ t = simp append_assoc in (
       read_line p ∷ more.0,
@@ -48,7 +59,8 @@ admitted_batches_read_back dialect (p ∷ points) t answers all h =
       record {
         pieces = line_of p ∷ pieces;
         are = subst (λ x. Pieces dialect x (line_of p ∷ pieces)) regrouped
-            (cut (line_of p) (built_all points ++ t) pieces (line_is_cut_piece dialect p ok) more.2.are);
+            (cut (line_of p) (built_all points ++ t) pieces
+            (line_is_cut_piece dialect p ok (admitted_line dialect p all.0)) more.2.are);
         answered = rw (line_answers dialect p ok) (ap (λ xs. Ok (read_line p) ∷ xs) more.2.answered);
       },
     )
@@ -171,14 +183,32 @@ line_of_item (first ∷ answers) p h = elim (first_or_later (item_of first) (Ok 
     here (Err fault) is = absurd (cc)
 
 -- no item is a point with a name that no line has
-pub items_have_readable_names : ItemsHaveReadableNames
-items_have_readable_names dialect text items p h here kind n named =
+items_have_names : (dialect : Dialect) (text : List ℕ) (items : List (Result Point Fault)) (p : Point) → HasItems dialect text items
+    → Contains items (Ok p) → HasReadableNames p
+items_have_names dialect text items p h here kind n named =
     let found = line_of_item h.0 p (subst (λ xs. Contains xs (Ok p)) h.2 here) in
     names_are_parsed dialect text h.0 found.0 kind n h.1 found.1 (subst (λ q. Contains (names_of kind q) n) (sym found.2) named)
 
+-- nor, if each newline ends a line, with a newline in its line
+pub items_have_readable_names : ItemsHaveReadableNames
+items_have_readable_names dialect text items p h here =
+    let found = line_of_item h.0 p (subst (λ xs. Contains xs (Ok p)) h.2 here) in (
+      items_have_names dialect text items p h here,
+      λ e. subst (λ q. HasNoNewline (line_of q)) found.2 (answered_on text h.0 found.0 (subst (λ d. HasAnswers d text h.0) e h.1) found.1),
+    )
+
+-- such a point that is not admitted has a name that is not
+bad_name : (dialect : Dialect) (p : Point) → IsPoint p → IsReadableIn dialect p → is_admitted_in dialect p ≡ false → is_admitted_point p ≡ false
+bad_name Crate p is h bad = bad
+bad_name Strict p is h bad = bad
+bad_name NewlineDelimited p is h bad = elim (cases_Bool (is_admitted_point p)) [
+  | inl good ↦ absurd (both_ways _ bad (and_from _ _ good (strings_on p (h.1 refl))))
+  | inr is ↦ is
+]
+
 -- the first point that is not admitted is answered in its place
 pub other_points_end_with_backslash : OtherPointsEndWithBackslash
-other_points_end_with_backslash dialect before p after t answers ok is_point bad names h =
+other_points_end_with_backslash dialect before p after t answers ok is_point bad can h =
     let u = built_all (p ∷ after) ++ t in
     let suffix = pieces_exist dialect u in
     let more = answers_of dialect suffix.0 in
@@ -187,16 +217,19 @@ other_points_end_with_backslash dialect before p after t answers ok is_point bad
     let joined : built_all before ++ u ≡ built_all (before ++ p ∷ after) ++ t = grind (arith, flat_map-append, append_assoc) in
     let same : answers ≡ map Ok batch.0 ++ more =
     h.answered ∙ ap (answers_of dialect) (same_pieces dialect (sym joined) h.are batch.2.are) ∙ sym batch.2.answered in
-    let f = point_fails p is_point names bad in
+    let f = point_fails p is_point can.0 bad in
     let is : u ≡ f.front ++ f.stop ∷ (f.after ++ newline ∷ (built_all after ++ t)) = grind (arith, append_assoc, f.is) in
-    let one = first_fails dialect (line_of p) f (f.after ++ newline ∷ (built_all after ++ t)) is suffix.1 in
+    let one = first_fails dialect (line_of p) f can.1 (f.after ++ newline ∷ (built_all after ++ t)) is suffix.1 in
     (batch.0, one.0, batch.1, same ∙ ap (λ xs. map Ok batch.0 ++ xs) one.1)
 
 -- points before one that is not admitted, which all are
-admitted_before : (before : List Point) (p : Point) (after : List Point) → AllByRecursion IsPoint (before ++ p ∷ after)
-    → list_all is_admitted_point before ≡ true → AllByRecursion IsAdmittedPoint before × IsPoint p
-admitted_before [] p after all pass = (tt, all.0)
-admitted_before (q ∷ before) p after all pass = grind (arith, and_parts, admitted_before before p after all.1)
+admitted_before : (dialect : Dialect) (before : List Point) (p : Point) (after : List Point) → AllByRecursion IsPoint (before ++ p ∷ after)
+    → list_all (is_admitted_in dialect) before ≡ true → AllByRecursion (IsAdmittedIn dialect) before × IsPoint p
+admitted_before dialect [] p after all pass = (tt, all.0)
+admitted_before dialect (q ∷ before) p after all pass =
+    let parts = and_parts (is_admitted_in dialect q) (list_all (is_admitted_in dialect) before) pass in
+    let others = admitted_before dialect before p after all.1 parts.1 in
+    ((record { is_point = all.0; admitted = parts.0 }, others.0), others.1)
 
 -- points before one that is answered with a fault are not all points
 not_all : (before : List Point) (p : Point) (after : List Point) (fault : Fault) (more others : List (Result Point Fault))
@@ -207,13 +240,14 @@ not_all (q ∷ before) p after fault more others e = not_all before p after faul
 -- no batch with another name reads back
 pub other_batches_do_not : OtherBatchesDoNotReadBack
 other_batches_do_not dialect points t items others all bad h k e =
-    let f = first_failing is_admitted_point points bad in
-    let points_are = admitted_before f.front f.stop f.after (subst (AllByRecursion IsPoint) f.is all) f.pass in
+    let f = first_failing (is_admitted_in dialect) points bad in
+    let points_are = admitted_before dialect f.front f.stop f.after (subst (AllByRecursion IsPoint) f.is all) f.pass in
     let are : items ≡ map Ok (f.front ++ f.stop ∷ f.after) ++ others = e ∙ ap (λ ps. map Ok ps ++ others) f.is in
     let stop = made_element Ok _ f.stop (Contains-append_right f.front (f.stop ∷ f.after) f.stop (first_element f.stop f.after)) in
     let here = subst (λ xs. Contains xs (Ok f.stop)) (sym are) (Contains-append_left _ others (Ok f.stop) stop) in
-    let names = items_have_readable_names dialect (built_all points ++ t) items f.stop h here in
+    let can = items_have_readable_names dialect (built_all points ++ t) items f.stop h here in
+    let named = bad_name dialect f.stop points_are.1 can f.fails in
     let has = subst (λ ps. HasAnswers dialect (built_all ps ++ t) h.0) f.is h.1 in
-    let w = other_points_end_with_backslash dialect f.front f.stop f.after t h.0 points_are.0 points_are.1 f.fails names has in
+    let w = other_points_end_with_backslash dialect f.front f.stop f.after t h.0 points_are.0 points_are.1 named can has in
     not_all f.front f.stop f.after ends_with_backslash (map item_of w.1) others
     (grind (arith, map-append, map-map))

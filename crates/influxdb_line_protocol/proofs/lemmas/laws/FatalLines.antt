@@ -1,15 +1,16 @@
 -- A line with a name whose spelling stops too early: the name is fatal, and so is the line, at a measurement or a tag.
 use Rattle.std.proofs.Common.{◌≡◌, ◌≢◌, ℕ, ◌<◌, List, [], ◌∷◌, ◌++◌, length, slice_index, true, false, refl, sym, ap, ◌∙◌, subst, arith}
-use Rattle.std.proofs.Common.{inl, inr, append_assoc, append-nil, Err, Result, Bool, ◌&&◌, flat_map, ne_eqb, length-append}
+use Rattle.std.proofs.Common.{inl, inr, append_assoc, append-nil, take_at, Err, Result, Bool, ◌&&◌, flat_map, ne_eqb, length-append}
 use Rattle.std.specs.List.{list_all, Contains}
 use Rattle.std.proofs.lemmas.Bool.{cases_Bool, false≢true, both_ways, and_right, and_parts}
+use Rattle.std.proofs.lemmas.List.Elements.{All-take}
 use Rattle.std.proofs.lemmas.{Grind.flat_map-append, List.get_or_append_left}
-use Rattle.lp_format.specs.format.{Dialect, Crate, Strict, is_one_of, newline, comma, equals, space, backslash, escaped, Fault}
+use Rattle.lp_format.specs.format.{Dialect, Crate, Strict, NewlineDelimited, HasNoNewline, is_one_of, newline, comma, equals, space, backslash, escaped, Fault}
 use Rattle.lp_format.specs.format.{ends_with_backslash, fatal, Reading, reads, NameKind, a_measurement, a_tag_key, a_tag_value}
 use Rattle.lp_format.specs.format.{ends_in_backslash, name, IsClosed, never_in, is_admitted_name, spelling, Tag, is_admitted_tag, built_tag}
 use Rattle.lp_format.specs.format.{IsLastPiece, Line, answer, tag, after_comma, many, separated_list, answers_of_piece, answers_of}
 use Rattle.lp_format.specs.format.Pieces.{Pieces, Pieces.last, Pieces.cut}
-use Rattle.lp_format.specs.laws.NamesOfLines.{IsParsedName}
+use Rattle.lp_format.specs.laws.NamesOfLines.{IsParsedName, IsOneLineIn}
 use Rattle.lp_format.proofs.lemmas.split.{SplitPieces.no_cut_within, SplitBare.place_in_append}
 use Rattle.lp_format.proofs.lemmas.read_back.NameReadsBack.{may_hold, escaped_plain, read_tag}
 use Rattle.lp_lines.proofs.lemmas.names.Spellings.{reaches_start, Reaches, SpelledAs, never_unescapable, never_stops, spelling_as}
@@ -61,18 +62,21 @@ unfolding answers_of_piece
 piece_fails dialect line f rest stops = grind (arith, line_trimmed, line_some)
 
 -- such a front is a piece of its own
-front_is_piece : (dialect : Dialect) (line : List ℕ) (f : Fails line) → IsLastPiece dialect f.front
-front_is_piece Crate line f = inl f.reached
-front_is_piece Strict line f = inr (line_no_comment f.front (subst BeginsLine (append-nil f.front) (f.fails [] tt).0), inl f.reached)
+front_is_piece : (dialect : Dialect) (line : List ℕ) (f : Fails line) → IsOneLineIn dialect line → IsLastPiece dialect f.front
+front_is_piece Crate line f whole = inl f.reached
+front_is_piece Strict line f whole = inr (line_no_comment f.front (subst BeginsLine (append-nil f.front) (f.fails [] tt).0), inl f.reached)
+front_is_piece NewlineDelimited line f whole =
+    subst HasNoNewline (take_at f.front (f.stop ∷ f.after) (length f.front) refl)
+    (All-take (λ b. b ≢ newline) (length f.front) (f.front ++ f.stop ∷ f.after) (subst HasNoNewline f.is (whole refl)))
 
 -- the first answer for such a line is a fault
-pub first_fails : (dialect : Dialect) (line : List ℕ) (f : Fails line) (after : List ℕ) {text : List ℕ}
+pub first_fails : (dialect : Dialect) (line : List ℕ) (f : Fails line) → IsOneLineIn dialect line → (after : List ℕ) {text : List ℕ}
     {pieces : List (List ℕ)} → text ≡ f.front ++ f.stop ∷ after → Pieces dialect text pieces
     → (others : List (Result Line Fault)) × (answers_of dialect pieces ≡ Err ends_with_backslash ∷ others)
-first_fails dialect line f after e (last piece h) =
+first_fails dialect line f whole after e (last piece h) =
     ([], ap (λ xs. answers_of_piece dialect xs ++ []) e ∙ ap (λ xs. xs ++ []) (piece_fails dialect line f (f.stop ∷ after) refl))
-first_fails dialect line f after e (cut piece t more c h) = elim (place_in_append f.front (f.stop ∷ after) newline piece t (sym e)) [
-  | inl w ↦ absurd (no_cut_within dialect piece w.0 c (subst (IsLastPiece dialect) w.1 (front_is_piece dialect line f)))
+first_fails dialect line f whole after e (cut piece t more c h) = elim (place_in_append f.front (f.stop ∷ after) newline piece t (sym e)) [
+  | inl w ↦ absurd (no_cut_within dialect piece w.0 c (subst (IsLastPiece dialect) w.1 (front_is_piece dialect line f whole)))
   | inr w ↦
       let stops : StopsWith f.stop w.0 = grind arith in (
         answers_of dialect more,

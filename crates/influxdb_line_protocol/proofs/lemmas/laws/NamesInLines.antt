@@ -6,7 +6,7 @@ use Rattle.std.proofs.lemmas.{Str.Ascii.IsAscii-cons, Grind.common_steps}
 use Rattle.std.proofs.lemmas.Str.{IsUtf8-append, IsUtf8-take, IsUtf8-drop, IsUtf8-from_ascii, IsCharBoundary-before_ascii}
 use Rattle.std.proofs.lemmas.Str.{IsCharBoundary-after_ascii, IsUtf8-nil}
 use Rattle.lp_format.specs.format.{backslash, comma, space, NameKind, a_measurement, a_tag_key, a_tag_value, a_field_key}
-use Rattle.lp_format.specs.format.{ends_in_backslash, escapable, read_text, Pair, Dialect, Crate, Strict, Text, reads, Value, integer}
+use Rattle.lp_format.specs.format.{ends_in_backslash, escapable, read_text, Pair, Dialect, Crate, Strict, NewlineDelimited, HasNoNewline, IsLastPiece, newline, is_on_one_line, Text, reads, Value, integer}
 use Rattle.lp_format.specs.format.{value, integer_at, Line, point_of, tag, field, field_set, front_before}
 use Rattle.lp_format.specs.format.{answer, HasAnswers, answers_of_piece}
 use Rattle.lp_format.specs.format.{Pieces.Pieces.last, Bytes.equals, Bytes.letter_i}
@@ -16,7 +16,10 @@ use Rattle.lp_lines.proofs.lemmas.names.Spellings.{reaches_gap, reaches_field_ke
 use Rattle.lp_lines.proofs.lemmas.names.Spellings.SpelledAs.{done, escape, plain, pair}
 use Rattle.lp_lines.proofs.lemmas.names.KeptNames.{name_kept}
 use Rattle.lp_split.{specs.code.Plain, proofs.lemmas.split.SplitWalk.Plain-equals}
-use Rattle.lp_format.specs.laws.{NamesOfLines.IsParsedName, NamesOfLines.BeginsNoComment, NamesOfLines.names_of, Laws.ParsedNamesAreInLines}
+use Rattle.influxdb_line_protocol.proofs.lemmas.laws.OnOneLine.{OnOne, joined, no_newline, one_line}
+use Rattle.std.proofs.lemmas.Bool.{and_from, and_parts}
+use Rattle.std.proofs.Common.{not, ◌==◌}
+use Rattle.lp_format.specs.laws.{NamesOfLines.IsOneLineIn, NamesOfLines.IsParsedName, NamesOfLines.BeginsNoComment, NamesOfLines.names_of, Laws.ParsedNamesAreInLines}
 use Rattle.lp_format.proofs.lemmas.split.SplitBare.{is_escaped-push_other}
 use Rattle.lp_lines.proofs.lemmas.read_back.{LinePieces.reaches_simple, LineReadsBack.answer_from_parts}
 
@@ -121,6 +124,20 @@ fields_read : {U : Type 0} (dialect : Dialect) {f n : List ℕ} → Spelled U a_
 unfolding field value integer_at
 fields_read Crate h = rw (spelled_reads h.spelled h.some h.ends (equals ∷ 49 ∷ letter_i ∷ []) refl) refl
 fields_read Strict h = rw (spelled_reads h.spelled h.some h.ends (equals ∷ 49 ∷ letter_i ∷ []) refl) refl
+fields_read NewlineDelimited h = rw (spelled_reads h.spelled h.some h.ends (equals ∷ 49 ∷ letter_i ∷ []) refl) refl
+
+-- a spelling without a newline
+spelled_on : {kind : NameKind} {n s : List ℕ} → SpelledAs kind n s → OnOne n → OnOne s
+spelled_on done h = refl
+spelled_on (escape b n s known more) h =
+    let parts = and_parts (not (b == newline)) (is_on_one_line n) h in
+    and_from _ _ parts.0 (spelled_on more parts.1)
+spelled_on (plain b n s other may more) h =
+    let parts = and_parts (not (b == newline)) (is_on_one_line n) h in
+    and_from _ _ parts.0 (spelled_on more parts.1)
+spelled_on (pair c n s never more) h =
+    let parts = and_parts (not (c == newline)) (is_on_one_line n) h in
+    and_from _ _ parts.0 (spelled_on more parts.1)
 
 module _ {U : Type 0} {m k v f m' k' v' f' : List ℕ} (first : Spelled U a_measurement m' m) (key : Spelled U a_tag_key k' k)
     (value : Spelled U a_tag_value v' v) (field : Spelled U a_field_key f' f) where
@@ -152,27 +169,41 @@ module _ {U : Type 0} {m k v f m' k' v' f' : List ℕ} (first : Spelled U a_meas
       (fields_read dialect field)
       refl
 
-  -- and its only one
-  only_answer : (dialect : Dialect) → HasAnswers dialect (whole m k v f) (Ok (line_of m k v f) ∷ [])
-  unfolding answers_of_piece
-  only_answer dialect =
+  -- it is a piece
+  is_piece : (dialect : Dialect) → IsOneLineIn dialect (whole m k v f) → IsLastPiece dialect (whole m k v f)
+  is_piece Crate one = let closed = reaches_end in grind (arith, common_steps)
+  is_piece Strict one =
       let none = line_no_comment (whole m k v f) begins in
       let closed = reaches_end in
+      grind (arith, common_steps)
+  is_piece NewlineDelimited one = one refl
+
+  -- and has one answer
+  only_answer : (dialect : Dialect) → IsOneLineIn dialect (whole m k v f) → HasAnswers dialect (whole m k v f) (Ok (line_of m k v f) ∷ [])
+  unfolding answers_of_piece
+  only_answer dialect one =
       record {
         pieces = whole m k v f ∷ [];
-        are = last (whole m k v f) (grind (arith, common_steps));
+        are = last (whole m k v f) (is_piece dialect one);
         answered = rw (line_trimmed (whole m k v f) begins, line_some (whole m k v f) begins, answered dialect) refl;
       }
 
+  -- without a newline if its names have none
+  on_one : OnOne m' × OnOne k' × OnOne v' × OnOne f' → HasNoNewline (whole m k v f)
+  on_one h = no_newline (whole m k v f) (joined m (comma ∷ from_key k v f) (spelled_on first.spelled h.0)
+      (joined k (equals ∷ from_value v f) (spelled_on key.spelled h.1)
+      (joined v (space ∷ from_field f) (spelled_on value.spelled h.2) (joined f _ (spelled_on field.spelled h.3) refl))))
+
   -- so the line has each of its names
-  in_line : (dialect : Dialect) (kind : NameKind) (n : List ℕ) → Contains (names_of kind (point_of (line_of m k v f))) n
+  in_line : (dialect : Dialect) (kind : NameKind) (n : List ℕ)
+      → (dialect ≡ NewlineDelimited → OnOne m' × OnOne k' × OnOne v' × OnOne f') → Contains (names_of kind (point_of (line_of m k v f))) n
       → (text : List ℕ) × (line : Line) × HasAnswers dialect text (Ok line ∷ []) × Contains (names_of kind (point_of line)) n
       × (U → IsUtf8 text)
-  in_line dialect kind n here =
+  in_line dialect kind n one here =
       let all : U → IsUtf8 (whole m k v f) = λ u. utf8_joined (first.utf8 u) (omega arith) (utf8_joined (key.utf8 u) (omega arith)
       (utf8_joined (value.utf8 u) (omega arith) (utf8_joined (field.utf8 u) (omega arith)
       (utf8_joined IsUtf8-nil (omega arith) (utf8_joined IsUtf8-nil (omega arith) IsUtf8-nil))))) in
-      (whole m k v f, line_of m k v f, only_answer dialect, here, all)
+      (whole m k v f, line_of m k v f, only_answer dialect (λ e. on_one (one e)), here, all)
 
 -- the name of one letter
 x : {U : Type 0} (kind : NameKind) → Spelled U kind (120 ∷ []) (120 ∷ [])
@@ -188,15 +219,15 @@ x kind =
 
 -- each parsed name, in the line whose other names are one letter
 pub parsed_names_are_in_lines : ParsedNamesAreInLines
-parsed_names_are_in_lines dialect a_measurement n h =
+parsed_names_are_in_lines dialect a_measurement n h one =
     let s = (has_spelling a_measurement n h).1 in
-    in_line s (x a_tag_key) (x a_tag_value) (x a_field_key) dialect a_measurement n (0, omega arith, spelled_logical s.spelled)
-parsed_names_are_in_lines dialect a_tag_key n h =
+    in_line s (x a_tag_key) (x a_tag_value) (x a_field_key) dialect a_measurement n (λ e. (one_line n (one e), refl, refl, refl)) (0, omega arith, spelled_logical s.spelled)
+parsed_names_are_in_lines dialect a_tag_key n h one =
     let s = (has_spelling a_tag_key n h).1 in
-    in_line (x a_measurement) s (x a_tag_value) (x a_field_key) dialect a_tag_key n (0, omega arith, spelled_logical s.spelled)
-parsed_names_are_in_lines dialect a_tag_value n h =
+    in_line (x a_measurement) s (x a_tag_value) (x a_field_key) dialect a_tag_key n (λ e. (refl, one_line n (one e), refl, refl)) (0, omega arith, spelled_logical s.spelled)
+parsed_names_are_in_lines dialect a_tag_value n h one =
     let s = (has_spelling a_tag_value n h).1 in
-    in_line (x a_measurement) (x a_tag_key) s (x a_field_key) dialect a_tag_value n (0, omega arith, spelled_logical s.spelled)
-parsed_names_are_in_lines dialect a_field_key n h =
+    in_line (x a_measurement) (x a_tag_key) s (x a_field_key) dialect a_tag_value n (λ e. (refl, refl, one_line n (one e), refl)) (0, omega arith, spelled_logical s.spelled)
+parsed_names_are_in_lines dialect a_field_key n h one =
     let s = (has_spelling a_field_key n h).1 in
-    in_line (x a_measurement) (x a_tag_key) (x a_tag_value) s dialect a_field_key n (0, omega arith, spelled_logical s.spelled)
+    in_line (x a_measurement) (x a_tag_key) (x a_tag_value) s dialect a_field_key n (λ e. (refl, refl, refl, one_line n (one e))) (0, omega arith, spelled_logical s.spelled)

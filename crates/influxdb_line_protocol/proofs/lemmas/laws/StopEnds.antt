@@ -3,7 +3,7 @@ use Rattle.std.proofs.Common.{◌≡◌, ◌⊎◌, ◌==◌, ℕ, List, [], ◌
 use Rattle.std.proofs.lemmas.Bool.{cases_Bool}
 use Rattle.lp_format.specs.format.{comma, equals, Dialect, Fault, Line, NameKind, Pair, Reading, Text, Value, a_field_key, a_measurement}
 use Rattle.lp_format.specs.format.{answer, fatal, field, miss, reads, spaces, tag, timestamp, value, without_comma, ◌otherwise◌}
-use Rattle.lp_format.specs.format.{Crate, Strict, boolean_at, float_at, integer_at, integer_len, string_at, unsigned_at}
+use Rattle.lp_format.specs.format.{Crate, Strict, NewlineDelimited, boolean_at, float_at, integer_at, integer_len, string_at, unsigned_at}
 use Rattle.lp_format.specs.laws.Meanings.{SeparatedAfterComma, SeparatedBy}
 use Rattle.lp_format.specs.laws.MeaningsOfAnswers.{after_spaces, IsAnswer, ReadsFields, ReadsSeries}
 use Rattle.lp_format.specs.laws.MeaningsOfAnswers.IsAnswer.{fatal_measurement, no_measurement, fatal_tag, no_tag, no_space, fatal_field, no_field}
@@ -62,7 +62,7 @@ unfolding value integer_at unsigned_at float_at boolean_at
 value_left text = grind (arith, either, none_left, drop_left, fault_left, one_of_two, string_left)
 
 -- a text ends in what is left after a field
-field_ends : (text : List ℕ) (x : Pair Text (Value Text)) (rest : List ℕ) → field text ≡ reads x rest → EndsIn text rest
+pub field_ends : (text : List ℕ) (x : Pair Text (Value Text)) (rest : List ℕ) → field text ≡ reads x rest → EndsIn text rest
 unfolding field
 field_ends text x rest e =
     let p = pair_parts a_field_key value text x rest e in
@@ -109,6 +109,7 @@ spaces_end text = EndsIn-drop (spaces text) text (after_spaces text) refl
 -- after a comma that is taken
 taken_end : (dialect : Dialect) (fields : List (Pair Text (Value Text))) (last : List ℕ) → EndsIn last (without_comma dialect fields last)
 taken_end Strict fields last = EndsIn-self last
+taken_end NewlineDelimited fields last = EndsIn-self last
 taken_end Crate [] last = EndsIn-self last
 taken_end Crate (f ∷ g ∷ fields) last = EndsIn-self last
 taken_end Crate (f ∷ []) [] = EndsIn-self []

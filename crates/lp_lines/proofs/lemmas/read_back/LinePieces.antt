@@ -8,19 +8,20 @@ use Rattle.std.specs.List.{AllPass}
 use Rattle.std.proofs.lemmas.{Grind.common_steps, Fmt.decimal_is_IsNumeral, List.Folds.list_all-append}
 use Rattle.lp_split.specs.code.{Head, Plain, Quoted}
 use Rattle.lp_split.proofs.lemmas.split.SplitWalk.{Plain-equals, Plain-comma, Plain-opens, Plain-other, Quoted-closes, Quoted-other}
-use Rattle.lp_format.specs.format.{Dialect, backslash, is_one_of, newline, quote, escaped, a_measurement, a_tag_key, a_tag_value}
+use Rattle.lp_format.specs.format.{Dialect, Crate, Strict, NewlineDelimited, HasNoNewline, backslash, is_one_of, newline, quote, escaped, a_measurement, a_tag_key, a_tag_value}
 use Rattle.lp_format.specs.format.{a_field_key, Value, integer, unsigned, float, string, boolean, quotable, fits_i64}
 use Rattle.lp_format.specs.format.{Point, IsPoint, Tag, Field, IsValue, is_admitted_tag, is_admitted_field, is_admitted_point}
 use Rattle.lp_format.specs.format.{line_of, built_tag, built_field, built_fields, built_timestamp, built_value, spelling, is_admitted_name}
 use Rattle.lp_format.specs.format.{IsCutPiece, begins_comment, Bytes.comma, Bytes.equals, Bytes.letter_i, Bytes.letter_u, Bytes.space}
 use Rattle.lp_format.proofs.lemmas.{literals.FloatLemmas.digits_float, literals.FloatLemmas.float_bytes, literals.FloatLemmas.in_float}
+use Rattle.lp_format.specs.laws.NamesOfLines.{IsOneLineIn}
 use Rattle.lp_format.proofs.lemmas.values.ValueLemmas.{fits_from_test}
 use Rattle.lp_lines.proofs.lemmas.names.Spellings.{Leads, leads_by_none, leads_then, turns, reaches_gap, reaches_other, Reaches}
 use Rattle.lp_lines.proofs.lemmas.names.Spellings.{reaches_start, ChangesNothing, reaches_byte, reaches_pair, admitted_spelled}
 use Rattle.lp_lines.proofs.lemmas.names.Spellings.{measurement_begins, reaches_name, reaches_field_key, BeginsLine, line_no_comment}
 
 -- a byte that means nothing in a plain stretch
-abbrev is_simple : ℕ → Bool
+abbrev pub is_simple : ℕ → Bool
 is_simple b = not (is_one_of (backslash ∷ equals ∷ comma ∷ newline ∷ quote ∷ []) b)
 
 -- such a byte changes nothing
@@ -47,17 +48,17 @@ reaches_simple e c (b ∷ text) all =
     leads_then (Reaches Plain e c) (b ∷ []) text (reaches_byte Plain e c b (simple_same e c b parts.0)) (reaches_simple e c text parts.1)
 
 -- a text of bytes that a float can hold is simple
-simple_number : (text : List ℕ) → AllPass in_float text → IsSimple text
+pub simple_number : (text : List ℕ) → AllPass in_float text → IsSimple text
 simple_number text all =
     list_all-from_AllPass is_simple text (λ i d within. let held = all i d within in grind (arith, common_steps))
 
 -- the decimal text of a number
-simple_decimal : (n : ℕ) → n < 2 ^ 64 → IsSimple (decimal n)
+pub simple_decimal : (n : ℕ) → n < 2 ^ 64 → IsSimple (decimal n)
 simple_decimal n fits =
     simple_number (decimal n) (AllPass-from_list_all in_float (decimal n) (digits_float (decimal n) (decimal_is_IsNumeral n fits).0.1))
 
 -- and that of a signed one
-simple_signed : (z : ℤ) → fits_i64 z ≡ true → IsSimple (signed_decimal z)
+pub simple_signed : (z : ℤ) → fits_i64 z ≡ true → IsSimple (signed_decimal z)
 simple_signed n fits = grind (arith, fits_from_test, simple_decimal, and_from)
 
 -- a byte of a string, with a backslash or without
@@ -130,9 +131,12 @@ reaches_tags (t ∷ ts) all = leads_then (Reaches Head 0 0) (comma ∷ []) _ (re
     (reaches_name a_tag_value t.value all.0.1)))
     (reaches_tags ts all.1))
 
--- what a newline may end, in both dialects
-is_cut_piece : (dialect : Dialect) (text : List ℕ) → begins_comment text ≡ false → AfterFields text → IsCutPiece dialect text
-is_cut_piece dialect text none r = grind (arith)
+-- what a newline may end, in each dialect
+is_cut_piece : (dialect : Dialect) (text : List ℕ) → IsOneLineIn dialect text → begins_comment text ≡ false → AfterFields text
+    → IsCutPiece dialect text
+is_cut_piece Crate text one none r = grind (arith)
+is_cut_piece Strict text one none r = grind (arith)
+is_cut_piece NewlineDelimited text one none r = one refl
 
 -- what a point is whose line reads back: its names are admitted and it has a field
 pub record IsAdmitted (p : Point) : Type 0 where
@@ -165,17 +169,20 @@ unfolding line_of
 line_parts p = simp append_assoc
 
 -- the line of an admitted point is a piece that a newline ends
-pub line_is_cut_piece : (dialect : Dialect) (p : Point) → IsAdmitted p → IsCutPiece dialect (line_of p)
-line_is_cut_piece dialect p ok = subst (IsCutPiece dialect) (sym (line_parts p))
-    (whole p.measurement p.tags p.fields p.timestamp ok.measurement ok.tags ok.fields ok.some_field ok.timestamp)
+pub line_is_cut_piece : (dialect : Dialect) (p : Point) → IsAdmitted p → IsOneLineIn dialect (line_of p)
+    → IsCutPiece dialect (line_of p)
+line_is_cut_piece dialect p ok one = subst (IsCutPiece dialect) (sym (line_parts p))
+    (whole p.measurement p.tags p.fields p.timestamp ok.measurement ok.tags ok.fields ok.some_field ok.timestamp
+    (λ each. subst HasNoNewline (line_parts p) (one each)))
   where
     -- the line of an admitted point is a piece
     whole : (n : List ℕ) (ts : List Tag) (fs : List Field) (t : Option ℤ)
         → is_admitted_name a_measurement n ≡ true → AllByRecursion AdmittedTag ts → AllByRecursion AdmittedField fs
         → 0 < length fs → IfSome t (λ z. fits_i64 z ≡ true)
+        → IsOneLineIn dialect (spelling a_measurement n ++ (flat_map built_tag ts ++ (built_fields space fs ++ built_timestamp t)))
         → IsCutPiece dialect (spelling a_measurement n ++ (flat_map built_tag ts ++ (built_fields space fs ++ built_timestamp t)))
-    whole n ts [] t named tagged fielded some stamped = absurd (omega arith)
-    whole n ts (f ∷ fs) t named tagged fielded some stamped = is_cut_piece dialect _ (line_no_comment _ (measurement_begins n _ named))
+    whole n ts [] t named tagged fielded some stamped one = absurd (omega arith)
+    whole n ts (f ∷ fs) t named tagged fielded some stamped one = is_cut_piece dialect _ one (line_no_comment _ (measurement_begins n _ named))
         (leads_then AfterFields (spelling a_measurement n) _ (reaches_name a_measurement n named)
         (leads_then AfterFields (flat_map built_tag ts) _ (reaches_tags ts tagged)
         (leads_then AfterFields (built_fields space (f ∷ fs)) _
