@@ -92,9 +92,11 @@ from_a_file() { "$apart" /dev/stdin 4 <"$file"; }
 wanted 0 "$text" "" from_a_file
 CUTS="echo \"\$*\" >&2; $cuts"
 RELAYS='cat >&2; echo >&2; echo "$*"'
-words="--summary --lines --strict"
-wanted 0 "$words"$'\n'"$words"$'\n'"$words"$'\n'"$words" "e,the rest" "$apart" "$file" 4 --lines --strict
-grep -qx -- '--strict --cut 4' err
+for dialect in --strict --newline-delimited; do
+    words="--summary --lines $dialect"
+    wanted 0 "$words"$'\n'"$words"$'\n'"$words"$'\n'"$words" "e,the rest" "$apart" "$file" 4 --lines "$dialect"
+    grep -qx -- "$dialect --cut 4" err
+done
 CUTS=$cuts
 # Parts that refuse something: none, all, and the third one, of which the first relay writes two lines. All but the first one are
 # relayed once more.
@@ -296,11 +298,13 @@ for input in "${inputs[@]}"; do
     compare "$input" "1 8 64" --strict --verbatim --check --lines
     compare "$input" "1 8 64" --max-line 11 --summary
     compare "$input" "1 8 64" --faults json --strict
+    compare "$input" "1 8 64" --newline-delimited --lines
 done
 # Each option in half of the runs, in any order.
 RANDOM=$seed
 for _ in $(seq 24); do
-    left=(--strict --lines --check --summary --progress "--max-line $((RANDOM % 20))")
+    left=(--lines --check --summary --progress "--max-line $((RANDOM % 20))")
+    case $((RANDOM % 2)) in 0) left+=(--strict) ;; 1) left+=(--newline-delimited) ;; esac
     case $((RANDOM % 3)) in 0) left+=(--verbatim) ;; 1) left+=(--canonical) ;; esac
     case $((RANDOM % 4)) in 0) left+=("--faults raw") ;; 1) left+=("--faults line") ;; *) left+=("--faults json") ;; esac
     options=
@@ -313,3 +317,20 @@ for _ in $(seq 24); do
     compare "${inputs[RANDOM % 3]}" $((2 + RANDOM % 63)) $options
 done
 echo "apart: a relay's parts give what the whole gives, also its faults, in $compared runs, by random options of SEED=$seed"
+
+# Where each newline ends a line, parts that `split` cuts give the same lines, and the same faults but for their numbers.
+export relay
+compared=0
+for input in "${inputs[@]}"; do
+    "$relay" --newline-delimited "$input" >wanted 2>wanted_err || [ $? = 1 ]
+    for how in "-C 1000" "-n l/64"; do
+        # shellcheck disable=SC2086
+        split $how --filter='"$relay" --newline-delimited || [ $? = 1 ]' "$input" >out 2>err
+        if ! cmp out wanted || ! cmp <(sed 's/^item [0-9]*//' err) <(sed 's/^item [0-9]*//' wanted_err); then
+            echo "apart: of $input in the parts of split $how lp_relay --newline-delimited writes something else"
+            exit 1
+        fi
+        compared=$((compared + 1))
+    done
+done
+echo "apart: so do the parts that split cuts, if each newline ends a line, in $compared runs"

@@ -1,6 +1,7 @@
 #!/usr/bin/env python3
 """The blocks of code in the documents, from examples that are proved or tested: the callers in crates/lp_examples, and the
-examples of the packages in bindings/. And each text that lists the options of the programs, as checks/options.py makes it.
+examples of the packages in bindings/. And each text that lists the options of the programs, as checks/options.py makes it, and the
+table of texts in docs/FORMAT.md, from the rows of crates/lp_answers that are meant for it.
 
     checks/blocks.py            whether each block is a copy of its stretch, and each list is as it is made; status 1 if one is not
     checks/blocks.py --write    writes the stretches and the lists into the files
@@ -22,6 +23,7 @@ EXAMPLES = TOP / "crates" / "lp_examples"
 PLACES = ["crates/lp_examples/src/*.rt", "bindings/c/example.c", "bindings/c/cuts.c", "bindings/c/writing.c",
           "bindings/rust/examples/*.rs", "bindings/python/example.py"]
 DOCUMENTS = ["README.md", "docs/RATTLE.md", "docs/BINDINGS.md"]
+ANSWERS = "crates/lp_answers/data/answers.tsv"
 LANGUAGES = ("rust", "antt", "c", "rs", "python")  # of the blocks that must be copies
 
 MARK = re.compile(r"^ *(?://|#) \[(\w+)\]$")
@@ -104,6 +106,31 @@ def filled(document, known, quoted):
     return "\n".join(out) + "\n"
 
 
+def shown(cell):
+    """A cell of an answer as code: its escapes as the characters that docs/FORMAT.md has for them."""
+    known = {"n": "⏎", "t": "⇥", "r": "␍", "0": "␀", "\\": "\\"}
+    text = re.sub(r"\\(.)", lambda escape: known[escape[1]], cell)
+    return f"`{'␣' if text.startswith(' ') else ''}{text.lstrip(' ')}`"
+
+
+def shown_items(cell):
+    """Items in words: a fault by its name, and a line by its parts."""
+    words = []
+    for item in cell.split("|"):
+        rest = re.fullmatch(r"rest <(.*)>", item)
+        words.append(f"`CannotParseEntireLine`, rest {shown(rest[1])}" if rest
+                     else shown(re.sub(r"[SC]<([^>]*)>", r"\1", item).replace("TakeWhile1", "GenericParsingError")))
+    return "; then ".join(words)
+
+
+def texts_of_dialects():
+    """The table of what each dialect reads of some texts."""
+    rows = read(ANSWERS).split("# The texts of docs/FORMAT.md", 1)[1].split("\n\n", 1)[0].split("\n")[1:]
+    cells = [row.split("\t")[1:] for row in rows]
+    lines = [f"| {' | '.join([shown(text), *map(shown_items, answers)])} |" for text, *answers in cells]
+    return options.Place("docs/FORMAT.md", ("| text | `Crate`", "|---"), "", lines)
+
+
 def first_difference(path, old, new):
     """The place of the first line that differs, in words."""
     old, new = old.split("\n"), new.split("\n")
@@ -118,7 +145,7 @@ def run(words):
     if unquoted:
         raise Fault(f"no document has the stretch `{unquoted[0]}`")
     stale += [first_difference(document, read(document), text) for document, text in texts.items() if text != read(document)]
-    lists = options.places()
+    lists = [*options.places(), texts_of_dialects()]
     for place in lists:
         old = texts.get(place.path) or read(place.path)
         texts[place.path] = place.filled(old)
@@ -129,7 +156,8 @@ def run(words):
     for path, text in texts.items():
         if text != read(path):
             (TOP / path).write_text(text, encoding="utf-8")
-    print(f"blocks: {len(quoted - {None})} are as the examples have them, and {len(lists)} lists of options as {options.DATA} has them")
+    print(f"blocks: {len(quoted - {None})} are as the examples have them, and {len(lists) - 1} lists of options as {options.DATA} "
+          f"has them, and a table as {ANSWERS}")
 
 
 def main(words):

@@ -270,6 +270,16 @@ check_ssh() {
     echo "engines: so they do if a host is lost midway or says nothing any longer, or if its relay fails"
 }
 
+# Where each newline ends a line, what parallel cuts by itself gives the lines of one relay, and its faults but for their numbers.
+check_lines() {
+    "$relay" --newline-delimited <input >lines.lp 2>lines.faults || [ $? = 1 ]
+    began=$SECONDS
+    parallel -k --pipepart -a input --block 3M "$relay --newline-delimited || [ \$? = 1 ]" >out 2>err
+    cmp lines.lp out || fail "the parts of parallel are not relayed as the whole"
+    cmp <(sed 's/^item [0-9]*//' lines.faults) <(sed 's/^item [0-9]*//' err) || fail "the parts of parallel have other faults"
+    echo "engines: what GNU parallel cuts at newlines gives what one relay gives, in $((SECONDS - began)) s"
+}
+
 PATH=$PATH:/usr/sbin
 lacking=
 for command in munged slurmctld slurmd sbatch; do
@@ -282,6 +292,7 @@ elif [ "$(id -u)" != 0 ]; then
 else
     check_slurm
 fi
+if command -v parallel >/dev/null; then check_lines; else left_out "parts of parallel" "there is no parallel"; fi
 lacking=
 for command in parallel ssh ssh-keygen sshd; do
     command -v "$command" >/dev/null || lacking+=" $command"

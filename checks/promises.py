@@ -54,7 +54,8 @@ OTHERS = {
     r"[a-z]_[a-z]": "a database makes it of a measurement and a field",
     r"snafu|(snafu::)?ErrorCompat|BytesMut|Unpin": "it is of Rust",
     r"lzma|makefile|sys\.stdin\.buffer": "it is of Python",
-    r"mapreduce\..*|stream\..*|RDD\.pipe|wholeTextFiles": "it is of Hadoop or Spark",
+    r"l/8": "it is of split",
+    r"mapreduce\..*|stream\..*|textinputformat\..*|RDD\.pipe|(whole)?[tT]ext(File|Files)": "it is of Hadoop or Spark",
 }
 
 

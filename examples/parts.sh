@@ -40,7 +40,9 @@ take_parts() {
         fail "with the options ($*) the status of $program is $status"
     }
     [ "$said" = "0 bytes, 0 lines, 0 items: 0 carried, 0 refused" ] || fail "the options ($*) are not those of a relay"
-    case " $* " in *" --strict "*) dialect=(--strict) ;; esac
+    for word in --strict --newline-delimited; do
+        case " $* " in *" $word "*) dialect=("$word") ;; esac
+    done
 
     # Where the parts end, in bytes: no item is in two of them.
     cut=$("$program" "${dialect[@]}" --cut "$parts" <"$file") || fail "the status of --cut is $?"

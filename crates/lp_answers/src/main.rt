@@ -10,6 +10,9 @@ use lp_vectors_shared::rows::{Table, compare, text_of, unless_same};
 use std::alloc::{AllocError, Global};
 use std::process::ExitCode;
 
+// The dialects, in the order of the cells.
+const DIALECTS: &[Dialect] = &[Dialect::Crate, Dialect::Strict, Dialect::NewlineDelimited];
+
 // The table of answers.
 #[derive(Drop)]
 struct TableOfAnswers;
@@ -26,6 +29,7 @@ fn difference(
     let asked = match dialect {
         Dialect::Crate => "in the dialect of the crate",
         Dialect::Strict => "in the strict dialect",
+        Dialect::NewlineDelimited => "where each newline ends a line",
     };
     unless_same(alloc, asked, given.as_bytes(), wanted)
 }
@@ -41,22 +45,17 @@ impl Table for TableOfAnswers {
         kind: &str,
         cells: &[Vec<u8>],
     ) -> Result<Option<String>, AllocError> {
-        let [text, by_crate, by_strict @ ..] = cells else {
-            return Ok(Some(String::from_str(alloc, "a row has three cells or four")?));
+        let (Some((text, answers)), 2..=4) = (cells.split_first(), cells.len()) else {
+            return Ok(Some(String::from_str(alloc, "a row has three to five cells")?));
         };
         let text = text_of(text.as_slice());
-        let by_crate = difference(alloc, kind, Dialect::Crate, text, by_crate.as_slice())?;
-        match by_strict {
-            [] => Ok(by_crate),
-            [wanted] if by_crate.is_none() => difference(
-                alloc,
-                kind,
-                Dialect::Strict,
-                text,
-                wanted.as_slice(),
-            ),
-            _ => Ok(by_crate),
+        for (dialect, wanted) in DIALECTS.iter().zip(answers) {
+            let differs = difference(alloc, kind, *dialect, text, wanted.as_slice())?;
+            if differs.is_some() {
+                return Ok(differs);
+            }
         }
+        Ok(None)
     }
 }
 
