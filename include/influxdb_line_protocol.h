@@ -33,12 +33,17 @@ enum lp_answer {
     LP_PIECE = 9,         /* a newline of the text ends the piece */
     LP_MORE_TEXT = 10,    /* no newline of the text ends the piece: it goes on in the text that comes */
     LP_TOO_LONG = 11,     /* the piece has more bytes than it may have */
-    LP_NOT_ADMITTED = 12, /* the line would not read back, since a name of it is not admitted: nothing was written */
+    LP_NOT_ADMITTED = 12, /* the line would not read back, since it is not admitted in the dialect: nothing was written */
     LP_NOT_A_DIALECT = 13 /* no dialect has the number */
 };
 
 /* By whose rules a text is read, and a line is to read back. A call that is handed another number refuses it. */
-enum lp_dialect { LP_CRATE = 0, LP_STRICT = 1 };
+enum lp_dialect {
+    LP_CRATE = 0,            /* the rules of the Rust crate */
+    LP_STRICT = 1,           /* the strict ones: a comment ends at its own newline, and a comma after a field has a field after it */
+    LP_NEWLINE_DELIMITED = 2 /* the same, and every newline ends a line, whatever is open: whatever a line holds, each other is read as
+                              * if it were alone */
+};
 
 /* What a part is. */
 enum lp_kind {
@@ -210,11 +215,11 @@ uint32_t lp_cuts_next(lp_cuts *cuts, const uint8_t *text, size_t len, size_t *cu
  * Where nothing is put out, `out` is as it was. */
 
 /* The line as the builder writes it, with its newline. In the dialect, of enum lp_dialect, what is put out reads back as one line of
- * the same names, values and timestamp, and as nothing else, whatever text comes after it. LP_NOT_ADMITTED: it would not, since one
- * of its names is not admitted. A name, the key or value of a tag, the key of a field or the measurement, is admitted if it is not
- * empty, holds no tab and no newline, and does not end in a backslash; a measurement, besides, holds no NUL and does not begin with
- * `#`. The text of a string may hold all of these. With at most eight tags and four fields that answer takes no memory.
- * LP_NOT_A_DIALECT: no dialect has the number. */
+ * the same names, values and timestamp, and as nothing else, whatever text comes after it. LP_NOT_ADMITTED: it would not. A line is
+ * admitted if each of its names is: the key or value of a tag, the key of a field or the measurement, which is not empty, holds no tab
+ * and no newline, and does not end in a backslash; a measurement, besides, holds no NUL and does not begin with `#`. The text of a
+ * string may hold all of these, but in LP_NEWLINE_DELIMITED no newline. With at most eight tags and four fields that answer takes no
+ * memory. LP_NOT_A_DIALECT: no dialect has the number. */
 uint32_t lp_line_write(uint32_t dialect, const lp_line *line, const lp_part *parts, size_t parts_len, uint8_t *out, size_t room,
                        size_t *len);
 
@@ -231,8 +236,8 @@ uint32_t lp_line_base(const lp_line *line, const lp_part *parts, size_t parts_le
  * bases, their bases are the same exactly where measurement and tags are. With at most eight tags it takes no memory. */
 uint32_t lp_line_is_base_safe(const lp_line *line, const lp_part *parts, size_t parts_len, bool *safe);
 
-/* Whether lp_line_write writes the line in a dialect: whether each of its names is admitted. LP_WRITTEN: `admitted` says so; at the
- * other answers it is as it was. With at most eight tags and four fields it takes no memory. */
+/* Whether the line is admitted in a dialect: whether lp_line_write writes it. LP_WRITTEN: `admitted` says so; at the other answers
+ * it is as it was. With at most eight tags and four fields it takes no memory. */
 uint32_t lp_line_is_admitted(uint32_t dialect, const lp_line *line, const lp_part *parts, size_t parts_len, bool *admitted);
 
 /* The message of a fault, with no newline: "No fields were provided". Of `line`, `fault` and `fault_text` alone are looked at. A

@@ -1,4 +1,4 @@
-/* Compares the rows of crates/lp_answers/data/answers.tsv with what the library gives for their texts, in both dialects. The head
+/* Compares the rows of crates/lp_answers/data/answers.tsv with what the library gives for their texts, in each dialect. The head
  * of that table says how a row is spelled, and what each kind asks. The argument names the table. */
 #define _POSIX_C_SOURCE 200809L
 #include "influxdb_line_protocol.h"
@@ -249,7 +249,11 @@ static struct kind { const char *word; giver *give, *again; size_t rows; } kinds
     { "fault", give_fault, NULL, 0 },
     { "as_written", NULL, NULL, 0 },
 };
-enum { KINDS = sizeof kinds / sizeof kinds[0] };
+/* The dialects, in the order of the answers of a row. */
+static const char *const NAMES[] = { "the dialect of the crate", "the strict dialect", "the newline-delimited dialect" };
+
+/* So many cells of a row are told: one more than it may have. */
+enum { KINDS = sizeof kinds / sizeof kinds[0], DIALECTS = sizeof NAMES / sizeof NAMES[0], CELLS = 2 + DIALECTS + 1 };
 
 static struct kind *kind_of(const char *word) {
     for (size_t at = 0; at < KINDS; at++)
@@ -284,33 +288,33 @@ static bool gives(giver *give, lp_text text, uint32_t dialect, lp_text wanted) {
     fclose(out);
     if (give == give_base && wanted.len > 1 && wanted.at[1] == '<') wanted.at++, wanted.len--;
     bool is_given = len == wanted.len && memcmp(given, wanted.at, len) == 0;
-    if (!is_given) printf("%s: the library gives %s\n", dialect == LP_STRICT ? "the strict dialect" : "the dialect of the crate", given);
+    if (!is_given) printf("%s: the library gives %s\n", NAMES[dialect], given);
     free(given);
     free(copy);
     return is_given;
 }
 
 /* Whether the cells of a row, of which each ends in a NUL, are as the library says. */
-static bool is_right(char **cells, size_t count, size_t *strict_answers) {
-    struct kind *kind = count == 3 || count == 4 ? kind_of(cells[0]) : NULL;
+static bool is_right(char **cells, size_t count, size_t *answers) {
+    struct kind *kind = count > 2 && count < CELLS ? kind_of(cells[0]) : NULL;
     lp_text text, wanted;
     bool is_given = kind && unescape(cells[1], &text);
     if (!is_given) return false;
     kind->rows++;
     for (size_t at = 2; at < count && kind->give; at++) {
-        uint32_t dialect = at == 3 ? LP_STRICT : LP_CRATE;
-        *strict_answers += at == 3;
+        uint32_t dialect = (uint32_t)at - 2;
+        answers[dialect]++;
         is_given &= unescape(cells[at], &wanted) && gives(kind->give, text, dialect, wanted) &&
                     (!kind->again || gives(kind->again, text, dialect, wanted));
     }
     return is_given;
 }
 
-/* Cuts a line at its tabs: how many cells it has, of which at most five are told. */
+/* Cuts a line at its tabs: how many cells it has, of which at most CELLS are told. */
 static size_t cells_of(char *line, char **cells) {
     size_t count = 0;
     line[strcspn(line, "\n")] = '\0';
-    for (char *cell = line; cell && count < 5; count++) {
+    for (char *cell = line; cell && count < CELLS; count++) {
         cells[count] = cell;
         if ((cell = strchr(cell, '\t'))) *cell++ = '\0';
     }
@@ -318,13 +322,13 @@ static size_t cells_of(char *line, char **cells) {
 }
 
 /* Compares each row, and prints the rows that are not as the library says. */
-static bool are_right(FILE *table, size_t *strict_answers) {
-    char *line = NULL, *cells[5];
+static bool are_right(FILE *table, size_t *answers) {
+    char *line = NULL, *cells[CELLS];
     size_t size = 0, number = 0;
     bool good = true;
     while (getline(&line, &size, table) >= 0) {
         number++;
-        if (line[0] == '\n' || line[0] == '#' || is_right(cells, cells_of(line, cells), strict_answers)) continue;
+        if (line[0] == '\n' || line[0] == '#' || is_right(cells, cells_of(line, cells), answers)) continue;
         printf("answers.tsv: line %zu, of the kind %s, is not as the library says\n", number, cells[0]);
         good = false;
     }
@@ -334,7 +338,7 @@ static bool are_right(FILE *table, size_t *strict_answers) {
 
 /* How many lines of the table have this word as their first cell, and at least so many cells. */
 static size_t count(FILE *table, const char *word, size_t least) {
-    char *line = NULL, *cells[5];
+    char *line = NULL, *cells[CELLS];
     size_t size = 0, lines = 0;
     rewind(table);
     while (getline(&line, &size, table) >= 0) lines += cells_of(line, cells) >= least && strcmp(cells[0], word) == 0;
@@ -357,16 +361,21 @@ static bool are_all(FILE *table, bool compared) {
 
 int main(int argc, char **argv) {
     FILE *table = argc == 2 ? fopen(argv[1], "r") : NULL;
-    size_t strict_answers = 0, wanted = 0;
+    size_t answers[DIALECTS] = { 0, 0, 0 };
     if (!table) return fputs("usage: answers TABLE\n", stderr), 2;
     lp_empty_parts(parts, PARTS);
-    bool good = are_right(table, &strict_answers);
+    bool good = are_right(table, answers);
     printf("answers.tsv: compared");
     good &= are_all(table, true);
-    printf(", and %zu answers in the strict dialect; passed over", strict_answers);
+    printf(", and %zu answers in %s and %zu in %s; passed over", answers[LP_STRICT], NAMES[LP_STRICT], answers[LP_NEWLINE_DELIMITED],
+           NAMES[LP_NEWLINE_DELIMITED]);
     good &= are_all(table, false);
     printf("\n");
-    for (size_t at = 0; at < KINDS; at++) wanted += kinds[at].give ? count(table, kinds[at].word, 4) : 0;
+    for (size_t dialect = 0; dialect < DIALECTS; dialect++) {
+        size_t wanted = 0;
+        for (size_t at = 0; at < KINDS; at++) wanted += kinds[at].give ? count(table, kinds[at].word, 3 + dialect) : 0;
+        good &= answers[dialect] == wanted;
+    }
     fclose(table);
-    return !good || strict_answers != wanted;
+    return !good;
 }

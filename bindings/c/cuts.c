@@ -145,7 +145,8 @@ int main(void) {
     size_t count = sizeof TEXTS / sizeof *TEXTS;
     for (size_t n = 0; n < count; n++) {
         bool is_read = reads_file(TEXTS[n], 1) && reads_file(TEXTS[n], 8) && reads_file(TEXTS[n], 200);
-        if (is_read && equals_whole(TEXTS[n], LP_CRATE) && equals_whole(TEXTS[n], LP_STRICT)) continue;
+        bool is_cut = equals_whole(TEXTS[n], LP_CRATE) && equals_whole(TEXTS[n], LP_STRICT) && equals_whole(TEXTS[n], LP_NEWLINE_DELIMITED);
+        if (is_read && is_cut) continue;
         printf("the parts of text %zu are not cut as the whole", n);
         return 1;
     }

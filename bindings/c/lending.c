@@ -103,8 +103,10 @@ int main(void) {
     lp_lines lines = LP_NO_LINES;
     int failed = lp_version() != 30000 || lp_lines_begin((const uint8_t *)"\xff", 1, LP_CRATE, &lines) || pieces(text, len) != 7;
     struct seen all = read_all(text, len, LP_CRATE), strict = read_all(text, len, LP_STRICT);
+    struct seen delimited = read_all(text, len, LP_NEWLINE_DELIMITED);
     failed |= all.lines != 2 || all.faults != 3 || all.others || all.more_parts != 1 || all.more_room < 2;
     failed |= strict.lines != 2 || strict.faults != 3 || strict.others;
+    failed |= delimited.lines != 2 || delimited.faults != 3 || delimited.others;
     struct seen wide = read_blocks(text, len, 8, 64), narrow = read_blocks(text, len, 4, 20);
     failed |= wide.lines != 2 || wide.faults != 3 || wide.others || wide.more_parts || wide.more_room;
     failed |= narrow.lines != 2 || narrow.faults != 3 || narrow.others || narrow.more_parts + narrow.more_room == 0;

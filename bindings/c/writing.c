@@ -84,7 +84,8 @@ static bool is_tested(void) {
     return good && lp_line_is_admitted(LP_CRATE, &line, PARTS, 7, &admitted) == LP_WRITTEN && !admitted;
 }
 
-/* The places of the texts of LINE that are tried, and whether each of these texts may stand there, by docs/FORMAT.md. */
+/* The places of the texts of LINE that are tried, and whether each of these texts may stand there, by docs/FORMAT.md; but where each
+ * newline ends a line, no string may hold one. */
 enum place { MEASUREMENT, TAG_KEY, TAG_VALUE, FIELD_KEY, STRING, PLACES };
 
 static const struct { lp_text text; bool may_stand[PLACES]; } TRIED[] = {
@@ -143,9 +144,13 @@ static bool is_as_told(uint32_t dialect, enum place place, lp_text text, bool ma
 static bool are_as_told(void) {
     bool good = true;
     for (size_t at = 0; at < sizeof TRIED / sizeof *TRIED; at++) {
+        const lp_text text = TRIED[at].text;
+        const bool has_newline = memchr(text.at, '\n', text.len) != NULL;
         for (int place = 0; place < PLACES; place++) {
-            good &= is_as_told(LP_CRATE, (enum place)place, TRIED[at].text, TRIED[at].may_stand[place]);
-            good &= is_as_told(LP_STRICT, (enum place)place, TRIED[at].text, TRIED[at].may_stand[place]);
+            const bool may_stand = TRIED[at].may_stand[place];
+            good &= is_as_told(LP_CRATE, (enum place)place, text, may_stand);
+            good &= is_as_told(LP_STRICT, (enum place)place, text, may_stand);
+            good &= is_as_told(LP_NEWLINE_DELIMITED, (enum place)place, text, may_stand && !has_newline);
         }
     }
     return good;
@@ -205,7 +210,10 @@ static bool is_no_dialect(uint32_t number) {
 }
 
 static bool are_no_dialects(void) {
-    return is_no_dialect(LP_STRICT + 1) && is_no_dialect(0x100) && is_no_dialect(0x10000) && is_no_dialect(0x80000000) && is_no_dialect(UINT32_MAX);
+    static const uint32_t numbers[] = { LP_NEWLINE_DELIMITED + 1, 0x100, 0x10000, 0x80000000, UINT32_MAX };
+    bool good = true;
+    for (size_t at = 0; at < sizeof numbers / sizeof *numbers; at++) good &= is_no_dialect(numbers[at]);
+    return good;
 }
 
 /* Reads the one line of a text: whether its base is safe to group by is as wanted, and so is the base. */
@@ -336,6 +344,9 @@ static bool is_rebuilt(void) {
     good &= lp_rebuild(LP_STRICT, (const uint8_t *)text, sizeof text - 1, batch, 64, faults, 64, &counts) == LP_WRITTEN;
     good &= counts.carried == 2 && counts.refused == 1 && memcmp(batch, carried, counts.batch_len) == 0;
     good &= memcmp(faults, faulty, counts.faults_len) == 0;
+    static const char open[] = "m f=\"a\nb,x=y  g=t";
+    good &= lp_rebuild(LP_NEWLINE_DELIMITED, (const uint8_t *)open, sizeof open - 1, batch, 64, faults, 64, &counts) == LP_WRITTEN;
+    good &= counts.carried == 1 && counts.refused == 1 && memcmp(batch, "b,x=y g=true\n", counts.batch_len) == 0;
     return good && lp_rebuild(LP_CRATE, (const uint8_t *)"\xff", 1, batch, 64, faults, 64, &counts) == LP_NOT_UTF8;
 }
 

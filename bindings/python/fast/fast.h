@@ -22,7 +22,7 @@
 /* What `setup` hands in. */
 struct given {
     PyObject *line, *fault, *unsigned_type, *float_text, *new_int, *kinds, *sides, *duplicate_tag;
-    PyObject *plain_value, *plain_timestamp, *refuse, *refuse_names;
+    PyObject *plain_value, *plain_timestamp, *refuse, *refuse_texts;
 };
 extern struct given given;
 

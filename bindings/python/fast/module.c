@@ -108,7 +108,7 @@ static PyObject *fast_version(PyObject *module, PyObject *nothing) {
 static PyObject *fast_setup(PyObject *module, PyObject *args) {
     (void)module;
     PyObject **all[] = { &given.line, &given.fault, &given.unsigned_type, &given.float_text, &given.new_int, &given.kinds, &given.sides,
-                         &given.duplicate_tag, &given.plain_value, &given.plain_timestamp, &given.refuse, &given.refuse_names };
+                         &given.duplicate_tag, &given.plain_value, &given.plain_timestamp, &given.refuse, &given.refuse_texts };
     const Py_ssize_t count = (Py_ssize_t)(sizeof all / sizeof *all);
     PyObject *line = PyTuple_Size(args) == count ? PyTuple_GetItem(args, 0) : Py_None;
     if (!PyType_Check(line) || !PyType_IsSubtype((PyTypeObject *)line, line_base)) {

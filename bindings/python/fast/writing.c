@@ -257,26 +257,28 @@ static bool set_answer_error(uint32_t answer) {
     return false;
 }
 
-/* Appends a name to a list. */
-static bool add_name(PyObject *names, lp_text name) {
-    PyObject *text = str_of(name);
-    const bool is_added = text && PyList_Append(names, text) == 0;
-    Py_XDECREF(text);
+/* Appends a text to a list. */
+static bool add_text(PyObject *texts, lp_text text) {
+    PyObject *str = str_of(text);
+    const bool is_added = str && PyList_Append(texts, str) == 0;
+    Py_XDECREF(str);
     return is_added;
 }
 
-/* Raises NotAdmitted: a function of checking.py finds which name of the line it is. */
-static bool refuse_names(const Handed *handed) {
-    PyObject *names = PyList_New(0), *nothing = NULL;
-    bool are_added = names && add_name(names, handed->line.measurement.text);
+/* Raises NotAdmitted: a function of checking.py finds which text of the line it is. */
+static bool refuse_texts(uint32_t dialect, const Handed *handed) {
+    static const lp_text no_text = LP_NO_TEXT;
+    PyObject *texts = PyList_New(0), *nothing = NULL;
+    bool are_added = texts && add_text(texts, handed->line.measurement.text);
     for (size_t i = 0; are_added && i < handed->parts_len; i++) {
         const lp_part *part = &handed->parts[i];
-        are_added = add_name(names, part->key.text) && (part->kind != LP_TAG || add_name(names, part->text.text));
+        const bool has_text = part->kind == LP_TAG || part->kind == LP_STRING;
+        are_added = add_text(texts, part->key.text) && add_text(texts, has_text ? part->text.text : no_text);
     }
-    if (are_added) nothing = PyObject_CallFunction(given.refuse_names, "On", names, (Py_ssize_t)handed->line.tags);
-    if (nothing) PyErr_SetString(PyExc_ValueError, "a name of the line is not admitted");
+    if (are_added) nothing = PyObject_CallFunction(given.refuse_texts, "OnI", texts, (Py_ssize_t)handed->line.tags, dialect);
+    if (nothing) PyErr_SetString(PyExc_ValueError, "the line is not admitted");
     Py_XDECREF(nothing);
-    Py_XDECREF(names);
+    Py_XDECREF(texts);
     return false;
 }
 
@@ -298,7 +300,7 @@ uint32_t put_out(PutsOut *call, uint32_t dialect, const Handed *handed, Out *out
             out->len += wanted;
             return answer;
         }
-        if (answer == LP_NOT_ADMITTED) return refuse_names(handed);
+        if (answer == LP_NOT_ADMITTED) return refuse_texts(dialect, handed);
         if (answer != LP_MORE_ROOM) return set_answer_error(answer);
     }
 }
@@ -310,11 +312,13 @@ PyObject *str_of_out(Out *out, bool is_written) {
 }
 
 /* The calls for which no dialect counts. */
-static uint32_t put_shown(uint32_t dialect, const lp_line *line, const lp_part *parts, size_t parts_len, uint8_t *out, size_t room, size_t *len) {
+static uint32_t put_shown(uint32_t dialect, const lp_line *line, const lp_part *parts, size_t parts_len, uint8_t *out, size_t room,
+                          size_t *len) {
     (void)dialect;
     return lp_line_show(line, parts, parts_len, out, room, len);
 }
-static uint32_t put_base(uint32_t dialect, const lp_line *line, const lp_part *parts, size_t parts_len, uint8_t *out, size_t room, size_t *len) {
+static uint32_t put_base(uint32_t dialect, const lp_line *line, const lp_part *parts, size_t parts_len, uint8_t *out, size_t room,
+                         size_t *len) {
     (void)dialect;
     return lp_line_base(line, parts, parts_len, out, room, len);
 }

@@ -18,6 +18,7 @@ pub(crate) mod answer {
 pub(crate) mod dialect {
     pub(crate) const CRATE: u32 = 0;
     pub(crate) const STRICT: u32 = 1;
+    pub(crate) const NEWLINE_DELIMITED: u32 = 2;
 }
 
 /// What a part is.

@@ -5,7 +5,7 @@ use Rattle.std.specs.Borrow.{Bor}
 use Rattle.std.specs.List.{sum_by}
 use Rattle.std.specs.Option.{option_map, is_some}
 use Rattle.std.specs.Ordering.{int_eq}
-use Rattle.influxdb_line_protocol.specs.format.Dialects.{Dialect, Crate, Strict}
+use Rattle.influxdb_line_protocol.specs.format.Dialects.{Dialect, Crate, Strict, NewlineDelimited}
 use Rattle.influxdb_line_protocol.specs.format.Lines as format
 use Rattle.influxdb_line_protocol.specs.format.Lines.{some_tags}
 use Rattle.influxdb_line_protocol.specs.format.Pieces.{GivesPiece, Left}
@@ -30,7 +30,9 @@ use Rattle.lp_c.specs.declared.views.View.{View}
 
 -- the dialect that a number names; one that is of none names that of the Rust crate
 abbrev pub dialect_of : ℕ → Dialect
-dialect_of number = if number == dialect_number dialect.Strict then Strict else Crate
+dialect_of number =
+    if number == dialect_number dialect.Strict then Strict
+    else if number == dialect_number dialect.NewlineDelimited then NewlineDelimited else Crate
 
 -- the text that a cursor has left
 abbrev pub left_text : Bool → List ℕ → Option (List ℕ)

@@ -27,6 +27,7 @@ answer_number Answer.NotADialect = 13
 abbrev pub dialect_number : Dialect → ℕ
 dialect_number Dialect.Crate = 0
 dialect_number Dialect.Strict = 1
+dialect_number Dialect.NewlineDelimited = 2
 
 -- no dialect has the number
 abbrev pub IsNoDialect : ℕ → Type 0

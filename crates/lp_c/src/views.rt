@@ -137,6 +137,8 @@ pub enum Dialect {
     Crate = 0,
     /// Those of the strict dialect.
     Strict = 1,
+    /// The same, and each newline ends a line, whatever is open.
+    NewlineDelimited = 2,
 }
 
 impl Dialect {
@@ -155,6 +157,7 @@ impl Dialect {
         match number {
             0 => Some(Dialect::Crate),
             1 => Some(Dialect::Strict),
+            2 => Some(Dialect::NewlineDelimited),
             _ => None,
         }
     }
@@ -166,6 +169,7 @@ impl Dialect {
         match self {
             Dialect::Crate => influxdb_line_protocol::Dialect::Crate,
             Dialect::Strict => influxdb_line_protocol::Dialect::Strict,
+            Dialect::NewlineDelimited => influxdb_line_protocol::Dialect::NewlineDelimited,
         }
     }
 }

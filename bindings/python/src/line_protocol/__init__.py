@@ -18,7 +18,7 @@ from .checking import Dialect, NotAdmitted
 from .checking import plain_timestamp as _plain_timestamp
 from .checking import plain_value as _plain_value
 from .checking import refuse as _refuse
-from .checking import refuse_names as _refuse_names
+from .checking import refuse_texts as _refuse_texts
 from .frames import Frames, from_frame, to_frame
 from .items import Fault, FaultKind, FloatText, Line, Side, Unsigned, Value
 from .parts import part_ends
@@ -39,4 +39,4 @@ __version__ = "{}.{}.{}".format(_fast.version() // 10_000, _fast.version() // 10
 
 _fast.setup(
     Line, Fault, Unsigned, FloatText, int.__new__, tuple(FaultKind(number) if number else None for number in range(11)), tuple(Side),
-    DuplicateTag, _plain_value, _plain_timestamp, _refuse, _refuse_names)
+    DuplicateTag, _plain_value, _plain_timestamp, _refuse, _refuse_texts)

@@ -5,7 +5,7 @@ from __future__ import annotations
 from typing import Iterable, Iterator, List, Optional
 
 from . import _fast
-from .checking import Dialect, NotAdmitted, as_dialect, as_name, as_text, plain_timestamp, plain_value, refuse
+from .checking import Dialect, NotAdmitted, as_dialect, as_name, as_string, as_text, plain_timestamp, plain_value, refuse
 from .items import Line, Value
 
 
@@ -22,7 +22,7 @@ def write(line: Line, *, strict: Optional[bool] = None, dialect: Optional[Dialec
     """A line as the builder writes it, with its newline. By the rules of its dialect it reads back as this line alone, whatever text
     comes after it.
 
-    NotAdmitted if a name would not read back. What else cannot be written raises here as in the other calls that take a line: ValueError
+    NotAdmitted if it would not. What else cannot be written raises here as in the other calls that take a line: ValueError
     if there is no field, or if a float is not finite and no FloatText; OverflowError if a number is out of its range; TypeError if the
     type is wrong.
 
@@ -113,7 +113,7 @@ def is_base_safe(line: Line) -> bool:
 
 
 def is_admitted(line: Line, *, strict: Optional[bool] = None, dialect: Optional[Dialect] = None) -> bool:
-    """Whether a line reads back once it is written: whether each of its names is admitted. `write` raises NotAdmitted if one is not.
+    """Whether a line reads back once it is written in a dialect, as `NotAdmitted` says; `write` raises that if it does not.
 
     >>> is_admitted(Line("", [], [("f", 1)]))
     False
@@ -164,7 +164,9 @@ class Builder:
             raise ValueError("a field comes before the timestamp")
         as_name("field key", key)
         plain = plain_value(key, value)
-        line.fields.append((key, as_text("the field", plain, key) if isinstance(plain, str) else plain))
+        if isinstance(plain, str):
+            as_string(key, as_text("the field", plain, key), self._dialect)
+        line.fields.append((key, plain))
         return self
 
     def timestamp(self, timestamp: int) -> Builder:

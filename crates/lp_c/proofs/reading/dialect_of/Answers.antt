@@ -4,5 +4,7 @@ use Rattle.lp_c.proofs.reading.dialect_of.Goals as goal
 
 pub returns-in-None : goal.returns-in-None
 returns-in-None c =
-    let not_strict : c.args.number ≢ 1 = c.in-None.ensures.none.0 refl dialect.Strict in
-    grind (arith, ne_eqb, not_strict)
+    let is_none = c.in-None.ensures.none.0 refl in
+    let not_strict : c.args.number ≢ 1 = is_none dialect.Strict in
+    let not_delimited : c.args.number ≢ 2 = is_none dialect.NewlineDelimited in
+    grind (arith, ne_eqb, not_strict, not_delimited)
