@@ -1,5 +1,5 @@
 /* Compares the items that events tell, to a sink and one after another, and those of the blocks of lp_c, with the items of
-   `parse_lines_in`, in both dialects: of every text of at most six bytes over eleven that mean something, and of every text of
+   `parse_lines_in`, in each dialect: of every text of at most six bytes over eleven that mean something, and of every text of
    at most five such bytes after each of some fronts of a line.
    `checks/events.sh` builds this and runs it. */
 #include "lp_checks.h"
@@ -26,8 +26,10 @@ struct items { uint64_t count, ends[ENTRIES]; uint8_t out[ROOM]; };
 static struct items by_events, by_pull, by_blocks, by_parse;
 static unsigned long texts, lines, faults;
 
-static void fail(const char *text, size_t len, bool is_strict) {
-    fprintf(stderr, "events: in the %s dialect other items are told, or are in blocks, of the text of the bytes", is_strict ? "strict" : "crate's");
+static const char *const DIALECTS[] = {"crate's", "strict", "newline-delimited"};
+
+static void fail(const char *text, size_t len, uint32_t dialect) {
+    fprintf(stderr, "events: in the %s dialect other items are told, or are in blocks, of the text of the bytes", DIALECTS[dialect]);
     for (size_t at = 0; at < len; at++) fprintf(stderr, " %02x", (unsigned)text[at]);
     fputc('\n', stderr);
     exit(1);
@@ -53,12 +55,12 @@ static void count_items(void) {
 
 static void compare(const char *text, size_t len) {
     const uint8_t *bytes = (const uint8_t *)text;
-    for (int is_strict = 0; is_strict < 2; is_strict++) {
-        by_parse.count = lp_checks_items(is_strict, bytes, len, by_parse.out, ROOM, by_parse.ends, ENTRIES);
-        by_events.count = lp_checks_events(is_strict, bytes, len, by_events.out, ROOM, by_events.ends, ENTRIES);
-        by_pull.count = lp_checks_pulled(is_strict, bytes, len, by_pull.out, ROOM, by_pull.ends, ENTRIES);
-        by_blocks.count = rows_items(is_strict, bytes, len, by_blocks.out, ROOM, by_blocks.ends, ENTRIES);
-        if (!is_same(&by_events) || !is_same(&by_pull) || !is_same(&by_blocks)) fail(text, len, is_strict);
+    for (uint32_t dialect = 0; dialect < 3; dialect++) {
+        by_parse.count = lp_checks_items(dialect, bytes, len, by_parse.out, ROOM, by_parse.ends, ENTRIES);
+        by_events.count = lp_checks_events(dialect, bytes, len, by_events.out, ROOM, by_events.ends, ENTRIES);
+        by_pull.count = lp_checks_pulled(dialect, bytes, len, by_pull.out, ROOM, by_pull.ends, ENTRIES);
+        by_blocks.count = rows_items(dialect, bytes, len, by_blocks.out, ROOM, by_blocks.ends, ENTRIES);
+        if (!is_same(&by_events) || !is_same(&by_pull) || !is_same(&by_blocks)) fail(text, len, dialect);
         count_items();
     }
     texts++;
@@ -82,6 +84,6 @@ int main(void) {
         memcpy(text, FRONTS[front], len);
         compare_each(text, len, LONGEST - 1);
     }
-    printf("%lu texts in both dialects, with %lu lines and %lu faults", texts, lines, faults);
+    printf("%lu texts in each dialect, with %lu lines and %lu faults", texts, lines, faults);
     return 0;
 }

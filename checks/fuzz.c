@@ -1,4 +1,4 @@
-/* What must hold of every text, in both dialects, for libFuzzer. `checks/fuzz.sh` builds this and runs it. */
+/* What must hold of every text, in each dialect, for libFuzzer. `checks/fuzz.sh` builds this and runs it. */
 #include "lp_checks.h"
 #include "rows.h"
 
@@ -47,8 +47,8 @@ static void must_fit(const struct report *report) {
     MUST(report->count == 0 || report->ends[report->count - 1] <= ROOM);
 }
 
-static void read_items(bool is_strict, const uint8_t *text, size_t len, struct report *into) {
-    into->count = lp_checks_items(is_strict, text, len, into->out, ROOM, into->ends, ENTRIES);
+static void read_items(uint32_t dialect, const uint8_t *text, size_t len, struct report *into) {
+    into->count = lp_checks_items(dialect, text, len, into->out, ROOM, into->ends, ENTRIES);
     must_fit(into);
 }
 
@@ -57,8 +57,8 @@ static void read_shown(const uint8_t *text, size_t len, struct report *into) {
     must_fit(into);
 }
 
-static void rebuild(bool is_strict, const uint8_t *text, size_t len, struct report *into) {
-    into->count = lp_checks_rebuild(is_strict, text, len, into->out, ROOM, into->ends, ENTRIES);
+static void rebuild(uint32_t dialect, const uint8_t *text, size_t len, struct report *into) {
+    into->count = lp_checks_rebuild(dialect, text, len, into->out, ROOM, into->ends, ENTRIES);
     MUST(into->count == 3);
     must_fit(into);
 }
@@ -67,15 +67,15 @@ static struct report pieces, items, one, rebuilt, again, of_batch, all, shown, s
 static uint8_t joined[ROOM + TEXT];
 
 /* The pieces joined by newlines are the text. Each item is that of its piece alone. */
-static void check_pieces(bool is_strict, const uint8_t *text, size_t len) {
-    pieces.count = lp_checks_pieces(is_strict, text, len, pieces.out, ROOM, pieces.ends, ENTRIES);
+static void check_pieces(uint32_t dialect, const uint8_t *text, size_t len) {
+    pieces.count = lp_checks_pieces(dialect, text, len, pieces.out, ROOM, pieces.ends, ENTRIES);
     must_fit(&pieces);
     size_t at = 0;
     uint64_t item = 0;
     for (uint64_t place = 0; place < pieces.count; place++) {
         size_t piece = len_of(&pieces, place);
         MUST(piece <= len - at && !memcmp(text + at, entry(&pieces, place), piece));
-        read_items(is_strict, text + at, piece, &one);
+        read_items(dialect, text + at, piece, &one);
         MUST(one.count <= 1);
         if (one.count == 1) {
             MUST(item < items.count && is_same(&one, 0, &items, item));
@@ -90,10 +90,10 @@ static void check_pieces(bool is_strict, const uint8_t *text, size_t len) {
 
 /* The batch alone reads back as the lines that were carried, and is written again unchanged; before the text its lines
    come first, and then the items of the text. */
-static void check_batch(bool is_strict, const uint8_t *text, size_t len) {
+static void check_batch(uint32_t dialect, const uint8_t *text, size_t len) {
     const uint8_t *batch = entry(&rebuilt, 0);
     size_t batch_len = len_of(&rebuilt, 0);
-    read_items(is_strict, batch, batch_len, &of_batch);
+    read_items(dialect, batch, batch_len, &of_batch);
     for (uint64_t place = 0; place < of_batch.count; place++) MUST(begins(&of_batch, place, "line "));
 
     uint64_t lines = 0;
@@ -108,23 +108,23 @@ static void check_batch(bool is_strict, const uint8_t *text, size_t len) {
     MUST(is_text(&rebuilt, 2, counts));
     MUST((len_of(&rebuilt, 1) == 0) == (items.count == of_batch.count));
 
-    rebuild(is_strict, batch, batch_len, &again);
+    rebuild(dialect, batch, batch_len, &again);
     MUST(is_same(&again, 0, &rebuilt, 0) && len_of(&again, 1) == 0);
 
     memcpy(joined, batch, batch_len);
     memcpy(joined + batch_len, text, len);
-    read_items(is_strict, joined, batch_len + len, &all);
+    read_items(dialect, joined, batch_len + len, &all);
     MUST(all.count == of_batch.count + items.count);
     for (uint64_t place = 0; place < of_batch.count; place++) MUST(is_same(&all, place, &of_batch, place));
     for (uint64_t place = 0; place < items.count; place++) MUST(is_same(&all, of_batch.count + place, &items, place));
 }
 
 /* The events of the text tell its items, to a sink and one after another, and blocks of rows have them. */
-static void check_events(bool is_strict, const uint8_t *text, size_t len) {
+static void check_events(uint32_t dialect, const uint8_t *text, size_t len) {
     for (int way = 0; way < 3; way++) {
-        all.count = way == 0   ? lp_checks_events(is_strict, text, len, all.out, ROOM, all.ends, ENTRIES)
-                    : way == 1 ? lp_checks_pulled(is_strict, text, len, all.out, ROOM, all.ends, ENTRIES)
-                               : rows_items(is_strict, text, len, all.out, ROOM, all.ends, ENTRIES);
+        all.count = way == 0   ? lp_checks_events(dialect, text, len, all.out, ROOM, all.ends, ENTRIES)
+                    : way == 1 ? lp_checks_pulled(dialect, text, len, all.out, ROOM, all.ends, ENTRIES)
+                               : rows_items(dialect, text, len, all.out, ROOM, all.ends, ENTRIES);
         must_fit(&all);
         MUST(all.count == items.count);
         for (uint64_t place = 0; place < items.count; place++) MUST(is_same(&all, place, &items, place));
@@ -132,11 +132,11 @@ static void check_events(bool is_strict, const uint8_t *text, size_t len) {
 }
 
 /* A comment before the text changes no item. The newline that ends it is escaped, so no piece ends there in the crate's
-   dialect; in the strict one it does. */
-static void check_comment(bool is_strict, const uint8_t *text, size_t len) {
+   dialect; in the others it does. */
+static void check_comment(uint32_t dialect, const uint8_t *text, size_t len) {
     memcpy(joined, "#\\\n", 3);
     memcpy(joined + 3, text, len);
-    read_items(is_strict, joined, len + 3, &all);
+    read_items(dialect, joined, len + 3, &all);
     MUST(all.count == items.count);
     for (uint64_t place = 0; place < items.count; place++) MUST(is_same(&all, place, &items, place));
 }
@@ -161,13 +161,13 @@ static void must_be_rebuilt(uint8_t answer, const uint64_t lens[2]) {
 }
 
 /* A run writes what `rebuild` gives, and so does a relay of the text in parts. */
-static void check_run(bool is_strict, const uint8_t *text, size_t len) {
+static void check_run(uint32_t dialect, const uint8_t *text, size_t len) {
     static const size_t parts[] = {1, 7, TEXT};
     static uint8_t refused[1];
     uint64_t lens[3], kinds[13];
-    must_be_rebuilt(lp_checks_run(is_strict, text, len, one.out, ROOM, again.out, ROOM, lens), lens);
+    must_be_rebuilt(lp_checks_run(dialect, text, len, one.out, ROOM, again.out, ROOM, lens), lens);
     for (int i = 0; i < 3; i++)
-        must_be_rebuilt(lp_checks_relay((const uint8_t *)"s", is_strict, SIZE_MAX, text, len, parts[i], one.out, ROOM, again.out,
+        must_be_rebuilt(lp_checks_relay((const uint8_t *)"sn" + (dialect == 2), dialect > 0, SIZE_MAX, text, len, parts[i], one.out, ROOM, again.out,
                                         ROOM, refused, 0, lens, kinds),
                         lens);
 }
@@ -194,15 +194,15 @@ int LLVMFuzzerTestOneInput(const uint8_t *bytes, size_t len) {
         MUST(lens[0] == 0 && lens[1] == 0);
         return 0;
     }
-    for (int is_strict = 0; is_strict < 2; is_strict++) {
-        read_items(is_strict, text, len, &items);
-        check_pieces(is_strict, text, len);
-        check_events(is_strict, text, len);
-        rebuild(is_strict, text, len, &rebuilt);
-        check_batch(is_strict, text, len);
-        check_comment(is_strict, text, len);
-        if (!is_strict) check_shown(text, len);
-        check_run(is_strict, text, len);
+    for (uint32_t dialect = 0; dialect < 3; dialect++) {
+        read_items(dialect, text, len, &items);
+        check_pieces(dialect, text, len);
+        check_events(dialect, text, len);
+        rebuild(dialect, text, len, &rebuilt);
+        check_batch(dialect, text, len);
+        check_comment(dialect, text, len);
+        if (dialect == 0) check_shown(text, len);
+        check_run(dialect, text, len);
     }
     return 0;
 }

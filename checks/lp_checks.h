@@ -7,15 +7,15 @@
 #include <stdint.h>
 
 bool lp_checks_is_utf8(const uint8_t *text, size_t len);
-uint64_t lp_checks_pieces(bool is_strict, const uint8_t *text, size_t len, uint8_t *out, size_t room, uint64_t *ends,
+uint64_t lp_checks_pieces(uint32_t dialect, const uint8_t *text, size_t len, uint8_t *out, size_t room, uint64_t *ends,
                           size_t entries);
-uint64_t lp_checks_streamed(bool is_strict, const uint8_t *text, size_t len, size_t part, uint8_t *out, size_t room,
+uint64_t lp_checks_streamed(uint32_t dialect, const uint8_t *text, size_t len, size_t part, uint8_t *out, size_t room,
                             uint64_t *ends, size_t entries);
-uint64_t lp_checks_items(bool is_strict, const uint8_t *text, size_t len, uint8_t *out, size_t room, uint64_t *ends,
+uint64_t lp_checks_items(uint32_t dialect, const uint8_t *text, size_t len, uint8_t *out, size_t room, uint64_t *ends,
                          size_t entries);
-uint64_t lp_checks_events(bool is_strict, const uint8_t *text, size_t len, uint8_t *out, size_t room, uint64_t *ends,
+uint64_t lp_checks_events(uint32_t dialect, const uint8_t *text, size_t len, uint8_t *out, size_t room, uint64_t *ends,
                           size_t entries);
-uint64_t lp_checks_pulled(bool is_strict, const uint8_t *text, size_t len, uint8_t *out, size_t room, uint64_t *ends,
+uint64_t lp_checks_pulled(uint32_t dialect, const uint8_t *text, size_t len, uint8_t *out, size_t room, uint64_t *ends,
                           size_t entries);
 uint64_t lp_checks_bases(const uint8_t *text, size_t len, uint8_t *out, size_t room, uint64_t *ends, size_t entries);
 uint64_t lp_checks_shown(const uint8_t *text, size_t len, uint8_t *out, size_t room, uint64_t *ends, size_t entries);
@@ -24,9 +24,9 @@ uint64_t lp_checks_written(const uint8_t *text, size_t len, const uint8_t *start
                            uint64_t *refused_at, uint8_t *out, size_t room, uint64_t *ends, size_t entries);
 uint64_t lp_checks_build(const uint8_t *program, size_t len, uint64_t reserved, bool again, uint64_t *refused_at,
                          uint8_t *out, size_t room, uint64_t *ends, size_t entries);
-uint64_t lp_checks_rebuild(bool is_strict, const uint8_t *text, size_t len, uint8_t *out, size_t room, uint64_t *ends,
+uint64_t lp_checks_rebuild(uint32_t dialect, const uint8_t *text, size_t len, uint8_t *out, size_t room, uint64_t *ends,
                            size_t entries);
-uint8_t lp_checks_run(bool is_strict, const uint8_t *input, size_t len, uint8_t *out, size_t room, uint8_t *err,
+uint8_t lp_checks_run(uint32_t dialect, const uint8_t *input, size_t len, uint8_t *out, size_t room, uint8_t *err,
                       size_t err_room, uint64_t lens[2]);
 uint8_t lp_checks_relay(const uint8_t *letters, size_t letters_len, size_t limit, const uint8_t *input, size_t len, size_t part,
                         uint8_t *out, size_t room, uint8_t *err, size_t err_room, uint8_t *refused, size_t refused_room,

@@ -137,24 +137,24 @@ static uint32_t answer_of_block;
 #define ROWS_CALL(call) (counting = true, answer_of_block = (call), counting = false, answer_of_block)
 #include "rows.h"
 
-/* What the events of a text tell, to a sink or one after another, and what its blocks hold, is what its items are, in both
-   dialects, and makes no request. */
+/* What the events of a text tell, to a sink or one after another, and what its blocks hold, is what its items are, in each
+   dialect, and makes no request. */
 static void events_ask_nothing(const char *text) {
     static uint8_t items[ROOM];
     static uint64_t items_ends[ENTRIES];
     const uint8_t *bytes = (const uint8_t *)text;
     size_t len = strlen(text);
-    for (int way = 0; way < 6; way++) {
-        bool is_strict = way & 1;
-        uint64_t wanted = lp_checks_items(is_strict, bytes, len, items, ROOM, items_ends, ENTRIES);
+    for (int way = 0; way < 9; way++) {
+        uint32_t dialect = (uint32_t)way % 3;
+        uint64_t wanted = lp_checks_items(dialect, bytes, len, items, ROOM, items_ends, ENTRIES);
         if (wanted > ENTRIES || (wanted && items_ends[wanted - 1] > ROOM)) fail("the items have no room");
         begin(0);
-        counting = way < 4;
-        count = way < 2   ? lp_checks_events(is_strict, bytes, len, out, ROOM, ends, ENTRIES)
-                : way < 4 ? lp_checks_pulled(is_strict, bytes, len, out, ROOM, ends, ENTRIES)
-                          : rows_items(is_strict, bytes, len, out, ROOM, ends, ENTRIES);
+        counting = way < 6;
+        count = way < 3   ? lp_checks_events(dialect, bytes, len, out, ROOM, ends, ENTRIES)
+                : way < 6 ? lp_checks_pulled(dialect, bytes, len, out, ROOM, ends, ENTRIES)
+                          : rows_items(dialect, bytes, len, out, ROOM, ends, ENTRIES);
         end();
-        const char *what = way < 4 ? "events" : "blocks";
+        const char *what = way < 6 ? "events" : "blocks";
         if (asked) fail("the %s made %lu requests", what, asked);
         if (count != wanted) fail("the %s have %lu items and not %lu", what, (unsigned long)count, (unsigned long)wanted);
         if (memcmp(ends, items_ends, wanted * sizeof ends[0]) || memcmp(out, items, from(wanted)))
@@ -468,13 +468,14 @@ static const char *const FAULTS =
     "item 5: Could not parse entire line. Found trailing content: ' x'\n";
 static const char *const REFUSED_PIECES = "x\nw\\\t a=1i\na\\ b f=1 x\na\\ b f=1i x\n";
 
-static void rebuild(bool is_strict) {
-    subject = is_strict ? "rebuild in the strict dialect" : "rebuild";
+static void rebuild(uint32_t dialect) {
+    static const char *const subjects[] = {"rebuild", "rebuild in the strict dialect", "rebuild in the newline-delimited dialect"};
+    subject = subjects[dialect];
     int answers = 0;
-    if (!is_strict) events_ask_nothing(INPUT);
+    if (dialect == 0) events_ask_nothing(INPUT);
     for (unsigned long n = 1;; n++) {
         begin(n);
-        count = lp_checks_rebuild(is_strict, (const uint8_t *)INPUT, strlen(INPUT), out, ROOM, ends, ENTRIES);
+        count = lp_checks_rebuild(dialect, (const uint8_t *)INPUT, strlen(INPUT), out, ROOM, ends, ENTRIES);
         end();
         if (count == 0) {
             if (asked < n) fail("no answer came");
@@ -496,7 +497,7 @@ static uint8_t run_or_relay(bool is_relay, const char *letters, uint64_t lens[3]
     uint64_t kinds[13];
     const uint8_t *input = (const uint8_t *)INPUT;
     size_t len = strlen(INPUT);
-    if (!is_relay) return lp_checks_run(strchr(letters, 's') != NULL, input, len, out, ROOM, err, ROOM, lens);
+    if (!is_relay) return lp_checks_run(*letters == 'n' ? 2 : *letters == 's', input, len, out, ROOM, err, ROOM, lens);
     return lp_checks_relay((const uint8_t *)letters, strlen(letters), SIZE_MAX, input, len, len, out, ROOM, err, ROOM, pieces, ROOM,
                            lens, kinds);
 }
@@ -657,10 +658,11 @@ int main(void) {
     copies();
     builder();
     written();
-    for (int is_strict = 0; is_strict < 2; is_strict++) {
-        rebuild(is_strict);
-        run(false, is_strict ? "s" : "");
-        run(true, is_strict ? "s" : "");
+    for (uint32_t dialect = 0; dialect < 3; dialect++) {
+        static const char *const letters[] = {"", "s", "n"};
+        rebuild(dialect);
+        run(false, letters[dialect]);
+        run(true, letters[dialect]);
     }
     run(true, "ork");
     printf("%lu runs, and %lu texts whose events and blocks ask for nothing", runs, told);

@@ -81,14 +81,14 @@ static void rows_fault(struct rows_report *report, const lp_line *line) {
 
 /* Reports the items of a text, and gives how many there are. More is lent if a block asks for more; an answer that is neither of a
    block nor of an item ends the program. */
-static uint64_t rows_items(bool is_strict, const uint8_t *text, size_t len, uint8_t *out, size_t room, uint64_t *ends, size_t entries) {
+static uint64_t rows_items(uint32_t dialect, const uint8_t *text, size_t len, uint8_t *out, size_t room, uint64_t *ends, size_t entries) {
     struct rows_report report = { out, 0, room, ends, 0, entries };
     lp_row rows[BLOCK_ROWS] = { LP_EMPTY_ROW, LP_EMPTY_ROW };
     size_t parts_len = 4, bytes_len = 4, filled = 0;
     lp_part *parts = malloc(parts_len * sizeof *parts);
     uint8_t *bytes = malloc(bytes_len);
     lp_lines lines = LP_NO_LINES;
-    uint32_t answer = parts && bytes && lp_lines_begin(text, len, is_strict, &lines) ? LP_LINE : LP_END;
+    uint32_t answer = parts && bytes && lp_lines_begin(text, len, dialect, &lines) ? LP_LINE : LP_END;
     while (answer != LP_END) {
         lp_room left = { bytes, bytes_len };
         lp_empty_parts(parts, parts_len);

@@ -1,13 +1,13 @@
 //! What the crate gives for a text, and what this library reports.
 //!
 //! What the crate has no call for is compared too: a rebuild, a run and a relay, in parts of several sizes, must write the same in
-//! both dialects; in the crate's, the lines that the crate's builder writes and the crate reads back, and the faults of all others.
+//! each dialect; in the crate's, the lines that the crate's builder writes and the crate reads back, and the faults of all others.
 //!
 //! There is one known difference: a float is the text of its literal here, and a number there. So the literal is read as a
 //! number where the crate has one, and put in the number's place where the crate shows or writes it.
 
 use crate::calls::Literal;
-use crate::ours::{Report, Written};
+use crate::ours::{Report, Written, CRATE};
 use influxdb_line_protocol::{
     parse_lines, split_lines, Error, EscapedStr, FieldValue, LineProtocolBuilder, ParsedLine,
 };
@@ -46,9 +46,12 @@ fn must_count(what: &str, ours: usize, theirs: usize) -> Outcome<()> {
 // How many bytes come at a time to a relay: also a block, which is all that a read is given room for.
 const PARTS: [usize; 3] = [1, 7, 1 << 16];
 
+// The dialects, at their numbers.
+const DIALECTS: [&str; 3] = ["crate's", "strict", "newline-delimited"];
+
 // A run writes what was rebuilt.
-fn must_write(rebuilt: &Report, written: &Written, what: &str, strict: bool) -> Outcome<()> {
-    let rules = if strict { "strict" } else { "crate's" };
+fn must_write(rebuilt: &Report, written: &Written, what: &str, dialect: u32) -> Outcome<()> {
+    let rules = DIALECTS[dialect as usize];
     let outputs = [("lines", written.out()), ("fault lines", written.err())];
     for (place, (name, ours)) in outputs.into_iter().enumerate() {
         let what = format!("the {name} of {what}, there of a rebuild, in the {rules} dialect");
@@ -394,26 +397,25 @@ impl Reports {
     }
 
     // A run, and relays of the text in parts, write what is rebuilt.
-    fn compare_runs(&mut self, strict: bool, text: &str) -> Outcome<()> {
-        let rebuilt = self.rebuilt.rebuild(strict, text);
-        must_write(rebuilt, self.run.run(strict, text), "a run", strict)?;
+    fn compare_runs(&mut self, dialect: u32, text: &str) -> Outcome<()> {
+        let rebuilt = self.rebuilt.rebuild(dialect, text);
+        must_write(rebuilt, self.run.run(dialect, text), "a run", dialect)?;
         for part in PARTS {
             let what = format!("a relay in parts of {part} bytes");
-            must_write(rebuilt, self.run.relay(strict, text, part), &what, strict)?;
+            must_write(rebuilt, self.run.relay(dialect, text, part), &what, dialect)?;
         }
         Ok(())
     }
 
-    // What is rebuilt is what must be written, in the crate's dialect, and runs and relays write what is rebuilt, in both.
+    // What is rebuilt is what must be written, in the crate's dialect, and runs and relays write what is rebuilt, in each.
     fn compare_rebuilt(&mut self, text: &str, wanted: &Wanted) -> Outcome<()> {
-        let rebuilt = self.rebuilt.rebuild(false, text);
+        let rebuilt = self.rebuilt.rebuild(CRATE, text);
         must_count("parts of what is rebuilt", rebuilt.count(), 3)?;
         must_equal("the batch", rebuilt.entry(0), &wanted.batch)?;
         must_equal("the fault lines", rebuilt.entry(1), &wanted.faults)?;
         let counts = format!("{} carried, {} refused", wanted.carried, wanted.refused);
         must_equal("the counts", rebuilt.entry(2), &counts)?;
-        self.compare_runs(false, text)?;
-        self.compare_runs(true, text)
+        (0..).take(DIALECTS.len()).try_for_each(|dialect| self.compare_runs(dialect, text))
     }
 
     /// Compares all that both give for a text: its pieces, and of each item what was read, what is told of it, its base, what

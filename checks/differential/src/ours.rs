@@ -2,7 +2,7 @@
 
 extern "C" {
     fn lp_checks_pieces(
-        strict: bool,
+        dialect: u32,
         text: *const u8,
         len: usize,
         out: *mut u8,
@@ -11,7 +11,7 @@ extern "C" {
         entries: usize,
     ) -> u64;
     fn lp_checks_items(
-        strict: bool,
+        dialect: u32,
         text: *const u8,
         len: usize,
         out: *mut u8,
@@ -20,7 +20,7 @@ extern "C" {
         entries: usize,
     ) -> u64;
     fn lp_checks_events(
-        strict: bool,
+        dialect: u32,
         text: *const u8,
         len: usize,
         out: *mut u8,
@@ -29,7 +29,7 @@ extern "C" {
         entries: usize,
     ) -> u64;
     fn lp_checks_blocks(
-        strict: bool,
+        dialect: u32,
         text: *const u8,
         len: usize,
         out: *mut u8,
@@ -77,7 +77,7 @@ extern "C" {
         entries: usize,
     ) -> u64;
     fn lp_checks_rebuild(
-        strict: bool,
+        dialect: u32,
         text: *const u8,
         len: usize,
         out: *mut u8,
@@ -86,7 +86,7 @@ extern "C" {
         entries: usize,
     ) -> u64;
     fn lp_checks_run(
-        strict: bool,
+        dialect: u32,
         input: *const u8,
         len: usize,
         out: *mut u8,
@@ -112,6 +112,9 @@ extern "C" {
         kinds: *mut u64,
     ) -> u8;
 }
+
+/// The number of the crate's dialect.
+pub const CRATE: u32 = 0;
 
 /// The room of a report, and of what a run writes: bytes, and the ends of entries.
 const ROOM: usize = 1 << 21;
@@ -160,25 +163,25 @@ impl Report {
 
     pub fn pieces(&mut self, text: &str) -> &Self {
         self.fill(|out, room, ends, entries| unsafe {
-            lp_checks_pieces(false, text.as_ptr(), text.len(), out, room, ends, entries)
+            lp_checks_pieces(CRATE, text.as_ptr(), text.len(), out, room, ends, entries)
         })
     }
 
     pub fn items(&mut self, text: &str) -> &Self {
         self.fill(|out, room, ends, entries| unsafe {
-            lp_checks_items(false, text.as_ptr(), text.len(), out, room, ends, entries)
+            lp_checks_items(CRATE, text.as_ptr(), text.len(), out, room, ends, entries)
         })
     }
 
     pub fn events(&mut self, text: &str) -> &Self {
         self.fill(|out, room, ends, entries| unsafe {
-            lp_checks_events(false, text.as_ptr(), text.len(), out, room, ends, entries)
+            lp_checks_events(CRATE, text.as_ptr(), text.len(), out, room, ends, entries)
         })
     }
 
     pub fn blocks(&mut self, text: &str) -> &Self {
         self.fill(|out, room, ends, entries| unsafe {
-            lp_checks_blocks(false, text.as_ptr(), text.len(), out, room, ends, entries)
+            lp_checks_blocks(CRATE, text.as_ptr(), text.len(), out, room, ends, entries)
         })
     }
 
@@ -231,9 +234,9 @@ impl Report {
         })
     }
     /// Three entries: the batch, the fault lines, and how many items were carried and refused.
-    pub fn rebuild(&mut self, strict: bool, text: &str) -> &Self {
+    pub fn rebuild(&mut self, dialect: u32, text: &str) -> &Self {
         self.fill(|out, room, ends, entries| unsafe {
-            lp_checks_rebuild(strict, text.as_ptr(), text.len(), out, room, ends, entries)
+            lp_checks_rebuild(dialect, text.as_ptr(), text.len(), out, room, ends, entries)
         })
     }
 }
@@ -271,17 +274,17 @@ impl Written {
         self
     }
 
-    pub fn run(&mut self, strict: bool, text: &str) -> &Self {
+    pub fn run(&mut self, dialect: u32, text: &str) -> &Self {
         let (input, len) = (text.as_ptr(), text.len());
         self.fill(|out, err, lens| unsafe {
-            lp_checks_run(strict, input, len, out, ROOM, err, ROOM, lens)
+            lp_checks_run(dialect, input, len, out, ROOM, err, ROOM, lens)
         })
     }
 
     /// Relays a text that comes in parts of so many bytes.
-    pub fn relay(&mut self, strict: bool, text: &str, part: usize) -> &Self {
+    pub fn relay(&mut self, dialect: u32, text: &str, part: usize) -> &Self {
         let (input, len) = (text.as_ptr(), text.len());
-        let letters = if strict { "s" } else { "" };
+        let letters = ["", "s", "n"][dialect as usize];
         let (letters, letters_len) = (letters.as_ptr(), letters.len());
         let (mut refused, mut kinds) = ([0; 1], [0; 13]);
         let (refused, kinds) = (refused.as_mut_ptr(), kinds.as_mut_ptr());

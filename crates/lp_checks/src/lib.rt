@@ -2,7 +2,8 @@
 //!
 //! What a call gives is a report: entries of text, one after another in `out`, and where each of them ends in `ends`. Each
 //! call answers the number of entries; those that have no room are counted, and not kept. Each text must be UTF-8, which
-//! `lp_checks_is_utf8` tells. No report takes memory, and no call keeps any.
+//! `lp_checks_is_utf8` tells. No report takes memory, and no call keeps any. `dialect` is 1 for the strict dialect, 2 for the
+//! newline-delimited one, and else that of the crate is meant.
 #![tactic(auto)]
 
 mod calls;
@@ -29,12 +30,12 @@ use report::Report;
 use std::alloc::Global;
 use std::fmt::Write;
 
-// The strict dialect, or that of the crate.
-fn dialect(is_strict: bool) -> Dialect {
-    if is_strict {
-        Dialect::Strict
-    } else {
-        Dialect::Crate
+// The dialect of a number.
+fn dialect_of(number: u32) -> Dialect {
+    match number {
+        1 => Dialect::Strict,
+        2 => Dialect::NewlineDelimited,
+        _ => Dialect::Crate,
     }
 }
 
@@ -47,7 +48,7 @@ pub extern "C" fn lp_checks_is_utf8(text: &[u8]) -> bool {
 /// The pieces of a text.
 #[unsafe(no_mangle)]
 pub extern "C" fn lp_checks_pieces(
-    is_strict: bool,
+    dialect: u32,
     text: &[u8],
     out: &mut [u8],
     ends: &mut [u64],
@@ -56,7 +57,7 @@ pub extern "C" fn lp_checks_pieces(
 {
     let text = unsafe { str::from_utf8_unchecked(text) };
     let mut report = Report::new(out, ends);
-    for piece in split_lines_in(dialect(is_strict), text) {
+    for piece in split_lines_in(dialect_of(dialect), text) {
         report.push(piece.as_bytes());
         report.end();
     }
@@ -78,14 +79,14 @@ fn report_pieces(report: &mut Report<'_>, stream: &mut LineStream)
 #[unsafe(no_mangle)]
 pub extern "C" fn lp_checks_streamed(
     alloc: Global,
-    is_strict: bool,
+    dialect: u32,
     text: &[u8],
     part: usize,
     out: &mut [u8],
     ends: &mut [u64],
 ) -> u64 {
     let mut report = Report::new(out, ends);
-    let mut stream = LineStream::new_in(alloc, dialect(is_strict));
+    let mut stream = LineStream::new_in(alloc, dialect_of(dialect));
     for part in text.chunks(part.max(1)) {
         if stream.push(part).is_err() {
             return 0;
@@ -105,7 +106,7 @@ pub extern "C" fn lp_checks_streamed(
 #[unsafe(no_mangle)]
 pub extern "C" fn lp_checks_items(
     alloc: Global,
-    is_strict: bool,
+    dialect: u32,
     text: &[u8],
     out: &mut [u8],
     ends: &mut [u64],
@@ -114,7 +115,7 @@ pub extern "C" fn lp_checks_items(
 {
     let text = unsafe { str::from_utf8_unchecked(text) };
     let mut report = Report::new(out, ends);
-    for item in parse_lines_in(alloc, dialect(is_strict), text) {
+    for item in parse_lines_in(alloc, dialect_of(dialect), text) {
         match &item {
             Ok(line) => render::render_line(&mut report, line),
             Err(fault) => render::render_fault(&mut report, fault),
@@ -127,7 +128,7 @@ pub extern "C" fn lp_checks_items(
 /// The items of a text as `lp_checks_items` has them, from the events that a sink is told. It takes no memory.
 #[unsafe(no_mangle)]
 pub extern "C" fn lp_checks_events(
-    is_strict: bool,
+    dialect: u32,
     text: &[u8],
     out: &mut [u8],
     ends: &mut [u64],
@@ -136,14 +137,14 @@ pub extern "C" fn lp_checks_events(
 {
     let text = unsafe { str::from_utf8_unchecked(text) };
     let mut items = Items::new(out, ends);
-    read_events_in(dialect(is_strict), text, &mut items);
+    read_events_in(dialect_of(dialect), text, &mut items);
     items.count()
 }
 
 /// The items of a text as `lp_checks_items` has them, from the events that come one after another. It takes no memory.
 #[unsafe(no_mangle)]
 pub extern "C" fn lp_checks_pulled(
-    is_strict: bool,
+    dialect: u32,
     text: &[u8],
     out: &mut [u8],
     ends: &mut [u64],
@@ -152,7 +153,7 @@ pub extern "C" fn lp_checks_pulled(
 {
     let text = unsafe { str::from_utf8_unchecked(text) };
     let mut items = Items::new(out, ends);
-    for event in parse_events_in(dialect(is_strict), text) {
+    for event in parse_events_in(dialect_of(dialect), text) {
         event.tell(&mut items);
     }
     items.count()
@@ -419,7 +420,7 @@ pub extern "C" fn lp_checks_build(
 #[unsafe(no_mangle)]
 pub extern "C" fn lp_checks_rebuild(
     alloc: Global,
-    is_strict: bool,
+    dialect: u32,
     text: &[u8],
     out: &mut [u8],
     ends: &mut [u64],
@@ -428,7 +429,7 @@ pub extern "C" fn lp_checks_rebuild(
 {
     let text = unsafe { str::from_utf8_unchecked(text) };
     let mut report = Report::new(out, ends);
-    let Ok(rebuilt) = rebuild_in(alloc, dialect(is_strict), text) else {
+    let Ok(rebuilt) = rebuild_in(alloc, dialect_of(dialect), text) else {
         return 0;
     };
     report.push(rebuilt.batch.as_slice());
@@ -459,7 +460,7 @@ fn told_end(fault: Option<RunFault>) -> u8 {
 #[unsafe(no_mangle)]
 pub extern "C" fn lp_checks_run(
     alloc: Global,
-    is_strict: bool,
+    dialect: u32,
     input: &[u8],
     out: &mut [u8],
     err: &mut [u8],
@@ -468,7 +469,7 @@ pub extern "C" fn lp_checks_run(
     let mut reader = input;
     let mut out = Room::new(out);
     let mut err = Room::new(err);
-    let run = run_in(alloc, dialect(is_strict), &mut reader, &mut out, &mut err);
+    let run = run_in(alloc, dialect_of(dialect), &mut reader, &mut out, &mut err);
     *lens = [out.len() as u64, err.len() as u64];
     told_end(run.err())
 }

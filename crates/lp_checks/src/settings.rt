@@ -2,7 +2,7 @@
 //!
 //! | letter | setting |
 //! |---|---|
-//! | `s` | the strict dialect |
+//! | `s` `n` | the strict dialect, or the newline-delimited one |
 //! | `v` `c` | lines go out verbatim, or if they are canonical |
 //! | `l` | fault lines name lines |
 //! | `o` `j` | faults are told on one line, or as objects of JSON |
@@ -21,6 +21,7 @@ pub fn spelled(letters: &[u8], limit: usize) -> Settings<'static> {
     for letter in letters {
         match *letter {
             b's' => settings.dialect = Dialect::Strict,
+            b'n' => settings.dialect = Dialect::NewlineDelimited,
             b'v' => settings.lines = LineForm::Verbatim,
             b'c' => settings.lines = LineForm::Canonical,
             b'l' => settings.numbering = Numbering::Lines,
