@@ -1,7 +1,7 @@
 -- What a text gives when it is rebuilt: the lines that are carried, written again, and a fault line for each other one.
 use Rattle.std.specs.Prelude.{◌≡◌, ℕ, ◌+◌, Bool, false, not, List, [], ◌∷◌, ◌++◌, codes, map, Result, Ok, Err, decimal, if◌then◌else◌}
 use Rattle.std.specs.List.{flat_map, count_by}
-use Rattle.influxdb_line_protocol.specs.format.Dialects.{Dialect, Crate}
+use Rattle.influxdb_line_protocol.specs.format.Dialects.{Dialect, Crate, NewlineDelimited}
 use Rattle.influxdb_line_protocol.specs.format.Bytes.{newline}
 use Rattle.influxdb_line_protocol.specs.format.Readings.{Fault}
 use Rattle.influxdb_line_protocol.specs.format.Points.{Point, is_admitted_point, built_all}
@@ -64,12 +64,13 @@ pub record RebuildsIn (dialect : Dialect) (text : List ℕ) (r : Rebuilt) : Type
 abbrev pub Rebuilds : List ℕ → Rebuilt → Type 0
 Rebuilds text r = RebuildsIn Crate text r
 
--- the batch of a text that was read by the rules of one dialect reads back in each, followed by any text: the answers
--- are first those with the points that were carried, of which the batch is built, and then those of that text alone
+-- the batch of a text that was read by the rules of one dialect reads back in each, followed by any text, but in the
+-- newline-delimited one only if it was read by its rules: the answers are first those with the points that were carried, of which the batch is built, and then those of that text alone
 abbrev pub ReadsBackIn : Dialect → List ℕ → Rebuilt → Type 0
 ReadsBackIn from text r =
     (items : List (Result Line Fault)) → HasAnswers from text items
-    → (dialect : Dialect) (t : List ℕ) (answers : List (Result Line Fault)) → HasAnswers dialect t answers
+    → (dialect : Dialect) → (dialect ≡ NewlineDelimited → from ≡ NewlineDelimited)
+    → (t : List ℕ) (answers : List (Result Line Fault)) → HasAnswers dialect t answers
     → (lines : List Line) × (map point_of lines ≡ flat_map carried_point items) × (built_all (map point_of lines) ≡ r.batch.items)
     × HasAnswers dialect (r.batch.items ++ t) (map Ok lines ++ answers)
 

@@ -246,7 +246,8 @@ pub fn rebuild(alloc: Global, input: &str) -> Result<Rebuilt, AllocError>
 /// dialect.
 ///
 /// [`rebuild`] does so by those of the crate; what it says of the batch, the faults and memory holds here too. The batch
-/// reads back in both dialects, whichever one the text was read in.
+/// reads back in each dialect, whichever one the text was read in; but in the newline-delimited one only if it was read in
+/// that, since strings may hold newlines in the others.
 ///
 /// # Errors
 ///
@@ -257,6 +258,7 @@ pub fn rebuild_in(alloc: Global, dialect: Dialect, input: &str) -> Result<Rebuil
     ensures reads_back { IfOk result (λ r. ReadsBackIn (rules_of dialect) input.now r) }
 {
     laws::batch_reads_back();
+    laws::lines_are_read_alone();
     laws::lines_are_points();
     laws::pieces_join();
     let mut so_far = Progress {
