@@ -9,6 +9,8 @@ uint64_t lp_bench_pull(const uint8_t *text, size_t len);
 uint64_t lp_bench_numbers(const uint8_t *text, size_t len);
 uint64_t lp_bench_split(const uint8_t *text, size_t len);
 uint64_t lp_bench_rebuild(const uint8_t *text, size_t len);
+uint64_t lp_bench_rebuild_strict(const uint8_t *text, size_t len);
+uint64_t lp_bench_rebuild_newline_delimited(const uint8_t *text, size_t len);
 uint64_t lp_bench_build(uint64_t count);
 
 const struct call calls[] = {
@@ -19,6 +21,8 @@ const struct call calls[] = {
     { "numbers", lp_bench_numbers },
     { "split", lp_bench_split },
     { "rebuild", lp_bench_rebuild },
+    { "rebuild strict", lp_bench_rebuild_strict },
+    { "rebuild newline-delimited", lp_bench_rebuild_newline_delimited },
     { NULL, NULL },
 };
 

@@ -13,7 +13,7 @@ use influxdb_line_protocol::{
     Dialect, EscapedStr, FieldValue, LineProtocolBuilder, ParsedLine, parse_events, parse_lines,
     read_events_in, split_lines,
 };
-use lp_rebuild::rebuild;
+use lp_rebuild::rebuild_in;
 use std::alloc::Global;
 use std::num::f64_to_bits_with_nan;
 use told::Sum;
@@ -177,16 +177,33 @@ pub extern "C" fn lp_bench_split(text: &[u8]) -> u64 {
     count
 }
 
-/// Rebuilds a text into a buffer, and gives the number of bytes written; 0 if memory was refused.
-#[unsafe(no_mangle)]
-pub extern "C" fn lp_bench_rebuild(alloc: Global, text: &[u8]) -> u64 {
+// Rebuilds a text into a buffer, and gives the number of bytes written; 0 if memory was refused.
+fn rebuilt_len(alloc: Global, dialect: Dialect, text: &[u8]) -> u64 {
     let Ok(text) = str::from_utf8(text) else {
         return 0;
     };
-    match rebuild(alloc, text) {
+    match rebuild_in(alloc, dialect, text) {
         Ok(rebuilt) => rebuilt.batch.len() as u64,
         Err(_) => 0,
     }
+}
+
+/// Rebuilds a text into a buffer, and gives the number of bytes written; 0 if memory was refused.
+#[unsafe(no_mangle)]
+pub extern "C" fn lp_bench_rebuild(alloc: Global, text: &[u8]) -> u64 {
+    rebuilt_len(alloc, Dialect::Crate, text)
+}
+
+/// The same by the strict rules.
+#[unsafe(no_mangle)]
+pub extern "C" fn lp_bench_rebuild_strict(alloc: Global, text: &[u8]) -> u64 {
+    rebuilt_len(alloc, Dialect::Strict, text)
+}
+
+/// The same if each newline ends a line.
+#[unsafe(no_mangle)]
+pub extern "C" fn lp_bench_rebuild_newline_delimited(alloc: Global, text: &[u8]) -> u64 {
+    rebuilt_len(alloc, Dialect::NewlineDelimited, text)
 }
 
 // One point of a fixed shape after `lines`: three tags, four fields of different kinds, and a

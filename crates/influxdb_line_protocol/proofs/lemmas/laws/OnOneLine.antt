@@ -1,4 +1,5 @@
 -- Points whose lines hold no newline: those that are read from a text without one, and those that are admitted if each newline ends a line.
+use Rattle.std.proofs.Common.{codes}
 use Rattle.std.proofs.Common.{◌≡◌, ◌≢◌, ℕ, length, ℤ, List, [], ◌∷◌, ◌++◌, drop, take, Bool, cond, true, false, not, ◌==◌}
 use Rattle.std.proofs.Common.{refl, sym, ap, ◌∙◌, subst, arith, Option, Some, None, Ok, Err, Result, IfSome, Contains, flat_map, take-append-drop}
 use Rattle.std.proofs.Common.{decimal, ne_eqb}
@@ -14,10 +15,11 @@ use Rattle.lp_format.specs.format.{is_admitted_name, is_admitted_point, is_on_on
 use Rattle.lp_format.specs.format.{letter_u, Line, line_of, logical_field, logical_value, name, NameKind, newline, NewlineDelimited, Pair, Point}
 use Rattle.lp_format.specs.format.{point_of, quotable, logical_tag, Reading, reads, miss, fatal, some_tags, space, spaces, spelling, string, string_at}
 use Rattle.lp_format.specs.format.{Tag, tag, Text, trimmed, unsigned, unsigned_at, Value, value, without_escapes, ◌otherwise◌, quote}
+use Rattle.lp_format.specs.format.Pieces.{Pieces}
 use Rattle.lp_format.specs.laws.Laws.{IsAdmittedIn, StringsAreOnOneLine}
 use Rattle.lp_format.specs.laws.Meanings.{SeparatedAfterComma, SeparatedBy}
 use Rattle.lp_format.proofs.lemmas.{line.TrimLemmas.left_of, line.TrimLemmas.trimmed_is, literals.FloatLemmas.float_bytes}
-use Rattle.lp_format.proofs.lemmas.{split.SplitPieces.pieces_on_one_line, meanings.JoinedMeaning.the_most_is_read}
+use Rattle.lp_format.proofs.lemmas.{split.SplitPieces.pieces_on_one_line, split.SplitPieces.lines_are_pieces, meanings.JoinedMeaning.the_most_is_read}
 use Rattle.lp_format.proofs.lemmas.meanings.ShorterRests.{field_no_longer}
 use Rattle.lp_values.proofs.lemmas.fields.ReadingLemmas.{EndsIn, name_ends, pair_parts, tag_ends}
 use Rattle.lp_events.proofs.lemmas.fields.ManyLemmas.{fields_joined, set_separated, tag_set_ends}
@@ -42,6 +44,7 @@ one_line [] h = refl
 one_line (b ∷ text) h =
     rw (ne_eqb b newline (All-head (λ c. c ≢ newline) b text h)) (one_line text (All-tail (λ c. c ≢ newline) b text h))
 
+-- and the property by the test
 pub no_newline : (text : List ℕ) → OnOne text → HasNoNewline text
 no_newline text h = All-from_recursion (λ c. c ≢ newline) text (each text h)
   where
@@ -125,10 +128,11 @@ value_read : (text : List ℕ) → OnOne text → GivesOn IsOn (value text)
 unfolding value integer_at unsigned_at float_at boolean_at
 value_read text h = grind (arith, either IsOn, none_given IsOn, this_given IsOn, fault_given IsOn, one_of_two IsOn, string_read text h)
 
--- a tag and a field on one line
+-- a tag on one line
 abbrev TagOn : Pair Text Text → Type 0
 TagOn t = OnOne t.key.bytes × OnOne t.value.bytes
 
+-- a field on one line
 abbrev FieldOn : Pair Text (Value Text) → Type 0
 FieldOn f = OnOne f.key.bytes × IsOn f.value
 
@@ -136,12 +140,14 @@ FieldOn f = OnOne f.key.bytes × IsOn f.value
 after_key : (kind : NameKind) (text mid : List ℕ) (k : Text) → name kind text ≡ reads k (equals ∷ mid) → OnOne text → OnOne mid
 after_key kind text mid k e h = (and_parts true (is_on_one_line mid) (end_of text (equals ∷ mid) (name_ends kind text k (equals ∷ mid) e) h)).1
 
+-- a tag that is read
 tag_read : (text : List ℕ) (t : Pair Text Text) (rest : List ℕ) → tag text ≡ reads t rest → OnOne text → TagOn t
 unfolding tag
 tag_read text t rest e h =
     let p = pair_parts a_tag_key (name a_tag_value) text t rest e in
     (name_read a_tag_key text t.key (equals ∷ p.mid) p.key h, name_read a_tag_value p.mid t.value rest p.value (after_key a_tag_key text p.mid t.key p.key h))
 
+-- a field that is read
 field_read : (text : List ℕ) (f : Pair Text (Value Text)) (rest : List ℕ) → field text ≡ reads f rest → OnOne text → FieldOn f
 unfolding field
 field_read text f rest e h =
@@ -221,22 +227,27 @@ value_on (string s) ok h = joined (escaped quotable s) (quote ∷ []) (escaped_o
 value_on (boolean true) ok h = refl
 value_on (boolean false) ok h = refl
 
+-- a tag as it is written
 tag_on : (t : Tag) → OnOne t.key → OnOne t.value → OnOne (built_tag t)
 tag_on t k v = joined (spelling a_tag_key t.key) _ (escaped_on _ t.key k) (escaped_on _ t.value v)
 
+-- and all tags
 tags_on : (ts : List Tag) → AllByRecursion (λ t. OnOne t.key × OnOne t.value) ts → OnOne (flat_map built_tag ts)
 tags_on [] all = refl
 tags_on (t ∷ ts) all = joined (built_tag t) (flat_map built_tag ts) (tag_on t all.0.0 all.0.1) (tags_on ts all.1)
 
+-- a field as it is written
 field_on : (f : Field) → IsValue f.value → OnOne f.key → is_value_on_one_line f.value ≡ true → OnOne (built_field f)
 field_on f is k v = joined (spelling a_field_key f.key) (equals ∷ built_value f.value) (escaped_on _ f.key k) (value_on f.value is v)
 
+-- and all fields
 fields_on : (b : ℕ) (fs : List Field) → is_other b ≡ true → AllByRecursion (λ f. IsValue f.value) fs
     → AllByRecursion (λ f. OnOne f.key × (is_value_on_one_line f.value ≡ true)) fs → OnOne (built_fields b fs)
 fields_on b [] h values all = refl
 fields_on b (f ∷ fs) h values all =
     and_from _ _ h (joined (built_field f) (built_fields comma fs) (field_on f values.0 all.0.0 all.0.1) (fields_on comma fs refl values.1 all.1))
 
+-- a timestamp as it is written
 stamp_on : (t : Option ℤ) → IfSome t (λ z. fits_i64 z ≡ true) → OnOne (built_timestamp t)
 stamp_on None ok = refl
 stamp_on (Some z) ok = simple_on (signed_decimal z) (simple_signed z ok)
@@ -263,11 +274,12 @@ name_on kind n h = bytes n (admitted_parts kind n h).may
         let parts = and_parts (may_hold kind b) (list_all (may_hold kind) n) all in
         and_from _ _ (byte_on kind b parts.0) (bytes n parts.1)
 
--- tags and fields that are admitted
+-- tags that are admitted
 admitted_tags_on : (ts : List Tag) → AllByRecursion AdmittedTag ts → AllByRecursion (λ t. OnOne t.key × OnOne t.value) ts
 admitted_tags_on [] all = tt
 admitted_tags_on (t ∷ ts) all = ((name_on a_tag_key t.key all.0.0, name_on a_tag_value t.value all.0.1), admitted_tags_on ts all.1)
 
+-- fields that are admitted
 admitted_fields_on : (fs : List Field) → AllByRecursion AdmittedField fs → list_all (λ f. is_value_on_one_line f.value) fs ≡ true
     → AllByRecursion (λ f. OnOne f.key × (is_value_on_one_line f.value ≡ true)) fs
 admitted_fields_on [] all h = tt
@@ -298,7 +310,7 @@ unescaped_on bytes (b ∷ text) h =
     first : (bytes : List ℕ) (b : ℕ) → OnOne (escaped_byte bytes b) → is_other b ≡ true
     first bytes b h = grind (arith, cases_Bool, and_parts)
 
--- the strings of a point whose line holds no newline
+-- the strings of fields that are written without a newline
 fields_of : (b : ℕ) (fs : List Field) → OnOne (built_fields b fs) → list_all (λ f. is_value_on_one_line f.value) fs ≡ true
 fields_of b [] h = refl
 fields_of b (f ∷ fs) h =
@@ -314,6 +326,7 @@ fields_of b (f ∷ fs) h =
     value_of (float t) h = refl
     value_of (boolean b) h = refl
 
+-- and of the point
 pub strings_on : (p : Point) → HasNoNewline (line_of p) → list_all (λ f. is_value_on_one_line f.value) p.fields ≡ true
 strings_on p h =
     let whole = subst OnOne (line_parts p) (one_line (line_of p) h) in
@@ -338,6 +351,7 @@ answer_on : (text : List ℕ) (a : Result Line Fault) → answer NewlineDelimite
 answer_on text (Ok line) e h = (lines_are_points NewlineDelimited text line e, line_read NewlineDelimited text line e h)
 answer_on text (Err fault) e h = tt
 
+-- and for all lines
 answers_on : (lines : List (List ℕ)) → AllByRecursion HasNoNewline lines → AllByRecursion AnswerOn (answers_of NewlineDelimited lines)
 unfolding answers_of_piece
 answers_on [] all = tt
@@ -360,3 +374,13 @@ answered_on text answers line has here =
 -- and with its strings
 pub strings_are_on_one_line : StringsAreOnOneLine
 strings_are_on_one_line text answers line has here = strings_on (point_of line) (answered_on text answers line has here)
+
+-- a quote that is left open ends with its line
+an_open_quote_ends : Pieces NewlineDelimited (codes "m a=\"\nm b=1i") (codes "m a=\"" ∷ codes "m b=1i" ∷ [])
+an_open_quote_ends = lines_are_pieces (codes "m a=\"") (codes "m b=1i" ∷ [])
+    (no_newline (codes "m a=\"") refl, (no_newline (codes "m b=1i") refl, tt))
+
+-- two lines in the place of one give the next line another number
+a_newline_is_another_line : Pieces NewlineDelimited (codes "x\ny\nm b=1i") (codes "x" ∷ codes "y" ∷ codes "m b=1i" ∷ [])
+a_newline_is_another_line = lines_are_pieces (codes "x") (codes "y" ∷ codes "m b=1i" ∷ [])
+    (no_newline (codes "x") refl, (no_newline (codes "y") refl, (no_newline (codes "m b=1i") refl, tt)))

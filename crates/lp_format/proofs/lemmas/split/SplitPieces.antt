@@ -320,6 +320,7 @@ joined_answers : (lines : List (List ℕ)) → flat_map (λ one. one) (map (answ
 joined_answers [] = refl
 joined_answers (line ∷ lines) = ap (λ xs. answers_of_piece NewlineDelimited line ++ xs) (joined_answers lines)
 
+-- so each line is read alone
 pub each_line_is_read_alone : EachLineIsReadAlone
 each_line_is_read_alone text answers h = record {
   pieces = h.0;
@@ -334,6 +335,7 @@ set_line [] n line h all = all
 set_line (first ∷ lines) zero line h all = (h, all.1)
 set_line (first ∷ lines) (suc n) line h all = (all.0, set_line lines n line h all.1)
 
+-- its answers take the place of those of the other
 set_answer : (lines : List (List ℕ)) (n : ℕ) (line : List ℕ) → slice_set (map (answers_of_piece NewlineDelimited) lines) n (answers_of_piece NewlineDelimited line)
     ≡ map (answers_of_piece NewlineDelimited) (slice_set lines n line)
 set_answer [] n line = refl

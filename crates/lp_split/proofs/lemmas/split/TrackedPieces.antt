@@ -58,6 +58,7 @@ to_newline Crate bytes b n h = absurd h
 to_newline Strict bytes b n h = (begins_comment-append bytes (b ∷ []) h.0, All-push (λ c. c ≢ newline) bytes b h.1 n)
 to_newline NewlineDelimited bytes b n h = All-push (λ c. c ≢ newline) bytes b h n
 
+-- so its track stays
 pub goes_on_to_newline : (b : ℕ) → b ≢ newline → Leads ToNewline b (Some ToNewline)
 goes_on_to_newline b n = λ dialect bytes h. to_newline dialect bytes b n h
 
