@@ -48,7 +48,7 @@ static uint64_t by_next(const uint8_t *text, size_t len) {
     lp_lines lines = LP_NO_LINES;
     uint64_t sum = 0;
     lend(16 * ROWS, 256 * ROWS);
-    if (!lp_lines_begin(text, len, false, &lines)) return 0;
+    if (!lp_lines_begin(text, len, LP_CRATE, &lines)) return 0;
     for (;;) {
         lp_room room = { bytes, bytes_len };
         uint32_t answer = lp_lines_next(&lines, &room, &rows[0].line, parts, parts_len);
@@ -63,7 +63,7 @@ static uint64_t by_block(const uint8_t *text, size_t len) {
     uint64_t sum = 0;
     uint32_t answer = LP_LINE;
     lend(16 * ROWS, 256 * ROWS);
-    if (!lp_lines_begin(text, len, false, &lines)) return 0;
+    if (!lp_lines_begin(text, len, LP_CRATE, &lines)) return 0;
     while (answer != LP_END) {
         lp_room room = { bytes, bytes_len };
         size_t filled = 0;
@@ -82,7 +82,7 @@ static uint64_t rebuilt(const uint8_t *text, size_t len) {
     lp_counts counts = { 0, 0, 0, 0 };
     uint32_t answer;
     lend(0, larger(batch + faults, 1));
-    while ((answer = lp_rebuild(false, text, len, bytes, batch, bytes + batch, faults, &counts)) == LP_MORE_ROOM) {
+    while ((answer = lp_rebuild(LP_CRATE, text, len, bytes, batch, bytes + batch, faults, &counts)) == LP_MORE_ROOM) {
         batch = larger(batch, counts.batch_len);
         faults = larger(faults, counts.faults_len);
         lend(0, batch + faults);
@@ -122,7 +122,7 @@ static void lengthen(size_t rows_wanted, size_t parts_wanted) {
 
 static void read_lines(const uint8_t *text, size_t len) {
     lp_lines lines = LP_NO_LINES;
-    uint32_t answer = lp_lines_begin(text, len, false, &lines) ? LP_LINE : LP_END;
+    uint32_t answer = lp_lines_begin(text, len, LP_CRATE, &lines) ? LP_LINE : LP_END;
     lp_room room = { kept.copies = grown(kept.copies, larger(len, 1)), len };
     kept.rows_len = kept.parts_len = 0;
     lend(0, 256 * ROWS);
@@ -166,7 +166,7 @@ const struct call calls[] = {
 
 bool is_utf8(const uint8_t *text, size_t len) {
     lp_lines lines = LP_NO_LINES;
-    return lp_lines_begin(text, len, false, &lines);
+    return lp_lines_begin(text, len, LP_CRATE, &lines);
 }
 
 uint64_t (*const build)(uint64_t count) = NULL;

@@ -33,12 +33,17 @@ enum lp_answer {
     LP_PIECE = 9,         /* a newline of the text ends the piece */
     LP_MORE_TEXT = 10,    /* no newline of the text ends the piece: it goes on in the text that comes */
     LP_TOO_LONG = 11,     /* the piece has more bytes than it may have */
-    LP_NOT_ADMITTED = 12, /* the line would not read back, since a name of it is not admitted: nothing was written */
+    LP_NOT_ADMITTED = 12, /* the line would not read back, since it is not admitted in the dialect: nothing was written */
     LP_NOT_A_DIALECT = 13 /* no dialect has the number */
 };
 
-/* By whose rules a line is to read back. */
-enum lp_dialect { LP_CRATE = 0, LP_STRICT = 1 };
+/* By whose rules a text is read, and a line is to read back. A call that is handed another number refuses it. */
+enum lp_dialect {
+    LP_CRATE = 0,            /* the rules of the Rust crate */
+    LP_STRICT = 1,           /* the strict ones: a comment ends at its own newline, and a comma after a field has a field after it */
+    LP_NEWLINE_DELIMITED = 2 /* the same, and every newline ends a line, whatever is open: whatever a line holds, each other is read as
+                              * if it were alone */
+};
 
 /* What a part is. */
 enum lp_kind {
@@ -108,9 +113,9 @@ typedef struct lp_line {
 typedef struct lp_row { lp_line line; size_t parts_at; uint32_t answer; } lp_row;
 
 /* What is left of a text: a cursor. Copy it to come back to where it was. */
-typedef struct lp_lines { lp_text rest; bool ended; bool strict; } lp_lines;
+typedef struct lp_lines { lp_text rest; uint32_t dialect; bool ended; } lp_lines;
 
-/* A search for cuts: what it knows of the bytes of the piece that came so far. lp_cuts_begin fills it. `limit`, `len` and `strict`
+/* A search for cuts: what it knows of the bytes of the piece that came so far. lp_cuts_begin fills it. `limit`, `len` and `dialect`
  * are for you to read; what the others hold is the library's. Copy it to come back to where it was. */
 typedef struct lp_cuts {
     size_t limit; /* so many bytes a piece may have */
@@ -119,8 +124,8 @@ typedef struct lp_cuts {
     size_t commas;
     uint32_t begins;
     uint32_t part;
+    uint32_t dialect; /* of enum lp_dialect */
     bool escaped;
-    bool strict;
 } lp_cuts;
 
 /* How much was rebuilt. */
@@ -136,8 +141,8 @@ typedef struct lp_counts {
 #define LP_EMPTY_PART { LP_NO_VIEW, LP_NO_VIEW, 0, 0, LP_TAG, false }
 #define LP_EMPTY_LINE { LP_NO_TEXT, LP_NO_VIEW, LP_NO_TEXT, 0, 0, 0, 0, 0, 0, false, false }
 #define LP_EMPTY_ROW { LP_EMPTY_LINE, 0, 0 }
-#define LP_NO_LINES { LP_NO_TEXT, true, false }
-#define LP_NO_CUTS { SIZE_MAX, 0, 0, 0, 0, 0, false, false }
+#define LP_NO_LINES { LP_NO_TEXT, LP_CRATE, true }
+#define LP_NO_CUTS { SIZE_MAX, 0, 0, 0, 0, 0, LP_CRATE, false }
 
 /* The same for what sees no initializers, as cgo and bindgen: bindings/c/empty.c has these. */
 extern const lp_text lp_no_text;
@@ -157,9 +162,9 @@ static inline void lp_empty_parts(lp_part *parts, size_t len) {
 /* The version of the library: 30000 is 3.0.0. */
 uint32_t lp_version(void);
 
-/* Begins to read a text of `len` bytes, by the rules of the strict dialect or else of the Rust crate.
- * True: the text is UTF-8, and `lines` borrows it. False: it is not, and `lines` is as it was. */
-bool lp_lines_begin(const uint8_t *text, size_t len, bool strict, lp_lines *lines);
+/* Begins to read a text of `len` bytes, by the rules of a dialect, of enum lp_dialect.
+ * True: the text is UTF-8, and `lines` borrows it. False: it is not, or no dialect has the number, and `lines` is as it was. */
+bool lp_lines_begin(const uint8_t *text, size_t len, uint32_t dialect, lp_lines *lines);
 
 /* Reads the next item, and passes it but for the two last answers. It asks for no memory.
  * LP_LINE: `line` and its first `tags` + `fields` parts show all of it. LP_FAULT: `fault`, `side` and `fault_text` show it.
@@ -183,9 +188,9 @@ bool lp_lines_piece(lp_lines *lines, lp_view *piece);
 /* A text that comes in parts is cut into its pieces by a search, which keeps no byte of it: what it must know is in an lp_cuts of
  * yours. Each byte is handed in once, in order, in parts that may end anywhere, and need not be UTF-8. */
 
-/* Begins a search by the rules of the strict dialect or else of the Rust crate, in a text whose pieces may have `limit` bytes; with
- * SIZE_MAX no piece is too long. */
-void lp_cuts_begin(bool strict, size_t limit, lp_cuts *cuts);
+/* Begins a search by the rules of a dialect, of enum lp_dialect, in a text whose pieces may have `limit` bytes; with SIZE_MAX no
+ * piece is too long. False: no dialect has the number, and `cuts` is as it was. */
+bool lp_cuts_begin(uint32_t dialect, size_t limit, lp_cuts *cuts);
 
 /* Searches the `len` bytes at `text`, which come after those that were searched before. It asks for no memory, and passes each byte
  * a few times at most. What it finds is where lp_lines_piece cuts the whole text, whatever comes after it.
@@ -210,11 +215,11 @@ uint32_t lp_cuts_next(lp_cuts *cuts, const uint8_t *text, size_t len, size_t *cu
  * Where nothing is put out, `out` is as it was. */
 
 /* The line as the builder writes it, with its newline. In the dialect, of enum lp_dialect, what is put out reads back as one line of
- * the same names, values and timestamp, and as nothing else, whatever text comes after it. LP_NOT_ADMITTED: it would not, since one
- * of its names is not admitted. A name, the key or value of a tag, the key of a field or the measurement, is admitted if it is not
- * empty, holds no tab and no newline, and does not end in a backslash; a measurement, besides, holds no NUL and does not begin with
- * `#`. The text of a string may hold all of these. With at most eight tags and four fields that answer takes no memory.
- * LP_NOT_A_DIALECT: no dialect has the number. */
+ * the same names, values and timestamp, and as nothing else, whatever text comes after it. LP_NOT_ADMITTED: it would not. A line is
+ * admitted if each of its names is: the key or value of a tag, the key of a field or the measurement, which is not empty, holds no tab
+ * and no newline, and does not end in a backslash; a measurement, besides, holds no NUL and does not begin with `#`. The text of a
+ * string may hold all of these, but in LP_NEWLINE_DELIMITED no newline. With at most eight tags and four fields that answer takes no
+ * memory. LP_NOT_A_DIALECT: no dialect has the number. */
 uint32_t lp_line_write(uint32_t dialect, const lp_line *line, const lp_part *parts, size_t parts_len, uint8_t *out, size_t room,
                        size_t *len);
 
@@ -231,9 +236,9 @@ uint32_t lp_line_base(const lp_line *line, const lp_part *parts, size_t parts_le
  * bases, their bases are the same exactly where measurement and tags are. With at most eight tags it takes no memory. */
 uint32_t lp_line_is_base_safe(const lp_line *line, const lp_part *parts, size_t parts_len, bool *safe);
 
-/* Whether lp_line_write writes the line: whether each of its names is admitted. LP_WRITTEN: `admitted` says so.
- * With at most eight tags and four fields it takes no memory. */
-uint32_t lp_line_is_admitted(const lp_line *line, const lp_part *parts, size_t parts_len, bool *admitted);
+/* Whether the line is admitted in a dialect: whether lp_line_write writes it. LP_WRITTEN: `admitted` says so; at the other answers
+ * it is as it was. With at most eight tags and four fields it takes no memory. */
+uint32_t lp_line_is_admitted(uint32_t dialect, const lp_line *line, const lp_part *parts, size_t parts_len, bool *admitted);
 
 /* The message of a fault, with no newline: "No fields were provided". Of `line`, `fault` and `fault_text` alone are looked at. A
  * repeated key, which lp_line_base puts out, is the `fault_text` of LP_DUPLICATE_TAG. It asks for no memory. LP_NOT_A_LINE:
@@ -245,9 +250,9 @@ uint32_t lp_fault_message(const lp_line *line, uint8_t *out, size_t room, size_t
 bool lp_float_value(const uint8_t *text, size_t len, double *value);
 
 /* Writes each line of a text again, where all its names are admitted, into `batch`, and a line for each other item into
- * `faults`. LP_WRITTEN, or LP_MORE_ROOM: one of the two is too short, both are as they were, and `counts` has both needs.
- * LP_NOT_UTF8 and LP_OUT_OF_MEMORY leave `counts` as it was. */
-uint32_t lp_rebuild(bool strict, const uint8_t *text, size_t len, uint8_t *batch, size_t batch_room, uint8_t *faults,
+ * `faults`, by the rules of a dialect, of enum lp_dialect. LP_WRITTEN, or LP_MORE_ROOM: one of the two is too short, both are as they
+ * were, and `counts` has both needs. LP_NOT_A_DIALECT, LP_NOT_UTF8 and LP_OUT_OF_MEMORY leave all three as they were. */
+uint32_t lp_rebuild(uint32_t dialect, const uint8_t *text, size_t len, uint8_t *batch, size_t batch_room, uint8_t *faults,
                     size_t faults_room, lp_counts *counts);
 
 #ifdef __cplusplus

@@ -1,4 +1,4 @@
-/* Compares the rows of crates/lp_answers/data/answers.tsv with what the library gives for their texts, in both dialects. The head
+/* Compares the rows of crates/lp_answers/data/answers.tsv with what the library gives for their texts, in each dialect. The head
  * of that table says how a row is spelled, and what each kind asks. The argument names the table. */
 #define _POSIX_C_SOURCE 200809L
 #include "influxdb_line_protocol.h"
@@ -71,9 +71,9 @@ static void put_item(FILE *out, uint32_t answer, const lp_line *line, const lp_p
     else fprintf(out, "the answer %u", (unsigned)answer);
 }
 
-static lp_lines begin(lp_text text, bool strict) {
+static lp_lines begin(lp_text text, uint32_t dialect) {
     lp_lines lines = LP_NO_LINES;
-    if (!lp_lines_begin(text.at, text.len, strict, &lines)) stop("a text is no UTF-8", LP_NOT_UTF8);
+    if (!lp_lines_begin(text.at, text.len, dialect, &lines)) stop("a text is no UTF-8", LP_NOT_UTF8);
     return lines;
 }
 
@@ -89,12 +89,12 @@ static void put_series(FILE *out, uint32_t answer, const lp_line *line, const lp
 }
 
 /* Writes what a call gives for a text. */
-typedef void giver(FILE *out, lp_text text, bool strict);
+typedef void giver(FILE *out, lp_text text, uint32_t dialect);
 typedef void putter(FILE *out, uint32_t answer, const lp_line *line, const lp_part *part);
 typedef uint32_t writer(const lp_line *line, const lp_part *part, size_t parts_len, uint8_t *out, size_t room, size_t *len);
 
-static void give_each(FILE *out, lp_text text, bool strict, putter *put) {
-    lp_lines lines = begin(text, strict);
+static void give_each(FILE *out, lp_text text, uint32_t dialect, putter *put) {
+    lp_lines lines = begin(text, dialect);
     lp_line line = LP_EMPTY_LINE;
     uint32_t answer = next(&lines, &line);
     while (answer != LP_END) {
@@ -105,16 +105,16 @@ static void give_each(FILE *out, lp_text text, bool strict, putter *put) {
     }
 }
 
-static void give_items(FILE *out, lp_text text, bool strict) {
-    give_each(out, text, strict, put_item);
+static void give_items(FILE *out, lp_text text, uint32_t dialect) {
+    give_each(out, text, dialect, put_item);
 }
 
-static void give_series(FILE *out, lp_text text, bool strict) {
-    give_each(out, text, strict, put_series);
+static void give_series(FILE *out, lp_text text, uint32_t dialect) {
+    give_each(out, text, dialect, put_series);
 }
 
-static void give_items_of_blocks(FILE *out, lp_text text, bool strict) {
-    lp_lines lines = begin(text, strict);
+static void give_items_of_blocks(FILE *out, lp_text text, uint32_t dialect) {
+    lp_lines lines = begin(text, dialect);
     lp_row rows[ROWS] = { LP_EMPTY_ROW, LP_EMPTY_ROW };
     uint32_t answer = LP_LINE;
     for (size_t item = 0, filled = 0; answer == LP_LINE;) {
@@ -128,8 +128,8 @@ static void give_items_of_blocks(FILE *out, lp_text text, bool strict) {
     if (answer != LP_END) put_item(out, answer, NULL, NULL);
 }
 
-static void give_pieces(FILE *out, lp_text text, bool strict) {
-    lp_lines lines = begin(text, strict);
+static void give_pieces(FILE *out, lp_text text, uint32_t dialect) {
+    lp_lines lines = begin(text, dialect);
     lp_view piece = LP_NO_VIEW;
     while (lp_lines_piece(&lines, &piece)) put_within(out, piece.copied ? "a copy " : "", piece.text);
 }
@@ -139,16 +139,16 @@ static void put_rest(FILE *out, const lp_lines *lines) {
     else put_within(out, "", lines->rest);
 }
 
-static void give_rests_of_pieces(FILE *out, lp_text text, bool strict) {
-    lp_lines lines = begin(text, strict);
+static void give_rests_of_pieces(FILE *out, lp_text text, uint32_t dialect) {
+    lp_lines lines = begin(text, dialect);
     lp_view piece = LP_NO_VIEW;
     do put_rest(out, &lines);
     while (lp_lines_piece(&lines, &piece));
     put_rest(out, &lines);
 }
 
-static void give_rests_of_items(FILE *out, lp_text text, bool strict) {
-    lp_lines lines = begin(text, strict);
+static void give_rests_of_items(FILE *out, lp_text text, uint32_t dialect) {
+    lp_lines lines = begin(text, dialect);
     lp_line line = LP_EMPTY_LINE;
     uint32_t answer;
     put_rest(out, &lines);
@@ -159,8 +159,8 @@ static void give_rests_of_items(FILE *out, lp_text text, bool strict) {
 }
 
 /* What a call writes for the first line. */
-static uint32_t write_first(writer *write, lp_text text, bool strict, lp_text *out) {
-    lp_lines lines = begin(text, strict);
+static uint32_t write_first(writer *write, lp_text text, uint32_t dialect, lp_text *out) {
+    lp_lines lines = begin(text, dialect);
     lp_line line = LP_EMPTY_LINE;
     uint32_t answer = next(&lines, &line);
     out->at = written, out->len = 0;
@@ -174,16 +174,16 @@ static void put_message(FILE *out, const lp_line *line) {
     else fprintf(out, "the answer %u", (unsigned)answer);
 }
 
-static void give_fault(FILE *out, lp_text text, bool strict) {
-    lp_lines lines = begin(text, strict);
+static void give_fault(FILE *out, lp_text text, uint32_t dialect) {
+    lp_lines lines = begin(text, dialect);
     lp_line line = LP_EMPTY_LINE;
     if (next(&lines, &line) == LP_FAULT) put_message(out, &line);
 }
 
 /* A buffer does not tell whether a base is a part of the text or a copy. */
-static void give_base(FILE *out, lp_text text, bool strict) {
+static void give_base(FILE *out, lp_text text, uint32_t dialect) {
     lp_text base;
-    uint32_t answer = write_first(lp_line_base, text, strict, &base);
+    uint32_t answer = write_first(lp_line_base, text, dialect, &base);
     if (answer == LP_WRITTEN) put_within(out, "", base);
     else if (answer == LP_FAULT) {
         lp_line repeated = LP_EMPTY_LINE;
@@ -192,44 +192,44 @@ static void give_base(FILE *out, lp_text text, bool strict) {
     }
 }
 
-static void give_shown(FILE *out, lp_text text, bool strict) {
+static void give_shown(FILE *out, lp_text text, uint32_t dialect) {
     lp_text shown;
-    if (write_first(lp_line_show, text, strict, &shown) == LP_WRITTEN) put_text(out, shown);
+    if (write_first(lp_line_show, text, dialect, &shown) == LP_WRITTEN) put_text(out, shown);
 }
 
-static lp_counts rebuild(lp_text text, bool strict) {
+static lp_counts rebuild(lp_text text, uint32_t dialect) {
     lp_counts counts = { 0, 0, 0, 0 };
-    uint32_t answer = lp_rebuild(strict, text.at, text.len, written, BYTES, faults, BYTES, &counts);
+    uint32_t answer = lp_rebuild(dialect, text.at, text.len, written, BYTES, faults, BYTES, &counts);
     if (answer != LP_WRITTEN) stop("a text is not rebuilt", answer);
     return counts;
 }
 
-static void give_rebuilt(FILE *out, lp_text text, bool strict) {
-    lp_counts counts = rebuild(text, strict);
+static void give_rebuilt(FILE *out, lp_text text, uint32_t dialect) {
+    lp_counts counts = rebuild(text, dialect);
     fprintf(out, "%zu of %zu", counts.carried, counts.carried + counts.refused);
     put_within(out, " ", (lp_text){ written, counts.batch_len });
 }
 
 /* The status of the program, which is 1 if an item is refused, and what it writes. */
-static void give_run(FILE *out, lp_text text, bool strict) {
-    lp_counts counts = rebuild(text, strict);
+static void give_run(FILE *out, lp_text text, uint32_t dialect) {
+    lp_counts counts = rebuild(text, dialect);
     put_within(out, counts.refused > 0 ? "1 " : "0 ", (lp_text){ written, counts.batch_len });
     put_within(out, " ", (lp_text){ faults, counts.faults_len });
 }
 
 /* Whether a field is taken whose value is a float with this literal. */
-static void give_float(FILE *out, lp_text text, bool strict) {
+static void give_float(FILE *out, lp_text text, uint32_t dialect) {
     const lp_part field = { VIEW("f"), { text, false }, 0, 0, LP_FLOAT, false };
     const lp_line line = { LP_NO_TEXT, VIEW("m"), LP_NO_TEXT, 0, 1, 0, 0, 0, 0, false, false };
     size_t len = 0;
-    uint32_t answer = lp_line_write(strict ? LP_STRICT : LP_CRATE, &line, &field, 1, written, BYTES, &len);
+    uint32_t answer = lp_line_write(dialect, &line, &field, 1, written, BYTES, &len);
     if (answer == LP_WRITTEN || answer == LP_NOT_A_LINE) fputs(answer == LP_WRITTEN ? "true" : "false", out);
 }
 
 /* Whether the text has a number. */
-static void give_number(FILE *out, lp_text text, bool strict) {
+static void give_number(FILE *out, lp_text text, uint32_t dialect) {
     double value = 0;
-    (void)strict;
+    (void)dialect;
     fputs(lp_float_value(text.at, text.len, &value) ? "true" : "false", out);
 }
 
@@ -249,7 +249,11 @@ static struct kind { const char *word; giver *give, *again; size_t rows; } kinds
     { "fault", give_fault, NULL, 0 },
     { "as_written", NULL, NULL, 0 },
 };
-enum { KINDS = sizeof kinds / sizeof kinds[0] };
+/* The dialects, in the order of the answers of a row. */
+static const char *const NAMES[] = { "the dialect of the crate", "the strict dialect", "the newline-delimited dialect" };
+
+/* So many cells of a row are told: one more than it may have. */
+enum { KINDS = sizeof kinds / sizeof kinds[0], DIALECTS = sizeof NAMES / sizeof NAMES[0], CELLS = 2 + DIALECTS + 1 };
 
 static struct kind *kind_of(const char *word) {
     for (size_t at = 0; at < KINDS; at++)
@@ -274,43 +278,43 @@ static bool unescape(char *cell, lp_text *text) {
 
 /* Whether a call gives the answer that is wanted. The text is in a block of just its length, so that the address sanitizer sees
  * what is read past it. */
-static bool gives(giver *give, lp_text text, bool strict, lp_text wanted) {
+static bool gives(giver *give, lp_text text, uint32_t dialect, lp_text wanted) {
     uint8_t *copy = malloc(text.len > 0 ? text.len : 1);
     char *given = NULL;
     size_t len = 0;
     FILE *out = open_memstream(&given, &len);
     memcpy(copy, text.at, text.len);
-    give(out, (lp_text){ copy, text.len }, strict);
+    give(out, (lp_text){ copy, text.len }, dialect);
     fclose(out);
     if (give == give_base && wanted.len > 1 && wanted.at[1] == '<') wanted.at++, wanted.len--;
     bool is_given = len == wanted.len && memcmp(given, wanted.at, len) == 0;
-    if (!is_given) printf("%s: the library gives %s\n", strict ? "the strict dialect" : "the dialect of the crate", given);
+    if (!is_given) printf("%s: the library gives %s\n", NAMES[dialect], given);
     free(given);
     free(copy);
     return is_given;
 }
 
 /* Whether the cells of a row, of which each ends in a NUL, are as the library says. */
-static bool is_right(char **cells, size_t count, size_t *strict_answers) {
-    struct kind *kind = count == 3 || count == 4 ? kind_of(cells[0]) : NULL;
+static bool is_right(char **cells, size_t count, size_t *answers) {
+    struct kind *kind = count > 2 && count < CELLS ? kind_of(cells[0]) : NULL;
     lp_text text, wanted;
     bool is_given = kind && unescape(cells[1], &text);
     if (!is_given) return false;
     kind->rows++;
     for (size_t at = 2; at < count && kind->give; at++) {
-        bool strict = at == 3;
-        *strict_answers += strict;
-        is_given &= unescape(cells[at], &wanted) && gives(kind->give, text, strict, wanted) &&
-                    (!kind->again || gives(kind->again, text, strict, wanted));
+        uint32_t dialect = (uint32_t)at - 2;
+        answers[dialect]++;
+        is_given &= unescape(cells[at], &wanted) && gives(kind->give, text, dialect, wanted) &&
+                    (!kind->again || gives(kind->again, text, dialect, wanted));
     }
     return is_given;
 }
 
-/* Cuts a line at its tabs: how many cells it has, of which at most five are told. */
+/* Cuts a line at its tabs: how many cells it has, of which at most CELLS are told. */
 static size_t cells_of(char *line, char **cells) {
     size_t count = 0;
     line[strcspn(line, "\n")] = '\0';
-    for (char *cell = line; cell && count < 5; count++) {
+    for (char *cell = line; cell && count < CELLS; count++) {
         cells[count] = cell;
         if ((cell = strchr(cell, '\t'))) *cell++ = '\0';
     }
@@ -318,13 +322,13 @@ static size_t cells_of(char *line, char **cells) {
 }
 
 /* Compares each row, and prints the rows that are not as the library says. */
-static bool are_right(FILE *table, size_t *strict_answers) {
-    char *line = NULL, *cells[5];
+static bool are_right(FILE *table, size_t *answers) {
+    char *line = NULL, *cells[CELLS];
     size_t size = 0, number = 0;
     bool good = true;
     while (getline(&line, &size, table) >= 0) {
         number++;
-        if (line[0] == '\n' || line[0] == '#' || is_right(cells, cells_of(line, cells), strict_answers)) continue;
+        if (line[0] == '\n' || line[0] == '#' || is_right(cells, cells_of(line, cells), answers)) continue;
         printf("answers.tsv: line %zu, of the kind %s, is not as the library says\n", number, cells[0]);
         good = false;
     }
@@ -334,7 +338,7 @@ static bool are_right(FILE *table, size_t *strict_answers) {
 
 /* How many lines of the table have this word as their first cell, and at least so many cells. */
 static size_t count(FILE *table, const char *word, size_t least) {
-    char *line = NULL, *cells[5];
+    char *line = NULL, *cells[CELLS];
     size_t size = 0, lines = 0;
     rewind(table);
     while (getline(&line, &size, table) >= 0) lines += cells_of(line, cells) >= least && strcmp(cells[0], word) == 0;
@@ -357,16 +361,21 @@ static bool are_all(FILE *table, bool compared) {
 
 int main(int argc, char **argv) {
     FILE *table = argc == 2 ? fopen(argv[1], "r") : NULL;
-    size_t strict_answers = 0, wanted = 0;
+    size_t answers[DIALECTS] = { 0, 0, 0 };
     if (!table) return fputs("usage: answers TABLE\n", stderr), 2;
     lp_empty_parts(parts, PARTS);
-    bool good = are_right(table, &strict_answers);
+    bool good = are_right(table, answers);
     printf("answers.tsv: compared");
     good &= are_all(table, true);
-    printf(", and %zu answers in the strict dialect; passed over", strict_answers);
+    printf(", and %zu answers in %s and %zu in %s; passed over", answers[LP_STRICT], NAMES[LP_STRICT], answers[LP_NEWLINE_DELIMITED],
+           NAMES[LP_NEWLINE_DELIMITED]);
     good &= are_all(table, false);
     printf("\n");
-    for (size_t at = 0; at < KINDS; at++) wanted += kinds[at].give ? count(table, kinds[at].word, 4) : 0;
+    for (size_t dialect = 0; dialect < DIALECTS; dialect++) {
+        size_t wanted = 0;
+        for (size_t at = 0; at < KINDS; at++) wanted += kinds[at].give ? count(table, kinds[at].word, 3 + dialect) : 0;
+        good &= answers[dialect] == wanted;
+    }
     fclose(table);
-    return !good || strict_answers != wanted;
+    return !good;
 }

@@ -19,7 +19,7 @@ static const char *const TEXTS[] = {
 static void each_piece(FILE *file, uint8_t *buffer, size_t room, void (*take)(const uint8_t *piece, size_t len)) {
     lp_cuts cuts = LP_NO_CUTS;
     size_t held = 0, cut = 0, got; /* so many bytes of the piece that goes on are at the start of the buffer */
-    lp_cuts_begin(false, room - 1, &cuts);
+    lp_cuts_begin(LP_CRATE, room - 1, &cuts);
     while ((got = fread(buffer + held, 1, room - held, file)) > 0) {
         size_t start = 0, at = held, end = held + got;
         while (at < end) {
@@ -51,7 +51,7 @@ static bool reads_file(const char *text, size_t room) {
     size_t pieces = 0, bytes = 0;
     uint8_t *buffer = malloc(room);
     FILE *file = tmpfile();
-    if (!file || !lp_lines_begin((const uint8_t *)text, strlen(text), false, &lines)) return false;
+    if (!file || !lp_lines_begin((const uint8_t *)text, strlen(text), LP_CRATE, &lines)) return false;
     while (lp_lines_piece(&lines, &piece)) {
         pieces += piece.text.len < room;
         bytes += piece.text.len < room ? piece.text.len : 0;
@@ -67,10 +67,10 @@ static bool reads_file(const char *text, size_t room) {
 
 /* Finds the place of each cut of a text that is handed in by so many bytes at once, and gives how many there are. Each part is a
  * block of just its length, so that the address sanitizer sees what is touched past it. */
-static size_t cut_in_parts(const char *text, size_t len, size_t most, bool strict, size_t *places) {
+static size_t cut_in_parts(const char *text, size_t len, size_t most, uint32_t dialect, size_t *places) {
     lp_cuts cuts = LP_NO_CUTS;
     size_t at = 0, count = 0, cut = 0;
-    lp_cuts_begin(strict, SIZE_MAX, &cuts);
+    lp_cuts_begin(dialect, SIZE_MAX, &cuts);
     while (at < len) {
         size_t part_len = len - at < most ? len - at : most;
         uint8_t *part = malloc(part_len);
@@ -85,10 +85,10 @@ static size_t cut_in_parts(const char *text, size_t len, size_t most, bool stric
 }
 
 /* Whether a text has just these cuts. */
-static bool has_cuts(const char *text, size_t len, bool strict, const size_t *places, size_t count) {
+static bool has_cuts(const char *text, size_t len, uint32_t dialect, const size_t *places, size_t count) {
     lp_lines lines = LP_NO_LINES;
     lp_view piece = LP_NO_VIEW;
-    if (!lp_lines_begin((const uint8_t *)text, len, strict, &lines)) return false;
+    if (!lp_lines_begin((const uint8_t *)text, len, dialect, &lines)) return false;
     for (size_t n = 0; n < count; n++) {
         if (!lp_lines_piece(&lines, &piece) || piece.text.at + piece.text.len != (const uint8_t *)text + places[n]) return false;
     }
@@ -96,11 +96,11 @@ static bool has_cuts(const char *text, size_t len, bool strict, const size_t *pl
 }
 
 /* Whether parts of each length have the cuts of the whole text. */
-static bool equals_whole(const char *text, bool strict) {
+static bool equals_whole(const char *text, uint32_t dialect) {
     size_t len = strlen(text), places[32];
     for (size_t most = 1; most <= len; most++) {
-        size_t count = cut_in_parts(text, len, most, strict, places);
-        if (count == SIZE_MAX || !has_cuts(text, len, strict, places, count)) return false;
+        size_t count = cut_in_parts(text, len, most, dialect, places);
+        if (count == SIZE_MAX || !has_cuts(text, len, dialect, places, count)) return false;
     }
     return true;
 }
@@ -114,7 +114,7 @@ static bool gives(lp_cuts *cuts, const char *text, uint32_t answer, size_t at) {
 /* Whether pieces of more bytes than the limit are told, and no others. */
 static bool tells_long(void) {
     lp_cuts cuts = LP_NO_CUTS;
-    lp_cuts_begin(false, 5, &cuts);
+    lp_cuts_begin(LP_CRATE, 5, &cuts);
     return gives(&cuts, "m f=1\n", LP_PIECE, 5) && gives(&cuts, "m f=10\nn", LP_TOO_LONG, 6)
         && gives(&cuts, "m f=", LP_MORE_TEXT, 4) && gives(&cuts, "\"a\n", LP_TOO_LONG, 3) && cuts.len == 7 && gives(&cuts, "\n", LP_TOO_LONG, 1)
         && gives(&cuts, "\"\nm", LP_TOO_LONG, 1) && cuts.len == 0 && gives(&cuts, "\n", LP_PIECE, 0);
@@ -132,8 +132,8 @@ static bool is_safe_forged(void) {
     const char *text = TEXTS[sizeof TEXTS / sizeof *TEXTS - 1];
     size_t len = strlen(text);
     for (uint32_t n = 0; n < 4096; n++) {
-        lp_cuts cuts = { n & 1 ? SIZE_MAX : n, n % 5 * (SIZE_MAX / 8), n * 77777, SIZE_MAX - n, n % 4, n / 4 % 4, n / 16 & 1,
-                         n / 32 & 1 };
+        lp_cuts cuts = { n & 1 ? SIZE_MAX : n, n % 5 * (SIZE_MAX / 8), n * 77777, SIZE_MAX - n, n % 4, n / 4 % 4, n / 32 % 4,
+                         n / 16 & 1 };
         size_t at = n % len, cut = SIZE_MAX;
         uint32_t answer = lp_cuts_next(&cuts, (const uint8_t *)text + at, len - at, &cut);
         if (cut > len - at || (answer != LP_PIECE && answer != LP_MORE_TEXT && answer != LP_TOO_LONG)) return false;
@@ -145,7 +145,8 @@ int main(void) {
     size_t count = sizeof TEXTS / sizeof *TEXTS;
     for (size_t n = 0; n < count; n++) {
         bool is_read = reads_file(TEXTS[n], 1) && reads_file(TEXTS[n], 8) && reads_file(TEXTS[n], 200);
-        if (is_read && equals_whole(TEXTS[n], false) && equals_whole(TEXTS[n], true)) continue;
+        bool is_cut = equals_whole(TEXTS[n], LP_CRATE) && equals_whole(TEXTS[n], LP_STRICT) && equals_whole(TEXTS[n], LP_NEWLINE_DELIMITED);
+        if (is_read && is_cut) continue;
         printf("the parts of text %zu are not cut as the whole", n);
         return 1;
     }

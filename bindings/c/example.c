@@ -30,7 +30,7 @@ static bool print_lines(const uint8_t *text, size_t len) {
     lp_part parts[8];  /* lent for the tags and fields of a line */
     uint8_t bytes[64]; /* and for those of its texts that hold escapes, without them */
     lp_empty_parts(parts, 8);
-    if (!lp_lines_begin(text, len, false, &lines)) return false;
+    if (!lp_lines_begin(text, len, LP_CRATE, &lines)) return false;
     do {
         lp_room room = { bytes, sizeof bytes };
         answer = lp_lines_next(&lines, &room, &line, parts, 8);

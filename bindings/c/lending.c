@@ -20,14 +20,14 @@ static const char WIDE[] = MANY "\n" MANY " rest";
 static const char COPIED[] = "m f=1\nc\\ pu,h\\=ost=A\\ B s=\"\\\"q\"";
 
 /* Each lent block is of just the length that was asked for, so that the address sanitizer sees what is touched past it. */
-static struct seen read_all(const uint8_t *text, size_t len, bool strict) {
+static struct seen read_all(const uint8_t *text, size_t len, uint32_t dialect) {
     struct seen seen = { 0, 0, 0, 0, 0 };
     lp_lines lines = LP_NO_LINES;
     lp_line line = LP_EMPTY_LINE;
     size_t parts_len = 0, bytes_len = 0;
     lp_part *parts = malloc(1);
     uint8_t *bytes = malloc(1);
-    uint32_t answer = lp_lines_begin(text, len, strict, &lines) ? LP_LINE : LP_END;
+    uint32_t answer = lp_lines_begin(text, len, dialect, &lines) ? LP_LINE : LP_END;
     while (answer != LP_END) {
         lp_room room = { bytes, bytes_len };
         answer = lp_lines_next(&lines, &room, &line, parts, parts_len);
@@ -63,7 +63,7 @@ static struct seen read_blocks(const uint8_t *text, size_t len, size_t parts_len
     lp_part parts[16];
     uint8_t bytes[64];
     size_t filled = 0;
-    uint32_t answer = lp_lines_begin(text, len, false, &lines) ? LP_LINE : LP_END;
+    uint32_t answer = lp_lines_begin(text, len, LP_CRATE, &lines) ? LP_LINE : LP_END;
     lp_empty_parts(parts, 16);
     while (answer != LP_END) {
         lp_room room = { bytes, bytes_len };
@@ -85,7 +85,7 @@ static int pieces(const uint8_t *text, size_t len) {
     lp_lines lines = LP_NO_LINES;
     lp_view piece = LP_NO_VIEW;
     int count = 0;
-    if (!lp_lines_begin(text, len, false, &lines)) return -1;
+    if (!lp_lines_begin(text, len, LP_CRATE, &lines)) return -1;
     while (lp_lines_piece(&lines, &piece)) count++;
     return count;
 }
@@ -101,14 +101,16 @@ int main(void) {
     size_t len = sizeof TEXT - 1, wide_len = sizeof WIDE - 1;
     uint8_t *text = copy_of(TEXT, len), *wide_text = copy_of(WIDE, wide_len);
     lp_lines lines = LP_NO_LINES;
-    int failed = lp_version() != 30000 || lp_lines_begin((const uint8_t *)"\xff", 1, false, &lines) || pieces(text, len) != 7;
-    struct seen all = read_all(text, len, false), strict = read_all(text, len, true);
+    int failed = lp_version() != 30000 || lp_lines_begin((const uint8_t *)"\xff", 1, LP_CRATE, &lines) || pieces(text, len) != 7;
+    struct seen all = read_all(text, len, LP_CRATE), strict = read_all(text, len, LP_STRICT);
+    struct seen delimited = read_all(text, len, LP_NEWLINE_DELIMITED);
     failed |= all.lines != 2 || all.faults != 3 || all.others || all.more_parts != 1 || all.more_room < 2;
     failed |= strict.lines != 2 || strict.faults != 3 || strict.others;
+    failed |= delimited.lines != 2 || delimited.faults != 3 || delimited.others;
     struct seen wide = read_blocks(text, len, 8, 64), narrow = read_blocks(text, len, 4, 20);
     failed |= wide.lines != 2 || wide.faults != 3 || wide.others || wide.more_parts || wide.more_room;
     failed |= narrow.lines != 2 || narrow.faults != 3 || narrow.others || narrow.more_parts + narrow.more_room == 0;
-    struct seen more = read_all(wide_text, wide_len, false);
+    struct seen more = read_all(wide_text, wide_len, LP_CRATE);
     failed |= more.lines != 1 || more.faults != 1 || more.others;
     struct seen blocks = read_blocks(wide_text, wide_len, 16, 64);
     struct seen copies = read_blocks((const uint8_t *)COPIED, sizeof COPIED - 1, 16, 64);

@@ -136,7 +136,7 @@ static bool reads_next(const struct text *text, const struct shape *shape, struc
     const size_t copied = has_copies(shape) ? (1 + 2 * shape->tags + shape->fields + (shape->fields + 1) / 2) * shape->bytes : 0;
     lp_lines lines = LP_NO_LINES;
     lp_line *line = &lent->rows[0].line;
-    bool good = must(lp_lines_begin(text->at, text->len, false, &lines), "lp_lines_begin", shape);
+    bool good = must(lp_lines_begin(text->at, text->len, LP_CRATE, &lines), "lp_lines_begin", shape);
     lp_room room = { lent->bytes, 0 };
     good &= must(lp_lines_next(&lines, &room, line, lent->parts, 0) == LP_MORE_PARTS, "LP_MORE_PARTS", shape);
     good &= must(line->tags + line->fields == parts_len && line->copied_len == copied, "how much a line takes", shape);
@@ -157,7 +157,7 @@ static bool reads_block(const struct text *twice, const struct shape *shape, str
     lp_lines lines = LP_NO_LINES;
     size_t filled = 77;
     lp_room room = { lent->bytes, 2 * copied };
-    bool good = must(lp_lines_begin(twice->at, twice->len, true, &lines), "lp_lines_begin", shape);
+    bool good = must(lp_lines_begin(twice->at, twice->len, LP_STRICT, &lines), "lp_lines_begin", shape);
     good &= must(lp_lines_block(&lines, &room, lent->rows, 2, lent->parts, 2 * parts_len, &filled) == LP_LINE, "lp_lines_block", shape);
     good &= must(filled == 2 && lent->rows[1].parts_at == parts_len && room.len == 0, "what a block takes", shape);
     good &= must(shows_line(&lent->rows[0].line, lent->parts, shape), "the first row", shape);
@@ -175,7 +175,7 @@ static bool reads_fault(const struct shape *shape) {
     lp_empty_parts(&part, 1);
     put(&text, "m f=t ", 6);
     put(&text, name_of(shape, 'm', 0), shape->bytes);
-    bool good = must(lp_lines_begin(text.at, text.len, false, &lines), "lp_lines_begin", shape);
+    bool good = must(lp_lines_begin(text.at, text.len, LP_CRATE, &lines), "lp_lines_begin", shape);
     good &= must(lp_lines_next(&lines, &room, &line, &part, 1) == LP_MORE_ROOM, "a fault without room", shape);
     room.len = shape->bytes + 1;
     good &= must(lp_lines_next(&lines, &room, &line, &part, 1) == LP_FAULT, "a fault", shape);
@@ -244,7 +244,7 @@ static bool is_refused(const lp_line *line, const lp_part *parts, size_t parts_l
     bool admitted = true;
     size_t len = 77;
     uint8_t out = '~';
-    bool good = lp_line_is_admitted(line, parts, parts_len, &admitted) == LP_WRITTEN && !admitted;
+    bool good = lp_line_is_admitted(LP_CRATE, line, parts, parts_len, &admitted) == LP_WRITTEN && !admitted;
     return good && write_line(line, parts, parts_len, &out, 1, &len) == LP_NOT_ADMITTED && len == 77 && out == '~';
 }
 
@@ -255,7 +255,7 @@ static bool is_admitted_but_with(const struct shape *shape, struct lent *lent, l
     const size_t parts_len = shape->tags + shape->fields;
     const lp_view good = *place;
     bool admitted = false;
-    bool answered = lp_line_is_admitted(line, lent->parts, parts_len, &admitted) == LP_WRITTEN;
+    bool answered = lp_line_is_admitted(LP_CRATE, line, lent->parts, parts_len, &admitted) == LP_WRITTEN;
     *place = bad;
     answered &= is_refused(line, lent->parts, parts_len);
     *place = good;
@@ -324,9 +324,9 @@ static bool rebuilds(size_t items) {
     lp_counts counts = { 77, 77, 77, 77 };
     put_items(items, &text, &batch, &faults);
     uint8_t *out = lend(NULL, batch.len), *err = lend(NULL, faults.len);
-    bool good = lp_rebuild(false, text.at, text.len, out, batch.len, err, faults.len - 1, &counts) == LP_MORE_ROOM;
+    bool good = lp_rebuild(LP_CRATE, text.at, text.len, out, batch.len, err, faults.len - 1, &counts) == LP_MORE_ROOM;
     good &= counts.batch_len == batch.len && counts.faults_len == faults.len;
-    good &= lp_rebuild(true, text.at, text.len, out, batch.len, err, faults.len, &counts) == LP_WRITTEN;
+    good &= lp_rebuild(LP_STRICT, text.at, text.len, out, batch.len, err, faults.len, &counts) == LP_WRITTEN;
     good &= counts.batch_len == batch.len && memcmp(out, batch.at, batch.len) == 0 && counts.carried == items / 2;
     good &= counts.faults_len == faults.len && memcmp(err, faults.at, faults.len) == 0 && counts.refused == items / 2;
     if (!good) fprintf(stderr, "sizes: lp_rebuild of %zu items in %zu bytes is wrong\n", items, text.len);
@@ -342,7 +342,7 @@ static void call_next(const uint8_t *text, size_t len) {
     lp_line line = LP_EMPTY_LINE;
     lp_part part = LP_EMPTY_PART;
     lp_room room = { (uint8_t *)&part, 0 };
-    lp_lines_begin(text, len, false, &lines);
+    lp_lines_begin(text, len, LP_CRATE, &lines);
     for (items = 0; lp_lines_next(&lines, &room, &line, &part, 1) == LP_LINE;) items++;
 }
 
@@ -353,21 +353,21 @@ static void call_block(const uint8_t *text, size_t len) {
     lp_room room = { (uint8_t *)parts, 0 };
     size_t filled = 4;
     lp_empty_parts(parts, 4);
-    lp_lines_begin(text, len, false, &lines);
+    lp_lines_begin(text, len, LP_CRATE, &lines);
     for (items = 0; filled == 4; items += filled) lp_lines_block(&lines, &room, rows, 4, parts, 4, &filled);
 }
 
 static void call_piece(const uint8_t *text, size_t len) {
     lp_lines lines = LP_NO_LINES;
     lp_view piece;
-    lp_lines_begin(text, len, false, &lines);
+    lp_lines_begin(text, len, LP_CRATE, &lines);
     for (items = 0; lp_lines_piece(&lines, &piece);) items += piece.text.len > 0;
 }
 
 static void call_cuts(const uint8_t *text, size_t len) {
     lp_cuts cuts;
     size_t at = 0, cut;
-    lp_cuts_begin(false, SIZE_MAX, &cuts);
+    lp_cuts_begin(LP_CRATE, SIZE_MAX, &cuts);
     for (items = 0; lp_cuts_next(&cuts, text + at, len - at, &cut) == LP_PIECE; at += cut + 1) items++;
 }
 

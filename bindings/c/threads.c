@@ -46,7 +46,7 @@ static bool run(struct outcome *out) {
     uint32_t answer = LP_LINE;
     memset(out, 0, sizeof *out);
     lp_empty_parts(parts, 16);
-    bool good = lp_lines_begin(text, len, false, &lines);
+    bool good = lp_lines_begin(text, len, LP_CRATE, &lines);
     while (good && answer != LP_END) {
         lp_room room = { bytes, sizeof bytes };
         size_t filled = 0;
@@ -56,7 +56,7 @@ static bool run(struct outcome *out) {
             if (rows[at].answer == LP_LINE) good &= put_line(out, &rows[at].line, parts + rows[at].parts_at);
         }
     }
-    return good && lp_rebuild(false, text, len, out->batch, OUT, out->faults, OUT, &out->counts) == LP_WRITTEN;
+    return good && lp_rebuild(LP_CRATE, text, len, out->batch, OUT, out->faults, OUT, &out->counts) == LP_WRITTEN;
 }
 
 static struct outcome alone;

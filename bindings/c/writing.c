@@ -67,7 +67,7 @@ static long refused(writer *write, size_t len, bool *good) {
 static bool is_tested(void) {
     uint8_t out[64];
     size_t told = 5;
-    bool admitted = false, good = lp_line_is_admitted(&LINE, PARTS, 7, &admitted) == LP_WRITTEN && admitted;
+    bool admitted = false, good = lp_line_is_admitted(LP_CRATE, &LINE, PARTS, 7, &admitted) == LP_WRITTEN && admitted;
     lp_line line = LINE;
     line.fields = 0;
     good &= lp_line_write(LP_CRATE, &line, PARTS, 7, out, sizeof out, &told) == LP_NOT_A_LINE && told == 5;
@@ -81,10 +81,11 @@ static bool is_tested(void) {
     line.measurement.text = (lp_text){ (const uint8_t *)"\xff", 1 };
     good &= lp_line_write(LP_CRATE, &line, PARTS, 7, out, sizeof out, &told) == LP_NOT_A_LINE;
     line.measurement.text = (lp_text){ (const uint8_t *)"a\\", 2 };
-    return good && lp_line_is_admitted(&line, PARTS, 7, &admitted) == LP_WRITTEN && !admitted;
+    return good && lp_line_is_admitted(LP_CRATE, &line, PARTS, 7, &admitted) == LP_WRITTEN && !admitted;
 }
 
-/* The places of the texts of LINE that are tried, and whether each of these texts may stand there, by docs/FORMAT.md. */
+/* The places of the texts of LINE that are tried, and whether each of these texts may stand there, by docs/FORMAT.md; but where each
+ * newline ends a line, no string may hold one. */
 enum place { MEASUREMENT, TAG_KEY, TAG_VALUE, FIELD_KEY, STRING, PLACES };
 
 static const struct { lp_text text; bool may_stand[PLACES]; } TRIED[] = {
@@ -104,14 +105,14 @@ static lp_text *text_in(enum place place, lp_line *line, lp_part *parts) {
 }
 
 /* Whether what was written is read as a line with the text in this place, and the text after it as if it stood alone. */
-static bool reads_back(bool strict, enum place place, lp_text text, const uint8_t *written, size_t len) {
+static bool reads_back(uint32_t dialect, enum place place, lp_text text, const uint8_t *written, size_t len) {
     lp_lines lines = LP_NO_LINES;
     lp_line line = LP_EMPTY_LINE;
     lp_part parts[7];
     uint8_t bytes[64];
     lp_room room = { bytes, sizeof bytes };
     lp_empty_parts(parts, 7);
-    bool good = lp_lines_begin(written, len, strict, &lines);
+    bool good = lp_lines_begin(written, len, dialect, &lines);
     good = good && lp_lines_next(&lines, &room, &line, parts, 7) == LP_LINE && line.tags == 2 && line.fields == 5;
     const lp_text read = *text_in(place, &line, parts);
     good = good && read.len == text.len && memcmp(read.at, text.at, text.len) == 0;
@@ -129,22 +130,27 @@ static bool is_as_told(uint32_t dialect, enum place place, lp_text text, bool ma
     memcpy(parts, PARTS, sizeof PARTS);
     memset(out, '~', sizeof out);
     *text_in(place, &line, parts) = text;
-    bool admitted = !may_stand, good = lp_line_is_admitted(&line, parts, 7, &admitted) == LP_WRITTEN && admitted == may_stand;
+    bool admitted = !may_stand;
+    bool good = lp_line_is_admitted(dialect, &line, parts, 7, &admitted) == LP_WRITTEN && admitted == may_stand;
     if (!may_stand) good &= lp_line_write(dialect, &line, parts, 7, out, 0, &told) == LP_NOT_ADMITTED && told == 77;
     good &= lp_line_write(dialect, &line, parts, 7, out, sizeof out, &told) == (may_stand ? LP_WRITTEN : LP_NOT_ADMITTED);
     const size_t put = may_stand ? told : 0;
     for (size_t at = put; at < sizeof out; at++) good &= out[at] == '~';
     if (!may_stand) return good && told == 77;
     memcpy(out + put, "n g=t", 5);
-    return good && reads_back(dialect == LP_STRICT, place, text, out, put + 5);
+    return good && reads_back(dialect, place, text, out, put + 5);
 }
 
 static bool are_as_told(void) {
     bool good = true;
     for (size_t at = 0; at < sizeof TRIED / sizeof *TRIED; at++) {
+        const lp_text text = TRIED[at].text;
+        const bool has_newline = memchr(text.at, '\n', text.len) != NULL;
         for (int place = 0; place < PLACES; place++) {
-            good &= is_as_told(LP_CRATE, (enum place)place, TRIED[at].text, TRIED[at].may_stand[place]);
-            good &= is_as_told(LP_STRICT, (enum place)place, TRIED[at].text, TRIED[at].may_stand[place]);
+            const bool may_stand = TRIED[at].may_stand[place];
+            good &= is_as_told(LP_CRATE, (enum place)place, text, may_stand);
+            good &= is_as_told(LP_STRICT, (enum place)place, text, may_stand);
+            good &= is_as_told(LP_NEWLINE_DELIMITED, (enum place)place, text, may_stand && !has_newline);
         }
     }
     return good;
@@ -176,19 +182,37 @@ static bool are_logins(void) {
     return good && write_login("guest\npayments", out, sizeof out) == 0 && memcmp(out, wanted, sizeof wanted - 1) == 0;
 }
 
-/* No dialect has these numbers: whatever is handed in, the buffer and the length are as they were. */
-static bool are_no_dialects(void) {
-    static const uint32_t numbers[] = { LP_STRICT + 1, 0x100, 0x10000, 0x80000000, UINT32_MAX };
+/* Whether each call refuses a dialect of this number, and leaves what it was handed as it was. */
+static bool is_no_dialect(uint32_t number) {
+    static const char text[] = "m f=1i\n";
+    static const lp_lines no_lines = LP_NO_LINES;
+    static const lp_cuts no_cuts = LP_NO_CUTS;
+    static const lp_counts counted = { 1, 2, 3, 4 };
     const lp_line none = LP_EMPTY_LINE;
+    const uint8_t *at = (const uint8_t *)text;
+    uint8_t out[96];
+    lp_lines lines = no_lines;
+    lp_cuts cuts = no_cuts;
+    lp_counts counts = counted;
+    size_t told = 77;
+    bool admitted = true;
+    memset(out, '~', sizeof out);
+    bool good = lp_line_write(number, &LINE, PARTS, 7, out, sizeof out, &told) == LP_NOT_A_DIALECT;
+    good &= lp_line_write(number, &none, PARTS, 7, out, sizeof out, &told) == LP_NOT_A_DIALECT && told == 77;
+    good &= lp_line_is_admitted(number, &none, PARTS, 7, &admitted) == LP_NOT_A_DIALECT && admitted;
+    good &= lp_rebuild(number, at, sizeof text - 1, out, 48, out + 48, 48, &counts) == LP_NOT_A_DIALECT;
+    good &= lp_rebuild(number, (const uint8_t *)"\xff", 1, out, 48, out + 48, 48, &counts) == LP_NOT_A_DIALECT;
+    good &= memcmp(&counts, &counted, sizeof counts) == 0;
+    good &= !lp_lines_begin(at, sizeof text - 1, number, &lines) && lines.rest.at == no_lines.rest.at && lines.ended;
+    good &= !lp_cuts_begin(number, 5, &cuts) && memcmp(&cuts, &no_cuts, offsetof(lp_cuts, escaped)) == 0;
+    for (size_t byte = 0; byte < sizeof out; byte++) good &= out[byte] == '~';
+    return good;
+}
+
+static bool are_no_dialects(void) {
+    static const uint32_t numbers[] = { LP_NEWLINE_DELIMITED + 1, 0x100, 0x10000, 0x80000000, UINT32_MAX };
     bool good = true;
-    for (size_t number = 0; number < sizeof numbers / sizeof *numbers; number++) {
-        uint8_t out[96];
-        size_t told = 77;
-        memset(out, '~', sizeof out);
-        good &= lp_line_write(numbers[number], &LINE, PARTS, 7, out, sizeof out, &told) == LP_NOT_A_DIALECT;
-        good &= lp_line_write(numbers[number], &none, PARTS, 7, out, sizeof out, &told) == LP_NOT_A_DIALECT && told == 77;
-        for (size_t at = 0; at < sizeof out; at++) good &= out[at] == '~';
-    }
+    for (size_t at = 0; at < sizeof numbers / sizeof *numbers; at++) good &= is_no_dialect(numbers[at]);
     return good;
 }
 
@@ -202,7 +226,7 @@ static bool has_base(const char *text, bool wanted, const char *base) {
     size_t len = 0;
     bool safe = !wanted;
     lp_empty_parts(parts, 10);
-    bool good = lp_lines_begin((const uint8_t *)text, strlen(text), false, &lines);
+    bool good = lp_lines_begin((const uint8_t *)text, strlen(text), LP_CRATE, &lines);
     good = good && lp_lines_next(&lines, &room, &line, parts, 10) == LP_LINE;
     good = good && lp_line_is_base_safe(&line, parts, 10, &safe) == LP_WRITTEN && safe == wanted;
     return good && lp_line_base(&line, parts, 10, out, sizeof out, &len) == LP_WRITTEN && len == strlen(base) &&
@@ -239,11 +263,11 @@ static bool is_nothing_told(void) {
     lp_requests = 0, lp_refused = 0;
     good &= lp_line_is_base_safe(&line, parts, 10, &told) == LP_OUT_OF_MEMORY && told;
     lp_requests = 0;
-    good &= lp_line_is_admitted(&line, parts, 10, &told) == LP_OUT_OF_MEMORY && told;
+    good &= lp_line_is_admitted(LP_CRATE, &line, parts, 10, &told) == LP_OUT_OF_MEMORY && told;
     lp_refused = -1;
     line.tags = 10;
     good &= lp_line_is_base_safe(&line, parts, 10, &told) == LP_NOT_A_LINE && told;
-    return good & (lp_line_is_admitted(&line, parts, 10, &told) == LP_NOT_A_LINE) & told;
+    return good & (lp_line_is_admitted(LP_CRATE, &line, parts, 10, &told) == LP_NOT_A_LINE) & told;
 }
 
 static uint32_t message(const lp_line *line, const lp_part *parts, size_t parts_len, uint8_t *out, size_t room, size_t *len) {
@@ -306,7 +330,7 @@ static bool are_empty(void) {
     good &= lp_empty_line.fault == LP_NONE && lp_empty_line.side == LP_NEITHER && !lp_empty_line.has_timestamp;
     good &= lp_empty_row.parts_at == 0 && lp_empty_row.answer == LP_END && lp_empty_row.line.series.at != NULL;
     good &= lp_empty_part.kind == LP_TAG && lp_empty_part.key.text.at && lp_empty_part.text.text.len == 0 && !lp_empty_part.boolean;
-    return good && lp_no_lines.ended == lines.ended && lp_no_lines.rest.len == 0 && lp_no_lines.strict == lines.strict;
+    return good && lp_no_lines.ended == lines.ended && lp_no_lines.rest.len == 0 && lp_no_lines.dialect == lines.dialect;
 }
 
 /* The second item has no field. */
@@ -315,12 +339,15 @@ static bool is_rebuilt(void) {
     static const char faulty[] = "item 2: No fields were provided\n";
     uint8_t batch[64], faults[64];
     lp_counts counts = { 0, 0, 0, 0 };
-    bool good = lp_rebuild(false, (const uint8_t *)text, sizeof text - 1, batch, 5, faults, 64, &counts) == LP_MORE_ROOM;
+    bool good = lp_rebuild(LP_CRATE, (const uint8_t *)text, sizeof text - 1, batch, 5, faults, 64, &counts) == LP_MORE_ROOM;
     good &= counts.batch_len == sizeof carried - 1 && counts.faults_len == sizeof faulty - 1;
-    good &= lp_rebuild(true, (const uint8_t *)text, sizeof text - 1, batch, 64, faults, 64, &counts) == LP_WRITTEN;
+    good &= lp_rebuild(LP_STRICT, (const uint8_t *)text, sizeof text - 1, batch, 64, faults, 64, &counts) == LP_WRITTEN;
     good &= counts.carried == 2 && counts.refused == 1 && memcmp(batch, carried, counts.batch_len) == 0;
     good &= memcmp(faults, faulty, counts.faults_len) == 0;
-    return good && lp_rebuild(false, (const uint8_t *)"\xff", 1, batch, 64, faults, 64, &counts) == LP_NOT_UTF8;
+    static const char open[] = "m f=\"a\nb,x=y  g=t";
+    good &= lp_rebuild(LP_NEWLINE_DELIMITED, (const uint8_t *)open, sizeof open - 1, batch, 64, faults, 64, &counts) == LP_WRITTEN;
+    good &= counts.carried == 1 && counts.refused == 1 && memcmp(batch, "b,x=y g=true\n", counts.batch_len) == 0;
+    return good && lp_rebuild(LP_CRATE, (const uint8_t *)"\xff", 1, batch, 64, faults, 64, &counts) == LP_NOT_UTF8;
 }
 
 int main(void) {

@@ -4,18 +4,18 @@
  * no longer needed. The pieces of a text are parts of it. */
 #include "fast.h"
 
-/* whole(text, strict): how many bytes the pieces take that a newline ends, or None if the text is no UTF-8. */
+/* whole(text, dialect): how many bytes the pieces take that a newline ends, or None if the text is no UTF-8. */
 PyObject *fast_whole(PyObject *module, PyObject *args) {
     PyObject *bytes;
-    int strict;
+    unsigned int dialect;
     size_t last_len = 0;
     (void)module;
-    if (!PyArg_ParseTuple(args, "Sp", &bytes, &strict)) return NULL;
+    if (!PyArg_ParseTuple(args, "SI", &bytes, &dialect)) return NULL;
     const lp_text text = text_of(bytes);
     lp_lines lines = LP_NO_LINES;
     lp_view piece = LP_NO_VIEW;
     PyThreadState *state = let_go(text.len);
-    const bool is_utf8 = lp_lines_begin(text.at, text.len, strict, &lines);
+    const bool is_utf8 = lp_lines_begin(text.at, text.len, dialect, &lines);
     while (is_utf8 && lp_lines_piece(&lines, &piece)) last_len = piece.text.len;
     take_back(state);
     if (is_utf8) return PyLong_FromSize_t(text.len - last_len);
@@ -25,22 +25,22 @@ PyObject *fast_whole(PyObject *module, PyObject *args) {
 /* Whether bytes are UTF-8. */
 static bool is_utf8(const uint8_t *at, size_t len) {
     lp_lines lines = LP_NO_LINES;
-    return lp_lines_begin(at, len, false, &lines);
+    return lp_lines_begin(at, len, LP_CRATE, &lines);
 }
 
-/* outliers(bytes, text, strict, limit): start, end and whether it is too long of each piece that has more bytes than the limit, or that
+/* outliers(bytes, text, dialect, limit): start, end and whether it is too long of each piece that has more bytes than the limit, or that
  * is no UTF-8. `text` has the pieces of `bytes`, and is UTF-8. */
 PyObject *fast_outliers(PyObject *module, PyObject *args) {
     PyObject *bytes, *text;
-    int strict;
+    unsigned int dialect;
     Py_ssize_t limit;
     (void)module;
-    if (!PyArg_ParseTuple(args, "SSpn", &bytes, &text, &strict, &limit)) return NULL;
+    if (!PyArg_ParseTuple(args, "SSIn", &bytes, &text, &dialect, &limit)) return NULL;
     const lp_text given_bytes = text_of(bytes), pieces = text_of(text);
     lp_lines lines = LP_NO_LINES;
     lp_view piece = LP_NO_VIEW;
     PyObject *found = PyList_New(0);
-    if (!found || given_bytes.len != pieces.len || !lp_lines_begin(pieces.at, pieces.len, strict, &lines)) return found;
+    if (!found || given_bytes.len != pieces.len || !lp_lines_begin(pieces.at, pieces.len, dialect, &lines)) return found;
     while (lp_lines_piece(&lines, &piece)) {
         const size_t start = (size_t)(piece.text.at - pieces.at), len = piece.text.len;
         const bool is_long = len > (size_t)limit;
@@ -56,17 +56,17 @@ PyObject *fast_outliers(PyObject *module, PyObject *args) {
     return found;
 }
 
-/* skip(bytes, state, strict): goes on with a piece, of which the state says what came before. Gives where the newline is that ends it,
+/* skip(bytes, state, dialect): goes on with a piece, of which the state says what came before. Gives where the newline is that ends it,
  * or -1, and its new state, which are the members of an lp_cuts that the library looks at. It begins with (0, 0, 0, 0, 0, False). */
 PyObject *fast_skip(PyObject *module, PyObject *args) {
     PyObject *bytes;
     unsigned long long len, equals, commas;
-    unsigned int begins, part;
-    int escaped, strict;
+    unsigned int begins, part, dialect;
+    int escaped;
     size_t cut = 0;
     (void)module;
-    if (!PyArg_ParseTuple(args, "S(KKKIIp)p", &bytes, &len, &equals, &commas, &begins, &part, &escaped, &strict)) return NULL;
-    lp_cuts cuts = { SIZE_MAX, (size_t)len, (size_t)equals, (size_t)commas, begins, part, escaped, strict };
+    if (!PyArg_ParseTuple(args, "S(KKKIIp)I", &bytes, &len, &equals, &commas, &begins, &part, &escaped, &dialect)) return NULL;
+    lp_cuts cuts = { SIZE_MAX, (size_t)len, (size_t)equals, (size_t)commas, begins, part, dialect, escaped };
     const lp_text text = text_of(bytes);
     PyThreadState *state = let_go(text.len);
     const bool ends = lp_cuts_next(&cuts, text.at, text.len, &cut) == LP_PIECE;
@@ -141,19 +141,19 @@ static bool walk_all(Walk *walk, PyObject *blocks) {
     return !PyErr_Occurred();
 }
 
-/* part_ends(blocks, size, count, strict): where so many parts end, of bytes of this size that come in blocks. */
+/* part_ends(blocks, size, count, dialect): where so many parts end, of bytes of this size that come in blocks. */
 PyObject *fast_part_ends(PyObject *module, PyObject *args) {
     PyObject *blocks, *ends = NULL;
     Py_ssize_t size, count;
-    int strict;
+    unsigned int dialect;
     (void)module;
-    if (!PyArg_ParseTuple(args, "Onnp", &blocks, &size, &count, &strict)) return NULL;
+    if (!PyArg_ParseTuple(args, "OnnI", &blocks, &size, &count, &dialect)) return NULL;
     if (!PyIter_Check(blocks) || size < 0 || count < 1) {
         PyErr_SetString(PyExc_TypeError, "blocks come from an iterator, and are cut into one part at least");
         return NULL;
     }
     Walk walk = { LP_NO_CUTS, 0, 0, (uint64_t)size, (uint64_t)count, 0, NULL, 0 };
-    lp_cuts_begin(strict, SIZE_MAX, &walk.cuts);
+    lp_cuts_begin(dialect, SIZE_MAX, &walk.cuts);
     walk.ends = (size_t)count > PY_SSIZE_T_MAX / sizeof *walk.ends ? NULL : PyMem_Malloc((size_t)count * sizeof *walk.ends);
     if (!walk.ends) return PyErr_NoMemory();
     if (walk_all(&walk, blocks)) ends = told_ends(&walk);

@@ -22,7 +22,7 @@
 /* What `setup` hands in. */
 struct given {
     PyObject *line, *fault, *unsigned_type, *float_text, *new_int, *kinds, *sides, *duplicate_tag;
-    PyObject *plain_value, *plain_timestamp, *refuse, *refuse_names;
+    PyObject *plain_value, *plain_timestamp, *refuse, *refuse_texts;
 };
 extern struct given given;
 
@@ -58,8 +58,8 @@ typedef struct {
     size_t rows_len, parts_len, room_len, filled, at, walked;
     const uint8_t *counted;              /* up to here the newlines of the segment are counted */
     unsigned long long items, line, offset; /* how many items came; the line number at `counted`; and the bytes before the segment */
-    uint32_t answer;
-    bool strict, by_pieces, is_busy;
+    uint32_t answer, dialect;
+    bool by_pieces, is_busy;
 } Reader;
 
 /* Memory of so many elements of this size, which is all 0: PyMem_Calloc, which the headers of Python 3.8 do not show. */
@@ -149,14 +149,11 @@ bool put_timestamp(Handed *handed, PyObject *timestamp);
 
 /* What calls put out: one text after another. */
 typedef struct { uint8_t *at; size_t len, room; } Out;
-typedef uint32_t PutsOut(const lp_line *, const lp_part *, size_t, uint8_t *, size_t, size_t *);
+typedef uint32_t PutsOut(uint32_t dialect, const lp_line *, const lp_part *, size_t, uint8_t *, size_t, size_t *);
 
-/* lp_line_write in a dialect. */
-PutsOut *writer_of(bool strict);
-
-/* Appends what a call puts out for the line that was handed in, and gives its answer; 0 after an error, which is NotAdmitted if a name
- * of the line is not admitted. */
-uint32_t put_out(PutsOut *call, const Handed *handed, Out *out);
+/* Appends what a call puts out for the line that was handed in, and gives its answer; 0 after an error, which is NotAdmitted if the line
+ * is not admitted in the dialect. */
+uint32_t put_out(PutsOut *call, uint32_t dialect, const Handed *handed, Out *out);
 
 /* Makes a str of all that was put out, where there was no error, and frees it. */
 PyObject *str_of_out(Out *out, bool is_written);
@@ -178,6 +175,6 @@ PyObject *fast_write_many(PyObject *module, PyObject *args);
 PyObject *fast_show(PyObject *module, PyObject *line);
 PyObject *fast_base(PyObject *module, PyObject *line);
 PyObject *fast_is_base_safe(PyObject *module, PyObject *line);
-PyObject *fast_is_admitted(PyObject *module, PyObject *line);
+PyObject *fast_is_admitted(PyObject *module, PyObject *args);
 PyObject *fast_rebuild(PyObject *module, PyObject *args);
 #endif

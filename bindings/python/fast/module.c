@@ -108,7 +108,7 @@ static PyObject *fast_version(PyObject *module, PyObject *nothing) {
 static PyObject *fast_setup(PyObject *module, PyObject *args) {
     (void)module;
     PyObject **all[] = { &given.line, &given.fault, &given.unsigned_type, &given.float_text, &given.new_int, &given.kinds, &given.sides,
-                         &given.duplicate_tag, &given.plain_value, &given.plain_timestamp, &given.refuse, &given.refuse_names };
+                         &given.duplicate_tag, &given.plain_value, &given.plain_timestamp, &given.refuse, &given.refuse_texts };
     const Py_ssize_t count = (Py_ssize_t)(sizeof all / sizeof *all);
     PyObject *line = PyTuple_Size(args) == count ? PyTuple_GetItem(args, 0) : Py_None;
     if (!PyType_Check(line) || !PyType_IsSubtype((PyTypeObject *)line, line_base)) {
@@ -131,7 +131,7 @@ static PyMethodDef functions[] = {
     { "part_ends", fast_part_ends, METH_VARARGS, NULL },
     { "write", fast_write, METH_VARARGS, NULL }, { "write_many", fast_write_many, METH_VARARGS, NULL }, { "show", fast_show, METH_O, NULL },
     { "base", fast_base, METH_O, NULL }, { "is_base_safe", fast_is_base_safe, METH_O, NULL },
-    { "is_admitted", fast_is_admitted, METH_O, NULL }, { "rebuild", fast_rebuild, METH_VARARGS, NULL },
+    { "is_admitted", fast_is_admitted, METH_VARARGS, NULL }, { "rebuild", fast_rebuild, METH_VARARGS, NULL },
     { "version", fast_version, METH_NOARGS, NULL }, { "setup", fast_setup, METH_VARARGS, NULL }, { NULL, NULL, 0, NULL } };
 static struct PyModuleDef definition = {
     PyModuleDef_HEAD_INIT, "line_protocol._fast", "The library, as the package line_protocol calls it.", -1, functions, NULL, NULL, NULL,

@@ -267,7 +267,7 @@ static bool begin(Reader *reader, PyObject *segment) {
     const lp_text text = text_of(segment);
     lp_lines lines = LP_NO_LINES;
     PyThreadState *state = let_go(text.len);
-    const bool is_utf8 = lp_lines_begin(text.at, text.len, reader->strict, &lines);
+    const bool is_utf8 = lp_lines_begin(text.at, text.len, reader->dialect, &lines);
     take_back(state);
     if (!is_utf8) {
         set_decode_error(text);
@@ -436,12 +436,13 @@ static PyType_Slot reader_slots[] = {
 PyType_Spec reader_spec = {
     "line_protocol._fast.Reader", sizeof(Reader), 0, Py_TPFLAGS_DEFAULT | Py_TPFLAGS_HAVE_GC, reader_slots };
 
-/* read(text, segments, strict, by_pieces): what is left of a text, and of the segments after it, where these are not None. */
+/* read(text, segments, dialect, by_pieces): what is left of a text, and of the segments after it, where these are not None. */
 PyObject *fast_read(PyObject *module, PyObject *args) {
     PyObject *text, *segments;
-    int strict, by_pieces;
+    unsigned int dialect;
+    int by_pieces;
     (void)module;
-    if (!PyArg_ParseTuple(args, "OOpp", &text, &segments, &strict, &by_pieces)) return NULL;
+    if (!PyArg_ParseTuple(args, "OOIp", &text, &segments, &dialect, &by_pieces)) return NULL;
     if (segments != Py_None && !PyIter_Check(segments)) {
         PyErr_SetString(PyExc_TypeError, "segments come from an iterator");
         return NULL;
@@ -450,7 +451,7 @@ PyObject *fast_read(PyObject *module, PyObject *args) {
     Reader *reader = bytes ? (Reader *)PyType_GenericAlloc(reader_type, 0) : NULL;
     bool is_begun = false;
     if (reader) {
-        reader->strict = strict;
+        reader->dialect = dialect;
         reader->by_pieces = by_pieces;
         reader->line = 1;
         is_begun = begin(reader, bytes);

@@ -25,7 +25,7 @@ typedef struct {
     size_t columns_len, rows, row;
     PyObject *measurement, *name; /* `name` has the bytes of the measurement */
     Handed handed;
-    PutsOut *write;
+    uint32_t dialect;
     Out out;
     Text *texts;
 } Rows;
@@ -125,7 +125,7 @@ static bool put_row(Rows *rows) {
     lp_line *line = &rows->handed.line;
     line->has_tag_set = line->tags > 0;
     line->fields = rows->handed.parts_len - line->tags;
-    return line->fields == 0 || put_out(rows->write, &rows->handed, &rows->out) == LP_WRITTEN;
+    return line->fields == 0 || put_out(lp_line_write, rows->dialect, &rows->handed, &rows->out) == LP_WRITTEN;
 }
 
 /* The bytes of a name, which must be a str. */
@@ -222,14 +222,14 @@ static bool put_table(Rows *rows, PyObject *told, PyObject *refused) {
     return is_put;
 }
 
-/* write_columns(tables, strict, refused): the lines of the rows of tables. The row that is refused is appended to a list. */
+/* write_columns(tables, dialect, refused): the lines of the rows of tables. The row that is refused is appended to a list. */
 PyObject *fast_write_columns(PyObject *module, PyObject *args) {
     PyObject *tables, *refused, *table;
     Rows rows = { 0 };
-    int strict;
+    unsigned int dialect;
     (void)module;
-    if (!PyArg_ParseTuple(args, "OpO!", &tables, &strict, &PyList_Type, &refused) || !(tables = PyObject_GetIter(tables))) return NULL;
-    rows.write = writer_of(strict);
+    if (!PyArg_ParseTuple(args, "OIO!", &tables, &dialect, &PyList_Type, &refused) || !(tables = PyObject_GetIter(tables))) return NULL;
+    rows.dialect = dialect;
     bool is_put = (rows.texts = zeroed(TEXTS, sizeof *rows.texts)) != NULL;
     if (!is_put) PyErr_NoMemory();
     while (is_put && (table = PyIter_Next(tables)) != NULL) {

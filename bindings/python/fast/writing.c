@@ -257,38 +257,32 @@ static bool set_answer_error(uint32_t answer) {
     return false;
 }
 
-/* Appends a name to a list. */
-static bool add_name(PyObject *names, lp_text name) {
-    PyObject *text = str_of(name);
-    const bool is_added = text && PyList_Append(names, text) == 0;
-    Py_XDECREF(text);
+/* Appends a text to a list. */
+static bool add_text(PyObject *texts, lp_text text) {
+    PyObject *str = str_of(text);
+    const bool is_added = str && PyList_Append(texts, str) == 0;
+    Py_XDECREF(str);
     return is_added;
 }
 
-/* Raises NotAdmitted: a function of checking.py finds which name of the line it is. */
-static bool refuse_names(const Handed *handed) {
-    PyObject *names = PyList_New(0), *nothing = NULL;
-    bool are_added = names && add_name(names, handed->line.measurement.text);
+/* Raises NotAdmitted: a function of checking.py finds which text of the line it is. */
+static bool refuse_texts(uint32_t dialect, const Handed *handed) {
+    static const lp_text no_text = LP_NO_TEXT;
+    PyObject *texts = PyList_New(0), *nothing = NULL;
+    bool are_added = texts && add_text(texts, handed->line.measurement.text);
     for (size_t i = 0; are_added && i < handed->parts_len; i++) {
         const lp_part *part = &handed->parts[i];
-        are_added = add_name(names, part->key.text) && (part->kind != LP_TAG || add_name(names, part->text.text));
+        const bool has_text = part->kind == LP_TAG || part->kind == LP_STRING;
+        are_added = add_text(texts, part->key.text) && add_text(texts, has_text ? part->text.text : no_text);
     }
-    if (are_added) nothing = PyObject_CallFunction(given.refuse_names, "On", names, (Py_ssize_t)handed->line.tags);
-    if (nothing) PyErr_SetString(PyExc_ValueError, "a name of the line is not admitted");
+    if (are_added) nothing = PyObject_CallFunction(given.refuse_texts, "OnI", texts, (Py_ssize_t)handed->line.tags, dialect);
+    if (nothing) PyErr_SetString(PyExc_ValueError, "the line is not admitted");
     Py_XDECREF(nothing);
-    Py_XDECREF(names);
+    Py_XDECREF(texts);
     return false;
 }
 
-static uint32_t write_crate(const lp_line *line, const lp_part *parts, size_t parts_len, uint8_t *out, size_t room, size_t *len) {
-    return lp_line_write(LP_CRATE, line, parts, parts_len, out, room, len);
-}
-static uint32_t write_strict(const lp_line *line, const lp_part *parts, size_t parts_len, uint8_t *out, size_t room, size_t *len) {
-    return lp_line_write(LP_STRICT, line, parts, parts_len, out, room, len);
-}
-PutsOut *writer_of(bool strict) { return strict ? write_strict : write_crate; }
-
-uint32_t put_out(PutsOut *call, const Handed *handed, Out *out) {
+uint32_t put_out(PutsOut *call, uint32_t dialect, const Handed *handed, Out *out) {
     static const lp_part no_parts[1] = { { LP_NO_VIEW, LP_NO_VIEW, 0, 0, LP_TAG, false } };
     const lp_part *parts = handed->parts_len > 0 ? handed->parts : no_parts;
     for (size_t wanted = 256;;) {
@@ -301,12 +295,12 @@ uint32_t put_out(PutsOut *call, const Handed *handed, Out *out) {
             out->at = more;
             out->room = 2 * out->room + wanted;
         }
-        const uint32_t answer = call(&handed->line, parts, handed->parts_len, out->at + out->len, out->room - out->len, &wanted);
+        const uint32_t answer = call(dialect, &handed->line, parts, handed->parts_len, out->at + out->len, out->room - out->len, &wanted);
         if (answer == LP_WRITTEN || answer == LP_FAULT) {
             out->len += wanted;
             return answer;
         }
-        if (answer == LP_NOT_ADMITTED) return refuse_names(handed);
+        if (answer == LP_NOT_ADMITTED) return refuse_texts(dialect, handed);
         if (answer != LP_MORE_ROOM) return set_answer_error(answer);
     }
 }
@@ -317,11 +311,23 @@ PyObject *str_of_out(Out *out, bool is_written) {
     return text;
 }
 
+/* The calls for which no dialect counts. */
+static uint32_t put_shown(uint32_t dialect, const lp_line *line, const lp_part *parts, size_t parts_len, uint8_t *out, size_t room,
+                          size_t *len) {
+    (void)dialect;
+    return lp_line_show(line, parts, parts_len, out, room, len);
+}
+static uint32_t put_base(uint32_t dialect, const lp_line *line, const lp_part *parts, size_t parts_len, uint8_t *out, size_t room,
+                         size_t *len) {
+    (void)dialect;
+    return lp_line_base(line, parts, parts_len, out, room, len);
+}
+
 /* What a call puts out for one line. */
-static PyObject *put_out_one(PutsOut *call, PyObject *line) {
+static PyObject *put_out_one(PutsOut *call, uint32_t dialect, PyObject *line) {
     Handed handed = { 0 };
     Out out = { NULL, 0, 0 };
-    const uint32_t answer = put_line(&handed, line, call == lp_line_base) ? put_out(call, &handed, &out) : 0;
+    const uint32_t answer = put_line(&handed, line, call == put_base) ? put_out(call, dialect, &handed, &out) : 0;
     free_handed(&handed);
     PyObject *text = str_of_out(&out, answer != 0);
     if (!text || answer == LP_WRITTEN) return text;
@@ -330,28 +336,27 @@ static PyObject *put_out_one(PutsOut *call, PyObject *line) {
     return NULL;
 }
 
-/* write(line, strict): a line as the builder writes it. */
+/* write(line, dialect): a line as the builder writes it. */
 PyObject *fast_write(PyObject *module, PyObject *args) {
     PyObject *line;
-    int strict;
+    unsigned int dialect;
     (void)module;
-    return PyArg_ParseTuple(args, "Op", &line, &strict) ? put_out_one(writer_of(strict), line) : NULL;
+    return PyArg_ParseTuple(args, "OI", &line, &dialect) ? put_out_one(lp_line_write, dialect, line) : NULL;
 }
-PyObject *fast_show(PyObject *module, PyObject *line) { (void)module; return put_out_one(lp_line_show, line); }
-PyObject *fast_base(PyObject *module, PyObject *line) { (void)module; return put_out_one(lp_line_base, line); }
+PyObject *fast_show(PyObject *module, PyObject *line) { (void)module; return put_out_one(put_shown, LP_CRATE, line); }
+PyObject *fast_base(PyObject *module, PyObject *line) { (void)module; return put_out_one(put_base, LP_CRATE, line); }
 
-/* write_many(lines, strict): all lines of an iterable, one after another. */
+/* write_many(lines, dialect): all lines of an iterable, one after another. */
 PyObject *fast_write_many(PyObject *module, PyObject *args) {
     Handed handed = { 0 };
     Out out = { NULL, 0, 0 };
     PyObject *lines, *iterator, *line;
-    int strict;
+    unsigned int dialect;
     (void)module;
-    if (!PyArg_ParseTuple(args, "Op", &lines, &strict) || !(iterator = PyObject_GetIter(lines))) return NULL;
-    PutsOut *const write = writer_of(strict);
+    if (!PyArg_ParseTuple(args, "OI", &lines, &dialect) || !(iterator = PyObject_GetIter(lines))) return NULL;
     bool is_written = true;
     while (is_written && (line = PyIter_Next(iterator)) != NULL) {
-        is_written = put_line(&handed, line, false) && put_out(write, &handed, &out) == LP_WRITTEN;
+        is_written = put_line(&handed, line, false) && put_out(lp_line_write, dialect, &handed, &out) == LP_WRITTEN;
         Py_DECREF(line);
     }
     Py_DECREF(iterator);
@@ -360,27 +365,36 @@ PyObject *fast_write_many(PyObject *module, PyObject *args) {
     return str_of_out(&out, !PyErr_Occurred());
 }
 
-/* What a call says of a line. */
-static PyObject *tell_of(uint32_t (*call)(const lp_line *, const lp_part *, size_t, bool *), PyObject *line, bool is_series) {
+/* Whether a line is admitted in a dialect, or, of a series alone, whether its base is safe. */
+static PyObject *tell_of(uint32_t dialect, PyObject *line, bool is_series) {
     static const lp_part no_parts[1] = { { LP_NO_VIEW, LP_NO_VIEW, 0, 0, LP_TAG, false } };
     Handed handed = { 0 };
     bool told = false;
     if (put_line(&handed, line, is_series)) {
-        const uint32_t answer = call(&handed.line, handed.parts_len > 0 ? handed.parts : no_parts, handed.parts_len, &told);
+        const lp_part *parts = handed.parts_len > 0 ? handed.parts : no_parts;
+        const uint32_t answer = is_series ? lp_line_is_base_safe(&handed.line, parts, handed.parts_len, &told)
+                                          : lp_line_is_admitted(dialect, &handed.line, parts, handed.parts_len, &told);
         if (answer != LP_WRITTEN) set_answer_error(answer);
     }
     free_handed(&handed);
     return PyErr_Occurred() ? NULL : PyBool_FromLong(told);
 }
-PyObject *fast_is_base_safe(PyObject *module, PyObject *line) { (void)module; return tell_of(lp_line_is_base_safe, line, true); }
-PyObject *fast_is_admitted(PyObject *module, PyObject *line) { (void)module; return tell_of(lp_line_is_admitted, line, false); }
+PyObject *fast_is_base_safe(PyObject *module, PyObject *line) { (void)module; return tell_of(LP_CRATE, line, true); }
+
+/* is_admitted(line, dialect): whether a line would be written. */
+PyObject *fast_is_admitted(PyObject *module, PyObject *args) {
+    PyObject *line;
+    unsigned int dialect;
+    (void)module;
+    return PyArg_ParseTuple(args, "OI", &line, &dialect) ? tell_of(dialect, line, false) : NULL;
+}
 
 /* Rebuilds a text into two rooms, which are bytearrays, as long as they are long enough. */
-static uint32_t rebuild_into(lp_text text, bool strict, PyObject *const *rooms, lp_counts *counts) {
+static uint32_t rebuild_into(lp_text text, uint32_t dialect, PyObject *const *rooms, lp_counts *counts) {
     uint8_t *batch = (uint8_t *)PyByteArray_AsString(rooms[0]), *faults = (uint8_t *)PyByteArray_AsString(rooms[1]);
     const size_t batch_len = (size_t)PyByteArray_Size(rooms[0]), faults_len = (size_t)PyByteArray_Size(rooms[1]);
     PyThreadState *state = let_go(text.len);
-    const uint32_t answer = lp_rebuild(strict, text.at, text.len, batch, batch_len, faults, faults_len, counts);
+    const uint32_t answer = lp_rebuild(dialect, text.at, text.len, batch, batch_len, faults, faults_len, counts);
     take_back(state);
     return answer;
 }
@@ -402,20 +416,20 @@ static PyObject *rebuilt_of(PyObject *const *rooms, const lp_counts *counts, boo
     return Py_BuildValue("NNnn", make(batch), make(faults), (Py_ssize_t)counts->carried, (Py_ssize_t)counts->refused);
 }
 
-/* rebuild(text, strict, room, room): the batch and the faults, as bytes, or as str if the text is a str, and how many lines are carried
+/* rebuild(text, dialect, room, room): the batch and the faults, as bytes, or as str if the text is a str, and how many lines are carried
  * and refused. The rooms, which are bytearrays that no one else has, are written to, and made longer where that is needed. */
 PyObject *fast_rebuild(PyObject *module, PyObject *args) {
     PyObject *text, *rooms[2], *rebuilt = NULL;
-    int strict;
+    unsigned int dialect;
     (void)module;
-    if (!PyArg_ParseTuple(args, "OpYY", &text, &strict, &rooms[0], &rooms[1])) return NULL;
+    if (!PyArg_ParseTuple(args, "OIYY", &text, &dialect, &rooms[0], &rooms[1])) return NULL;
     PyObject *bytes = encoded(text);
     if (!bytes) return NULL;
     const lp_text read = text_of(bytes);
     lp_counts counts = { read.len + read.len / 2 + 64, read.len + read.len / 2 + 64, 0, 0 };
     uint32_t answer = LP_MORE_ROOM;
     while (answer == LP_MORE_ROOM && lengthen(rooms[0], counts.batch_len) && lengthen(rooms[1], counts.faults_len))
-        answer = rebuild_into(read, strict, rooms, &counts);
+        answer = rebuild_into(read, dialect, rooms, &counts);
     if (answer == LP_WRITTEN) rebuilt = rebuilt_of(rooms, &counts, PyUnicode_Check(text));
     else if (answer == LP_NOT_UTF8) set_decode_error(read);
     else if (answer != LP_MORE_ROOM) set_answer_error(answer);

@@ -1,12 +1,13 @@
-"""The rows of crates/lp_answers/data/answers.tsv, compared with what the package gives for their texts, in both dialects. The head
+"""The rows of crates/lp_answers/data/answers.tsv, compared with what the package gives for their texts, in each dialect. The head
 of that table says how a row is spelled, and what each kind asks."""
 
 import re
 import unittest
 from collections import Counter
 from pathlib import Path
+from typing import get_args
 
-from line_protocol import DuplicateTag, FaultKind, FloatText, Line, Side, Unsigned, base, parse, rebuild, show, split
+from line_protocol import Dialect, DuplicateTag, FaultKind, FloatText, Line, Side, Unsigned, base, parse, rebuild, show, split
 
 TABLE = Path(__file__).parents[3] / "crates" / "lp_answers" / "data" / "answers.tsv"
 ESCAPES = {"n": "\n", "t": "\t", "r": "\r", "0": "\0", "\\": "\\"}
@@ -43,36 +44,36 @@ def rendered(item):
     return FAULTS[item.kind] + side + (f" <{item.text}>" if item.text else "")
 
 
-def items(text, strict):
-    return "|".join(map(rendered, parse(text, strict=strict)))
+def items(text, dialect):
+    return "|".join(map(rendered, parse(text, dialect=dialect)))
 
 
-def pieces(text, strict):
-    return "".join(f"<{piece}>" for piece in split(text, strict=strict))
+def pieces(text, dialect):
+    return "".join(f"<{piece}>" for piece in split(text, dialect=dialect))
 
 
-def base_of_first(text, strict):
+def base_of_first(text, dialect):
     try:
-        return f"<{base(next(parse(text, strict=strict)))}>"
+        return f"<{base(next(parse(text, dialect=dialect)))}>"
     except DuplicateTag as repeated:
         return f'Must not contain duplicate tags, but "{repeated}" was repeated'
 
 
-def shown(text, strict):
-    return show(next(parse(text, strict=strict)))
+def shown(text, dialect):
+    return show(next(parse(text, dialect=dialect)))
 
 
-def rebuilt(text, strict):
-    told = rebuild(text, strict=strict)
+def rebuilt(text, dialect):
+    told = rebuild(text, dialect=dialect)
     return f"{told.carried} of {told.carried + told.refused} <{told.batch}>"
 
 
-def run(text, strict):
-    told = rebuild(text, strict=strict)
+def run(text, dialect):
+    told = rebuild(text, dialect=dialect)
     return f"{int(told.refused > 0)} <{told.batch}> <{told.faults}>"
 
 
-def is_float(text, strict):
+def is_float(text, dialect):
     try:
         return str(FloatText(text) is not None).lower()
     except ValueError:
@@ -91,30 +92,32 @@ PASSED_OVER = ["rests_of_pieces", "rests_of_items", "series", "columns", "fault"
 
 
 class Answers(unittest.TestCase):
-    def compare(self, kind, text, wanted, strict):
+    def compare(self, kind, text, wanted, dialect):
         if kind == "items":
             wanted = as_str_and_float(wanted)
         if kind == "base":
             wanted = re.sub("^[BO]<", "<", ANEW.get(text, wanted))
-        with self.subTest(kind=kind, text=text, strict=strict):
-            self.assertEqual(CALLS[kind](text, strict), wanted)
+        with self.subTest(kind=kind, text=text, dialect=dialect):
+            self.assertEqual(CALLS[kind](text, dialect), wanted)
 
     def test_each_row(self):
         table = TABLE.read_text(encoding="utf-8")
-        rows, strict_answers = Counter(), 0
+        rows, given = Counter(), Counter()
         for line in table.split("\n"):
             if not line or line.startswith("#"):
                 continue
             kind, *cells = line.split("\t")
-            self.assertTrue((kind in CALLS or kind in PASSED_OVER) and len(cells) in (2, 3), line)
+            self.assertTrue((kind in CALLS or kind in PASSED_OVER) and len(cells) in (2, 3, 4), line)
             rows[kind] += 1
             if kind in CALLS:
                 text, *answers = map(text_of, cells)
-                for strict, wanted in enumerate(answers):
-                    self.compare(kind, text, wanted, bool(strict))
-                    strict_answers += strict
+                for dialect, wanted in zip(get_args(Dialect), answers):
+                    self.compare(kind, text, wanted, dialect)
+                    given[dialect] += 1
         counts = {kind: table.count(f"\n{kind}\t") for kind in [*CALLS, *PASSED_OVER]}
         self.assertEqual(rows, counts)
-        self.assertEqual(strict_answers, len(re.findall(rf"^(?:{'|'.join(CALLS)})(?:\t[^\t\n]*){{3}}$", table, flags=re.M)))
+        for cells, dialect in enumerate(get_args(Dialect), 2):
+            self.assertEqual(given[dialect], len(re.findall(rf"^(?:{'|'.join(CALLS)})(?:\t[^\t\n]*){{{cells},}}$", table, flags=re.M)))
         compared, passed_over = (", ".join(f"{counts[kind]} {kind}" for kind in kinds) for kinds in (CALLS, PASSED_OVER))
-        print(f"answers.tsv: compared {compared}, and {strict_answers} answers in the strict dialect; passed over {passed_over}")
+        others = " and ".join(f"{given[dialect]} {dialect}" for dialect in get_args(Dialect)[1:])
+        print(f"answers.tsv: compared {compared}, of which {others} ones too; passed over {passed_over}")

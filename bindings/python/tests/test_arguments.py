@@ -9,7 +9,8 @@ from decimal import Decimal
 from fractions import Fraction
 
 from line_protocol import (
-    Builder, FloatText, Line, Unsigned, base, is_admitted, is_base_safe, parse, rebuild, show, split, write)
+    Builder, FloatText, Line, Unsigned, base, columns, is_admitted, is_base_safe, parse, part_ends, rebuild, show, split, write,
+    write_columns, write_many)
 
 from typed import typed
 
@@ -65,6 +66,44 @@ class Texts(unittest.TestCase):
         items = parse(data)
         data[:] = b"n g=2i"
         self.assertEqual(list(items), [Line("m", [], [("f", 1)])])
+
+
+class Dialects(unittest.TestCase):
+    LINE = Line("m", [], [("f", 1)])
+
+    # Each call, and what it gives of a text that each dialect cuts in another way; of those that write, of a line.
+    TEXT = '# a="\nm f=1i,s="\nn f=1i"\n'
+    CALLS = {
+        "parse": lambda **words: [*parse(Dialects.TEXT, **words)], "split": lambda **words: [*split(Dialects.TEXT, **words)],
+        "columns": lambda **words: repr(columns(Dialects.TEXT, use_numpy=False, **words)),
+        "rebuild": lambda **words: rebuild(Dialects.TEXT, **words),
+        "part_ends": lambda **words: part_ends(__file__, 2, **words),
+        "write": lambda **words: write(Dialects.LINE, **words), "write_many": lambda **words: write_many([Dialects.LINE], **words),
+        "write_columns": lambda **words: write_columns(columns("m f=1i", use_numpy=False), **words),
+        "is_admitted": lambda **words: is_admitted(Dialects.LINE, **words),
+        "Builder": lambda **words: Builder(**words).measurement("m").field("f", 1).close_line().build(),
+    }
+
+    def test_each_call_takes_either_word(self):
+        for name, call in self.CALLS.items():
+            with self.subTest(call=name):
+                by_crate, by_strict, by_line = call(), call(strict=True), call(dialect="newline-delimited")
+                self.assertEqual([call(strict=None, dialect=None), call(strict=False), call(dialect="crate")], 3 * [by_crate])
+                self.assertEqual(call(dialect="strict"), by_strict)
+                if name in ("parse", "split", "rebuild"):
+                    self.assertNotEqual(by_crate, by_strict)
+                    self.assertNotEqual(by_strict, by_line)
+
+    def test_what_is_no_dialect(self):
+        for name, call in self.CALLS.items():
+            for words, error, said in (
+                    ({"strict": False, "dialect": "crate"}, TypeError, "strict and dialect are not both given"),
+                    ({"strict": True, "dialect": "strict"}, TypeError, "strict and dialect are not both given"),
+                    ({"dialect": "Strict"}, ValueError, "a dialect is one of 'crate', 'strict', 'newline-delimited', not 'Strict'"),
+                    ({"dialect": ""}, ValueError, "not ''"), ({"dialect": 1}, TypeError, "a dialect is a str, not int: 1"),
+                    ({"dialect": True}, TypeError, "a dialect is a str"), ({"dialect": ["crate"]}, TypeError, "a dialect is a str")):
+                with self.subTest(call=name, words=words), self.assertRaisesRegex(error, said):
+                    call(**words)
 
 
 class Names(unittest.TestCase):

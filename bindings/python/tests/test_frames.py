@@ -6,11 +6,12 @@ import pickle
 import sys
 import unittest
 from pathlib import Path
+from typing import get_args
 from unittest import mock
 
 from line_protocol import (
-    Column, FloatText, Frames, Line, NotAdmitted, Table, Unsigned, columns, from_frame, is_admitted, parse, to_frame, write_columns,
-    write_many)
+    Column, Dialect, FloatText, Frames, Line, NotAdmitted, Table, Unsigned, columns, from_frame, is_admitted, parse, to_frame,
+    write_columns, write_many)
 
 sys.path.append(str(Path(__file__).parents[3] / "bench"))
 import corpora  # noqa: E402
@@ -335,9 +336,9 @@ class Series(unittest.TestCase):
                 (["a", "guest\npayments"], "holds a newline"), (["", "a\tb"], "holds a tab"), ([None, "a\\"], "ends in a backslash")]:
             for dtype in ("object", "category", "string"):
                 frame = pandas.DataFrame({"user": pandas.Series(cells, dtype=dtype), "ok": [True, True]})
-                for strict in (False, True):
+                for dialect in get_args(Dialect):
                     with self.assertRaises(NotAdmitted) as found:
-                        from_frame(frame, "login", tags=["user"], strict=strict)
+                        from_frame(frame, "login", tags=["user"], dialect=dialect)
                     refused = found.exception
                     self.assertEqual(str(refused), (
                         f"the table 'login', row 1: the value of the tag 'user' is not admitted: {cells[1]!r} {flaw}"))

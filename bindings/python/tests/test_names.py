@@ -5,9 +5,12 @@ import copy
 import itertools
 import pickle
 import unittest
+from typing import get_args
 
 from line_protocol import (
-    Builder, Column, Line, NotAdmitted, Table, Unsigned, columns, is_admitted, parse, rebuild, write, write_columns, write_many)
+    Builder, Column, Dialect, Line, NotAdmitted, Table, Unsigned, columns, is_admitted, parse, rebuild, write, write_columns, write_many)
+
+DIALECTS = get_args(Dialect)
 
 PARTS = {
     "measurement": ("the measurement", lambda name: Line(name, [("k", "v")], [("f", 1)], 5)),
@@ -64,7 +67,7 @@ class EachWriter(unittest.TestCase):
         with self.assertRaises(NotAdmitted) as found:
             call()
         refused = found.exception
-        key = "k" if part == "tag value" else None
+        key = "k" if part.endswith("value") else None
         self.assertEqual((refused.part, refused.key, refused.value, refused.row, refused.table), (part, key, name, row, table))
         return str(refused)
 
@@ -73,22 +76,37 @@ class EachWriter(unittest.TestCase):
             for name in [*FLAWS, *FLAWS_OF_MEASUREMENTS]:
                 flaw, line = flaw_of(part, name), make(name)
                 self.assertEqual(is_admitted(line), flaw is None)
-                for strict, (writer, call) in itertools.product((False, True), WRITERS.items()):
-                    with self.subTest(part=part, name=name, writer=writer, strict=strict):
+                for dialect, (writer, call) in itertools.product(DIALECTS, WRITERS.items()):
+                    with self.subTest(part=part, name=name, writer=writer, dialect=dialect):
                         if flaw is None:
-                            self.assertEqual(list(parse(call(line, strict=strict), strict=strict)), [line])
+                            self.assertEqual(list(parse(call(line, dialect=dialect), dialect=dialect)), [line])
                             continue
                         place = {"write_many": (0, None), "write_columns": (0, line.measurement)}.get(writer, (None, None))
-                        said = self.refuse(lambda: call(line, strict=strict), part, name, *place)
+                        said = self.refuse(lambda: call(line, dialect=dialect), part, name, *place)
                         before = {"write_many": "line 1: ", "write_columns": f"the table {line.measurement!r}, row 0: "}.get(writer, "")
                         self.assertEqual(said, f"{before}{what} is not admitted: {name!r} {flaw}")
 
     def test_names_that_are_admitted(self):
         for (part, (_, make)), name in itertools.product(PARTS.items(), ADMITTED):
             line = make(name)
-            for strict, (writer, call) in itertools.product((False, True), WRITERS.items()):
-                with self.subTest(part=part, name=name, writer=writer, strict=strict):
-                    self.assertEqual(list(parse(call(line, strict=strict), strict=strict)), [line])
+            for dialect, (writer, call) in itertools.product(DIALECTS, WRITERS.items()):
+                with self.subTest(part=part, name=name, writer=writer, dialect=dialect):
+                    self.assertEqual(list(parse(call(line, dialect=dialect), dialect=dialect)), [line])
+
+    def test_strings_of_newline_delimited_lines(self):
+        """Each is admitted in the other dialects, and there too if it holds no newline."""
+        for string in ["\n", "a\nb", "\\\n", '"\n', "", "\\", '"', "#", "\t", "a\rb", "\u2028"]:
+            line = Line("m", [("k", "v")], [("f", 1), ("k", string)], 5)
+            for dialect, (writer, call) in itertools.product(DIALECTS, WRITERS.items()):
+                with self.subTest(string=string, dialect=dialect, writer=writer):
+                    is_refused = dialect == "newline-delimited" and "\n" in string
+                    self.assertEqual(is_admitted(line, dialect=dialect), not is_refused)
+                    if not is_refused:
+                        self.assertEqual(list(parse(call(line, dialect=dialect), dialect=dialect)), [line])
+                        continue
+                    place = {"write_many": (0, None), "write_columns": (0, "m")}.get(writer, (None, None))
+                    said = self.refuse(lambda: call(line, dialect=dialect), "field value", string, *place)
+                    self.assertTrue(said.endswith(f"the value of the field 'k' is not admitted: {string!r} holds a newline"), said)
 
     def test_each_short_name(self):
         """A name is refused exactly if `rebuild` would not write it again, and else reads back."""
@@ -210,8 +228,8 @@ class ManyLines(unittest.TestCase):
 class TheBuilder(unittest.TestCase):
     def test_the_call_that_names_it_is_refused(self):
         for name in [*FLAWS, *FLAWS_OF_MEASUREMENTS]:
-            for strict in (False, True):
-                builder = Builder(strict=strict).measurement("a").field("f", 1).close_line()
+            for dialect in DIALECTS:
+                builder = Builder(dialect=dialect).measurement("a").field("f", 1).close_line()
                 with self.assertRaises(NotAdmitted):
                     builder.measurement(name)
                 builder.measurement("m")
@@ -223,8 +241,15 @@ class TheBuilder(unittest.TestCase):
                 if name in FLAWS:
                     with self.assertRaises(NotAdmitted):
                         builder.field(name, 3)
-                self.assertEqual(builder.field("s", name).close_line().build().splitlines()[0], "a f=1i")
-                self.assertEqual([line.fields[-1] for line in parse(builder.build(), strict=strict)], [("f", 1), ("s", name)])
+                wanted = [("f", 1), ("g", Unsigned(2))]
+                if dialect == "newline-delimited" and "\n" in name:
+                    with self.assertRaisesRegex(NotAdmitted, "the value of the field 's' is not admitted: .* holds a newline"):
+                        builder.field("s", name)
+                else:
+                    builder.field("s", name)
+                    wanted[1] = ("s", name)
+                self.assertEqual(builder.close_line().build().splitlines()[0], "a f=1i")
+                self.assertEqual([line.fields[-1] for line in parse(builder.build(), dialect=dialect)], wanted)
 
 
 if __name__ == "__main__":

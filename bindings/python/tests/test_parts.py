@@ -17,7 +17,7 @@ from unittest import mock
 from line_protocol import _fast, columns, part_ends
 from line_protocol.parts import START, after, as_paths, blocks_of, columns_of, cut, read_part
 from line_protocol.sources import BLOCK
-from test_sources import Folder, located
+from test_sources import DIALECTS, OPTIONS, Folder, located
 
 TOP = Path(__file__).parents[3]
 RELAY = os.environ.get("LP_RELAY", "")
@@ -26,9 +26,9 @@ ALPHABET = [b"\n", b" ", b"\\", b'"', b"=", b",", b"#", b"m"]
 LONG = b'm s="' + b"a\\\"\n" * 70_000 + b'" 1\nn f=1i\n# "\n' + b"# x=\"" + b"\n" * 300_000 + b'"\nlast f=1,s="' + b"\xff\n" * 90_000
 
 
-def piece_end(data, start, strict):
+def piece_end(data, start, dialect):
     """Where the newline is that ends the piece from `start` on, or None: docs/FORMAT.md, sections 3 and 17."""
-    if strict and COMMENT.match(data, start):
+    if dialect == "newline-delimited" or dialect == "strict" and COMMENT.match(data, start):
         found = data.find(b"\n", start)
         return None if found < 0 else found
     place, is_escaped, excess = "head", False, 0
@@ -48,10 +48,10 @@ def piece_end(data, start, strict):
     return None
 
 
-def cuts_of(data, strict):
+def cuts_of(data, dialect):
     """Each place directly after a newline that ends a piece, or the start where there is none."""
     cuts = [0]
-    while (end := piece_end(data, cuts[-1], strict)) is not None:
+    while (end := piece_end(data, cuts[-1], dialect)) is not None:
         cuts.append(end + 1)
     return cuts[1:] or cuts
 
@@ -84,24 +84,24 @@ def lost():
 
 
 class Ends(unittest.TestCase):
-    def compare(self, data, strict, parts, blocks):
-        found = _fast.part_ends(iter(blocks), len(data), parts, strict)
-        if found != wanted_ends(data, cuts_of(data, strict), parts):
-            self.fail(f"{blocks}, strict={strict}, is cut into {parts} parts at {found}")
+    def compare(self, data, dialect, parts, blocks):
+        found = _fast.part_ends(iter(blocks), len(data), parts, DIALECTS.index(dialect))
+        if found != wanted_ends(data, cuts_of(data, dialect), parts):
+            self.fail(f"{blocks}, dialect={dialect}, is cut into {parts} parts at {found}")
 
     def test_each_short_text(self):
         for size in range(6):
             for text in itertools.product(ALPHABET, repeat=size):
                 data = b"".join(text)
-                for strict in (False, True):
-                    self.compare(data, strict, 4, [data])
-                    self.compare(data, strict, 4, text)
+                for dialect in DIALECTS:
+                    self.compare(data, dialect, 4, [data])
+                    self.compare(data, dialect, 4, text)
 
     def test_texts_in_blocks(self):
         chosen = random.Random(3)
         for _ in range(20_000):
             data = b"".join(chosen.choice([*ALPHABET, b"f=1i", b"\n", b"\xff", "é".encode()]) for _ in range(chosen.randrange(40)))
-            self.compare(data, chosen.random() < 0.5, chosen.randrange(1, 60), in_blocks(data, chosen))
+            self.compare(data, chosen.choice(DIALECTS), chosen.randrange(1, 60), in_blocks(data, chosen))
 
     def test_no_more_is_read_than_is_needed(self):
         blocks = iter([b"m f=1i\n" * 4, b"n f=1i\n" * 4, b"never", 5])
@@ -142,18 +142,18 @@ class Files(Folder):
         """Of a text of long strings and comments, the last of which nothing closes, and which is no UTF-8 in the end."""
         self.assertGreater(len(LONG), 5 * BLOCK)
         path = self.file(LONG)
-        for strict in (False, True):
-            cuts = cuts_of(LONG, strict)
+        for dialect in DIALECTS:
+            cuts = cuts_of(LONG, dialect)
             for parts in (1, 2, 3, 7, 100, 10_000):
-                self.assertEqual(part_ends(path, parts, strict=strict), wanted_ends(LONG, cuts, parts))
+                self.assertEqual(part_ends(path, parts, dialect=dialect), wanted_ends(LONG, cuts, parts))
 
     def test_corpora(self):
         for path in corpora(self.folder, 150_000):
             data = path.read_bytes()
-            for strict in (False, True):
-                cuts = cuts_of(data, strict)
+            for dialect in DIALECTS:
+                cuts = cuts_of(data, dialect)
                 for parts in (2, 9, 300):
-                    self.assertEqual(part_ends(path, parts, strict=strict), wanted_ends(data, cuts, parts))
+                    self.assertEqual(part_ends(path, parts, dialect=dialect), wanted_ends(data, cuts, parts))
 
     def test_a_file_that_is_not_there(self):
         with self.assertRaises(FileNotFoundError):
@@ -195,11 +195,11 @@ class Files(Folder):
 @unittest.skipUnless(os.access(RELAY, os.X_OK), "LP_RELAY names no program")
 class BesideTheProgram(Folder):
     def compare(self, path, all_parts=(0, 1, 2, 3, 8, 64, 1001)):
-        for strict in ([], ["--strict"]):
+        for dialect, words in OPTIONS.items():
             for parts in all_parts:
-                said = subprocess.run([RELAY, *strict, "--cut", str(parts), path], check=True, stdout=subprocess.PIPE).stdout
-                if part_ends(path, parts, strict=bool(strict)) != [*map(int, said.split())]:
-                    self.fail(f"{path} is cut into {parts} parts {strict} in another way")
+                said = subprocess.run([RELAY, *words, "--cut", str(parts), path], check=True, stdout=subprocess.PIPE).stdout
+                if part_ends(path, parts, dialect=dialect) != [*map(int, said.split())]:
+                    self.fail(f"{path} is cut into {parts} parts {dialect} in another way")
 
     def test_corpora(self):
         for path in corpora(self.folder, 700_000):
@@ -245,10 +245,10 @@ class Parts(Folder):
     def compare(self, texts, parts, **options):
         """Reads files in parts, which go from process to process as pickles, and compares them with the whole."""
         paths = [self.file(text, str(number)) for number, text in enumerate(texts)]
-        strict, max_line = options.get("strict", False), options.get("max_line")
-        all_parts = pickle.loads(pickle.dumps(cut(as_paths(paths), parts, strict)))
+        number, max_line = DIALECTS.index(options.get("dialect", "crate")), options.get("max_line")
+        all_parts = pickle.loads(pickle.dumps(cut(as_paths(paths), parts, number)))
         self.assertEqual(len(all_parts), parts)
-        reads = [pickle.loads(pickle.dumps(read_part(part, strict, max_line))) for part in all_parts]
+        reads = [pickle.loads(pickle.dumps(read_part(part, number, max_line))) for part in all_parts]
         for use_numpy in (False, None):
             wanted = columns(iter([whole_of(texts)]), use_numpy=use_numpy, **options)
             self.assertEqual(self.told(columns_of(reads, START, use_numpy)), self.told(wanted))
@@ -270,7 +270,7 @@ class Parts(Folder):
         chosen = random.Random(13)
         for _ in range(400):
             texts = [text_at_random(chosen) for _ in range(chosen.randrange(1, 4))]
-            options = {"strict": chosen.random() < 0.5, "max_line": chosen.choice([None, None, 8, 20])}
+            options = {"dialect": chosen.choice(DIALECTS), "max_line": chosen.choice([None, None, 8, 20])}
             with self.subTest(texts=texts, options=options):
                 self.compare(texts, chosen.choice([1, 2, 3, 7, 40]), **options)
 

@@ -23,13 +23,18 @@ import tracemalloc
 import unittest
 import warnings
 import weakref
+from typing import get_args
 
 import line_protocol
-from line_protocol import Fault, FaultKind, Line, columns, parse, rebuild, split
+from line_protocol import Dialect, Fault, FaultKind, Line, columns, parse, rebuild, split
 
 from typed import typed
 
 RELAY = os.environ.get("LP_RELAY", "")
+DIALECTS = get_args(Dialect)
+OPTIONS = {dialect: [] if dialect == "crate" else [f"--{dialect}"] for dialect in DIALECTS}
+"""How `lp_relay` is asked for each dialect."""
+
 TEXT = 'cpu,host=a\\ b usage=64i,load=1.50 5\n# a comment\n\nm s="a\nb",u=7u\nm f\nümlaut,t=ö s="\\"" -3\nlast f=t'
 
 
@@ -84,11 +89,11 @@ class Kinds(Folder):
 
     def test_each_kind_of_source(self):
         for text in (TEXT, TEXT + "\n", "m f=1i", "\n", "#", " "):
-            for strict in (False, True):
-                wanted = located(parse(text, strict=strict))
+            for dialect in DIALECTS:
+                wanted = located(parse(text, dialect=dialect))
                 for source in self.sources(text):
-                    with self.subTest(text=text, strict=strict, source=type(source).__name__):
-                        self.assertEqual(located(parse(source, strict=strict)), wanted)
+                    with self.subTest(text=text, dialect=dialect, source=type(source).__name__):
+                        self.assertEqual(located(parse(source, dialect=dialect)), wanted)
 
     def test_a_source_of_nothing(self):
         for source in (b"", "", io.BytesIO(), iter([]), iter([b"", ""]), self.file(b"")):
@@ -190,10 +195,10 @@ class Kinds(Folder):
                 self.assertEqual(next(items), Line("m", [], [("f", 0)]))
 
 
-def pieces_of(data, strict):
+def pieces_of(data, dialect):
     """The pieces of bytes, which need not be UTF-8: start, end, and whether the piece gives an item."""
     at = 0
-    for piece in split(data.decode("latin-1").translate({byte: "x" for byte in range(128, 256)}), strict=strict):
+    for piece in split(data.decode("latin-1").translate({byte: "x" for byte in range(128, 256)}), dialect=dialect):
         yield at, at + len(piece)
         at += len(piece) + 1
 
@@ -213,10 +218,10 @@ def is_utf8(data):
     return True
 
 
-def wanted_of(data, strict, limit):
+def wanted_of(data, dialect, limit):
     """The items of bytes as docs/FORMAT.md has it for a relay: each piece alone."""
     items, number = [], 0
-    for start, end in pieces_of(data, strict):
+    for start, end in pieces_of(data, dialect):
         piece = data[start:end]
         text = start + DROPPED.match(piece).end()
         if limit is not None and len(piece) > limit:
@@ -224,7 +229,7 @@ def wanted_of(data, strict, limit):
         elif not is_utf8(piece):
             found = [Fault(FaultKind.NOT_UTF8, refused=piece)]
         else:
-            found = list(parse(piece, strict=strict))
+            found = list(parse(piece, dialect=dialect))
             assert len(found) < 2
         for item in found:
             number += 1
@@ -258,15 +263,23 @@ PLACES = [
 class Places(unittest.TestCase):
     def test_the_place_of_the_text_and_that_of_its_piece(self):
         for data, limit, wanted, in_strict in PLACES:
-            for strict in (False, True):
+            for dialect in ("crate", "strict"):
                 for size in (1, 2, 3, len(data)):
-                    with self.subTest(data=data, strict=strict, size=size):
-                        items = list(parse(in_parts(data, size), strict=strict, max_line=limit))
+                    with self.subTest(data=data, dialect=dialect, size=size):
+                        items = list(parse(in_parts(data, size), dialect=dialect, max_line=limit))
                         faults = [item for item in items if isinstance(item, Fault)]
                         found = [(fault.line, fault.offset, fault.piece_line, fault.piece_offset) for fault in faults]
-                        self.assertEqual(found, in_strict if strict and in_strict else wanted)
-                        told = columns(in_parts(data, size), strict=strict, max_line=limit, use_numpy=False)
+                        self.assertEqual(found, in_strict if dialect == "strict" and in_strict else wanted)
+                        told = columns(in_parts(data, size), dialect=dialect, max_line=limit, use_numpy=False)
                         self.assertEqual(located(told.faults), located(faults))
+
+    def test_every_newline_ends_a_newline_delimited_line(self):
+        data = b'm s="a\nb" 1\n#\\\n x\nm f=1i\\\n\ny'
+        for size in (1, 2, 7, len(data)):
+            found = parse(in_parts(data, size), dialect="newline-delimited")
+            self.assertEqual(
+                [(fault.line, fault.offset, fault.piece_line, fault.piece_offset) for fault in found],
+                [(1, 0, 1, 0), (2, 7, 2, 7), (4, 16, 4, 15), (5, 18, 5, 18), (7, 27, 7, 27)])
 
     def test_where_each_fault_is(self):
         items = list(parse(TEXT + "\nm f=99999999999999999999i\n\n\nx\n"))
@@ -297,14 +310,14 @@ class Places(unittest.TestCase):
         for fault in parse(text):
             if isinstance(fault, Fault):
                 self.assertEqual(text[fault.offset : fault.offset + 4], "m f\n")
-        self.assertEqual(located(parse(text)), wanted_of(text.encode(), False, None))
+        self.assertEqual(located(parse(text)), wanted_of(text.encode(), "crate", None))
 
 
 @unittest.skipUnless(os.access(RELAY, os.X_OK), "LP_RELAY names no program")
 class BesideTheProgram(Folder):
-    def objects(self, path, strict, limit):
+    def objects(self, path, dialect, limit):
         """What `lp_relay` says of the faults of a file."""
-        options = ["--strict"] * strict + ["--verbatim", "--check", "--faults", "json"]
+        options = OPTIONS[dialect] + ["--verbatim", "--check", "--faults", "json"]
         options += [] if limit is None else ["--max-line", str(limit)]
         said = subprocess.run([RELAY, *options, path], stdout=subprocess.DEVNULL, stderr=subprocess.PIPE, check=False)
         self.assertIn(said.returncode, (0, 1), said.stderr[-500:])
@@ -314,13 +327,13 @@ class BesideTheProgram(Folder):
         chosen, count = random.Random(23), 0
         for _ in range(60):
             data = b"".join(chosen.choice(ALPHABET) for _ in range(chosen.randrange(400)))
-            path, strict, limit = self.file(data), chosen.random() < 0.5, chosen.choice([None, None, 1, 3, 8])
-            objects = self.objects(path, strict, limit)
+            path, dialect, limit = self.file(data), chosen.choice(DIALECTS), chosen.choice([None, None, 1, 3, 8])
+            objects = self.objects(path, dialect, limit)
             count += len(objects)
             keys = ["item", "line", "offset", "piece_line", "piece_offset"]
-            with self.subTest(data=data, strict=strict, limit=limit):
+            with self.subTest(data=data, dialect=dialect, limit=limit):
                 for source in (path, in_parts(data, 7)):
-                    faults = [item for item in parse(source, strict=strict, max_line=limit) if isinstance(item, Fault)]
+                    faults = [item for item in parse(source, dialect=dialect, max_line=limit) if isinstance(item, Fault)]
                     self.assertEqual(
                         [[*(getattr(fault, key) for key in keys), fault.kind.name.lower(), fault.message] for fault in faults],
                         [[*(one[key] for key in keys), one["kind"], one["text"]] for one in objects])
@@ -333,7 +346,7 @@ class Bytes(unittest.TestCase):
     def test_a_line_that_is_no_utf8(self):
         data = b"m f=1i\nm,t=\xff f=2i\n# \xfe\nm s=\"\xc3\n\"\nm f=3i\n\xe2\x82"
         items = list(parse(io.BytesIO(data)))
-        self.assertEqual(located(items), wanted_of(data, False, None))
+        self.assertEqual(located(items), wanted_of(data, "crate", None))
         self.assertEqual([type(item) for item in items], [Line, Fault, Fault, Fault, Line, Fault])
         self.assertEqual((items[1].kind, items[1].message), (FaultKind.NOT_UTF8, "the line is not UTF-8"))
         self.assertEqual((items[1].item, items[1].line, items[1].offset, items[1].refused), (2, 2, 7, b"m,t=\xff f=2i"))
@@ -375,14 +388,14 @@ class Bytes(unittest.TestCase):
         chosen = random.Random(7)
         for _ in range(20_000):
             data = b"".join(chosen.choice(ALPHABET) for _ in range(chosen.randrange(24)))
-            strict, limit = chosen.random() < 0.5, chosen.choice([None, None, 0, 1, 2, 3, 5, 8])
+            dialect, limit = chosen.choice(DIALECTS), chosen.choice([None, None, 0, 1, 2, 3, 5, 8])
             cuts = sorted(chosen.randrange(len(data) + 1) for _ in range(chosen.randrange(6)))
             parts = [data[start:end] for start, end in zip([0, *cuts], [*cuts, len(data)])]
-            with self.subTest(parts=parts, strict=strict, limit=limit):
-                self.assertEqual(located(parse(iter(parts), strict=strict, max_line=limit)), wanted_of(data, strict, limit))
+            with self.subTest(parts=parts, dialect=dialect, limit=limit):
+                self.assertEqual(located(parse(iter(parts), dialect=dialect, max_line=limit)), wanted_of(data, dialect, limit))
             if is_utf8(data):
-                with self.subTest(data=data, strict=strict, limit=limit):
-                    self.assertEqual(located(parse(data, strict=strict, max_line=limit)), wanted_of(data, strict, limit))
+                with self.subTest(data=data, dialect=dialect, limit=limit):
+                    self.assertEqual(located(parse(data, dialect=dialect, max_line=limit)), wanted_of(data, dialect, limit))
 
 
 class Memory(Folder):

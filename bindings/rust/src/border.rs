@@ -14,10 +14,11 @@ pub(crate) mod answer {
     pub(crate) const NOT_ADMITTED: u32 = 12;
 }
 
-/// By whose rules a line is to read back.
+/// By whose rules a text is read, and a line is to read back.
 pub(crate) mod dialect {
     pub(crate) const CRATE: u32 = 0;
     pub(crate) const STRICT: u32 = 1;
+    pub(crate) const NEWLINE_DELIMITED: u32 = 2;
 }
 
 /// What a part is.
@@ -170,15 +171,15 @@ impl Row<'_> {
 #[derive(Clone, Copy)]
 pub(crate) struct Lines<'a> {
     rest: Text<'a>,
+    dialect: u32,
     ended: bool,
-    strict: bool,
 }
 
 impl<'a> Lines<'a> {
     /// The cursor that `lp_lines_begin` fills for this text in the dialect of the Rust crate. A `str` is UTF-8, so the test
     /// is left out.
     pub(crate) fn of(text: &'a str) -> Self {
-        Self { rest: Text::new(text), ended: false, strict: false }
+        Self { rest: Text::new(text), dialect: dialect::CRATE, ended: false }
     }
 }
 
@@ -192,17 +193,17 @@ pub(crate) struct Cuts {
     commas: usize,
     begins: u32,
     part: u32,
+    dialect: u32,
     escaped: bool,
-    strict: bool,
 }
 
 impl Cuts {
-    /// A search in a text whose pieces may have so many bytes.
-    pub(crate) fn begin(strict: bool, limit: usize) -> Self {
-        let mut cuts =
-            Cuts { limit: 0, len: 0, equals: 0, commas: 0, begins: 0, part: 0, escaped: false, strict: false };
+    /// A search by the rules of the dialect of this number, in a text whose pieces may have so many bytes.
+    pub(crate) fn begin(dialect: u32, limit: usize) -> Self {
+        let mut cuts = Cuts { limit: 0, len: 0, equals: 0, commas: 0, begins: 0, part: 0, dialect: 0, escaped: false };
         // SAFETY: the one pointer is that of a local, which has the layout of `lp_cuts` and is filled.
-        unsafe { lp_cuts_begin(strict, limit, &mut cuts) };
+        let begun = unsafe { lp_cuts_begin(dialect, limit, &mut cuts) };
+        assert!(begun, "a dialect has the number");
         cuts
     }
 
@@ -236,7 +237,7 @@ extern "C" {
         filled: *mut usize,
     ) -> u32;
     pub(crate) fn lp_lines_piece<'a>(lines: *mut Lines<'a>, piece: *mut View<'a>) -> bool;
-    fn lp_cuts_begin(strict: bool, limit: usize, cuts: *mut Cuts);
+    fn lp_cuts_begin(dialect: u32, limit: usize, cuts: *mut Cuts) -> bool;
     fn lp_cuts_next(cuts: *mut Cuts, text: *const u8, len: usize, cut: *mut usize) -> u32;
     pub(crate) fn lp_line_show(
         line: *const Line<'_>,

@@ -11,6 +11,9 @@ pub enum Dialect {
     /// The same, but a comment ends at its own newline, whatever it holds; and a comma after the first field must have a second
     /// field after it: `m a=1i, 5` is no line.
     Strict,
+    /// The strict rules, and every newline ends a line, whatever is open: a quote, a comment or a backslash. So whatever a line holds,
+    /// each other line is read as if it were alone. No string holds a newline.
+    NewlineDelimited,
 }
 
 impl Dialect {
@@ -19,6 +22,7 @@ impl Dialect {
         match self {
             Self::Crate => dialect::CRATE,
             Self::Strict => dialect::STRICT,
+            Self::NewlineDelimited => dialect::NEWLINE_DELIMITED,
         }
     }
 }
@@ -111,7 +115,7 @@ impl<R: BufRead> LineReader<R> {
     pub fn new_in(reader: R, dialect: Dialect, limit: usize) -> Self {
         Self {
             reader,
-            cuts: Cuts::begin(dialect == Dialect::Strict, limit),
+            cuts: Cuts::begin(dialect.number(), limit),
             held: vec![],
             too_long: None,
             is_given: false,

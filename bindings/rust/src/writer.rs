@@ -10,7 +10,7 @@ use std::{error, fmt};
 ///
 /// Each line that is written is read as the same measurement, tags, fields and timestamp, and as one line, whatever is written
 /// after it. Of a line that is refused nothing is written. Which names are admitted says the library, whose contracts are proved. The
-/// string of a field may be any text.
+/// string of a field may be any text, but of newline-delimited lines one without a newline.
 ///
 /// It holds the lines that were written, and room for more. A request for memory that is refused ends the program, as in the standard
 /// library.
@@ -116,7 +116,7 @@ impl LineWriter {
         if self.append(&line, &parts) {
             return Ok(());
         }
-        Err(point.name_not_admitted(self.dialect))
+        Err(point.part_not_admitted(self.dialect))
     }
 
     // Appends a line, if its names are admitted: else it answers false, and nothing is written.
@@ -161,38 +161,48 @@ impl Point<'_> {
         Ok(())
     }
 
-    // The first name that the library refuses in a line whose other names are admitted.
-    fn name_not_admitted(&self, dialect: Dialect) -> NotAdmitted {
-        let admits = |measurement, tag, field_key| admits(dialect, measurement, tag, field_key);
-        if !admits(self.measurement, None, "f") {
+    // The first part that the library refuses in a line whose other parts are admitted.
+    fn part_not_admitted(&self, dialect: Dialect) -> NotAdmitted {
+        const FIELD: (&str, &str) = ("f", "");
+        let admits = |measurement, tag, field| admits(dialect, measurement, tag, field);
+        if !admits(self.measurement, None, FIELD) {
             return NotAdmitted::Measurement { measurement: self.measurement.to_owned() };
         }
         for &(tag_key, tag_value) in &self.tags {
-            if !admits("m", Some((tag_key, "v")), "f") {
+            if !admits("m", Some((tag_key, "v")), FIELD) {
                 return NotAdmitted::TagKey { tag_key: tag_key.to_owned() };
             }
-            if !admits("m", Some(("k", tag_value)), "f") {
+            if !admits("m", Some(("k", tag_value)), FIELD) {
                 return NotAdmitted::TagValue { tag_key: tag_key.to_owned(), tag_value: tag_value.to_owned() };
             }
         }
-        let refused = self.fields.iter().find(|(key, _)| !admits("m", None, key));
-        let (field_key, _) = refused.expect("a name of a line that is not admitted is not");
-        NotAdmitted::FieldKey { field_key: (*field_key).to_owned() }
+        for &(field_key, value) in &self.fields {
+            if !admits("m", None, (field_key, "")) {
+                return NotAdmitted::FieldKey { field_key: field_key.to_owned() };
+            }
+            match value {
+                FieldValue::String(text) if !admits("m", None, ("f", text.as_str())) => {
+                    return NotAdmitted::String { field_key: field_key.to_owned(), value: text.as_str().to_owned() };
+                }
+                _ => {}
+            }
+        }
+        unreachable!("a part of a line that is not admitted is not")
     }
 }
 
-// Whether a line of these names is admitted.
-fn admits(dialect: Dialect, measurement: &str, tag: Option<(&str, &str)>, field_key: &str) -> bool {
-    let field = Part { key: View::new(field_key), kind: kind::BOOLEAN, ..Part::EMPTY };
+// Whether a line of these names and of this string is admitted.
+fn admits(dialect: Dialect, measurement: &str, tag: Option<(&str, &str)>, (field_key, string): (&str, &str)) -> bool {
+    let field = Part { key: View::new(field_key), text: View::new(string), kind: kind::STRING, ..Part::EMPTY };
     let parts: Vec<_> = tag.map(|(key, value)| tag_part(View::new(key), View::new(value))).into_iter().chain([field]).collect();
     let (measurement, has_tag_set) = (View::new(measurement), tag.is_some());
     let line = Line { measurement, tags: parts.len() - 1, fields: 1, has_tag_set, ..Line::EMPTY };
     border::write_line(dialect.number(), &line, &parts, &mut []).0 != answer::NOT_ADMITTED
 }
 
-/// Why a [`LineWriter`] refuses a line: the first name of it that is not admitted, or else what cannot be a value.
+/// Why a [`LineWriter`] refuses a line: the first part of it that is not admitted, or else what cannot be a value.
 ///
-/// A line with such a name would be read as another line, as several or as none.
+/// A line with such a part would be read as another line, as several or as none.
 ///
 /// ```
 /// use influxdb_line_protocol::{Dialect, FieldValue, LineWriter};
@@ -242,6 +252,13 @@ pub enum NotAdmitted {
         /// The key.
         field_key: String,
     },
+    /// A string holds a newline, and the lines are newline-delimited.
+    String {
+        /// The key of the field.
+        field_key: String,
+        /// The text of the string.
+        value: String,
+    },
 }
 
 /// The part, its value with what is not printed escaped, and the reason.
@@ -257,6 +274,9 @@ impl fmt::Display for NotAdmitted {
             Self::TagKey { tag_key } => write!(f, "the tag key {tag_key:?} {RULE}"),
             Self::TagValue { tag_key, tag_value } => write!(f, "the value {tag_value:?} of the tag {tag_key:?} {RULE}"),
             Self::FieldKey { field_key } => write!(f, "the field key {field_key:?} {RULE}"),
+            Self::String { field_key, value } => {
+                write!(f, "the value {value:?} of the field {field_key:?} is not admitted: it may not hold a newline")
+            }
         }
     }
 }

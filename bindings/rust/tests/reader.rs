@@ -65,6 +65,15 @@ fn comments_of_the_strict_dialect_end_at_their_newline() {
 }
 
 #[test]
+fn every_newline_ends_a_newline_delimited_line() {
+    let text = "m f=\"a\n# b\\\n\\\nn f=\"x\" \n";
+    for len in [1, 2, 7, 100] {
+        let lines = LineReader::new_in(in_parts(text.as_bytes(), len), Dialect::NewlineDelimited, usize::MAX);
+        assert_eq!(taken(lines), text.split('\n').collect::<Vec<_>>());
+    }
+}
+
+#[test]
 fn a_piece_is_too_long_where_it_has_more_than_the_limit() {
     let text = "m f=1\nm f=\"a\nb\nc\"\nm f=10\n\nm f=2";
     for len in [1, 2, 3, 4, 5, 6, 7, 8, 100] {

@@ -89,7 +89,7 @@ fn a_buffer_without_room_panics() {
     let _ = LineProtocolBuilder::new_with(&mut bytes[..]).measurement("measurement");
 }
 
-const DIALECTS: [Dialect; 2] = [Dialect::Crate, Dialect::Strict];
+const DIALECTS: [Dialect; 3] = [Dialect::Crate, Dialect::Strict, Dialect::NewlineDelimited];
 const ONE: [(&str, FieldValue<'_>); 1] = [("f", FieldValue::I64(1))];
 
 // A point with a name in one place, and other names that are admitted in the others.
@@ -248,8 +248,11 @@ fn every_value_is_written_and_reads_back() {
     let values = strings.into_iter().map(|text| FieldValue::String(text.into()));
     let values = values.chain(floats.into_iter().map(FieldValue::F64));
     let values = values.chain([i64::MIN, 0, i64::MAX].map(FieldValue::I64)).chain([0, u64::MAX].map(FieldValue::U64));
-    let fields: Vec<_> = values.chain([true, false].map(FieldValue::Boolean)).map(|value| ("f", value)).collect();
+    let mut fields: Vec<_> = values.chain([true, false].map(FieldValue::Boolean)).map(|value| ("f", value)).collect();
     for dialect in DIALECTS {
+        if dialect == Dialect::NewlineDelimited {
+            fields.retain(|(_, value)| !matches!(value, FieldValue::String(text) if text.as_str().contains('\n')));
+        }
         let mut lines = LineWriter::new(dialect);
         for field in &fields {
             lines.write_point("m", &[], std::slice::from_ref(field), None).expect("it is admitted");
@@ -265,9 +268,17 @@ fn every_value_is_written_and_reads_back() {
         }
         assert_eq!(read[fields.len()].timestamp, Some(i64::MIN));
     }
-    let mut lines = LineWriter::new(Dialect::Crate);
-    lines.write_point("m", &[], &[("f", FieldValue::String("a\nb".into()))], None).expect("it is admitted");
-    assert_eq!(lines.as_bytes(), b"m f=\"a\nb\"\n");
+    let fields = [("f", FieldValue::I64(1)), ("g", FieldValue::String("a\nb".into()))];
+    for dialect in [Dialect::Crate, Dialect::Strict] {
+        let mut lines = LineWriter::new(dialect);
+        lines.write_point("m", &[], &fields, None).expect("it is admitted");
+        assert_eq!(lines.as_bytes(), b"m f=1i,g=\"a\nb\"\n");
+    }
+    let mut lines = LineWriter::new(Dialect::NewlineDelimited);
+    let refused = lines.write_point("m", &[], &fields, None).unwrap_err();
+    assert_eq!(refused, NotAdmitted::String { field_key: "g".into(), value: "a\nb".into() });
+    assert_eq!(refused.to_string(), r#"the value "a\nb" of the field "g" is not admitted: it may not hold a newline"#);
+    assert_eq!(lines.as_bytes(), b"");
 }
 
 #[test]

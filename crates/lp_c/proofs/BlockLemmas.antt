@@ -82,7 +82,7 @@ reads_own before room left row xs after item h = record {
   moves = h.moves;
   stays = h.stays;
   taken = h.taken;
-  shown = item_own (option_map (λ line. answer (dialect_of before.strict) line.now) h.text) room h.answer row.line xs (parts_of row)
+  shown = item_own (option_map (λ line. answer (dialect_of before.dialect) line.now) h.text) room h.answer row.line xs (parts_of row)
       (ap is_item (sym h.numbered) ∙ item)
       (ap (λ n. if n == answer_number Answer.Line then row.line.tags + row.line.fields else 0) h.numbered) h.shown;
 }

@@ -20,11 +20,11 @@ finds_on dialect before text track (Err on) is h = h.1 dialect before is
 -- a search that found no cut, and names the track of all bytes
 pub goes_on : (cuts after : Cuts) (before text : List ℕ) (track : Track) (end : ℕ) → end ≡ cuts.len + length text
     → KeepsRules cuts after → track_in after ≡ track → after.len ≡ end → HasCome cuts before
-    → IsTrackOf (dialect_of cuts.strict) (before ++ text) track → CutsOn (dialect_of cuts.strict) before text (length text) after
+    → IsTrackOf (dialect_of cuts.dialect) (before ++ text) track → CutsOn (dialect_of cuts.dialect) before text (length text) after
 goes_on cuts after before text track end sum keeps names len come is = record {
   ends = λ less. absurd (omega (arith, less));
   goes_on = λ _. (
-    tracked_is_last (dialect_of cuts.strict) (before ++ text) track is,
+    tracked_is_last (dialect_of cuts.dialect) (before ++ text) track is,
     (omega (arith, length-append before text, come.0, sum, len), λ _. rw (keeps.1, names) is),
   );
 }

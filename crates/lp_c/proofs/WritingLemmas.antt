@@ -1,6 +1,6 @@
 -- What was put out is read back.
-use Rattle.std.proofs.Common.{◌≡◌, ◌<◌, ℕ, List, [], ◌∷◌, length, drop, take, take_at, sym, subst, arith, ap, ◌∙◌}
-use Rattle.influxdb_line_protocol.specs.format.Points.{Point}
+use Rattle.std.proofs.Common.{◌≡◌, ◌<◌, ℕ, List, [], ◌∷◌, length, drop, take, take_at, sym, subst, arith, ap, ◌∙◌, refl, true}
+use Rattle.influxdb_line_protocol.specs.format.Points.{Point, is_admitted_in}
 use Rattle.influxdb_line_protocol.specs.laws.AdmittedLines.{AddsPoints, AreClosedLines, EmptyTextIsClosed}
 use Rattle.lp_c.specs.Numbers.{answer_number}
 use Rattle.lp_c.specs.Writing.{PutsOut, ReadsAs}
@@ -16,6 +16,7 @@ put_front text before after len answer puts written =
 -- so it is read as the point that it added to an empty text
 pub reads_as : (lines text before after : List ℕ) (len answer : ℕ) (p q : Point) → PutsOut Written text before after len answer
     → answer ≡ answer_number Written → EmptyTextIsClosed → AddsPoints lines (q ∷ []) text → lines ≡ [] → q ≡ p → ReadsAs p (take len after)
-reads_as lines text before after len answer p q puts written empty adds none same dialect =
+reads_as lines text before after len answer p q puts written empty adds none same dialect admitted =
     let closed = subst (λ lines. AreClosedLines dialect lines []) (sym none) (empty dialect) in
-    rw (put_front text before after len answer puts written, ← same) (adds dialect [] closed)
+    let is_admitted : is_admitted_in dialect q ≡ true = ap (is_admitted_in dialect) same ∙ admitted in
+    rw (put_front text before after len answer puts written, ← same) (adds dialect [] (rw is_admitted refl) closed)

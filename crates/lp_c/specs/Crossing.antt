@@ -5,7 +5,7 @@ use Rattle.std.specs.Borrow.{Bor}
 use Rattle.std.specs.List.{sum_by}
 use Rattle.std.specs.Option.{option_map, is_some}
 use Rattle.std.specs.Ordering.{int_eq}
-use Rattle.influxdb_line_protocol.specs.format.Dialects.{Dialect, Crate, Strict}
+use Rattle.influxdb_line_protocol.specs.format.Dialects.{Dialect, Crate, Strict, NewlineDelimited}
 use Rattle.influxdb_line_protocol.specs.format.Lines as format
 use Rattle.influxdb_line_protocol.specs.format.Lines.{some_tags}
 use Rattle.influxdb_line_protocol.specs.format.Pieces.{GivesPiece, Left}
@@ -16,8 +16,9 @@ use Rattle.influxdb_line_protocol.specs.format.Readings.{cannot_parse_entire_lin
 use Rattle.influxdb_line_protocol.specs.format.Readings.{measurement_value_invalid, tag_set_malformed, take_while1, timestamp_value_invalid}
 use Rattle.influxdb_line_protocol.specs.format.Values.{Value, integer, unsigned, float, string, boolean}
 use Rattle.influxdb_line_protocol.specs.code.ParseSteps.{GivesLine}
-use Rattle.lp_c.specs.Numbers.{answer_number, fault_number, kind_number, side_number}
+use Rattle.lp_c.specs.Numbers.{answer_number, dialect_number, fault_number, kind_number, side_number}
 use Rattle.lp_c.specs.declared.views.Answer.{Answer}
+use Rattle.lp_c.specs.declared.views.Dialect.TheVariants as dialect
 use Rattle.lp_c.specs.declared.views.FaultKind.{FaultKind}
 use Rattle.lp_c.specs.declared.views.Kind.{Kind}
 use Rattle.lp_c.specs.declared.views.Line.{Line}
@@ -27,10 +28,11 @@ use Rattle.lp_c.specs.declared.views.Side.{Side}
 use Rattle.lp_c.specs.declared.views.Side.TheVariants as side
 use Rattle.lp_c.specs.declared.views.View.{View}
 
--- the dialect that a cursor names
-abbrev pub dialect_of : Bool → Dialect
-dialect_of true = Strict
-dialect_of false = Crate
+-- the dialect that a number names; one that is of none names that of the Rust crate
+abbrev pub dialect_of : ℕ → Dialect
+dialect_of number =
+    if number == dialect_number dialect.Strict then Strict
+    else if number == dialect_number dialect.NewlineDelimited then NewlineDelimited else Crate
 
 -- the text that a cursor has left
 abbrev pub left_text : Bool → List ℕ → Option (List ℕ)
@@ -39,7 +41,7 @@ left_text false rest = Some rest
 
 -- what a cursor has left
 abbrev pub left_of : Lines → Left
-left_of lines = record { dialect = dialect_of lines.strict; text = left_text lines.ended lines.rest.now }
+left_of lines = record { dialect = dialect_of lines.dialect; text = left_text lines.ended lines.rest.now }
 
 -- the text that a view shows: it is a part of the input if it is no copy
 abbrev pub text_shown : View → Text
@@ -214,7 +216,7 @@ pub record ReadsItem (before : Lines) (room left number : ℕ) (line : Line) (pa
   pub passed : Left
   pub numbered : number ≡ answer_number answer
   pub gives : GivesLine (left_of before) text passed
-  pub shown : AnswersItem (option_map (λ line. format.answer (dialect_of before.strict) line.now) text) room answer line parts
+  pub shown : AnswersItem (option_map (λ line. format.answer (dialect_of before.dialect) line.now) text) room answer line parts
   pub moves : is_more answer ≡ false → left_of after ≡ passed
   pub stays : is_more answer ≡ true → after ≡ before
   pub taken : left + taken_by number line ≡ room

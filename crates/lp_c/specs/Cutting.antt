@@ -27,11 +27,11 @@ track_in cuts =
 
 -- these are the bytes of the piece that came so far: there are none, or the search has their track
 abbrev pub HasCome : Cuts → List ℕ → Type 0
-HasCome cuts bytes = (length bytes ≡ cuts.len) × (cuts.len ≢ 0 → IsTrackOf (dialect_of cuts.strict) bytes (track_in cuts))
+HasCome cuts bytes = (length bytes ≡ cuts.len) × (cuts.len ≢ 0 → IsTrackOf (dialect_of cuts.dialect) bytes (track_in cuts))
 
 -- the dialect and the greatest length stay
 abbrev pub KeepsRules : Cuts → Cuts → Type 0
-KeepsRules before after = (after.limit ≡ before.limit) × (after.strict ≡ before.strict)
+KeepsRules before after = (after.limit ≡ before.limit) × (after.dialect ≡ before.dialect)
 
 -- of a piece whose bytes so far are these, and a text that comes after them: the newline at a place of the text is the first one
 -- that ends the piece, and nothing has come of the next piece; or all of the text is of the piece

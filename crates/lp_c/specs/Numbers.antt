@@ -1,6 +1,5 @@
 -- The numbers that callers in C see.
 use Rattle.std.specs.Prelude.{◌≢◌, ℕ}
-use Rattle.influxdb_line_protocol.specs.format.Dialects as format
 use Rattle.lp_c.specs.declared.views.Answer.{Answer}
 use Rattle.lp_c.specs.declared.views.Dialect.{Dialect}
 use Rattle.lp_c.specs.declared.views.FaultKind.{FaultKind}
@@ -28,15 +27,11 @@ answer_number Answer.NotADialect = 13
 abbrev pub dialect_number : Dialect → ℕ
 dialect_number Dialect.Crate = 0
 dialect_number Dialect.Strict = 1
+dialect_number Dialect.NewlineDelimited = 2
 
 -- no dialect has the number
 abbrev pub IsNoDialect : ℕ → Type 0
 IsNoDialect number = (dialect : Dialect) → number ≢ dialect_number dialect
-
--- the rules of a dialect
-abbrev pub rules_in : Dialect → format.Dialect
-rules_in Dialect.Crate = format.Crate
-rules_in Dialect.Strict = format.Strict
 
 -- the number of what a part is
 abbrev pub kind_number : Kind → ℕ

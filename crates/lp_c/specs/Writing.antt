@@ -2,7 +2,7 @@
 use Rattle.std.specs.Prelude.{◌≡◌, ◌≢◌, ◌↔◌, ℕ, ◌<◌, ◌≤◌, List, [], ◌∷◌, ◌++◌, length, drop, true, false, Ok}
 use Rattle.influxdb_line_protocol.specs.format.Dialects.{Dialect}
 use Rattle.influxdb_line_protocol.specs.format.Lines.{point_of, some_tags}
-use Rattle.influxdb_line_protocol.specs.format.Points.{Point, built, is_admitted_point}
+use Rattle.influxdb_line_protocol.specs.format.Points.{Point, built, is_admitted_in}
 use Rattle.influxdb_line_protocol.specs.code.Bases.{Base, borrowed, owned, duplicate_key, base_of}
 use Rattle.influxdb_line_protocol.specs.code.Shown.{shown_line}
 use Rattle.influxdb_line_protocol.specs.laws.AdmittedLines.{AreClosedLines}
@@ -10,6 +10,7 @@ use Rattle.lp_c.specs.declared.views.Answer.{Answer}
 use Rattle.lp_c.specs.declared.views.Answer.TheVariants.{Fault, MoreRoom, NotADialect, NotALine, NotAdmitted, OutOfMemory, Written}
 use Rattle.lp_c.specs.declared.views.Line.{Line}
 use Rattle.lp_c.specs.declared.views.Part.{Part}
+use Rattle.lp_c.specs.Crossing.{dialect_of}
 use Rattle.lp_c.specs.Handed.{IsLineIn, line_in, tag_set_in, text_in}
 use Rattle.lp_c.specs.Numbers.{IsNoDialect, answer_number}
 
@@ -37,20 +38,20 @@ point_in l parts = point_of (line_in false l parts)
 abbrev pub built_in : Line → List Part → List ℕ
 built_in l parts = built (point_in l parts)
 
--- A line whose names are all admitted is put out, as the builder writes it. Any other is refused, as is a number of no dialect and
+-- A line that is admitted in the dialect is put out, as the builder writes it. Any other is refused, as is a number of no dialect and
 -- what is no line: then, and if memory is refused, the buffer and the length are as before.
 pub record WritesAdmittedLine (dialect : ℕ) (l : Line) (parts : List Part) (before after : List ℕ) (len_before len answer : ℕ) : Type 0 where
   pub not_a_dialect : (answer ≡ answer_number NotADialect) ↔ IsNoDialect dialect
   pub not_a_line : answer ≡ answer_number NotALine → ¬ IsLineIn l parts
-  pub not_admitted : answer ≡ answer_number NotAdmitted → IsLineIn l parts × (is_admitted_point (point_in l parts) ≡ false)
+  pub not_admitted : answer ≡ answer_number NotAdmitted → IsLineIn l parts × (is_admitted_in (dialect_of dialect) (point_in l parts) ≡ false)
   pub kept : answer ≢ answer_number Written → answer ≢ answer_number MoreRoom → (after ≡ before) × (len ≡ len_before)
   pub puts : answer ≢ answer_number NotADialect → answer ≢ answer_number NotALine → answer ≢ answer_number NotAdmitted
-      → answer ≢ answer_number OutOfMemory → IsLineIn l parts × (is_admitted_point (point_in l parts) ≡ true)
+      → answer ≢ answer_number OutOfMemory → IsLineIn l parts × (is_admitted_in (dialect_of dialect) (point_in l parts) ≡ true)
       × PutsOut Written (built_in l parts) before after len answer
 
--- a text is read as this point and no other, in each dialect and whatever text comes after it
+-- a text is read as this point and no other, in each dialect in which the point is admitted and whatever text comes after it
 abbrev pub ReadsAs : Point → List ℕ → Type 0
-ReadsAs point text = (dialect : Dialect) → AreClosedLines dialect text (Ok point ∷ [])
+ReadsAs point text = (dialect : Dialect) → is_admitted_in dialect point ≡ true → AreClosedLines dialect text (Ok point ∷ [])
 
 -- what is shown of the line that views hold
 abbrev pub shown_in : Line → List Part → List ℕ

@@ -1,14 +1,14 @@
 //! A search for the cuts of a text that comes in parts, over the caller's own bytes.
 
-ghost use Rattle.std.specs.Prelude.{◌≡◌, ◌≢◌, ◌↔◌, ◌≤◌, ◌<◌, ◌+◌, ◌^◌, ℕ, List, [], length, IsTrue};
+ghost use Rattle.std.specs.Prelude.{◌≡◌, ◌≢◌, ◌↔◌, ◌≤◌, ◌<◌, ◌+◌, ◌^◌, ℕ, List, [], length, IsFalse, IsTrue};
 ghost use Rattle.lp_split.specs.code.{most_counted};
 ghost use Rattle.lp_c.specs.declared.views.Answer.TheVariants.{MoreText, OutOfMemory, Piece, TooLong};
 ghost use Rattle.lp_c.specs.Crossing.{dialect_of};
 ghost use Rattle.lp_c.specs.Cutting.{CutsOn, FindsOn, HasCome, IsWithin, KeepsRules, is_cut_answer, place_in, region_in, track_in};
-ghost use Rattle.lp_c.specs.Numbers.{answer_number};
+ghost use Rattle.lp_c.specs.Numbers.{IsNoDialect, answer_number};
 
 use crate::reading::dialect_of;
-use crate::views::Answer;
+use crate::views::{Answer, Dialect};
 use lp_split::split::{Place, Region, Track, cut_or_track, track_on};
 
 /// A search for cuts: what is known of the bytes of the piece that came so far.
@@ -27,10 +27,10 @@ pub struct Cuts {
     pub begins: u32,
     /// In which part of a line they end: 1 is a plain stretch, 2 a quoted one, and any other number the head.
     pub part: u32,
+    /// The number of the [`Dialect`] by whose rules pieces end; a number of none is taken for that of the Rust crate.
+    pub dialect: u32,
     /// Whether the byte after them is escaped.
     pub escaped: bool,
-    /// Whether the rules of the strict dialect hold, and not those of the Rust crate.
-    pub strict: bool,
 }
 
 // The region of a piece that a number names.
@@ -85,8 +85,8 @@ fn at_place(cuts: &Cuts, len: usize, begins: u32, place: Place) -> Cuts
         commas: place.commas,
         begins,
         part: region_number(place.region),
+        dialect: cuts.dialect,
         escaped: place.is_escaped,
-        strict: cuts.strict,
     }
 }
 
@@ -112,10 +112,10 @@ fn on_track(cuts: &Cuts, len: usize, track: Track) -> Cuts
 fn search(cuts: &Cuts, text: &[u8]) -> Result<usize, Track>
     requires room { cuts.now.len + length text.now < 2 ^ 64 }
     ensures within { IsWithin cuts.now.len text.now result }
-    ensures finds { (before : List ℕ) → HasCome cuts.now before → FindsOn (dialect_of cuts.now.strict) before text.now result }
+    ensures finds { (before : List ℕ) → HasCome cuts.now before → FindsOn (dialect_of cuts.now.dialect) before text.now result }
 {
     if cuts.len == 0 {
-        return cut_or_track(dialect_of(cuts.strict), text);
+        return cut_or_track(dialect_of(cuts.dialect), text);
     }
     track_on(text, track_of(cuts))
 }
@@ -132,12 +132,18 @@ fn answer_within(limit: usize, len: usize, answer: Answer) -> u32
     }
 }
 
-/// Begins a search for the cuts of a text by the rules of a dialect, whose pieces may have so many bytes. It asks for no memory.
+/// Begins a search for the cuts of a text by the rules of the [`Dialect`] of this number, whose pieces may have so many bytes, and
+/// says whether it did: whether a dialect has the number. Else `cuts` is as it was. It asks for no memory.
 #[unsafe(no_mangle)]
-pub extern "C" fn lp_cuts_begin(strict: bool, limit: usize, cuts: &mut Cuts)
-    ensures rules { (cuts.new.limit ≡ limit) × (cuts.new.strict ≡ strict) }
-    ensures begun { HasCome cuts.new [] }
+pub extern "C" fn lp_cuts_begin(dialect: u32, limit: usize, cuts: &mut Cuts) -> bool
+    ensures begins { IsFalse result ↔ IsNoDialect dialect }
+    ensures rules { IsTrue result → (cuts.new.limit ≡ limit) × (cuts.new.dialect ≡ dialect) }
+    ensures begun { IsTrue result → HasCome cuts.new [] }
+    ensures refused { IsFalse result → cuts.new ≡ cuts.old }
 {
+    if Dialect::numbered(dialect).is_none() {
+        return false;
+    }
     *cuts = Cuts {
         limit,
         len: 0,
@@ -145,9 +151,10 @@ pub extern "C" fn lp_cuts_begin(strict: bool, limit: usize, cuts: &mut Cuts)
         commas: 0,
         begins: 0,
         part: 0,
+        dialect,
         escaped: false,
-        strict,
     };
+    true
 }
 
 /// Searches the bytes that come after those that were searched, and answers the number of an [`Answer`]. It asks for no memory.
@@ -170,7 +177,7 @@ pub extern "C" fn lp_cuts_next(cuts: &mut Cuts, text: &[u8], cut: &mut usize) ->
     ensures more { result ≡ answer_number MoreText → (cut.new ≡ length text.now) × (cuts.old.len + cut.new ≤ cuts.old.limit) }
     ensures long { result ≡ answer_number TooLong → cuts.old.limit < cuts.old.len + cut.new }
     ensures finds { result ≢ answer_number OutOfMemory → (before : List ℕ) → HasCome cuts.old before →
-        CutsOn (dialect_of cuts.old.strict) before text.now cut.new cuts.new }
+        CutsOn (dialect_of cuts.old.dialect) before text.now cut.new cuts.new }
 {
     let Some(end) = cuts.len.checked_add(text.len()) else {
         return Answer::OutOfMemory.number();

@@ -3,11 +3,11 @@
 ghost use Rattle.std.specs.Prelude.{◌≡◌, ◌≢◌, ◌≤◌, ◌+◌, ◌↔◌, [], length, false, IsFalse, IsTrue, IsUtf8, Some, option_map};
 ghost use Rattle.influxdb_line_protocol.specs.code.Rules.{rules_of};
 ghost use Rattle.lp_c.specs.Crossing.{GivesView, ReadsItem, dialect_of, is_item, left_of};
-ghost use Rattle.lp_c.specs.Numbers.{answer_number};
+ghost use Rattle.lp_c.specs.Numbers.{IsNoDialect, answer_number};
 
 use crate::telling::put_item;
-use crate::views::{Answer, Line, Lines, Part, Room, View};
-use influxdb_line_protocol::{Dialect, SplitLines, split_lines_in};
+use crate::views::{Answer, Dialect, Line, Lines, Part, Room, View};
+use influxdb_line_protocol::{SplitLines, split_lines_in};
 use lp_events::lines::next_line;
 
 /// The version of the library: 10,000 times its first number, 100 times its second, and its third.
@@ -18,32 +18,32 @@ pub extern "C" fn lp_version() -> u32
     30000
 }
 
-/// Begins to read a text by the rules of a dialect, and says whether the text is UTF-8: else nothing may be read of it.
+/// Begins to read a text by the rules of the [`Dialect`] of this number, and says whether it did: whether a dialect has the number,
+/// and the text is UTF-8. Else `lines` is as it was, and nothing may be read of the text.
 #[unsafe(no_mangle)]
-pub extern "C" fn lp_lines_begin<'a>(text: &'a [u8], strict: bool, lines: &mut Lines<'a>) -> bool
-    ensures utf8 { IsTrue result ↔ IsUtf8 text.now }
-    ensures begun { IsTrue result → left_of lines.new ≡ record { dialect = dialect_of strict; text = Some text.now } }
+pub extern "C" fn lp_lines_begin<'a>(text: &'a [u8], dialect: u32, lines: &mut Lines<'a>) -> bool
+    ensures begins { IsTrue result ↔ IsUtf8 text.now × (¬ IsNoDialect dialect) }
+    ensures begun { IsTrue result → left_of lines.new ≡ record { dialect = dialect_of dialect; text = Some text.now } }
     ensures refused { IsFalse result → lines.new ≡ lines.old }
 {
-    if simdutf8::basic::from_utf8(text).is_err() {
+    if Dialect::numbered(dialect).is_none() || simdutf8::basic::from_utf8(text).is_err() {
         return false;
     }
     *lines = Lines {
         rest: text,
+        dialect,
         ended: false,
-        strict,
     };
     true
 }
 
-// The dialect that a cursor names.
-pub(crate) fn dialect_of(strict: bool) -> Dialect
-    ensures { rules_of result ≡ dialect_of strict }
+// The rules of the dialect that a number names.
+pub(crate) fn dialect_of(number: u32) -> influxdb_line_protocol::Dialect
+    ensures { rules_of result ≡ dialect_of number }
 {
-    if strict {
-        Dialect::Strict
-    } else {
-        Dialect::Crate
+    match Dialect::numbered(number) {
+        Some(dialect) => dialect.rules(),
+        None => influxdb_line_protocol::Dialect::Crate,
     }
 }
 
@@ -51,7 +51,7 @@ pub(crate) fn dialect_of(strict: bool) -> Dialect
 fn leave<'a>(lines: &mut Lines<'a>, rest: Option<&'a str>)
     requires { IsUtf8 lines.old.rest.now }
     ensures text { IsUtf8 lines.new.rest.now }
-    ensures left { left_of lines.new ≡ record { dialect = dialect_of lines.old.strict; text = option_map (λ left. left.now) rest.entry } }
+    ensures left { left_of lines.new ≡ record { dialect = dialect_of lines.old.dialect; text = option_map (λ left. left.now) rest.entry } }
 {
     match rest {
         Some(rest) => {
@@ -69,7 +69,7 @@ pub(crate) fn pieces_of<'a>(lines: &Lines<'a>) -> SplitLines<'a>
     ensures { lines.now.ended ≡ false → result ≡ left_of lines.now }
 {
     let text = unsafe { str::from_utf8_unchecked(lines.rest) };
-    split_lines_in(dialect_of(lines.strict), text)
+    split_lines_in(dialect_of(lines.dialect), text)
 }
 
 // Reads the next item into what the caller lends; `pieces` may be used again if the item was passed.
@@ -97,7 +97,7 @@ pub(crate) fn read_next<'a>(
         lines.ended = true;
         return Answer::End.number();
     };
-    let answer = put_item(dialect_of(lines.strict), text, room, line, parts);
+    let answer = put_item(dialect_of(lines.dialect), text, room, line, parts);
     if !answer.is_more() {
         leave(lines, pieces.remainder());
     }

@@ -1,13 +1,12 @@
 //! A text that is rebuilt: its lines are written again into a buffer that the caller lends, and its faults into another.
 
-ghost use Rattle.std.specs.Prelude.{◌≡◌, ◌≢◌, ◌⊎◌, IsUtf8};
-ghost use Rattle.lp_c.specs.declared.views.Answer.TheVariants.{NotUtf8, OutOfMemory};
-ghost use Rattle.lp_c.specs.Numbers.{answer_number};
+ghost use Rattle.std.specs.Prelude.{◌≡◌, ◌≢◌, ◌↔◌, IsUtf8};
+ghost use Rattle.lp_c.specs.declared.views.Answer.TheVariants.{MoreRoom, NotADialect, NotUtf8, OutOfMemory, Written};
+ghost use Rattle.lp_c.specs.Numbers.{IsNoDialect, answer_number};
 ghost use Rattle.lp_c.specs.Crossing.{dialect_of};
 ghost use Rattle.lp_c.specs.Rebuilding.{Counted, PutsBoth, RebuildsInto};
 
-use crate::reading::dialect_of;
-use crate::views::Answer;
+use crate::views::{Answer, Dialect};
 use crate::writing::put_front;
 use lp_rebuild::{Rebuilt, rebuild_in};
 use std::alloc::Global;
@@ -53,32 +52,36 @@ fn put_both(rebuilt: &Rebuilt, batch: &mut [u8], faults: &mut [u8]) -> u32
     Answer::Written.number()
 }
 
-/// Writes again each line of a text whose names are all admitted, and refuses every other item, by the rules of a dialect.
+/// Writes again each line of a text whose names are all admitted, and refuses every other item, by the rules of the [`Dialect`] of
+/// this number.
 ///
 /// Answers `Written`, with the lines in `batch` and the faults in `faults`; or `MoreRoom`, where one of the two is too short:
-/// `counts` says how much is needed. Or `NotUtf8` or `OutOfMemory`, and `counts` is as before. Only `Written` changes the
-/// buffers.
+/// `counts` says how much is needed. Or `NotADialect`, whatever the text is, or `NotUtf8` or `OutOfMemory`, and `counts` is as
+/// before. Only `Written` changes the buffers.
 #[unsafe(no_mangle)]
 pub extern "C" fn lp_rebuild(
     alloc: Global,
-    strict: bool,
+    dialect: u32,
     text: &[u8],
     batch: &mut [u8],
     faults: &mut [u8],
     counts: &mut Counts,
 ) -> u32
+    ensures not_a_dialect { result ≡ answer_number NotADialect ↔ IsNoDialect dialect }
     ensures not_utf8 { result ≡ answer_number NotUtf8 → ¬ IsUtf8 text.now }
-    ensures utf8 { result ≢ answer_number NotUtf8 → IsUtf8 text.now }
-    ensures batch { (result ≡ answer_number NotUtf8) ⊎ (result ≡ answer_number OutOfMemory) → batch.new ≡ batch.old }
-    ensures faults { (result ≡ answer_number NotUtf8) ⊎ (result ≡ answer_number OutOfMemory) → faults.new ≡ faults.old }
-    ensures counts { (result ≡ answer_number NotUtf8) ⊎ (result ≡ answer_number OutOfMemory) → counts.new ≡ counts.old }
-    ensures rebuilds { result ≢ answer_number NotUtf8 → result ≢ answer_number OutOfMemory →
-        RebuildsInto (dialect_of strict) text.now batch.old batch.new faults.old faults.new counts.new result }
+    ensures utf8 { result ≢ answer_number NotADialect → result ≢ answer_number NotUtf8 → IsUtf8 text.now }
+    ensures kept { result ≢ answer_number Written → result ≢ answer_number MoreRoom →
+        (batch.new ≡ batch.old) × (faults.new ≡ faults.old) × (counts.new ≡ counts.old) }
+    ensures rebuilds { result ≢ answer_number NotADialect → result ≢ answer_number NotUtf8 → result ≢ answer_number OutOfMemory →
+        RebuildsInto (dialect_of dialect) text.now batch.old batch.new faults.old faults.new counts.new result }
 {
+    let Some(dialect) = Dialect::numbered(dialect) else {
+        return Answer::NotADialect.number();
+    };
     let Ok(text) = simdutf8::basic::from_utf8(text) else {
         return Answer::NotUtf8.number();
     };
-    let Ok(rebuilt) = rebuild_in(alloc, dialect_of(strict), text) else {
+    let Ok(rebuilt) = rebuild_in(alloc, dialect.rules(), text) else {
         return Answer::OutOfMemory.number();
     };
     *counts = count(&rebuilt);

@@ -2,8 +2,8 @@
 
 ghost use Rattle.std.specs.Prelude.{◌≡◌, ◌↔◌, IfSome, None};
 ghost use Rattle.influxdb_line_protocol.specs.code.Rules.{rules_of};
-ghost use Rattle.lp_c.specs.Crossing.{is_more};
-ghost use Rattle.lp_c.specs.Numbers.{IsNoDialect, answer_number, dialect_number, fault_number, kind_number, rules_in, side_number};
+ghost use Rattle.lp_c.specs.Crossing.{dialect_of, is_more};
+ghost use Rattle.lp_c.specs.Numbers.{IsNoDialect, answer_number, dialect_number, fault_number, kind_number, side_number};
 
 /// A text, and whether it is a copy without its escapes.
 #[repr(C)]
@@ -75,10 +75,10 @@ pub struct Line<'a> {
 pub struct Lines<'a> {
     /// The text that is left.
     pub rest: &'a [u8],
+    /// The number of the [`Dialect`] by whose rules it is read; a number of none is taken for that of the Rust crate.
+    pub dialect: u32,
     /// Whether no piece of the text is left.
     pub ended: bool,
-    /// Whether the rules of the strict dialect hold, and not those of the Rust crate.
-    pub strict: bool,
 }
 
 /// What a call answers.
@@ -130,13 +130,15 @@ impl Answer {
     }
 }
 
-/// By whose rules a line is to read back.
+/// By whose rules a text is read, and a line is to read back.
 #[derive(Clone, Copy, Drop)]
 pub enum Dialect {
     /// Those of the Rust crate.
     Crate = 0,
     /// Those of the strict dialect.
     Strict = 1,
+    /// The same, and each newline ends a line, whatever is open.
+    NewlineDelimited = 2,
 }
 
 impl Dialect {
@@ -155,17 +157,19 @@ impl Dialect {
         match number {
             0 => Some(Dialect::Crate),
             1 => Some(Dialect::Strict),
+            2 => Some(Dialect::NewlineDelimited),
             _ => None,
         }
     }
 
     /// Its rules.
     pub fn rules(self) -> influxdb_line_protocol::Dialect
-        ensures { rules_of result ≡ rules_in self }
+        ensures { rules_of result ≡ dialect_of (dialect_number self) }
     {
         match self {
             Dialect::Crate => influxdb_line_protocol::Dialect::Crate,
             Dialect::Strict => influxdb_line_protocol::Dialect::Strict,
+            Dialect::NewlineDelimited => influxdb_line_protocol::Dialect::NewlineDelimited,
         }
     }
 }

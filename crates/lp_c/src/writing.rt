@@ -1,19 +1,20 @@
 //! Lines that are written, shown or tested, and bases of series: each into a buffer that the caller lends.
 
-ghost use Rattle.std.specs.Prelude.{◌≡◌, ◌≢◌, ◌≤◌, ◌++◌, length, take, drop, false};
+ghost use Rattle.std.specs.Prelude.{◌≡◌, ◌≢◌, ◌↔◌, ◌≤◌, ◌++◌, length, take, drop, false};
 ghost use Rattle.influxdb_line_protocol.specs.code.Bases.{is_base_safe};
 ghost use Rattle.influxdb_line_protocol.specs.format.Lines.{some_tags};
-ghost use Rattle.influxdb_line_protocol.specs.format.Points.{is_admitted_point};
-ghost use Rattle.lp_c.specs.declared.views.Answer.TheVariants.{MoreRoom, NotALine, OutOfMemory, Written};
+ghost use Rattle.influxdb_line_protocol.specs.format.Points.{is_admitted_in};
+ghost use Rattle.lp_c.specs.declared.views.Answer.TheVariants.{MoreRoom, NotADialect, NotALine, OutOfMemory, Written};
+ghost use Rattle.lp_c.specs.Crossing.{dialect_of};
 ghost use Rattle.lp_c.specs.Handed.{IsLineIn, IsSeriesIn, tag_set_in, text_in};
-ghost use Rattle.lp_c.specs.Numbers.{answer_number};
+ghost use Rattle.lp_c.specs.Numbers.{IsNoDialect, answer_number};
 ghost use Rattle.lp_c.specs.Writing.{PutsOut, ReadsAs, Writes, WritesAdmittedLine, answer_for_base, base_in, point_in, shown_in, text_of_base};
 
 use crate::handed::{empty_line, take_line, take_series};
 use crate::views::{Answer, Dialect, Line, Part};
 use influxdb_line_protocol::builder::Unwritten;
 use influxdb_line_protocol::{
-    Error, LineProtocolBuilder, is_admitted, laws, write_admitted_line_in,
+    Error, LineProtocolBuilder, is_admitted_in, laws, write_admitted_line_in,
 };
 use std::alloc::Global;
 
@@ -38,36 +39,41 @@ fn put_out(done: Answer, text: &[u8], out: &mut [u8], len: &mut usize) -> u32
     done.number()
 }
 
-/// Whether [`lp_line_write`] writes a line: whether each of its names is admitted.
+/// Whether [`lp_line_write`] writes a line in the [`Dialect`] of this number: whether the line is admitted there.
 ///
-/// Answers `Written` and sets `admitted`; or `NotALine` or `OutOfMemory`, and changes nothing. With at most eight tags and
-/// four fields it takes no memory.
+/// Answers `Written` and sets `admitted`; or `NotADialect`, `NotALine` or `OutOfMemory`, and changes nothing. With at most eight
+/// tags and four fields it takes no memory.
 #[unsafe(no_mangle)]
 pub extern "C" fn lp_line_is_admitted(
     alloc: Global,
+    dialect: u32,
     line: &Line<'_>,
     parts: &[Part<'_>],
     admitted: &mut bool,
 ) -> u32
-    ensures not_a_line { result ≡ answer_number NotALine → (¬ IsLineIn line.now parts.now) × (admitted.new ≡ admitted.old) }
-    ensures out_of_memory { result ≡ answer_number OutOfMemory → admitted.new ≡ admitted.old }
+    ensures not_a_dialect { result ≡ answer_number NotADialect ↔ IsNoDialect dialect }
+    ensures not_a_line { result ≡ answer_number NotALine → ¬ IsLineIn line.now parts.now }
+    ensures kept { result ≢ answer_number Written → admitted.new ≡ admitted.old }
     ensures memory { line.now.tags ≤ 8 → line.now.fields ≤ 4 → result ≢ answer_number OutOfMemory }
-    ensures told { result ≢ answer_number NotALine → result ≢ answer_number OutOfMemory →
+    ensures told { result ≢ answer_number NotADialect → result ≢ answer_number NotALine → result ≢ answer_number OutOfMemory →
         (result ≡ answer_number Written) × IsLineIn line.now parts.now
-        × (admitted.new ≡ is_admitted_point (point_in line.now parts.now)) }
+        × (admitted.new ≡ is_admitted_in (dialect_of dialect) (point_in line.now parts.now)) }
 {
+    let Some(dialect) = Dialect::numbered(dialect) else {
+        return Answer::NotADialect.number();
+    };
     let mut taken = empty_line(alloc);
     match take_line(alloc, false, line, parts, &mut taken) {
         Ok(()) => {
-            *admitted = is_admitted(&taken);
+            *admitted = is_admitted_in(dialect.rules(), &taken);
             Answer::Written.number()
         }
         Err(answer) => answer.number(),
     }
 }
 
-/// Writes a line, with its newline, as the builder does, if it reads back: if each of its names is admitted. What is written is read as
-/// the point of the line and as no other, whatever text comes after it; `dialect` is the number of the [`Dialect`] in which it is read.
+/// Writes a line, with its newline, as the builder does, if it reads back: if it is admitted in the [`Dialect`] of this number. What is
+/// written is read as the point of the line and as no other, whatever text comes after it, in each dialect in which it is admitted.
 ///
 /// Answers `Written`, and `len` is how many bytes were written; or `MoreRoom`, and `len` is how many are needed; or `NotADialect`,
 /// `NotALine`, `NotAdmitted` or `OutOfMemory`, and `len` is as it was. Only `Written` changes `out`. With at most eight tags and four
@@ -82,7 +88,7 @@ pub extern "C" fn lp_line_write(
     len: &mut usize,
 ) -> u32
     ensures writes { WritesAdmittedLine dialect line.now parts.now out.old out.new len.old len.new result }
-    ensures memory { line.now.tags ≤ 8 → line.now.fields ≤ 4 → is_admitted_point (point_in line.now parts.now) ≡ false →
+    ensures memory { line.now.tags ≤ 8 → line.now.fields ≤ 4 → is_admitted_in (dialect_of dialect) (point_in line.now parts.now) ≡ false →
         result ≢ answer_number OutOfMemory }
     ensures reads_back { result ≡ answer_number Written → ReadsAs (point_in line.now parts.now) (take len.new out.new) }
 {

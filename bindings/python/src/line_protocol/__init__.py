@@ -14,11 +14,11 @@ try:
     from . import _fast
 except ImportError as missing:
     raise ImportError(f"{missing}: `pip install bindings/python` compiles the extension") from missing
-from .checking import NotAdmitted
+from .checking import Dialect, NotAdmitted
 from .checking import plain_timestamp as _plain_timestamp
 from .checking import plain_value as _plain_value
 from .checking import refuse as _refuse
-from .checking import refuse_names as _refuse_names
+from .checking import refuse_texts as _refuse_texts
 from .frames import Frames, from_frame, to_frame
 from .items import Fault, FaultKind, FloatText, Line, Side, Unsigned, Value
 from .parts import part_ends
@@ -29,9 +29,9 @@ from .tables import Column, Columns, Table, columns
 from .writing import Builder, DuplicateTag, base, is_admitted, is_base_safe, show, write, write_many
 
 __all__ = [
-    "Builder", "Column", "Columns", "DuplicateTag", "Fault", "FaultKind", "FloatText", "Frames", "Line", "NotAdmitted", "Rebuilt", "Side",
-    "Source", "Table", "Unsigned", "Value", "__version__", "base", "columns", "from_frame", "is_admitted", "is_base_safe", "parse",
-    "part_ends", "rebuild", "show", "split", "to_frame", "write", "write_columns", "write_many",
+    "Builder", "Column", "Columns", "Dialect", "DuplicateTag", "Fault", "FaultKind", "FloatText", "Frames", "Line", "NotAdmitted",
+    "Rebuilt", "Side", "Source", "Table", "Unsigned", "Value", "__version__", "base", "columns", "from_frame", "is_admitted",
+    "is_base_safe", "parse", "part_ends", "rebuild", "show", "split", "to_frame", "write", "write_columns", "write_many",
 ]
 
 __version__ = "{}.{}.{}".format(_fast.version() // 10_000, _fast.version() // 100 % 100, _fast.version() % 100)
@@ -39,4 +39,4 @@ __version__ = "{}.{}.{}".format(_fast.version() // 10_000, _fast.version() // 10
 
 _fast.setup(
     Line, Fault, Unsigned, FloatText, int.__new__, tuple(FaultKind(number) if number else None for number in range(11)), tuple(Side),
-    DuplicateTag, _plain_value, _plain_timestamp, _refuse, _refuse_names)
+    DuplicateTag, _plain_value, _plain_timestamp, _refuse, _refuse_texts)

@@ -4,7 +4,7 @@ from __future__ import annotations
 
 import sys
 from math import isfinite
-from typing import Any, List, NoReturn, Optional
+from typing import Any, List, Literal, NoReturn, Optional
 
 from .items import FloatText, Unsigned, Value, as_integer, short
 
@@ -13,10 +13,11 @@ class NotAdmitted(ValueError):
     """A name cannot be written, since what would be written for it does not read back as that name.
 
     A name is a measurement, a key or the value of a tag. It is not admitted if it is empty, holds a newline or a tab, or ends in a
-    backslash; a measurement also if it holds a NUL or begins with `#`. The value of a field may be any text.
+    backslash; a measurement also if it holds a NUL or begins with `#`. The value of a field may be any text, but in the dialect
+    "newline-delimited" it may hold no newline.
 
-    `part` is "measurement", "tag key", "tag value" or "field key", and `value` the name; `key` is the key of the tag, if it is the value
-    of one. `row` is the place of its line among many, or of its row in a frame or a table, from 0 on, and `table` the measurement of
+    `part` is "measurement", "tag key", "tag value", "field key" or "field value", and `value` the text; `key` is the key of the tag, or
+    of the field, if it is the value of one. `row` is the place of its line among many, or of its row in a frame or a table, from 0 on, and `table` the measurement of
     that table; of what was written alone they are None.
 
     >>> write(Line("login", [("user", "guest\\npayments")], [("ok", True)]))
@@ -37,7 +38,8 @@ class NotAdmitted(ValueError):
 
 
 _PARTS = {
-    "measurement": "the measurement", "tag key": "the key of a tag", "tag value": "the value of the tag", "field key": "the key of a field"}
+    "measurement": "the measurement", "tag key": "the key of a tag", "tag value": "the value of the tag", "field key": "the key of a field",
+    "field value": "the value of the field"}
 """What each part of a line is called in messages."""
 
 
@@ -100,6 +102,28 @@ def plain_value(key: str, value: Any) -> Value:
         f"the field {short(key)}: a value is an int, an Unsigned, a float, a str or a bool, not {told(value)}")
 
 
+Dialect = Literal["crate", "strict", "newline-delimited"]
+"""By whose rules a text is read, and a line reads back: those of the Rust crate; the strict ones; or the strict ones with every newline
+the end of a line, whatever is open."""
+
+NEWLINE_DELIMITED = 2
+_DIALECTS = {"crate": 0, "strict": 1, "newline-delimited": NEWLINE_DELIMITED}
+"""The number of each dialect."""
+
+
+def as_dialect(strict: Optional[bool], dialect: Optional[str]) -> int:
+    """The number of a dialect, which is that of the Rust crate if nothing else is asked for."""
+    if dialect is None:
+        return int(bool(strict))
+    if strict is not None:
+        raise TypeError("strict and dialect are not both given: dialect says all that strict says")
+    if not isinstance(dialect, str):
+        raise TypeError(f"a dialect is a str, not {told(dialect)}")
+    if dialect not in _DIALECTS:
+        raise ValueError(f"a dialect is one of {', '.join(map(repr, _DIALECTS))}, not {short(dialect)}")
+    return _DIALECTS[dialect]
+
+
 def refuse(what: str, key: Any, value: Any) -> NoReturn:
     """Raises for what is no text, no pair, no line, or a line without a field."""
     if what == "no field":
@@ -144,6 +168,13 @@ def as_name(part: str, name: Any, key: Optional[str] = None) -> str:
     return text
 
 
+def as_string(key: str, text: str, dialect: int) -> str:
+    """The text of a field, which is admitted in a dialect."""
+    if dialect == NEWLINE_DELIMITED and "\n" in text:
+        raise _not_admitted("field value", key, text, "holds a newline")
+    return text
+
+
 def _not_admitted(part: str, key: Optional[str], name: str, flaw: str) -> NotAdmitted:
     """What is raised for a name. No frame of its traceback holds it, so that it is let go at once."""
     what = _PARTS[part] if key is None else f"{_PARTS[part]} {short(key)}"
@@ -152,16 +183,17 @@ def _not_admitted(part: str, key: Optional[str], name: str, flaw: str) -> NotAdm
     return refused
 
 
-def refuse_names(names: List[str], tags: int) -> NoReturn:
-    """Raises for the first name of a line that is not admitted. The names are its measurement, the key and the value of so many tags,
-    and the keys of its fields."""
-    as_name("measurement", names[0])
-    end = 2 * tags + 1
-    for key, value in zip(names[1:end:2], names[2:end:2]):
-        as_name("tag value", value, as_name("tag key", key))
-    for key in names[end:]:
-        as_name("field key", key)
-    raise NotAdmitted("a name of the line is not admitted")
+def refuse_texts(texts: List[str], tags: int, dialect: int) -> NoReturn:
+    """Raises for the first text of a line that is not admitted in a dialect. The texts are its measurement, the key and the value of so
+    many tags, and the key and the value of each field, which is empty if it is no string."""
+    as_name("measurement", texts[0])
+    for at in range(1, len(texts), 2):
+        key, value = texts[at : at + 2]
+        if at <= 2 * tags:
+            as_name("tag value", value, as_name("tag key", key))
+        else:
+            as_string(as_name("field key", key), value, dialect)
+    raise NotAdmitted("the line is not admitted")
 
 
 def as_limit(max_line: Optional[int]) -> Optional[int]:

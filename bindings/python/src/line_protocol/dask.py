@@ -9,7 +9,7 @@ from __future__ import annotations
 from importlib import import_module
 from typing import Any, List, Optional, Sequence, Union
 
-from .checking import as_limit
+from .checking import Dialect, as_dialect, as_limit
 from .parts import START, FilePath, after, as_count, as_paths, columns_of, cut, read_part
 
 try:
@@ -20,14 +20,15 @@ except ImportError as missing:
 Paths = Union[FilePath, Sequence[FilePath]]
 
 
-def _reads(paths: Paths, parts: int, strict: bool, max_line: Optional[int]) -> List[Any]:
+def _reads(paths: Paths, parts: int, dialect: int, max_line: Optional[int]) -> List[Any]:
     """What is read of each part. A task that reads waits for no other one, so it can be run again on any worker."""
     count, limit = as_count(parts), as_limit(max_line)
-    return [_delayed(read_part)(part, strict, limit) for part in cut(as_paths(paths), count, strict)]
+    return [_delayed(read_part)(part, dialect, limit) for part in cut(as_paths(paths), count, dialect)]
 
 
 def read_columns(
-        paths: Paths, parts: int, *, strict: bool = False, max_line: Optional[int] = None, use_numpy: Optional[bool] = None) -> Any:
+        paths: Paths, parts: int, *, strict: Optional[bool] = None, dialect: Optional[Dialect] = None,
+        max_line: Optional[int] = None, use_numpy: Optional[bool] = None) -> Any:
     """The columns of a file, or of those in a list, as an object of `dask.delayed`: `compute()` gives `Columns`.
 
     They are what `columns` gives of all files one after another, also the numbers of each fault, and the same keywords say how lines are
@@ -37,12 +38,12 @@ def read_columns(
         told = line_protocol.dask.read_columns(["a.lp", "b.lp"], 16).compute()
         told.tables["cpu"].fields["usage"].values
     """
-    return _delayed(columns_of)(_reads(paths, parts, strict, max_line), START, use_numpy)
+    return _delayed(columns_of)(_reads(paths, parts, as_dialect(strict, dialect), max_line), START, use_numpy)
 
 
 def read_parts(
-        paths: Paths, parts: int, *, strict: bool = False, max_line: Optional[int] = None,
-        use_numpy: Optional[bool] = None) -> List[Any]:
+        paths: Paths, parts: int, *, strict: Optional[bool] = None, dialect: Optional[Dialect] = None,
+        max_line: Optional[int] = None, use_numpy: Optional[bool] = None) -> List[Any]:
     """The columns of each part, in the order of the parts, as objects of `dask.delayed`, each of which gives `Columns`. So no process
     has to hold all of them.
 
@@ -54,7 +55,7 @@ def read_parts(
     """
     place: Any = START
     columns = []
-    for read in _reads(paths, parts, strict, max_line):
+    for read in _reads(paths, parts, as_dialect(strict, dialect), max_line):
         columns.append(_delayed(columns_of)([read], place, use_numpy))
         place = _delayed(after)(place, read)
     return columns

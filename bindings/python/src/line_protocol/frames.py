@@ -5,7 +5,7 @@ from __future__ import annotations
 from importlib import import_module
 from typing import Any, Callable, Dict, List, Optional, Sequence
 
-from .checking import as_text, told
+from .checking import Dialect, as_text, told
 from .items import Fault, short
 from .reading import Source
 from .rows import TYPES, write_columns
@@ -37,7 +37,9 @@ def _pandas() -> Any:
         raise ImportError(f"frames are those of pandas, which cannot be imported: {missing}") from missing
 
 
-def to_frame(source: Source, *, strict: bool = False, max_line: Optional[int] = None) -> Frames:
+def to_frame(
+        source: Source, *, strict: Optional[bool] = None, dialect: Optional[Dialect] = None,
+        max_line: Optional[int] = None) -> Frames:
     """A DataFrame of pandas for each measurement of a source, which is read as `columns` reads it.
 
     The columns are the tags, as categories, and then the fields: integers, unsigned integers, floats and booleans as NumPy has them, or
@@ -60,7 +62,7 @@ def to_frame(source: Source, *, strict: bool = False, max_line: Optional[int] = 
     [3]
     """
     pandas = _pandas()
-    read = columns(source, strict=strict, max_line=max_line, use_numpy=True)
+    read = columns(source, strict=strict, dialect=dialect, max_line=max_line, use_numpy=True)
     frames = Frames()
     frames.faults = read.faults
     for measurement in list(read.tables):
@@ -105,7 +107,7 @@ def _array(pandas: Any, field: Column) -> Any:
 
 def from_frame(
         frame: Any, measurement: str, *, tags: Optional[Sequence[str]] = None, fields: Optional[Sequence[str]] = None,
-        time: Optional[str] = None, strict: bool = False) -> str:
+        time: Optional[str] = None, strict: Optional[bool] = None, dialect: Optional[Dialect] = None) -> str:
     """The lines of a DataFrame of pandas, one for each row, as `write_columns` writes them.
 
     `tags` and `fields` name columns. By default tags are those that `frame.attrs` names, as `to_frame` leaves it, and those of type
@@ -137,7 +139,7 @@ def from_frame(
         at_fields = _places(names, "fields", fields)
     times = _times(pandas, frame.iloc[:, at_time[0]] if at_time else frame.index)
     table = Table(times, _columns(frame, at_tags, _tag), _columns(frame, at_fields, _column))
-    return write_columns({measurement: table}, strict=strict)
+    return write_columns({measurement: table}, strict=strict, dialect=dialect)
 
 
 def _known_tags(pandas: Any, frame: Any, at_time: List[int]) -> List[int]:

@@ -8,6 +8,7 @@ from dataclasses import replace
 from typing import Any, Dict, Iterable, Iterator, List, NamedTuple, Optional, Sequence, Tuple, Union
 
 from . import _fast
+from .checking import Dialect, as_dialect
 from .items import Fault, Unsigned, as_integer, short
 from .reading import reader_of
 from .sources import BLOCK
@@ -106,9 +107,9 @@ def blocks_of(extents: Iterable[Extent]) -> Iterator[bytes]:
             yield from _bytes_of(path, start, end)
 
 
-def _ends_of(extents: Sequence[Extent], count: int, strict: bool) -> List[int]:
+def _ends_of(extents: Sequence[Extent], count: int, dialect: int) -> List[int]:
     """Where so many parts of extents end, one part at least."""
-    return _fast.part_ends(blocks_of(extents), sum(end - start for _, start, end in extents), count, strict)
+    return _fast.part_ends(blocks_of(extents), sum(end - start for _, start, end in extents), count, dialect)
 
 
 def _from_to(extents: Iterable[Extent], first: int, last: int) -> Iterator[Extent]:
@@ -121,14 +122,14 @@ def _from_to(extents: Iterable[Extent], first: int, last: int) -> Iterator[Exten
         at += end - start
 
 
-def cut(paths: Iterable[str], count: int, strict: bool) -> List[List[Extent]]:
+def cut(paths: Iterable[str], count: int, dialect: int) -> List[List[Extent]]:
     """So many parts, one at least, of files that are read one after another."""
     extents = _all_of(paths)
-    ends = _ends_of(extents, count, strict)
+    ends = _ends_of(extents, count, dialect)
     return [list(_from_to(extents, first, last)) for first, last in zip([0, *ends], ends)]
 
 
-def part_ends(source_path: FilePath, parts: int, *, strict: bool = False) -> List[int]:
+def part_ends(source_path: FilePath, parts: int, *, strict: Optional[bool] = None, dialect: Optional[Dialect] = None) -> List[int]:
     """Where a file can be cut into so many parts of about one length: the end of each, in bytes, as `lp_relay --cut` prints it.
 
     Each part but the last ends after a newline that ends a line, or is empty, and the last ends with the file. So each part can be read
@@ -147,11 +148,11 @@ def part_ends(source_path: FilePath, parts: int, *, strict: bool = False) -> Lis
     [10, 16]
     >>> folder.cleanup()
     """
-    path, count = _as_path(source_path), as_count(parts)
-    return _ends_of(_all_of([path]), count, strict)
+    path, count, number = _as_path(source_path), as_count(parts), as_dialect(strict, dialect)
+    return _ends_of(_all_of([path]), count, number)
 
 
-def read_part(extents: Sequence[Extent], strict: bool, max_line: Optional[int]) -> PartRead:
+def read_part(extents: Sequence[Extent], dialect: int, max_line: Optional[int]) -> PartRead:
     """Reads a part."""
     newlines = size = 0
 
@@ -162,7 +163,7 @@ def read_part(extents: Sequence[Extent], strict: bool, max_line: Optional[int]) 
             size += len(block)
             yield block
 
-    tables, faults = _fast.columns(reader_of(counted(), strict, max_line))
+    tables, faults = _fast.columns(reader_of(counted(), dialect, max_line))
     return PartRead(tables, faults, newlines, size)
 
 

@@ -6,7 +6,7 @@ import os
 from typing import Any, Iterator, Optional, Protocol, Union
 
 from . import _fast
-from .checking import as_limit
+from .checking import Dialect, as_dialect, as_limit
 from .items import Fault, Line, short
 from .sources import lends_bytes, parts_of, segments
 
@@ -22,8 +22,10 @@ Source = Union[str, bytes, bytearray, memoryview, "os.PathLike[str]", Readable, 
 """What is read: a text, or bytes, also others that lend their bytes; a path; a file object; or an iterator of parts."""
 
 
-def parse(source: Source, *, strict: bool = False, max_line: Optional[int] = None) -> Iterator[Union[Line, Fault]]:
-    """Each line of a source, or the fault in its place, by the rules of the Rust crate or of the strict dialect.
+def parse(
+        source: Source, *, strict: Optional[bool] = None, dialect: Optional[Dialect] = None,
+        max_line: Optional[int] = None) -> Iterator[Union[Line, Fault]]:
+    """Each line of a source, or the fault in its place, by the rules of a dialect: of the Rust crate, if none is given.
 
     A text in memory is tested as a whole: UnicodeDecodeError where it is no UTF-8, and then nothing is read. A path, which is an
     object of `pathlib`, a file object, also of `gzip`, and an iterator of parts, bytes or str, are read in blocks: a line that is no
@@ -39,16 +41,16 @@ def parse(source: Source, *, strict: bool = False, max_line: Optional[int] = Non
     >>> list(parse(iter([b"m f=", b"1.5 7"])))
     [Line(measurement='m', tags=[], fields=[('f', 1.5)], timestamp=7)]
     """
-    return reader_of(source, strict, max_line)
+    return reader_of(source, as_dialect(strict, dialect), max_line)
 
 
-def reader_of(source: Source, strict: bool, max_line: Optional[int]) -> _fast.Reader:
+def reader_of(source: Source, dialect: int, max_line: Optional[int]) -> _fast.Reader:
     """What is left of a source at its start."""
     limit = as_limit(max_line)
     if isinstance(source, str) or lends_bytes(source):
-        whole = _fast.read(source, None, strict, limit is not None)
-        return whole if limit is None else _fast.read(b"", segments(_only(source), strict, limit), strict, False)
-    return _fast.read(b"", segments(parts_of(source), strict, limit), strict, False)
+        whole = _fast.read(source, None, dialect, limit is not None)
+        return whole if limit is None else _fast.read(b"", segments(_only(source), dialect, limit), dialect, False)
+    return _fast.read(b"", segments(parts_of(source), dialect, limit), dialect, False)
 
 
 def _only(source: Any) -> Iterator[bytes]:
@@ -56,13 +58,15 @@ def _only(source: Any) -> Iterator[bytes]:
     return iter([source.encode() if isinstance(source, str) else bytes(memoryview(source))])
 
 
-def split(text: Union[str, bytes, bytearray, memoryview], *, strict: bool = False) -> Iterator[str]:
+def split(
+        text: Union[str, bytes, bytearray, memoryview], *, strict: Optional[bool] = None,
+        dialect: Optional[Dialect] = None) -> Iterator[str]:
     """Each piece of a text as the splitter cuts it, not parsed.
 
     >>> list(split('m s="a\\nb"\\nn c=1i'))
     ['m s="a\\nb"', 'n c=1i']
     """
-    return _fast.read(as_lent(text), None, strict, True)
+    return _fast.read(as_lent(text), None, as_dialect(strict, dialect), True)
 
 
 def as_lent(text: Any) -> Any:

@@ -4,9 +4,10 @@ from __future__ import annotations
 
 import threading
 from dataclasses import dataclass
-from typing import AnyStr, Generic, Tuple
+from typing import AnyStr, Generic, Optional, Tuple
 
 from . import _fast
+from .checking import Dialect, as_dialect
 from .reading import as_lent
 
 _KEPT = threading.local()
@@ -30,7 +31,7 @@ class Rebuilt(Generic[AnyStr]):
     refused: int
 
 
-def rebuild(text: AnyStr, *, strict: bool = False) -> Rebuilt[AnyStr]:
+def rebuild(text: AnyStr, *, strict: Optional[bool] = None, dialect: Optional[Dialect] = None) -> Rebuilt[AnyStr]:
     """Writes again each line of a text whose names are all admitted, and refuses every other item.
 
     A `str` gives `str`, and bytes give bytes. UnicodeDecodeError where the text is no UTF-8.
@@ -38,9 +39,10 @@ def rebuild(text: AnyStr, *, strict: bool = False) -> Rebuilt[AnyStr]:
     >>> rebuild("m  f=t\\nm f")
     Rebuilt(batch='m f=true\\n', faults='item 2: No fields were provided\\n', carried=1, refused=1)
     """
+    number = as_dialect(strict, dialect)
     # They are taken: a call within this one has its own.
     rooms: Tuple[bytearray, bytearray] = vars(_KEPT).pop("rooms", None) or (bytearray(), bytearray())
-    rebuilt = _fast.rebuild(as_lent(text), strict, *rooms)
+    rebuilt = _fast.rebuild(as_lent(text), number, *rooms)
     if sum(map(len, rooms)) <= _MOST_KEPT:
         _KEPT.rooms = rooms
     return Rebuilt(*rebuilt)

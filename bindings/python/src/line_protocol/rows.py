@@ -8,7 +8,7 @@ from collections.abc import Mapping as AnyMapping
 from typing import Any, Iterator, List, Mapping, Optional, Tuple, Union
 
 from . import _fast
-from .checking import NotAdmitted, refuse, told
+from .checking import Dialect, NotAdmitted, as_dialect, refuse, told
 from .items import short
 from .tables import BOOLEAN, MIXED, TAG, Column, Columns, Table
 
@@ -26,7 +26,7 @@ ToldTable = Tuple[str, int, Tuple[Tuple[Optional[str], int, Any, Optional[bytes]
 none."""
 
 
-def write_columns(tables: Union[Columns, Mapping[str, Table]], *, strict: bool = False) -> str:
+def write_columns(tables: Union[Columns, Mapping[str, Table]], *, strict: Optional[bool] = None, dialect: Optional[Dialect] = None) -> str:
     """The lines of tables, one for each row: of what `columns` gave, or of a `dict` of a Table for each measurement.
 
     The values of a column are an array of NumPy, also a masked one, an `array`, a list or a tuple. A cell is left out if the mask is
@@ -41,9 +41,10 @@ def write_columns(tables: Union[Columns, Mapping[str, Table]], *, strict: bool =
     given = tables.tables if isinstance(tables, Columns) else tables
     if not isinstance(given, AnyMapping):
         raise TypeError(f"tables are Columns, or a dict of Table, not {told(tables)}")
+    number = as_dialect(strict, dialect)
     refused: List[Tuple[str, int]] = []
     try:
-        return _fast.write_columns(map(_told_table, given.keys(), given.values()), strict, refused)
+        return _fast.write_columns(map(_told_table, given.keys(), given.values()), number, refused)
     except (TypeError, ValueError, OverflowError) as why:
         if refused and len(why.args) == 1:
             measurement, row = refused[0]

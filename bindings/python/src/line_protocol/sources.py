@@ -83,13 +83,13 @@ def _scrubbed(block: bytes) -> bytes:
     return re.sub("[\udc80-\udcff]", "x", block.decode("utf-8", "surrogateescape")).encode()
 
 
-def _told(segment: bytes, text: bytes, strict: bool, limit: Optional[int]) -> Iterator[Union[bytes, Refused]]:
+def _told(segment: bytes, text: bytes, dialect: int, limit: Optional[int]) -> Iterator[Union[bytes, Refused]]:
     """A segment, whose lines end where those of `text` do, in runs of lines that can be read, and each other line."""
     if text is segment and (limit is None or len(segment) <= limit):
         yield segment
         return
     at = 0
-    for start, end, is_long in _fast.outliers(segment, text, strict, sys.maxsize if limit is None else limit):
+    for start, end, is_long in _fast.outliers(segment, text, dialect, sys.maxsize if limit is None else limit):
         if start > at:
             yield segment[at:start]
         at = min(end + 1, len(segment))
@@ -99,11 +99,11 @@ def _told(segment: bytes, text: bytes, strict: bool, limit: Optional[int]) -> It
         yield segment[at:]
 
 
-def _skipped(data: bytes, parts: Iterator[bytes], strict: bool, limit: int) -> Tuple[Refused, bytes]:
+def _skipped(data: bytes, parts: Iterator[bytes], dialect: int, limit: int) -> Tuple[Refused, bytes]:
     """A line that is too long, of which the first bytes are given, and what comes after it."""
     shown, newlines, size, state = data[:limit], 0, 0, _BEGUN
     while True:
-        end, state = _fast.skip(data, state, strict)
+        end, state = _fast.skip(data, state, dialect)
         taken = end + 1 if end >= 0 else len(data)
         newlines += data.count(b"\n", 0, taken)
         size += taken
@@ -113,7 +113,7 @@ def _skipped(data: bytes, parts: Iterator[bytes], strict: bool, limit: int) -> T
         data = more
 
 
-def segments(parts: Iterator[bytes], strict: bool, limit: Optional[int]) -> Iterator[Union[bytes, Refused]]:
+def segments(parts: Iterator[bytes], dialect: int, limit: Optional[int]) -> Iterator[Union[bytes, Refused]]:
     """Segments of whole lines, which are UTF-8, and each line that is not or is longer than the limit."""
     held, looked_at = bytearray(), 0
     for part in parts:
@@ -124,20 +124,20 @@ def segments(parts: Iterator[bytes], strict: bool, limit: Optional[int]) -> Iter
         while True:
             with memoryview(held) as view:
                 block = bytes(view[: held.rfind(b"\n") + 1])
-            whole = _fast.whole(block, strict)
+            whole = _fast.whole(block, dialect)
             text = block if whole is not None else _scrubbed(block)
             if whole is None:
-                whole = _fast.whole(text, strict) or 0
+                whole = _fast.whole(text, dialect) or 0
             if whole > 0:
                 segment = block[:whole]
-                yield from _told(segment, segment if text is block else text[:whole], strict, limit)
+                yield from _told(segment, segment if text is block else text[:whole], dialect, limit)
             del held[:whole]
             if limit is None or len(held) <= limit:
                 break
-            refused, rest = _skipped(bytes(held), parts, strict, limit)
+            refused, rest = _skipped(bytes(held), parts, dialect, limit)
             yield refused
             held = bytearray(rest)
         looked_at = len(held)
     if held:
         block = bytes(held)
-        yield from _told(block, block if _fast.whole(block, strict) is not None else _scrubbed(block), strict, limit)
+        yield from _told(block, block if _fast.whole(block, dialect) is not None else _scrubbed(block), dialect, limit)

@@ -8,6 +8,7 @@ from importlib import import_module
 from typing import Any, Dict, Iterator, List, Optional, Tuple
 
 from . import _fast
+from .checking import Dialect, as_dialect
 from .items import Fault
 from .reading import Source, reader_of
 
@@ -128,7 +129,8 @@ def _table(told: List[Tuple[Optional[str], int, Any, Optional[bytearray]]], nump
 
 
 def columns(
-        source: Source, *, strict: bool = False, max_line: Optional[int] = None, use_numpy: Optional[bool] = None) -> Columns:
+        source: Source, *, strict: Optional[bool] = None, dialect: Optional[Dialect] = None,
+        max_line: Optional[int] = None, use_numpy: Optional[bool] = None) -> Columns:
     """The lines of a source as columns. It is read as `parse` reads it, to its end, and no object is made of a number.
 
     Integers stay integers, and unsigned ones unsigned. Of a key that comes twice in a line the last value counts. `use_numpy` says
@@ -142,7 +144,7 @@ def columns(
     Column(values=array('d', [0.5, 0.0]), mask=[False, True])
     """
     numpy = _numpy_of(use_numpy)
-    tables, faults = _fast.columns(reader_of(source, strict, max_line))
+    tables, faults = _fast.columns(reader_of(source, as_dialect(strict, dialect), max_line))
     tables.reverse()
     made: Dict[str, Table] = {}
     while tables:  # each is let go once its columns are made

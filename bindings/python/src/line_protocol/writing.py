@@ -5,7 +5,7 @@ from __future__ import annotations
 from typing import Iterable, Iterator, List, Optional
 
 from . import _fast
-from .checking import NotAdmitted, as_name, as_text, plain_timestamp, plain_value, refuse
+from .checking import Dialect, NotAdmitted, as_dialect, as_name, as_string, as_text, plain_timestamp, plain_value, refuse
 from .items import Line, Value
 
 
@@ -18,11 +18,11 @@ class DuplicateTag(ValueError):
     """
 
 
-def write(line: Line, *, strict: bool = False) -> str:
-    """A line as the builder writes it, with its newline. By the rules of the Rust crate, or of the strict dialect, it reads back as this
-    line alone, whatever text comes after it.
+def write(line: Line, *, strict: Optional[bool] = None, dialect: Optional[Dialect] = None) -> str:
+    """A line as the builder writes it, with its newline. By the rules of its dialect it reads back as this line alone, whatever text
+    comes after it.
 
-    NotAdmitted if a name would not read back. What else cannot be written raises here as in the other calls that take a line: ValueError
+    NotAdmitted if it would not. What else cannot be written raises here as in the other calls that take a line: ValueError
     if there is no field, or if a float is not finite and no FloatText; OverflowError if a number is out of its range; TypeError if the
     type is wrong.
 
@@ -34,10 +34,10 @@ def write(line: Line, *, strict: bool = False) -> str:
     >>> write(line)
     'm f=1.50\\n'
     """
-    return _fast.write(line, strict)
+    return _fast.write(line, as_dialect(strict, dialect))
 
 
-def write_many(lines: Iterable[Line], *, strict: bool = False) -> str:
+def write_many(lines: Iterable[Line], *, strict: Optional[bool] = None, dialect: Optional[Dialect] = None) -> str:
     """Lines one after another, as `write` writes each. What is raised for a line says which it is, from 1 on; then none is written.
 
     >>> write_many(Line("m", [], [("f", number)], number) for number in range(3))
@@ -46,12 +46,13 @@ def write_many(lines: Iterable[Line], *, strict: bool = False) -> str:
     Traceback (most recent call last):
     ValueError: line 2: the line of the measurement 'm' has no field
     """
+    number = as_dialect(strict, dialect)
     try:
         counted = _Counted(iter(lines))
     except TypeError:
         raise TypeError(f"lines are an iterable of Line, not {type(lines).__name__}") from None
     try:
-        return _fast.write_many(counted, strict)
+        return _fast.write_many(counted, number)
     except (TypeError, ValueError, OverflowError) as refused:
         if counted.is_out and len(refused.args) == 1:
             refused.args = (f"line {counted.number}: {refused}",)
@@ -111,13 +112,13 @@ def is_base_safe(line: Line) -> bool:
     return _fast.is_base_safe(line)
 
 
-def is_admitted(line: Line) -> bool:
-    """Whether a line reads back once it is written: whether each of its names is admitted. `write` raises NotAdmitted if one is not.
+def is_admitted(line: Line, *, strict: Optional[bool] = None, dialect: Optional[Dialect] = None) -> bool:
+    """Whether a line reads back once it is written in a dialect, as `NotAdmitted` says; `write` raises that if it does not.
 
     >>> is_admitted(Line("", [], [("f", 1)]))
     False
     """
-    return _fast.is_admitted(line)
+    return _fast.is_admitted(line, as_dialect(strict, dialect))
 
 
 class Builder:
@@ -131,10 +132,10 @@ class Builder:
     left out by `drop_line`.
     """
 
-    def __init__(self, *, strict: bool = False) -> None:
+    def __init__(self, *, strict: Optional[bool] = None, dialect: Optional[Dialect] = None) -> None:
         self._written: List[str] = []
         self._line: Optional[Line] = None
-        self._strict = strict
+        self._dialect = as_dialect(strict, dialect)
 
     def _open(self) -> Line:
         if self._line is None:
@@ -163,7 +164,9 @@ class Builder:
             raise ValueError("a field comes before the timestamp")
         as_name("field key", key)
         plain = plain_value(key, value)
-        line.fields.append((key, as_text("the field", plain, key) if isinstance(plain, str) else plain))
+        if isinstance(plain, str):
+            as_string(key, as_text("the field", plain, key), self._dialect)
+        line.fields.append((key, plain))
         return self
 
     def timestamp(self, timestamp: int) -> Builder:
@@ -179,7 +182,7 @@ class Builder:
         line = self._open()
         if not line.fields:
             refuse("no field", None, line.measurement)
-        self._written.append(_fast.write(line, self._strict))
+        self._written.append(_fast.write(line, self._dialect))
         self._line = None
         return self
 

@@ -12,7 +12,7 @@ returns-clause-reads c =
     ∣ record {
       text = Some c.in-Some.text;
       answer = item.result;
-      passed = record { dialect = dialect_of c.args.lines.now.strict; text = c.next_line.new.lines.text };
+      passed = record { dialect = dialect_of c.args.lines.now.dialect; text = c.next_line.new.lines.text };
       numbered = c.number-2.ensures;
       gives = gives_in_dialect (left_of c.args.lines.now) c.next_line.new.lines c.in-Some.text (rw begun at c.in-Some.ensures.gives);
       shown = rw c.dialect_of.ensures at item.ensures.answers;
