@@ -1,6 +1,7 @@
 #!/usr/bin/env bash
 # Compares the items that events tell, to a sink and one after another, and those of the blocks of crates/lp_c, with the items of
-# `parse_lines_in`, over every short text of bytes that mean something, in both dialects: `events.c` says over which bytes.
+# `parse_lines_in`, over every short text of bytes that mean something, in both dialects: `events.c` says over which bytes. And lets
+# newline_delimited.py compare what is given in the third dialect with what each line gives alone.
 set -eu
 here=$(cd "$(dirname "$0")" && pwd)
 top=$(dirname "$here")
@@ -20,3 +21,11 @@ if ! said=$("$built/events"); then
     exit 1
 fi
 echo "events: $said: told, and in blocks, as they are read"
+
+if ! python3 -c 'import sys; sys.exit(sys.version_info < (3, 10))' 2>/dev/null; then
+    left_out "lines that newlines end" "there is no Python 3.10 or later, for checks/events.sh"
+    exit 0
+fi
+cc -O2 -Wall -Wextra -shared -fPIC -I"$top/include" "$here/rows.c" -Wl,--whole-archive "$library" "$archive" -Wl,--no-whole-archive "$heap" \
+    -o "$built/lp_checks.so"
+python3 -B "$here/newline_delimited.py" "$built/lp_checks.so"

@@ -1,6 +1,6 @@
 //! What the library gives for a text, spelled as the file of rows says at its head.
 
-use influxdb_line_protocol::{Dialect, FloatText, ParsedLine, is_as_written, parse_lines_in};
+use influxdb_line_protocol::{Dialect, FloatText, ParsedLine, is_as_written_in, parse_lines_in};
 use lp_rebuild::{Kept, rebuild_in, run_in, status};
 use lp_vectors_shared::render;
 use std::alloc::{AllocError, Global};
@@ -42,7 +42,7 @@ pub fn answer(
         "rebuilt" => rebuilt(alloc, dialect, text),
         "run" => run(alloc, dialect, text),
         "float" => format!(in alloc; "{}", FloatText::new(text).is_some()),
-        _ => format!(in alloc; "{}", is_as_written(text)),
+        _ => format!(in alloc; "{}", is_as_written_in(dialect, text)),
     }
 }
 

@@ -8,7 +8,7 @@ pub mod Lending
 pub mod Bounded
 pub use Rules.{rules_of}
 pub use Stops.{is_stop}
-pub use Ahead.{IsAhead, AreSeen}
+pub use Ahead.{IsAhead, is_mark, AreSeen}
 pub use Tracks.{IsCountOf, EndsIn, IsPlace, Steps, NeverComment, EndsAtNewline, IsTrackOf, Leads, LeadsTo, most_counted, TracksOn, Region, Head, Plain}
 pub use Tracks.{Quoted, Place, Track, ToNewline, Blanks, Line}
 pub use Searches.{IsKnown, IsHeldAt, FindsCut, SearchesOn, CutsOrTracks}

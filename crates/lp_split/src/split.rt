@@ -5,9 +5,9 @@ ghost use Rattle.std.specs.Prelude.{MatchOption, true, false, All};
 ghost use Rattle.std.specs.Iterator.{at_most};
 ghost use Rattle.lp_format.specs.format.{backslash, newline, quote, IsBareAfter, begins_comment, IsFirstCut, GivesPiece, most_pieces};
 ghost use Rattle.lp_format.specs.format.{Crate};
-ghost use Rattle.memchr.specs.Find.{IsFirstByte, is_byte3};
+ghost use Rattle.memchr.specs.Find.{IsFirstByte, is_byte, is_byte3};
 ghost use Rattle.lp_scan.specs.code.{mask_of, IsBarePassed};
-ghost use Rattle.lp_split.specs.code.{IsAhead, AreSeen, is_stop, EndsIn, Quoted, FindsCut, rules_of};
+ghost use Rattle.lp_split.specs.code.{IsAhead, AreSeen, is_mark, is_stop, EndsIn, Quoted, FindsCut, rules_of};
 
 use lp_scan::lanes::first_set;
 use lp_scan::scan::{WIDE, bare, escapes_next, ones_below, places_of};
@@ -252,16 +252,28 @@ fn cut_by_stretches(text: &[u8]) -> Option<usize>
     }
 }
 
-// A newline, quote or backslash, and the mask of those that were seen after it.
+// A byte that tells of a cut, and the mask of those that were seen after it: newlines, and, unless each of these ends a line,
+// quotes and backslashes.
 #[derive(Clone, Copy)]
 pub(crate) struct Mark {
     pub(crate) at: usize,
     pub(crate) later: u64,
 }
 
-// The mask of those of the 64 bytes from `at` on that are a newline, a quote or a backslash.
+// The mask of the newlines among the 64 bytes from `at` on.
 #[inline(always)]
-fn marks_in(text: &[u8], at: usize) -> u64
+fn newlines_at(text: &[u8], at: usize) -> u64
+    requires { at + WIDE ≤ length text.now }
+    ensures { result ≡ mask_of (is_byte newline) text.now at WIDE }
+{
+    u8x64::from_slice(&text[at..])
+        .simd_eq(u8x64::splat(b'\n'))
+        .to_bitmask()
+}
+
+// The mask of those of these bytes that are a newline, a quote or a backslash.
+#[inline(always)]
+fn three_at(text: &[u8], at: usize) -> u64
     requires { at + WIDE ≤ length text.now }
     ensures { result ≡ mask_of (is_byte3 backslash newline quote) text.now at WIDE }
 {
@@ -271,12 +283,35 @@ fn marks_in(text: &[u8], at: usize) -> u64
     (newlines | others).to_bitmask()
 }
 
-// The first newline, quote or backslash, if these are the ones that were seen at the start of the text.
+// The mask of those of these bytes that tell of a cut.
 #[inline(always)]
-fn first_mark(text: &[u8], seen: u64) -> Option<Mark>
-    requires { AreSeen text.now seen }
-    ensures first { IsFirstByte (is_byte3 backslash newline quote) text.now (option_map (λ m. m.at) result) }
-    ensures later { IfSome result (λ m. AreSeen (drop (m.at + 1) text.now) m.later) }
+fn marks_in(dialect: Dialect, text: &[u8], at: usize) -> u64
+    requires { at + WIDE ≤ length text.now }
+    ensures { result ≡ mask_of (is_mark (rules_of dialect)) text.now at WIDE }
+{
+    match dialect {
+        Dialect::Crate | Dialect::Strict => three_at(text, at),
+        Dialect::NewlineDelimited => newlines_at(text, at),
+    }
+}
+
+// The place of the first such byte.
+#[inline(always)]
+fn find_mark(dialect: Dialect, text: &[u8]) -> Option<usize>
+    ensures { IsFirstByte (is_mark (rules_of dialect)) text.now result }
+{
+    match dialect {
+        Dialect::Crate | Dialect::Strict => memchr3(b'\\', b'\n', b'"', text),
+        Dialect::NewlineDelimited => memchr(b'\n', text),
+    }
+}
+
+// The first such byte, if these are the ones that were seen at the start of the text.
+#[inline(always)]
+fn first_mark(dialect: Dialect, text: &[u8], seen: u64) -> Option<Mark>
+    requires { AreSeen (rules_of dialect) text.now seen }
+    ensures first { IsFirstByte (is_mark (rules_of dialect)) text.now (option_map (λ m. m.at) result) }
+    ensures later { IfSome result (λ m. AreSeen (rules_of dialect) (drop (m.at + 1) text.now) m.later) }
 {
     if seen != 0 {
         let at = seen.trailing_zeros();
@@ -287,7 +322,7 @@ fn first_mark(text: &[u8], seen: u64) -> Option<Mark>
     }
     let mut at = 0;
     while text.len() - at >= WIDE {
-        let marks = marks_in(text, at);
+        let marks = marks_in(dialect, text, at);
         if marks != 0 {
             let run = marks.trailing_zeros();
             return Some(Mark {
@@ -297,7 +332,7 @@ fn first_mark(text: &[u8], seen: u64) -> Option<Mark>
         }
         at += WIDE;
     }
-    let last = memchr3(b'\\', b'\n', b'"', &text[at..])?;
+    let last = find_mark(dialect, &text[at..])?;
     Some(Mark {
         at: at + last,
         later: 0,
@@ -344,10 +379,10 @@ fn late_cut(dialect: Dialect, text: &[u8]) -> Option<usize>
 #[tactic(auto, using(crate::proofs::lemmas::split::FirstMarks::no_cut, crate::proofs::lemmas::split::FirstMarks::cut_at_newline))]
 #[inline(always)]
 pub(crate) fn first_cut(dialect: Dialect, text: &[u8], seen: u64) -> Option<Mark>
-    requires { AreSeen text.now seen }
+    requires { AreSeen (rules_of dialect) text.now seen }
     ensures { FindsCut (rules_of dialect) text.now result }
 {
-    let found = first_mark(text, seen)?;
+    let found = first_mark(dialect, text, seen)?;
     // Nothing before it is escaped or quoted, and it is the first newline: it ends a comment too.
     if text[found.at] == b'\n' {
         return Some(found);
@@ -364,7 +399,7 @@ pub(crate) fn first_cut(dialect: Dialect, text: &[u8], seen: u64) -> Option<Mark
 pub struct SplitLines<'a> {
     dialect: Dialect,
     rest: Option<&'a str>,
-    // The newlines, quotes and backslashes that were seen at the start of the rest.
+    // The bytes that tell of a cut that were seen at the start of the rest.
     seen: u64,
 }
 
@@ -377,7 +412,7 @@ impl<'a> Model for SplitLines<'a> {
 
     ghost view = { λ s. record { dialect = rules_of s.dialect; text = option_map (λ x. x.now) s.rest } };
 
-    ghost invariant = { λ s. IfSome s.rest (λ text. AreSeen text.now s.seen) };
+    ghost invariant = { λ s. IfSome s.rest (λ text. AreSeen (rules_of s.dialect) text.now s.seen) };
 }
 
 /// Splits a text into its pieces, at each newline that ends a line.

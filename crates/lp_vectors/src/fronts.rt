@@ -1,4 +1,4 @@
-//! Each front of a batch, in both dialects. The answers come from the format's rules.
+//! Each front of a batch, in the dialects in which a string may hold a newline. The answers come from the format's rules.
 
 use influxdb_line_protocol::Dialect;
 use lp_vectors_shared::fault::Fault;

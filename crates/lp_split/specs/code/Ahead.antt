@@ -1,9 +1,9 @@
 -- What loads showed of the bytes of a text before these are searched.
-use Rattle.std.specs.Prelude.{◌≡◌, ℕ, ◌+◌, ◌<◌, ◌≤◌, ◌==◌, ◌||◌, true, List, length, take}
+use Rattle.std.specs.Prelude.{◌≡◌, ℕ, Bool, ◌+◌, ◌<◌, ◌≤◌, ◌==◌, ◌||◌, true, List, length, take}
 use Rattle.lp_split.specs.declared.split.Ahead.{Ahead}
-use Rattle.lp_format.specs.format.{comma, equals, newline, quote, backslash, is_bare_at, is_escaped_after, IsBareAfter}
+use Rattle.lp_format.specs.format.{Dialect, NewlineDelimited, comma, equals, newline, quote, backslash, is_bare_at, is_escaped_after, IsBareAfter}
 use Rattle.lp_scan.specs.code.{mask_at, mask_of}
-use Rattle.memchr.specs.Find.{is_byte3}
+use Rattle.memchr.specs.Find.{is_byte, is_byte3}
 
 -- of the bytes from a bare place on, of at most 64, the masks are of the bare newlines and quotes, of the bare equals signs and of the
 -- bare commas; after them, and the byte that they escape, comes a bare place
@@ -20,9 +20,14 @@ pub record IsAhead (text : List ℕ) (at : ℕ) (ahead : Ahead) : Type 0 where
   pub equals_are : ahead.equals ≡ mask_at (is_bare_at (λ b. b == equals) text) at count
   pub commas_are : ahead.commas ≡ mask_at (is_bare_at (λ b. b == comma) text) at count
 
--- the mask is that of the newlines, quotes and backslashes among the first bytes of a text, of at most 64
-pub record AreSeen (text : List ℕ) (marks : ℕ) : Type 0 where
+-- whether the byte tells of a cut by the rules of a dialect: a newline, or a quote or a backslash, unless each newline ends a line
+abbrev pub is_mark : Dialect → ℕ → Bool
+is_mark NewlineDelimited b = is_byte newline b
+is_mark other b = is_byte3 backslash newline quote b
+
+-- the mask is that of the marks among the first bytes of a text, of at most 64
+pub record AreSeen (dialect : Dialect) (text : List ℕ) (marks : ℕ) : Type 0 where
   pub count : ℕ
   pub within : count ≤ length text
   pub few : count ≤ 64
-  pub are : marks ≡ mask_of (is_byte3 backslash newline quote) text 0 count
+  pub are : marks ≡ mask_of (is_mark dialect) text 0 count

@@ -7,7 +7,7 @@ use Rattle.lp_split.specs.code.{Ahead.AreSeen, Tracks.IsTrackOf, Tracks.most_cou
 
 -- what a search knows of a text: the marks that were seen at its start, that its first bytes hold no cut, or their track
 abbrev pub IsKnown : Dialect → List ℕ → Search → Type 0
-IsKnown dialect text (Begins seen) = AreSeen text seen
+IsKnown dialect text (Begins seen) = AreSeen dialect text seen
 IsKnown dialect text (Quiet n) = (n ≤ length text) × IsLastPiece dialect (take n text)
 IsKnown dialect text (Within at track) = (at ≤ length text) × (most_counted track ≤ at) × IsTrackOf dialect (take at text) track
 
@@ -18,7 +18,7 @@ IsHeldAt dialect items start known = (start ≤ length items) × IsKnown dialect
 -- a search found the first cut of a text, and what it saw after it, or the text is one piece
 abbrev pub FindsCut : Dialect → List ℕ → Option Mark → Type 0
 FindsCut dialect text None = IsLastPiece dialect text
-FindsCut dialect text (Some cut) = IsFirstCut dialect text (Some cut.at) × AreSeen (drop (cut.at + 1) text) cut.later
+FindsCut dialect text (Some cut) = IsFirstCut dialect text (Some cut.at) × AreSeen dialect (drop (cut.at + 1) text) cut.later
 
 -- so it is of a search that can go on, with what is known of the text if that is one piece
 abbrev pub SearchesOn : Dialect → List ℕ → Result Mark Search → Type 0

@@ -26,7 +26,7 @@ pub enum Region {
 /// What a search knows of a text.
 #[derive(Clone, Copy)]
 pub(crate) enum Search {
-    /// It begins, and these newlines, quotes and backslashes were seen.
+    /// It begins, and these bytes that tell of a cut were seen.
     Begins(u64),
     /// So many of its first bytes hold no cut.
     Quiet(usize),

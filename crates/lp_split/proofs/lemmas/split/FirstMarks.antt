@@ -5,11 +5,11 @@ use Rattle.std.proofs.Common.{take_all, All, length-append, length-take, get_or-
 use Rattle.std.specs.Int.{trailing_zeros}
 use Rattle.std.proofs.lemmas.{Bool.cases_lt, Bool.not-true, Bool.not-false, Bool.false≢true, List.length-map, Simd.length-chunk}
 use Rattle.std.proofs.lemmas.{Simd.mask_l-lt, List.Elements.All-from_get_or, List.Elements.All-get_or, List.Elements.All-weaker}
-use Rattle.memchr.specs.Find.{IsFirstByte, is_byte3, Nowhere, Passes}
+use Rattle.memchr.specs.Find.{IsFirstByte, is_byte, is_byte3, Nowhere, Passes}
 use Rattle.lp_scan.specs.code.{AllPassBetween, IsRunIn, first_set, mask_of}
-use Rattle.lp_split.specs.code.{AreSeen}
+use Rattle.lp_split.specs.code.{AreSeen, is_mark}
 use Rattle.lp_scan.proofs.lemmas.scan.MaskLemmas.{run_is, shifted, tz_below}
-use Rattle.lp_format.specs.format.{backslash, quote, Dialect, HasNoNewline, IsFirstCut, IsLastPiece, IsBareAfter, EndsQuoted}
+use Rattle.lp_format.specs.format.{backslash, quote, Dialect, Crate, Strict, NewlineDelimited, HasNoNewline, IsFirstCut, IsLastPiece, IsBareAfter, EndsQuoted}
 use Rattle.lp_format.specs.format.{Piece.EndsQuoted.opened, Bytes.newline}
 use Rattle.lp_format.proofs.lemmas.{split.SplitBare.is_escaped-nil, split.SplitPieces.IsLastPiece-extend, split.SplitPieces.IsLastPiece-nil}
 use Rattle.lp_split.proofs.lemmas.split.SplitStretches.{bare_past}
@@ -32,12 +32,12 @@ module _ (test : ℕ → Bool) (text : List ℕ) (at n m r : ℕ) (room : at + n
       run_is test text at n room few r (set ∙ ap (λ (k : ℕ). first_set k n) is)
 
   -- the byte is a mark
-  pub is_mark : test (slice_index text (at + r)) ≡ true
-  is_mark = not-false _ (run.2 one_of)
+  pub passes_there : test (slice_index text (at + r)) ≡ true
+  passes_there = not-false _ (run.2 one_of)
 
   -- if none comes before the mask's bytes, it is the first
   pub first_is : (place : ℕ) → at + r ≡ place → AllPassBetween (λ b. not (test b)) text 0 at → IsFirstByte test text (Some place)
-  first_is place to_place before = grind (arith, one_of, cases_lt, false≢true, not-true, run, is_mark)
+  first_is place to_place before = grind (arith, one_of, cases_lt, false≢true, not-true, run, passes_there)
 
   -- the bits above it are the mask of the bytes after it
   pub later_are : m / 2 ^ r / 2 ≡ mask_of test (drop (at + r + 1) text) 0 (n - (r + 1))
@@ -48,13 +48,13 @@ module _ (test : ℕ → Bool) (text : List ℕ) (at n m r : ℕ) (room : at + n
       ∙ shifted test text (at + r) (n - r) 1 (omega (arith, inside)) ∙ ap (mask_of test text (at + r + 1)) count
 
 -- so are they seen
-pub seen_later : (text : List ℕ) (at n m r place : ℕ) → at + n ≤ length text → n ≤ 64 → m ≡ mask_of (is_byte3 backslash 10 quote) text at n
-    → 0 < m → r ≡ trailing_zeros w64 m → at + r ≡ place → AreSeen (drop (place + 1) text) (m / 2 ^ r / 2)
-seen_later text at n m r place room few is some lowest to_place = grind (arith, length-drop, later_are)
+pub seen_later : (dialect : Dialect) (text : List ℕ) (at n m r place : ℕ) → at + n ≤ length text → n ≤ 64 → m ≡ mask_of (is_mark dialect) text at n
+    → 0 < m → r ≡ trailing_zeros w64 m → at + r ≡ place → AreSeen dialect (drop (place + 1) text) (m / 2 ^ r / 2)
+seen_later dialect text at n m r place room few is some lowest to_place = grind (arith, length-drop, later_are)
 
 -- of no bytes nothing is seen
-pub none_are_seen : (text : List ℕ) → AreSeen text 0
-none_are_seen text = record { count = 0; within = omega arith; few = omega arith; are = refl }
+pub none_are_seen : (dialect : Dialect) (text : List ℕ) → AreSeen dialect text 0
+none_are_seen dialect text = record { count = 0; within = omega arith; few = omega arith; are = refl }
 
 -- an empty mask tells that no byte is a mark
 pub none_seen : (test : ℕ → Bool) (text : List ℕ) (at n m : ℕ) → at + n ≤ length text → n ≤ 64 → m ≡ mask_of test text at n → m ≡ 0
@@ -125,19 +125,40 @@ others_bare text (suc n) h others =
     subst (λ (k : ℕ). IsBareAfter (take k text)) next
     (bare_past text n (omega arith) (λ e. last.2 (get_or-take (suc n) text n 0 (omega arith) ∙ e)))
 
--- a newline that is the first of them is the cut
-pub cut_at_newline : (dialect : Dialect) (text : List ℕ) (n : ℕ) → IsFirstByte (is_byte3 backslash 10 quote) text (Some n)
+-- nor does a front before the first newline hold one
+none_before_newline : (text : List ℕ) (n : ℕ) → n ≤ length text → Nowhere (Passes (is_byte newline) text) 0 n → HasNoNewline (take n text)
+none_before_newline text n h none = All-from_get_or (λ b. b ≢ newline) (take n text) 0 (λ i l e.
+    let inside : i < n = omega (arith, l, length-take n text) in
+    none i (omega arith) inside (rw (sym (get_or-take n text i 0 inside) ∙ e) refl))
+
+-- in two dialects, a newline that is the first of them is the cut
+cut_of_others : (dialect : Dialect) (text : List ℕ) (n : ℕ) → IsFirstByte (is_byte3 backslash newline quote) text (Some n)
     → slice_index text n ≡ newline → IsFirstCut dialect text (Some n)
-cut_at_newline dialect text n found newline =
+cut_of_others dialect text n found sign =
     let others = others_before text n (omega (arith, found.0.high)) found.0.before in
     let last = others_last dialect (take n text) others in
     let is_bare = others_bare text n (omega (arith, found.0.high)) others in
     let closed : (counted : List ℕ) → EndsQuoted (take n text) counted → ⊥ = λ counted e. others_closed e others in
     let no_newline : HasNoNewline (take n text) = All-weaker IsOther (λ b. b ≢ 10) (λ b o. o.0) (take n text) others in
-    (found.0.high, newline, grind arith)
+    (found.0.high, sign, grind arith)
+
+-- a newline that is the first mark is the cut
+pub cut_at_newline : (dialect : Dialect) (text : List ℕ) (n : ℕ) → IsFirstByte (is_mark dialect) text (Some n)
+    → slice_index text n ≡ newline → IsFirstCut dialect text (Some n)
+cut_at_newline Crate text n found sign = cut_of_others Crate text n found sign
+cut_at_newline Strict text n found sign = cut_of_others Strict text n found sign
+cut_at_newline NewlineDelimited text n found sign =
+    (found.0.high, sign, none_before_newline text n (omega (arith, found.0.high)) found.0.before)
 
 -- a text without any of them is one piece
-pub no_cut : (dialect : Dialect) (text : List ℕ) → IsFirstByte (is_byte3 backslash 10 quote) text None → IsFirstCut dialect text None
-no_cut dialect text none =
+none_of_others : (dialect : Dialect) (text : List ℕ) → IsFirstByte (is_byte3 backslash newline quote) text None → IsFirstCut dialect text None
+none_of_others dialect text none =
     let others = others_before text (length text) (omega arith) none in
     others_last dialect text (subst (All IsOther) (take_all (length text) text (omega arith)) others)
+
+-- a text without a mark is one piece
+pub no_cut : (dialect : Dialect) (text : List ℕ) → IsFirstByte (is_mark dialect) text None → IsFirstCut dialect text None
+no_cut Crate text none = none_of_others Crate text none
+no_cut Strict text none = none_of_others Strict text none
+no_cut NewlineDelimited text none =
+    subst HasNoNewline (take_all (length text) text (omega arith)) (none_before_newline text (length text) (omega arith) none)

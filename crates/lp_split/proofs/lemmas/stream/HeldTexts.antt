@@ -13,8 +13,8 @@ use Rattle.std.proofs.lemmas.List.Sums.{sum_by-append}
 use Rattle.lp_format.proofs.lemmas.split.SplitPieces.{no_cut_within, split_at}
 
 -- the marks that were seen
-seen_longer : (text more : List ℕ) (marks : ℕ) → AreSeen text marks → AreSeen (text ++ more) marks
-seen_longer text more marks h = grind (arith, length-append, take-append-le)
+seen_longer : (dialect : Dialect) (text more : List ℕ) (marks : ℕ) → AreSeen dialect text marks → AreSeen dialect (text ++ more) marks
+seen_longer dialect text more marks h = grind (arith, length-append, take-append-le)
 
 -- what a search knows
 pub known_longer : (dialect : Dialect) (text more : List ℕ) (known : Search) → IsKnown dialect text known

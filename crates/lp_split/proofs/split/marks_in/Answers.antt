@@ -1,9 +1,8 @@
-use Rattle.std.proofs.Common.{refl, arith}
-use Rattle.memchr.specs.Find.{is_byte3}
-use Rattle.lp_format.specs.format.Bytes.{backslash, newline, quote}
-use Rattle.lp_scan.proofs.lemmas.lanes.LaneLemmas.{either, mask_as, one}
+use Rattle.std.proofs.Common.{inl, inr}
 use Rattle.lp_split.proofs.split.marks_in.Goals as goal
 
-pub returns : goal.returns
-returns c = mask_as (either (one newline) (either (one quote) (one backslash))) c.args.text.now c.args.at 64 c.requires (omega arith)
-    (is_byte3 backslash newline quote) (λ k. (c.type_inv.text k).fits) refl
+pub returns-in-Crate : goal.returns-in-Crate
+returns-in-Crate c = elim c.in-Crate.is [ inl is ↦ rw is c.three_at.ensures | inr is ↦ rw is c.three_at.ensures ]
+
+pub returns-in-NewlineDelimited : goal.returns-in-NewlineDelimited
+returns-in-NewlineDelimited c = rw c.in-NewlineDelimited.is c.newlines_at.ensures

@@ -9,7 +9,7 @@ pub returns-in-Ok : goal.returns-in-Ok
 returns-in-Ok c = λ dialect is.
     let text = c.args.text.now in (
       tracks_cut dialect text _ c.args.at c.in-Ok.found c.args.track (take_rest text c.args.at) c.requires.within is c.in-Ok.ensures,
-      none_are_seen _,
+      none_are_seen _ _,
     )
 
 pub returns-in-Err : goal.returns-in-Err
