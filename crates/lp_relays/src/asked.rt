@@ -4,11 +4,15 @@ use influxdb_line_protocol::Dialect;
 use lp_relay::{Faults, LineForm, Numbering, Settings};
 use lp_vectors_shared::rows::number_of;
 
+const ALL: &[Dialect] = &[Dialect::Crate, Dialect::Strict, Dialect::NewlineDelimited];
+
 const BOTH: &[Dialect] = &[Dialect::Crate, Dialect::Strict];
 
 const CRATE: &[Dialect] = &[Dialect::Crate];
 
 const STRICT: &[Dialect] = &[Dialect::Strict];
+
+const NEWLINE_DELIMITED: &[Dialect] = &[Dialect::NewlineDelimited];
 
 /// What a row asks for.
 #[derive(Clone, Copy)]
@@ -35,7 +39,9 @@ impl Asked {
         match word {
             "crate" => self.dialects = CRATE,
             "strict" => self.dialects = STRICT,
+            "newline_delimited" => self.dialects = NEWLINE_DELIMITED,
             "both" => self.dialects = BOTH,
+            "all" => self.dialects = ALL,
             "lines" => self.settings.numbering = Numbering::Lines,
             "verbatim" => self.settings.lines = LineForm::Verbatim,
             "canonical" => self.settings.lines = LineForm::Canonical,

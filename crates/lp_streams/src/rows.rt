@@ -24,7 +24,9 @@ fn dialects_of(cell: &[u8]) -> Result<&'static [Dialect], Wrong> {
     match text_of(cell) {
         "crate" => Ok(&[Dialect::Crate]),
         "strict" => Ok(&[Dialect::Strict]),
+        "newline_delimited" => Ok(&[Dialect::NewlineDelimited]),
         "both" => Ok(&[Dialect::Crate, Dialect::Strict]),
+        "all" => Ok(&[Dialect::Crate, Dialect::Strict, Dialect::NewlineDelimited]),
         _ => Err(Wrong::Cells),
     }
 }
