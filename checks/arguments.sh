@@ -113,7 +113,7 @@ if [ -n "$program" ]; then
         wanted 2 "" "$usage" "--${name^}"
         wanted 2 "" "$usage" "$option" --help
         wanted 2 "" "$usage" --cut 2 "$option"
-        [ "$option" = --strict ] || wanted 2 "" "$usage" "$option" --cut 2
+        [ "$option" = --strict ] || [ "$option" = --newline-delimited ] || wanted 2 "" "$usage" "$option" --cut 2
     done
     for option in $(options '^option: --[a-z-]* '); do
         wanted 2 "" "$usage" "$option"
@@ -173,6 +173,10 @@ if [ -n "$program" ]; then
     text='m a=1i,\n'
     wanted 2 "" "$usage" --canonical --verbatim
     wanted 2 "" "$usage" --verbatim --strict --canonical
+    wanted 2 "" "$usage" --strict --newline-delimited
+    wanted 2 "" "$usage" --newline-delimited --lines --strict
+    wanted 2 "" "$usage" --newline-delimited --strict --cut 2
+    wanted 1 "" "$strict_fault" --newline-delimited
     wanted 2 "" "${unread}summary: $none$newline" --summary summary
     wanted 1 "" "${strict_fault}8 bytes, 1 lines, 1 items: 0 carried, 1 refused: 1 cannot_parse_entire_line$newline" --check --progress --summary --strict
     wanted 2 "" "${unread}check: $none$newline" --strict --check check
@@ -250,6 +254,8 @@ if [ -n "$program" ]; then
     wanted 1 "$string" "line 14: $missing" --first-line 10
     wanted 1 "$string" "line 14: $missing" --lines --first-line 10 --verbatim
     wanted 1 "$string" "item 11: $missing" --first-item 10
+    wanted 1 "" "line 3: No fields were provided${newline}line 4: ${missing}line 5: $missing" --newline-delimited --lines
+    wanted 0 "12${newline}17$newline" "" --newline-delimited --cut 2
     # A lone backslash, two spaces, a number that begins with 0, a name that cannot be written again, and no newline at the end.
     tab=$(printf '\t')
     text='m,p=C:\\W  a=064i\nw\\\t a=1i'
@@ -397,6 +403,7 @@ printf 'm a=1i' >a
 printf 'm b=2i\nx\n' >b
 : >e
 printf 'm s="x' >q
+printf 'm s="x\nm d=5i\n"' >open
 printf '"' >z
 printf 'm c=3i\n' | tee c >./-c
 printf 'm s=4i\n' >std
@@ -431,6 +438,11 @@ given 0 'm s=4i\n' '' - -
 given 0 'm a=1i\nm s=4i\nm c=3i\n' '' a - c
 given 0 'm a=1i\nm c=3i\nm s=4i\n' '' --strict --progress --max-line 6 a c -
 given 1 'm c=3i\nm a=1i\n' "q: item 2: No fields were provided\n" c q a
+given 0 'm s="x\nm d=5i\n"\n' '' --strict open
+given 1 'm d=5i\n' "item 1: No fields were provided\nitem 3: $x\n" --newline-delimited open
+given 1 'm d=5i\nm a=1i\nm d=5i\n' "open: item 1: No fields were provided\nopen: item 3: $x
+open: item 5: No fields were provided\nopen: item 7: $x\n" --newline-delimited open a open
+given 0 '7\n15\n' '' --newline-delimited --cut 2 open
 given 2 'm a=1i\n' "${unread}none: $none\n" a none b
 given 2 'm b=2i\n' "b: item 2: $x\n${unread}none: $none\n" b none
 given 2 'm a=1i\n' "${unread}d: Is a directory (os error 21)\n" a d a

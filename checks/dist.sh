@@ -318,7 +318,8 @@ complete_all() {
     completed "--strict" lp_rebuild --s
     completed "" lp_rebuild --strict ""
     offered "" lp_relay ""
-    offered "--strict --help --version" lp_relay --strict --
+    offered "--strict --newline-delimited --help --version" lp_relay --strict --
+    offered "--strict --newline-delimited --help --version" lp_relay --newline-delimited --
     offered "--lines --first-item $others" lp_relay --lines ""
     offered "--check --output $others" lp_relay --check --
     offered "--first-line --first-item $others" lp_relay --first-line 7 --

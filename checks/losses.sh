@@ -39,6 +39,7 @@ printf 'x\n' >std
 printf 'm a=1i,\nm  a=1i\nm a=123456789i\n' >later
 { printf 'm s="'; head -c "$((65536 - 6))" /dev/zero | tr '\0' x; printf '"'; } >full
 printf '# a="\nm a=1i\n# b="\nm b=1i\n' >quoted
+{ seq -f 'm a=%.0fi' 10; echo 'm note="open'; seq -f 'm a=%.0fi' 12 100; } >note
 head -c 5000 /dev/zero | tr '\0' y >piece
 yes 'm a=1i' | head -n 30000 >long
 : >empty
@@ -63,6 +64,9 @@ given 0 "$(cat long long)\\nm a=1i\\n$(cat long)\\n" '' long long a long
 given 0 '65537\n65546\n' '' --cut 2 full b
 given 0 '19\n26\n' '' --cut 2 quoted
 given 0 '13\n26\n' '' --strict --cut 2 quoted
+# Every other line, if one leaves a quote open, also if that line is too long.
+given 1 "$(grep -v open note)\\n" 'item 11: No fields were provided\n' --newline-delimited note
+given 1 "$(grep -v open note)\\n" 'item 11: the line is too long\n' --newline-delimited --max-line 8 note
 
 # The refused pieces, if the lines go to a file too; and the counts.
 given 1 '' "item 2: $x\n9 bytes, 2 lines, 2 items: 1 carried, 1 refused: 1 generic_parsing_error\n" --summary -o out --refused refused b

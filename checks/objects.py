@@ -50,7 +50,7 @@ PARTS = [bytes([b]) for b in range(256)] + [
 
 # So many texts are relayed, each with some of these words.
 TEXTS = 20
-WORDS = [[], ["--strict"], ["--canonical"], ["--verbatim", "--max-line", "70"]]
+WORDS = [[], ["--strict"], ["--newline-delimited"], ["--canonical"], ["--verbatim", "--max-line", "70"]]
 
 
 def text_of(rng):
@@ -79,9 +79,9 @@ def tail_end(text, at):
     return len(text)
 
 
-def piece_end(text, start, is_strict):
+def piece_end(text, start, words):
     """Where the piece ends that begins there."""
-    if is_strict and text[start:].lstrip(b" \t").startswith(b"#"):
+    if "--newline-delimited" in words or "--strict" in words and text[start:].lstrip(b" \t").startswith(b"#"):
         return text.find(b"\n", start) if b"\n" in text[start:] else len(text)
     head = re.compile(rb"(?:[^ \n\\]|\\.|\\\Z)*", re.DOTALL).match(text, start).end()
     return tail_end(text, head) if text[head:head + 1] == b" " else head
@@ -92,7 +92,7 @@ def items_of(text, words):
     limit = int(words[words.index("--max-line") + 1]) if "--max-line" in words else 1 << 24
     items, start = [], 0
     while start <= len(text):
-        end = piece_end(text, start, "--strict" in words)
+        end = piece_end(text, start, words)
         piece = text[start:end]
         front = re.match(rb"(?:[ \t\n]|#[^\n]*)*", piece).end()
         if len(piece) > limit or not is_utf8(piece):

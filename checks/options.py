@@ -15,9 +15,10 @@ from typing import NamedTuple
 TOP = Path(__file__).resolve().parent.parent
 DATA = "packaging/options.txt"
 FIELDS = ("option", "short", "values", "not with", "unless", "place", "usage after", "does", "format", "lp_rebuild", "man")
-FIRST, ALONE = "first or after --strict", "alone"
-PLACES_TOLD = {"": "", FIRST: ", first or after `--strict`", ALONE: ", alone"}  # as docs/FORMAT.md has them
-COLUMN, HELP_WIDTH, USAGE_WIDTH, PAGE_WIDTH = 21, 81, 96, 78
+DIALECTS = "--strict", "--newline-delimited"
+FIRST, ALONE = "first or after a dialect", "alone"
+PLACES_TOLD = {"": "", FIRST: f", first or after `{'` or `'.join(DIALECTS)}`", ALONE: ", alone"}  # as docs/FORMAT.md has them
+COLUMN, HELP_WIDTH, USAGE_WIDTH, PAGE_WIDTH, CODE_WIDTH = 21, 81, 96, 78, 100
 
 # The files with code and definitions of each program's words.
 CODE = {"lp_relay": ("crates/lp_relay_program/src/words.rt", "crates/lp_relay_program/specs/Words.antt"),
@@ -132,7 +133,7 @@ def usage_lines(found):
 
     parts = ["[" + " | ".join(way(each, len(each) == 1) for each in ways) + "]" for ways in groups(found)]
     forms = [[*parts, "[FILE..]"]]
-    forms += [["[--strict]", option.spelled(), "[FILE..]"] for option in found if option.get("place") == FIRST]
+    forms += [[f"[{' | '.join(DIALECTS)}]", option.spelled(), "[FILE..]"] for option in found if option.get("place") == FIRST]
     return [*forms, [" | ".join(option.spelled() for option in found if option.get("place") == ALONE)]]
 
 
@@ -172,7 +173,7 @@ def synopsis(found):
     yield ".Op Ar"
     for option in found:
         if option.get("place") == FIRST:
-            yield from (".Nm", ".Op Fl -strict", f".{option.of_page()}", ".Op Ar")
+            yield from (".Nm", f".Op Fl {' | Fl '.join(word[1:] for word in DIALECTS)}", f".{option.of_page()}", ".Op Ar")
     yield ".Nm"
     yield "." + " | ".join(option.of_page() for option in found if option.get("place") == ALONE)
 
@@ -242,7 +243,8 @@ def offers(found):
     firsts, alone = ([option.word for option in found if option.get("place") == place] for place in (FIRST, ALONE))
     yield "    case $given in"
     yield f'    "  ") options+=({" ".join(firsts + alone)}) ;;'
-    yield f'    " --strict ") options+=({" ".join(firsts)}) ;;'
+    after = " | ".join(f'" {word} "' for word in DIALECTS)
+    yield f'    {after}) options+=({" ".join(firsts)}) ;;'
     yield "    esac"
 
 
@@ -252,9 +254,10 @@ def as_code(lines):
 
 
 def usage_constant(lines):
-    """A usage as a constant of the code."""
+    """A usage as a constant of the code, as `rt fmt` lays it out."""
     text = '"' + "\n".join(as_code(lines)) + '";'
-    return ["pub const USAGE: &str =", *f"    {text}".split("\n")] if len(lines) > 1 else [f"pub const USAGE: &str = {text}"]
+    whole = f"pub const USAGE: &str = {text}".split("\n")
+    return whole if len(whole[0]) <= CODE_WIDTH else ["pub const USAGE: &str =", *f"    {text}".split("\n")]
 
 
 class Place(NamedTuple):

@@ -5,9 +5,9 @@ docs/FORMAT.md, what comes of it.
 
     checks/settings.py RELAY
 
-RELAY: a built lp_relay. The 144 settings are: lines rebuilt, verbatim or canonical; each dialect; faults as lines, raw or as objects,
+RELAY: a built lp_relay. The 216 settings are: lines rebuilt, verbatim or canonical; each dialect; faults as lines, raw or as objects,
 by items or by lines; with and without --summary and --refused. Each reads standard input and two files, and writes its lines to
-standard output, to a file, and nowhere: 864 runs.
+standard output, to a file, and nowhere: 1296 runs.
 """
 
 import collections
@@ -21,7 +21,7 @@ from dataclasses import dataclass
 from pathlib import Path
 
 LINES = {"rebuilt": [], "verbatim": ["--verbatim"], "canonical": ["--canonical"]}
-DIALECTS = {"crate": [], "strict": ["--strict"]}
+DIALECTS = {"crate": [], "strict": ["--strict"], "newline-delimited": ["--newline-delimited"]}
 FAULTS = {"line": [], "raw": ["--faults", "raw"], "json": ["--faults", "json"]}
 NUMBERS = {"item": [], "line": ["--lines"]}
 SUMMARY = {False: [], True: ["--summary"]}
@@ -72,7 +72,7 @@ BACKSLASH = "Measurements, tag keys and values, and field keys may not end with 
 GENERIC = "A generic parsing error occurred: TakeWhile1"
 NOT_ADMITTED = Fault("name_not_admitted", "a name cannot be written again")
 
-# Pieces that both dialects read the same.
+# Pieces of one line, that each dialect reads the same.
 BEGIN = [
     Piece(b"m,t=x a=1i 7", 0, b"m,t=x a=1i 7", b"m,t=x a=1i 7", b"m,t=x a=1i 7"),
     Piece(b""),
@@ -89,31 +89,47 @@ BEGIN = [
     refused(b"m,t=v,u=w\\\\ a=1i", "ends_with_backslash", BACKSLASH, 8),
     refused(b"m,t a=1i", "tag_set_malformed", "Tag Set Malformed", 3),
     refused(b"m a=\xff", "not_utf8", "the line is not UTF-8"),
-    trailing(b"\tm s=\"a\nb\",v=9i9", "9", 14, front=1),
-    trailing("m a=1i \"ü\\\n\t\"".encode(), " \"ü\\\n\t\"", 6),
     trailing(b"m a=1i " + b"y" * 190, " " + "y" * 190, 6),
-    refused(b"\tm s=\"a\n" + b"a" * 192 + b"\"", "too_long", "the line is too long"),
+    refused(b"m" * 201, "too_long", "the line is too long"),
     differing(b"m f=1.50,s=\"C:\\W\"", b"m f=1.50,s=\"C:\\\\W\"", "the value of field 2"),
     differing(b"C:\\W f=T", b"C:\\\\W f=true", "the measurement"),
+]
+# Pieces of two lines, and these lines as pieces.
+OF_TWO_LINES = [
+    trailing(b"\tm s=\"a\nb\",v=9i9", "9", 14, front=1),
+    trailing("m a=1i \"ü\\\n\t\"".encode(), " \"ü\\\n\t\"", 6),
+    refused(b"\tm s=\"a\n" + b"a" * 192 + b"\"", "too_long", "the line is too long"),
     Piece(b"m,k=\\\\v s=\"a\nb\" -5", 0, *3 * [b"m,k=\\\\v s=\"a\nb\" -5"]),
 ]
+OF_ONE_LINE = [
+    refused(b"\tm s=\"a", "field_set_missing", "No fields were provided", 4, front=1),
+    refused(b"b\",v=9i9", "generic_parsing_error", GENERIC, 8),
+    trailing("m a=1i \"ü\\".encode(), " \"ü\\", 6),
+    refused(b"\t\"", "generic_parsing_error", GENERIC, 1, front=1),
+    refused(b"\tm s=\"a", "field_set_missing", "No fields were provided", 4, front=1),
+    refused(b"a" * 192 + b"\"", "generic_parsing_error", GENERIC, 193),
+    refused(b"m,k=\\\\v s=\"a", "field_set_missing", "No fields were provided", 10),
+    refused(b"b\" -5", "field_set_missing", "No fields were provided", 5),
+]
 # Pieces with a comma after the only field, a comment with a quote and one with a backslash at its end, and a last one that no newline ends.
+STRICT_END = [
+    trailing(b"m a=1i,", ",", 6),
+    Piece(b"# a=\""),
+    Piece(b"m b=1i", 0, b"m b=1i", b"m b=1i", b"m b=1i"),
+    Piece(b"# c=\""),
+    Piece(b"# \\"),
+    Piece(b" m b=2i", 1, b"m b=2i", b" m b=2i", b"m b=2i"),
+    refused(b"y", "generic_parsing_error", GENERIC, 1),
+]
 PIECES = {
-    "crate": BEGIN + [
+    "crate": BEGIN + OF_TWO_LINES + [
         differing(b"m a=1i,", b"m a=1i", "the comma after the fields"),
         trailing(b"# a=\"\nm b=1i\n# c=\"", "\n# c=\"", 6, front=6),
         Piece(b"# \\\n m b=2i", 5, b"m b=2i", b"# \\\n m b=2i", b"m b=2i"),
         refused(b"y", "generic_parsing_error", GENERIC, 1),
     ],
-    "strict": BEGIN + [
-        trailing(b"m a=1i,", ",", 6),
-        Piece(b"# a=\""),
-        Piece(b"m b=1i", 0, b"m b=1i", b"m b=1i", b"m b=1i"),
-        Piece(b"# c=\""),
-        Piece(b"# \\"),
-        Piece(b" m b=2i", 1, b"m b=2i", b" m b=2i", b"m b=2i"),
-        refused(b"y", "generic_parsing_error", GENERIC, 1),
-    ],
+    "strict": BEGIN + OF_TWO_LINES + STRICT_END,
+    "newline-delimited": BEGIN + OF_ONE_LINE + STRICT_END,
 }
 TEXT = b"\n".join(piece.came for piece in PIECES["crate"])
 
@@ -247,7 +263,7 @@ def compare(relay, folder, settings):
 
 def main():
     relay = str(Path(sys.argv[1]).resolve())
-    if TEXT != b"\n".join(piece.came for piece in PIECES["strict"]):
+    if any(TEXT != b"\n".join(piece.came for piece in pieces) for pieces in PIECES.values()):
         sys.exit("settings: the pieces of the dialects are not those of one text")
     count = 0
     # In memory, if that can be: each file to write waits for its device.

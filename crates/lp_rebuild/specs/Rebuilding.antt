@@ -1,10 +1,10 @@
 -- What a text gives when it is rebuilt: the lines that are carried, written again, and a fault line for each other one.
-use Rattle.std.specs.Prelude.{◌≡◌, ℕ, ◌+◌, Bool, false, not, List, [], ◌∷◌, ◌++◌, codes, map, Result, Ok, Err, decimal, if◌then◌else◌}
-use Rattle.std.specs.List.{flat_map, count_by}
+use Rattle.std.specs.Prelude.{◌≡◌, ◌⊎◌, ℕ, ◌+◌, Bool, true, false, not, List, [], ◌∷◌, ◌++◌, codes, map, Result, Ok, Err, decimal, if◌then◌else◌}
+use Rattle.std.specs.List.{flat_map, count_by, list_all}
 use Rattle.influxdb_line_protocol.specs.format.Dialects.{Dialect, Crate, NewlineDelimited}
 use Rattle.influxdb_line_protocol.specs.format.Bytes.{newline}
 use Rattle.influxdb_line_protocol.specs.format.Readings.{Fault}
-use Rattle.influxdb_line_protocol.specs.format.Points.{Point, is_admitted_point, built_all}
+use Rattle.influxdb_line_protocol.specs.format.Points.{Point, is_admitted_in, is_admitted_point, built_all}
 use Rattle.influxdb_line_protocol.specs.format.Lines.{Line, point_of}
 use Rattle.influxdb_line_protocol.specs.format.Items.{HasAnswers}
 use Rattle.influxdb_line_protocol.specs.code.Faults.{fault_text}
@@ -64,12 +64,18 @@ pub record RebuildsIn (dialect : Dialect) (text : List ℕ) (r : Rebuilt) : Type
 abbrev pub Rebuilds : List ℕ → Rebuilt → Type 0
 Rebuilds text r = RebuildsIn Crate text r
 
--- the batch of a text that was read by the rules of one dialect reads back in each, followed by any text, but in the
--- newline-delimited one only if it was read by its rules: the answers are first those with the points that were carried, of which the batch is built, and then those of that text alone
+-- lines of these points, which were read by the rules of one dialect, can be read by those of another: if each newline ends a line
+-- there, no string holds one, as none does that was read so
+abbrev pub CanBeReadIn : (from to : Dialect) → List Point → Type 0
+CanBeReadIn from NewlineDelimited points = (from ≡ NewlineDelimited) ⊎ (list_all (is_admitted_in NewlineDelimited) points ≡ true)
+CanBeReadIn from other points = Unit {0}
+
+-- the batch of a text that was read by the rules of one dialect reads back in each in which its lines can be read, followed by any
+-- text: the answers are first those with the points that were carried, of which the batch is built, and then those of that text alone
 abbrev pub ReadsBackIn : Dialect → List ℕ → Rebuilt → Type 0
 ReadsBackIn from text r =
     (items : List (Result Line Fault)) → HasAnswers from text items
-    → (dialect : Dialect) → (dialect ≡ NewlineDelimited → from ≡ NewlineDelimited)
+    → (dialect : Dialect) → CanBeReadIn from dialect (flat_map carried_point items)
     → (t : List ℕ) (answers : List (Result Line Fault)) → HasAnswers dialect t answers
     → (lines : List Line) × (map point_of lines ≡ flat_map carried_point items) × (built_all (map point_of lines) ≡ r.batch.items)
     × HasAnswers dialect (r.batch.items ++ t) (map Ok lines ++ answers)

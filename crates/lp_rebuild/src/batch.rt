@@ -97,7 +97,8 @@ fn append(batch: Vec<u8>, line: &ParsedLine<'_>) -> Result<Vec<u8>, AllocError>
     }
 }
 
-// Takes a line that was read: it is written again, after the batch, or refused.
+// Takes a line that was read: it is written again, after the batch, or refused. If each newline ends a line, no string that was read
+// holds one, so `is_admitted` says whether it reads back in each dialect.
 fn take_line<'a>(
     alloc: Global,
     batch: &mut Vec<u8>,
@@ -246,8 +247,8 @@ pub fn rebuild(alloc: Global, input: &str) -> Result<Rebuilt, AllocError>
 /// dialect.
 ///
 /// [`rebuild`] does so by those of the crate; what it says of the batch, the faults and memory holds here too. The batch
-/// reads back in each dialect, whichever one the text was read in; but in the newline-delimited one only if it was read in
-/// that, since strings may hold newlines in the others.
+/// reads back in each dialect, whichever one the text was read in. But if each newline ends a line in the one and not in the
+/// other, it does if no string that was carried holds a newline.
 ///
 /// # Errors
 ///

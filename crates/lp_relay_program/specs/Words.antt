@@ -8,7 +8,7 @@ use Rattle.std.specs.Option.{option_map_or}
 use Rattle.std.specs.Str.{all_ascii_digits}
 use Rattle.std.specs.Str.Parse.{digits_value}
 use Rattle.influxdb_line_protocol.specs.types.Dialect.{Dialect}
-use Rattle.influxdb_line_protocol.specs.types.Dialect.TheVariants.{Crate, Strict}
+use Rattle.influxdb_line_protocol.specs.types.Dialect.TheVariants.{Crate, Strict, NewlineDelimited}
 use Rattle.lp_relay.specs.declared.telling.Faults.{Faults}
 use Rattle.lp_relay.specs.declared.telling.Faults.TheVariants.{Raw, OneLine, Json}
 use Rattle.lp_relay.specs.declared.taking.LineForm.{LineForm}
@@ -24,6 +24,7 @@ use Rattle.lp_relay_program.specs.declared.words.Task.TheVariants.{Relay, Cut, H
 abbrev pub nothing_given : Given
 nothing_given = record {
   strict = false;
+  newline_delimited = false;
   verbatim = false;
   canonical = false;
   lines = false;
@@ -61,6 +62,10 @@ told_form given = if is_json given.faults then Json (unwrap_or given.first_line 
 abbrev pub first_named : Given → ℕ
 first_named given = if names_lines given then unwrap_or given.first_line 1 else unwrap_or given.first_item 1
 
+-- whose rules hold
+abbrev pub asked_dialect : Given → Dialect
+asked_dialect given = if given.strict then Strict else (if given.newline_delimited then NewlineDelimited else Crate)
+
 -- how lines go out
 abbrev pub lines_form : Given → LineForm
 lines_form given = if given.verbatim then Verbatim else (if given.canonical then Canonical else Rebuilt)
@@ -68,7 +73,7 @@ lines_form given = if given.verbatim then Verbatim else (if given.canonical then
 -- the settings of the options that were given: those that were not have their defaults
 abbrev pub given_settings : Given → Settings
 given_settings given = record {
-  dialect = if given.strict then Strict else Crate;
+  dialect = asked_dialect given;
   limit = unwrap_or given.max_line default_max_line;
   lines = lines_form given;
   numbering = if names_lines given then named.Lines else named.Items;
@@ -98,11 +103,12 @@ names_input word = bytes_eq word (codes "-") || names_file word
 abbrev pub are_inputs : List (Bor (List ℕ)) → Bool
 are_inputs words = list_all (λ word. names_input word.now) words
 
--- whether two options exclude each other: a check has no file for lines, the number of the first item is none of a line, and lines
--- go out in one way
+-- whether two options exclude each other: a check has no file for lines, the number of the first item is none of a line, lines go
+-- out in one way, and the rules are those of one dialect
 abbrev pub are_at_odds : Given → Bool
 are_at_odds given =
     (given.check && is_some given.output) || (is_some given.first_item && names_lines given) || (given.verbatim && given.canonical)
+    || (given.strict && given.newline_delimited)
 
 -- the relay of the options that were given and of the inputs that words name, if each names an input and no options exclude each other
 abbrev pub request_of : Given → List (Bor (List ℕ)) → Option Request
@@ -122,13 +128,15 @@ request_of given words =
 abbrev pub with_flag : Given → List ℕ → Option Given
 with_flag given word =
     if bytes_eq word (codes "--strict") && not given.strict then Some (record given { strict = true })
+    else (if bytes_eq word (codes "--newline-delimited") && not given.newline_delimited
+    then Some (record given { newline_delimited = true })
     else (if bytes_eq word (codes "--verbatim") && not given.verbatim then Some (record given { verbatim = true })
     else (if bytes_eq word (codes "--canonical") && not given.canonical then Some (record given { canonical = true })
     else (if bytes_eq word (codes "--lines") && not given.lines then Some (record given { lines = true })
     else (if bytes_eq word (codes "--progress") && not given.progress then Some (record given { progress = true })
     else (if bytes_eq word (codes "--summary") && not given.summary then Some (record given { summary = true })
     else (if bytes_eq word (codes "--check") && not given.check then Some (record given { check = true })
-    else None))))))
+    else None)))))))
 
 -- the number that a word writes, if it is at least 1
 abbrev pub first_number : List ℕ → Option ℕ
@@ -193,11 +201,12 @@ cut_task dialect (word ∷ count ∷ inputs) =
     if bytes_eq word.now (codes "--cut") && are_inputs inputs
     then option_and_then (few_parts dialect (length inputs)) (decimal count.now) else None
 
--- the cut that words ask for, first or after `--strict`
+-- the cut that words ask for, first or after the option of a dialect
 abbrev pub asked_cut : List (Bor (List ℕ)) → Option Task
 asked_cut [] = None
 asked_cut (word ∷ words) =
-    if bytes_eq word.now (codes "--strict") then cut_task Strict words else cut_task Crate (word ∷ words)
+    if bytes_eq word.now (codes "--strict") then cut_task Strict words
+    else (if bytes_eq word.now (codes "--newline-delimited") then cut_task NewlineDelimited words else cut_task Crate (word ∷ words))
 
 -- what the words after the program's name ask for
 abbrev pub asked_task : List (Bor (List ℕ)) → Option Task

@@ -1,6 +1,6 @@
 //! What the words after the program's name ask for.
 ghost use Rattle.std.specs.Prelude.{◌≡◌};
-ghost use Rattle.lp_relay_program.specs.Words.{are_at_odds, are_inputs, asked_cut, asked_request, asked_task, cut_task, decimal, faults_form};
+ghost use Rattle.lp_relay_program.specs.Words.{are_at_odds, are_inputs, asked_cut, asked_dialect, asked_request, asked_task, cut_task, decimal, faults_form};
 ghost use Rattle.lp_relay_program.specs.Words.{first_named, first_number, given_settings, is_json, names_file, names_input, names_lines, told_form};
 ghost use Rattle.lp_relay_program.specs.Words.{nothing_given, request_of, with_flag, with_value};
 
@@ -8,11 +8,11 @@ use influxdb_line_protocol::Dialect;
 use lp_relay::{Faults, LineForm, Numbering, Settings};
 
 /// How the program is called: the lines that it prints if its words ask for nothing, without the last newline.
-pub const USAGE: &str =
-    "usage: lp_relay [--strict] [--verbatim | --canonical] [--faults line|raw|json]
-                [--max-line BYTES] [--first-item N | [--lines] [--first-line N]] [--progress]
-                [--summary] [--check | --output FILE] [--refused FILE] [FILE..]
-       lp_relay [--strict] --cut PARTS [FILE..]
+pub const USAGE: &str = "usage: lp_relay [--strict | --newline-delimited] [--verbatim | --canonical]
+                [--faults line|raw|json] [--max-line BYTES]
+                [--first-item N | [--lines] [--first-line N]] [--progress] [--summary]
+                [--check | --output FILE] [--refused FILE] [FILE..]
+       lp_relay [--strict | --newline-delimited] --cut PARTS [FILE..]
        lp_relay --help | --version";
 
 /// The version of this state, which `--version` prints: the newest of CHANGELOG.md.
@@ -26,6 +26,9 @@ it refuses, with the name of its FILE before it if there are several, but not by
 FILE that is - is standard input; ./-x names a file -x.
 
   --strict           reads the strict dialect
+  --newline-delimited
+                     reads the newline-delimited dialect: that of --strict, but each newline ends a
+                     line, whatever is open, so that no line takes in the next one
   --verbatim         writes each line that can be read as it came, byte for byte; if it is not
                      given, lines are written again in one spelling, which some servers read as
                      other points if a name has a backslash
@@ -60,9 +63,9 @@ FILE that is - is standard input; ./-x names a file -x.
   --version          prints the version
 
 The options of a relay come in any order, each at most once, before the files; not both --check
-and --output, not both --verbatim and --canonical, nor --first-item with --lines or --first-line,
-but with --faults json, which names items and lines.
---cut PARTS comes first, or after --strict.
+and --output, not both --verbatim and --canonical, not both --strict and --newline-delimited, nor
+--first-item with --lines or --first-line, but with --faults json, which names items and lines.
+--cut PARTS comes first, or after --strict or --newline-delimited.
 
 Status 0: every item was carried; 1: some item was not; 2: the input could not be read, memory
 ran out, an output could not be written, or is an input too, or the arguments are wrong; 141:
@@ -109,6 +112,7 @@ pub enum Task<'a> {
 #[derive(Clone, Copy)]
 pub(crate) struct Given<'a> {
     strict: bool,
+    newline_delimited: bool,
     verbatim: bool,
     canonical: bool,
     lines: bool,
@@ -129,6 +133,7 @@ impl<'a> Given<'a> {
     {
         Given {
             strict: false,
+            newline_delimited: false,
             verbatim: false,
             canonical: false,
             lines: false,
@@ -173,14 +178,22 @@ impl<'a> Given<'a> {
         }
     }
 
+    // Whose rules hold.
+    fn dialect(self) -> Dialect
+        ensures { result ≡ asked_dialect self.entry }
+    {
+        if self.strict {
+            Dialect::Strict
+        } else if self.newline_delimited {
+            Dialect::NewlineDelimited
+        } else {
+            Dialect::Crate
+        }
+    }
+
     fn settings(self) -> Settings<'a>
         ensures { result ≡ given_settings self.entry }
     {
-        let dialect = if self.strict {
-            Dialect::Strict
-        } else {
-            Dialect::Crate
-        };
         let lines = if self.verbatim {
             LineForm::Verbatim
         } else if self.canonical {
@@ -194,7 +207,7 @@ impl<'a> Given<'a> {
             Numbering::Items
         };
         Settings {
-            dialect,
+            dialect: self.dialect(),
             limit: self.max_line.unwrap_or(DEFAULT_MAX_LINE),
             lines,
             numbering,
@@ -212,6 +225,7 @@ impl<'a> Given<'a> {
     {
         match word {
             "--strict" if !self.strict => self.strict = true,
+            "--newline-delimited" if !self.newline_delimited => self.newline_delimited = true,
             "--verbatim" if !self.verbatim => self.verbatim = true,
             "--canonical" if !self.canonical => self.canonical = true,
             "--lines" if !self.lines => self.lines = true,
@@ -245,14 +259,15 @@ impl<'a> Given<'a> {
         Some(self)
     }
 
-    // Whether two options exclude each other: a check has no file for lines, the number of the first item is none of a line, and
-    // lines go out in one way.
+    // Whether two options exclude each other: a check has no file for lines, the number of the first item is none of a line, lines
+    // go out in one way, and the rules are those of one dialect.
     fn are_at_odds(self) -> bool
         ensures { result ≡ are_at_odds self.entry }
     {
         self.check && self.output.is_some()
             || self.first_item.is_some() && self.names_lines()
             || self.verbatim && self.canonical
+            || self.strict && self.newline_delimited
     }
 
     // The request of these options and inputs, if each word names an input and no options exclude each other.
@@ -372,8 +387,12 @@ fn cut_task_of<'a>(dialect: Dialect, words: &[&str]) -> Option<Task<'a>>
 fn cut_of<'a>(words: &[&str]) -> Option<Task<'a>>
     ensures { result ≡ asked_cut words.now }
 {
-    match words {
-        [strict, rest @ ..] if *strict == "--strict" => cut_task_of(Dialect::Strict, rest),
+    let [word, rest @ ..] = words else {
+        return None;
+    };
+    match *word {
+        "--strict" => cut_task_of(Dialect::Strict, rest),
+        "--newline-delimited" => cut_task_of(Dialect::NewlineDelimited, rest),
         _ => cut_task_of(Dialect::Crate, words),
     }
 }

@@ -26,6 +26,6 @@ returns-clause-rebuilds c =
 
 pub returns-clause-reads_back : goal.returns-clause-reads_back
 returns-clause-reads_back c =
-    batch_reads_back c.batch_reads_back.ensures.admitted c.lines_are_points.ensures c.pieces_join.ensures.one c.lines_are_read_alone.ensures.strings
+    batch_reads_back c.batch_reads_back.ensures.admitted c.lines_are_read_alone.ensures.strings c.lines_are_points.ensures c.pieces_join.ensures.one
     (rules_of c.args.dialect) c.args.input.now _
     (returns-clause-rebuilds c)
