@@ -1,7 +1,7 @@
 #!/usr/bin/env bash
 # Runs examples/slurm and examples/ssh.sh for real, over 56 MB with a line at fault in some parts, and compares the lines and the fault
-# lines that they write with those of one relay; also if a worker fails midway, whose part another then relays. Slurm and sshd are
-# started here, and end here, and nothing may be left running.
+# lines that they write with those of one relay; also if a worker fails midway, whose part another then relays. So it does of the parts
+# that GNU parallel cuts at newlines, with each of them the end of a line. Slurm and sshd are started here, and end here, and nothing may be left running.
 #
 #   checks/engines.sh RELAY
 #
