@@ -4,7 +4,7 @@
 #
 #   checks/apart.sh [RELAY]
 #
-# RELAY: a built lp_relay, which then relays files in parts too, also by random options. SEED: the number that the last line tells, to try
+# RELAY: a built lp_relay, which then relays files in parts too, also by random options, and with `split`. SEED: the number that the last line tells, to try
 # the same options again.
 # shellcheck disable=SC2016
 set -eu

@@ -1,7 +1,8 @@
 #!/usr/bin/env bash
 # Runs examples/slurm and examples/ssh.sh for real, over 56 MB with a line at fault in some parts, and compares the lines and the fault
-# lines that they write with those of one relay; also if a worker fails midway, whose part another then relays. Slurm and sshd are
-# started here, and end here, and nothing may be left running.
+# lines that they write with those of one relay; also if a worker fails midway, whose part another then relays. So it does of the parts
+# that GNU parallel cuts by itself, if each newline ends a line. Slurm and sshd are started here, and end here, and nothing may be left
+# running.
 #
 #   checks/engines.sh RELAY
 #
@@ -271,12 +272,13 @@ check_ssh() {
 }
 
 # Where each newline ends a line, what parallel cuts by itself gives the lines of one relay, and its faults but for their numbers.
+# They are told raw, since how much is told of a long one on one line depends on its number.
 check_lines() {
-    "$relay" --newline-delimited <input >lines.lp 2>lines.faults || [ $? = 1 ]
+    "$relay" --newline-delimited --faults raw <input >each.lp 2>each.faults || [ $? = 1 ]
     began=$SECONDS
-    parallel -k --pipepart -a input --block 3M "$relay --newline-delimited || [ \$? = 1 ]" >out 2>err
-    cmp lines.lp out || fail "the parts of parallel are not relayed as the whole"
-    cmp <(sed 's/^item [0-9]*//' lines.faults) <(sed 's/^item [0-9]*//' err) || fail "the parts of parallel have other faults"
+    parallel -k --pipepart -a input --block 3M "$relay --newline-delimited --faults raw || [ \$? = 1 ]" >out 2>err
+    cmp each.lp out || fail "the parts of parallel are not relayed as the whole"
+    cmp <(sed 's/^item [0-9]*//' each.faults) <(sed 's/^item [0-9]*//' err) || fail "the parts of parallel have other faults"
     echo "engines: what GNU parallel cuts at newlines gives what one relay gives, in $((SECONDS - began)) s"
 }
 

@@ -1,6 +1,6 @@
 #!/usr/bin/env bash
 # Compares the items that events tell, to a sink and one after another, and those of the blocks of crates/lp_c, with the items of
-# `parse_lines_in`, over every short text of bytes that mean something, in both dialects: `events.c` says over which bytes. And lets
+# `parse_lines_in`, over every short text of bytes that mean something, in each dialect: `events.c` says over which bytes. And lets
 # newline_delimited.py compare what is given in the third dialect with what each line gives alone.
 set -eu
 here=$(cd "$(dirname "$0")" && pwd)
