@@ -52,8 +52,8 @@ pub fn admitted_lines_read_back()
 /// No name of a line that was read is empty or ends in a backslash, no measurement begins with `#`,
 /// and a tab or a newline in a name comes directly after a backslash, as does a NUL in a
 /// measurement. Each text that these rules allow for a kind of name is a name of that kind in some
-/// line, whose text is UTF-8 if the name is. In the strict dialect, nothing follows the last field
-/// of a line, or a space does.
+/// line, whose text is UTF-8 if the name is; if each newline ends a line, each such text without a newline. In the strict dialect,
+/// nothing follows the last field of a line, or a space does.
 pub fn parsed_names()
     ensures all { NamesAreParsed }
     ensures each { ParsedNamesAreInLines }

@@ -2,7 +2,8 @@
 //!
 //! [`parse_lines`] reads a text piece by piece: a piece that cannot be read is one fault, and the next pieces are answered as
 //! if it had not been there. A piece is a line, together with the lines after it that it takes in: those inside its quotes,
-//! and the line after a backslash at its end. [`builder`] writes lines that read back.
+//! and the line after a backslash at its end. In [`Dialect::NewlineDelimited`] it is just a line. [`builder`] writes lines that read
+//! back.
 //!
 //! What a user names is here, and the laws that tie reading and writing. The code is in the crates below, a layer each.
 #![tactic(auto)]

@@ -98,8 +98,8 @@ pub fn write_admitted_line<B: BufMut>(
 /// Appends a parsed line, with its newline, if it reads back: if it has a field and is admitted in the dialect, as
 /// [`is_admitted_in`] says. It is written as [`write_line`] writes it.
 ///
-/// If the buffer held closed lines, as an empty one does, it does so again, and in each dialect in which the line is admitted it then
-/// says what it said and the point of this line, and nothing else, whatever text comes after it. So no text in a name begins a line of its own, or
+/// If the buffer held closed lines, as an empty one does, it does so again. In each dialect in which the line is admitted it then says
+/// what it said and the point of this line, and nothing else, whatever text comes after it. So no text in a name begins a line of its own, or
 /// changes another line.
 ///
 /// It asks for memory only if the buffer has to grow. It goes over the line for its names, its length and its text.
