@@ -2,6 +2,9 @@ pub mod CutLemmas
 pub mod PartLemmas
 pub mod PartEndLemmas
 pub mod WalkLemmas
+pub mod JumpLemmas
+pub mod WindowLemmas
+pub mod ApartLemmas
 pub mod PassLemmas
 pub mod ItemLemmas
 pub mod FaultLines

@@ -97,10 +97,15 @@ ends_all dialect text count ends all at so_far within is are =
           (λ d some. omega (arith, so_far.below (length ends - 1) d (omega arith)));
     })
 
--- then the parts have the pieces of the text
-pub ends_join : PiecesExist → PiecesAreUnique → (dialect : Dialect) (text : List ℕ) (count : ℕ) (ends all : List ℕ) (at : ℕ)
-    → EndsSoFar dialect text count ends at → all ≡ ends ++ length text ∷ [] → JoinsPieces dialect text (parts_from 0 text all)
-ends_join exist unique dialect text count ends all at so_far are =
-    subst (λ (l : List ℕ). JoinsPieces dialect text (parts_from 0 text l)) (sym are)
-    (parts_after exist unique dialect text 0 ends (start_is_cut exist dialect text)
-    (cuts_from dialect text 0 ends (omega arith) (λ k h. (so_far.each k h).is_cut) (λ k h. omega arith) so_far.rise))
+-- a front of a list that rises
+front_rises : (xs : List ℕ) (y : ℕ) → IsNonDecreasing (xs ++ y ∷ []) → IsNonDecreasing xs
+front_rises xs y rise i j d up h = grind (arith, rise i j d, length-append, get_or_append_left)
+
+-- the parts have the pieces of the text
+pub ends_join : PiecesExist → PiecesAreUnique → (dialect : Dialect) (text : List ℕ) (count : ℕ) (ends : List ℕ)
+    → ArePartEnds dialect text count ends → JoinsPieces dialect text (parts_from 0 text ends)
+ends_join exist unique dialect text count ends h =
+    subst (λ (l : List ℕ). JoinsPieces dialect text (parts_from 0 text l)) (sym h.are)
+    (parts_after exist unique dialect text 0 h.cuts (start_is_cut exist dialect text)
+    (cuts_from dialect text 0 h.cuts (omega arith) (λ k few. (h.each k few).is_cut) (λ k few. omega arith)
+    (front_rises h.cuts (length text) (subst IsNonDecreasing h.are h.rise))))

@@ -91,7 +91,7 @@ first_place s = record {
   file = s.file;
   number = first_item s.numbering s.first;
   line = first_line s.faults s.numbering s.first;
-  offset = 0;
+  offset = s.first_offset;
 }
 
 -- what is told of pieces by the settings, from the first place on

@@ -45,9 +45,10 @@ faults_after Raw = Raw
 faults_after OneLine = OneLine
 faults_after (Json first_line) = Json 1
 
--- the settings for it: all others stay
+-- the settings for it, which begins its file: all others stay
 abbrev pub settings_after : Settings → Relayed → Settings
-settings_after s so_far = record s { first = first_after s.numbering s.first so_far; faults = faults_after s.faults }
+settings_after s so_far =
+    record s { first = first_after s.numbering s.first so_far; faults = faults_after s.faults; first_offset = 0 }
 
 -- the settings for an input that comes after these, whose items were counted so
 abbrev pub settings_past : Settings → List Input → Relayed → Settings

@@ -5,10 +5,12 @@ pub mod FaultsTold
 pub mod Inputs
 pub mod Kinds
 pub mod Objects
+pub mod Parts
 pub mod Relaying
 pub mod RelaySteps
 pub mod Relays
 pub mod Told
 pub mod Verdicts
+pub mod Windows
 pub mod Writers
 pub mod Refusals

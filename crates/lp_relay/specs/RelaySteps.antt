@@ -93,7 +93,7 @@ pub record Unwritten : Type 0 where
 
 -- before the first item
 abbrev pub unwritten_of_none : Settings → Unwritten
-unwritten_of_none s = record { made = made_of_none s; pieces = []; offset = 0; kinds = kinds_of_none s }
+unwritten_of_none s = record { made = made_of_none s; pieces = []; offset = s.first_offset; kinds = kinds_of_none s }
 
 -- what a relay has not written yet
 abbrev pub unwritten_of : Pending → Unwritten

@@ -74,6 +74,7 @@ fn settings_after<'n>(settings: Settings<'n>, so_far: Relayed) -> Settings<'n>
     Settings {
         first,
         faults,
+        first_offset: 0,
         ..settings
     }
 }

@@ -1,8 +1,20 @@
 //! Laws of the definitions, each the contract of a function that does nothing.
 ghost use Rattle.lp_relay.specs.Differing.{FrontsStopInThePart};
+ghost use Rattle.lp_relay.specs.Parts.{FaultsChangeNoLine, PartsGiveLines, PartsGiveRefused};
 
 /// The part of a line that is told as not as written is the one in which reading stops of the front before the first byte in which the
 /// line differs from what the builder writes, if a character begins at that byte.
 pub fn fronts_stop_in_the_part()
     ensures { FrontsStopInThePart }
 {}
+
+/// The parts of a text, as [`part_ends`](crate::part_ends) gives their ends, are relayed apart: their lines, one after another, are those of
+/// the text, and so are their refused pieces. What faults name, and how they are told, changes neither, so each part can be relayed with
+/// numbers of its own.
+pub fn parts_are_relayed_apart()
+    ensures lines { PartsGiveLines }
+    ensures refused { PartsGiveRefused }
+    ensures faults { FaultsChangeNoLine }
+{
+    influxdb_line_protocol::laws::pieces_join();
+}

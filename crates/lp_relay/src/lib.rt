@@ -3,7 +3,8 @@
 //!
 //! [`relay`] holds a line and a few blocks. By its [`Settings`] it passes over lines that are too long, lets lines out as
 //! they came, or only lines that are as they would be written, and its faults name lines of the input, or are told on one line
-//! each. [`part_ends`] gives the ends of the parts of a text.
+//! each. [`part_ends`] gives the ends of the parts of a text, and [`part_ends_at`] those of
+//! a file.
 //!
 //! It takes each item as `lp_rebuild` does. It is a crate of its own, since the program `lp_rebuild` needs none of it.
 #![tactic(auto)]
@@ -23,8 +24,9 @@ mod taking;
 mod telling;
 mod texts;
 mod verdict;
+mod windows;
 
-pub use cuts::part_ends;
+pub use cuts::{part_ends, part_ends_at};
 pub use inputs::{Inputs, NextInput, relay_inputs};
 pub use kinds::{KINDS, Kind, KindCounts};
 pub use lp_scan::newlines::newlines_in;
@@ -34,3 +36,4 @@ pub use outputs::{Outputs, ThreeWriters};
 pub use relaying::{Relayed, relay};
 pub use taking::{LineForm, Numbering, Settings};
 pub use telling::{Faults, tell_bytes};
+pub use windows::ReadAt;

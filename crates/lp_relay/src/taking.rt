@@ -75,6 +75,8 @@ pub struct Settings<'n> {
     /// The name of the input, if its faults are to name it: by `Faults::OneLine` before a fault line, as in `a.lp: item 7: ..`, and by
     /// `Faults::Json` as the first member of an object, as in `{"file":"a.lp","item":7,..`. Raw fault lines name none.
     pub file: Option<&'n str>,
+    /// Where the input begins in its file, from whose start objects count `offset`: 0 unless it is a part of the file.
+    pub first_offset: usize,
 }
 
 impl<'n> Default for Settings<'n> {
@@ -89,6 +91,7 @@ impl<'n> Default for Settings<'n> {
           puts_refused = false;
           counts_kinds = false;
           file = None;
+          first_offset = 0;
         } }
     {
         Settings {
@@ -101,6 +104,7 @@ impl<'n> Default for Settings<'n> {
             puts_refused: false,
             counts_kinds: false,
             file: None,
+            first_offset: 0,
         }
     }
 }
@@ -179,7 +183,7 @@ pub(crate) fn nothing_made(alloc: Global, settings: Settings<'_>) -> Pending
         alloc,
         so_far,
         pieces,
-        offset: 0,
+        offset: settings.first_offset,
         kinds: if settings.counts_kinds {
             Some(KindCounts::none())
         } else {

@@ -1,26 +1,63 @@
 use Rattle.influxdb_line_protocol.specs.code.Rules.{rules_of}
-use Rattle.std.proofs.Common.{ℕ, ◌+◌, true, false, subst, sym}
-use Rattle.influxdb_line_protocol.specs.format.Dialects.{Dialect}
-use Rattle.influxdb_line_protocol.specs.format.Pieces.{IsLastPiece}
-use Rattle.influxdb_line_protocol.specs.code.Streams.{Held}
-use Rattle.lp_relay.specs.CutSteps.{GoesOn}
-use Rattle.lp_relay.proofs.WalkLemmas.{walk_on, walk_stays}
+use Rattle.std.proofs.Common.{ℕ, ◌∙◌, arith}
+use Rattle.lp_relay.proofs.WalkLemmas.{walk_ends, walk_longer, walk_on}
+use Rattle.lp_relay.proofs.WindowLemmas.{same_text}
 use Rattle.lp_relay.proofs.cuts.next_cut.Goals as goal
 
-pub returns-in-Some : goal.returns-in-Some
-returns-in-Some c =
-    let on = walk_on c.pieces_join.ensures.some c.pieces_join.ensures.one (rules_of c.args.dialect) c.args.input.now c.loop-len.walk
-    c.take_piece_len.new.stream c.in-Some.len c.loop-len.invariant.walk c.in-Some.ensures in
-    (on.0, subst (λ (n : ℕ). GoesOn (rules_of c.args.dialect) c.args.input.now n true (c.loop-len.walk.at + (c.in-Some.len + 1))) c.loop-len.invariant.at on.1)
+pub search-requires : goal.search-requires
+search-requires g c = record {
+  room = omega (arith, c.loop-walk.invariant.within.counted, c.rest-rest.ensures.within, c.fill.ensures.window.fits);
+}
 
-pub returns-then-walk-input : goal.returns-then-walk-input
-returns-then-walk-input c =
-    let stays = walk_stays c.pieces_join.ensures.some c.pieces_join.ensures.one (rules_of c.args.dialect) c.args.input.now c.loop-len.walk
-    c.take_piece_len.new.stream c.loop-len.invariant.walk c.in_default.ensures c.if-walk-input.true in
-    (stays.0, subst (λ (n : ℕ). GoesOn (rules_of c.args.dialect) c.args.input.now n false c.loop-len.walk.at) c.loop-len.invariant.at stays.1)
+pub overflow_add-walk : goal.overflow_add-walk
+overflow_add-walk g c = omega (arith, c.rest-rest.ensures.within, c.in-Ok.ensures.within, c.fill.ensures.window.fits)
 
-pub give_block-requires-clause-piece : goal.give_block-requires-clause-piece
-give_block-requires-clause-piece c =
-    let takes = c.in_default.ensures in
-    subst (λ (h : Held). IsLastPiece (rules_of c.args.dialect) h.bytes) (sym takes.0)
-    (subst (λ (d : Dialect). IsLastPiece d c.loop-len.walk.stream.bytes) c.loop-len.invariant.walk.dialect_is takes.1)
+pub overflow_add-walk-in-Ok : goal.overflow_add-walk-in-Ok
+overflow_add-walk-in-Ok g c = omega (arith, c.rest-rest.ensures.within, c.in-Ok.ensures.within, c.fill.ensures.window.fits)
+
+pub overflow_add-walk-in-Err : goal.overflow_add-walk-in-Err
+overflow_add-walk-in-Err g c = omega (arith, c.rest-rest.ensures.within, c.fill.ensures.window.fits)
+
+pub returns-in-Ok-clause-goes : goal.returns-in-Ok-clause-goes
+returns-in-Ok-clause-goes g c = λ text has w.
+    let inv = c.loop-walk.invariant in
+    let here = same_text g.R.ReadAt.text c.args.window.now c.fill.new.self text has (c.fill.ensures.over.0 ∙ inv.over.0)
+    (c.fill.ensures.over.1 ∙ inv.over.1) in
+    walk_on c.pieces_join.ensures.some c.pieces_join.ensures.one (rules_of c.args.dialect) text c.rest-rest.result.now c.loop-walk.walk
+    c.walk_at.result c.args.walk.now.at c.in-Ok.i (inv.walk text has w) (c.rest-rest.ensures.bytes text here)
+    (omega (arith, c.rest-rest.ensures.within, here.len_is)) c.in-Ok.ensures.finds c.walk_at.ensures inv.at
+
+pub loop-walk-preserved : goal.loop-walk-preserved
+loop-walk-preserved g c =
+    let inv = c.loop-walk.invariant in
+    record {
+      within = record {
+        order = omega (arith, inv.within.order);
+        counted = omega (arith, inv.within.counted, c.in-Err.ensures.few);
+        given = omega (arith, c.rest-rest.ensures.within);
+      };
+      window = c.fill.ensures.window;
+      over = (c.fill.ensures.over.0 ∙ inv.over.0, c.fill.ensures.over.1 ∙ inv.over.1);
+      walk = λ text has w.
+          let here = same_text g.R.ReadAt.text c.args.window.now c.fill.new.self text has (c.fill.ensures.over.0 ∙ inv.over.0)
+          (c.fill.ensures.over.1 ∙ inv.over.1) in
+          walk_longer (rules_of c.args.dialect) text c.rest-rest.result.now c.loop-walk.walk c.in-Err.track (inv.walk text has w)
+          (c.rest-rest.ensures.bytes text here) (omega (arith, c.rest-rest.ensures.within, here.len_is)) c.in-Err.ensures.finds;
+      at = inv.at;
+    }
+
+pub returns-clause-goes : goal.returns-clause-goes
+returns-clause-goes g c = λ text has w.
+    let inv = c.loop-walk.invariant in
+    let here = inv.walk text has w in (
+      here,
+      (
+        inv.at,
+        λ other there. omega (
+          arith,
+          walk_ends c.pieces_join.ensures.some c.pieces_join.ensures.one (rules_of c.args.dialect) text c.loop-walk.walk here
+          (omega (arith, c.loop-walk-test.false, inv.within.given, inv.over.1, has.len_is)) other there,
+          inv.at,
+        ),
+      ),
+    )
