@@ -15,21 +15,26 @@ work=$(mktemp -d)
 trap 'rm -rf "$work"' EXIT
 cd "$work"
 
-# For --cut the stub does what CUTS says. It knows one wrong option. Of /dev/null it counts nothing, and of else it writes what RELAYS says,
-# and then what COUNTS says. `first` is the number that its items begin with, and `again` is set if it relays a part once more.
+# For --cut the stub does what CUTS says. It knows one wrong option. Without a file it counts nothing. Of a range of a file, which it reads
+# as its input, it writes what RELAYS says of its other words, and then what COUNTS says. `first` is the number that its items begin with,
+# and `again` is set if it relays a part once more.
 cat >stub <<'STUB'
-#!/bin/sh
+#!/bin/bash
 first=1
 again=
 case " $* " in
 *" --cut "*) eval "$CUTS"; exit ;;
 *" --wrong "* | *" --summary --summary "*) echo 'usage: stub' >&2; exit 2 ;;
 *" --help "*) echo 'usage: stub'; exit ;;
-*" --check --first-"*) again=yes; for first; do :; done ;;
 esac
-[ /dev/stdin -ef /dev/null ] && { echo "0 bytes, 0 lines, 0 items: 0 carried, 0 refused" >&2; exit; }
-(eval "$RELAYS")
-status=$?
+[ "${*: -3:1}" = --range ] || { echo "0 bytes, 0 lines, 0 items: 0 carried, 0 refused" >&2; exit; }
+file=${*: -1}
+range=${*: -2:1}
+set -- "${@:1:$#-3}"
+case " $* " in *" --check --first-"*) again=yes first=${*: -1} ;; esac
+start=${range%..*} end=${range#*..}
+dd if="$file" iflag=fullblock,skip_bytes,count_bytes skip="$start" count=$((end - start)) bs=64K status=none | (eval "$RELAYS")
+status=${PIPESTATUS[1]}
 [ $status -gt 1 ] || eval "$COUNTS" >&2
 exit $status
 STUB
@@ -89,13 +94,14 @@ wanted 0 "$text" "" "$apart" "$file" 4
 cp "$file" ./--in
 wanted 0 "$text" "" "$apart" --in 4
 from_a_file() { "$apart" /dev/stdin 4 <"$file"; }
+whole=$(readlink -f "$file")
 wanted 0 "$text" "" from_a_file
 CUTS="echo \"\$*\" >&2; $cuts"
 RELAYS='cat >&2; echo >&2; echo "$*"'
 for dialect in --strict --newline-delimited; do
     words="--summary --lines $dialect"
     wanted 0 "$words"$'\n'"$words"$'\n'"$words"$'\n'"$words" "e,the rest" "$apart" "$file" 4 --lines "$dialect"
-    grep -qx -- "$dialect --cut 4" err
+    grep -qx -- "$dialect --cut 4 $whole" err
 done
 CUTS=$cuts
 # Parts that refuse something: none, all, and the third one, of which the first relay writes two lines. All but the first one are
@@ -158,6 +164,7 @@ for words in "--strict --first-item 7" "--first-line 7"; do
     # shellcheck disable=SC2086
     wanted 2 "" "apart: the options ($words) say where the numbers begin*" "$apart" "$file" 4 $words
 done
+wanted 2 "" "apart: the options (--range 7..) name a part" "$apart" "$file" 4 --range 7..
 wanted 2 "" "apart: with the options (--summary --summary) the status of * is 2" "$apart" "$file" 4 --summary --summary
 wanted 2 "" "apart: * is not a regular file*" "$apart" "$work" 4
 wanted 2 "" "apart: none is not a regular file*" "$apart" none 4
@@ -211,24 +218,6 @@ part 3, lp_relay: why
 apart: part 3: the status of the relay is 2"
 RELAYS="cat"
 
-# A dd that fails at the third part, gives less and says so, says nothing, or finds that the file has become shorter.
-mkdir broken
-printf '#!/bin/sh\ncase " $* " in *" skip=10 count=10 "*) eval "$READS" ;; esac\nexec %s "$@"\n' "$(command -v dd)" >broken/dd
-chmod +x broken/dd
-dd_wanted() {
-    wanted 2 "first line" "apart: part 3: $2" env "READS=$1" "PATH=$work/broken:$PATH" "$apart" "$file" 4
-}
-dd_wanted 'echo "dd: why" >&2; exit 1' "the status of dd is 1"
-grep -qx 'part 3, dd: why' err
-dd_wanted 'set -- "$@" count=7' "dd gave 7 bytes of 10"
-dd_wanted 'exit 0' "dd gave no bytes of 10"
-dd_wanted 'truncate -s 13 "a small file"' "dd gave 3 bytes of 10"
-printf '%s' "$text" >"$file"
-# A dd that fails when the part is relayed once more.
-RELAYS='cat; echo "item $first: no line" >&2; exit 1'
-dd_wanted 'mkdir once 2>/dev/null || { echo "dd: why" >&2; exit 1; }' "the status of dd is 1"
-grep -qx 'part 3, dd: why' err
-rmdir once
 # The lines of the parts before tell the number of the first line.
 RELAYS='text=$(cat); printf %s "$text"; case $text in ,*) echo "line $first: no line" >&2; exit 1 ;; esac'
 COUNTS='echo "7 bytes, 5 lines, 1 items: $((1 - status)) carried, $status refused"'

@@ -23,7 +23,7 @@ COLUMN, HELP_WIDTH, USAGE_WIDTH, PAGE_WIDTH, CODE_WIDTH = 21, 81, 96, 78, 100
 # The files with code and definitions of each program's words.
 CODE = {"lp_relay": ("crates/lp_relay_program/src/words.rt", "crates/lp_relay_program/specs/Words.antt"),
         "lp_rebuild": ("crates/lp_rebuild/src/program.rt", "crates/lp_rebuild/specs/Running.antt")}
-OPTION = re.compile(r"(--[a-z][a-z-]*)(?: ([A-Z]+))?")
+OPTION = re.compile(r"(--[a-z][a-z-]*)(?: ([A-Z.]+))?")
 WORD = re.compile(r'"(-[a-zA-Z]|--[a-z][a-z-]*)"')
 
 

@@ -2,10 +2,8 @@
 # For the examples: takes the file and its parts from the arguments, relays a part, and puts out what the parts gave, in order, with
 # the fault numbers of the whole file.
 #
-# Each part is cut out by GNU's dd, which seeks to its start, ends at its end and says how many bytes it gave, so a read that fails
-# or a file that became shorter is seen. With `tail -c +N | head -c N` it is not: no command counts, and a signal ends tail also
-# where all is well. `fullblock` lets dd read on after a short read, which would else count as a whole block. Numbers are text
-# and integers of the shell, of 64 bits: an awk may print 2325000000 as `2.325e+09`.
+# Each relay reads its own part, with --range, so a read that fails or a file that became shorter is seen. Numbers are text and integers
+# of the shell, of 64 bits: an awk may print 2325000000 as `2.325e+09`.
 
 fail() {
     echo "$(basename "$0" .sh): $1" >&2 || true
@@ -31,6 +29,7 @@ take_parts() {
             fail "the options ($*) name a file"
         fi
         [[ $word != --first-* ]] || fail "the options ($*) say where the numbers begin, and each part has its own"
+        [ "$word" != --range ] || fail "the options ($*) name a part"
         if [ "$word$counts_asked" = --summary ]; then counts_asked=yes; else options+=("$word"); fi
         before=$word
     done
@@ -45,7 +44,7 @@ take_parts() {
     done
 
     # Where the parts end, in bytes: no item is in two of them.
-    cut=$("$program" "${dialect[@]}" --cut "$parts" <"$file") || fail "the status of --cut is $?"
+    cut=$("$program" "${dialect[@]}" --cut "$parts" "$file") || fail "the status of --cut is $?"
     mapfile -t ends <<<"$cut"
     [ ${#ends[@]} = "$parts" ] || fail "--cut gives ${#ends[@]} ends for $parts parts"
     for end in "${ends[@]}"; do
@@ -70,37 +69,28 @@ list_parts() {
     done
 }
 
-# Relays the part that is given as `NUMBER START COUNT`, by the command that follows. It leaves what dd and the command wrote, and
-# the statuses of both.
+# Relays the part that is given as `NUMBER START COUNT`, by the command that follows. It leaves what that wrote, and its status.
 relay_part() {
-    local number start count
+    local number start count status=0
     read -r number start count <<<"$1"
     shift
-    LC_ALL=C dd if="$file" iflag=fullblock,skip_bytes,count_bytes skip="$start" count="$count" bs=64K 2>"$waiting/$number.dd" |
-        "$@" >"$waiting/$number.out" 2>"$waiting/$number.err"
-    echo "${PIPESTATUS[*]}" >"$waiting/$number.status" || true
+    "$@" --range "$start..$((start + count))" "$file" >"$waiting/$number.out" 2>"$waiting/$number.err" || status=$?
+    echo "$status" >"$waiting/$number.status" || true
 }
 export -f relay_part
 
 # The line of the counts of a relay.
 counts_line='^[0-9]+ bytes, [0-9]+ lines, [0-9]+ items: [0-9]+ carried, [0-9]+ refused(: [0-9]+ [a-z0-9_]+(, [0-9]+ [a-z0-9_]+)*)?$'
 
-# Prints why a part was not relayed, after what shows more of it, dd or err; and nothing if it was. Its status, its counts, or what
-# dd says, are missing if TMPDIR is full.
+# Prints why a part was not relayed, and nothing if it was. Its status, or its counts, are missing if TMPDIR is full.
 why_not() {
-    local number=$1 count=$2 of_dd of_relay said
-    if ! read -r of_dd of_relay <"$waiting/$number.status"; then
-        echo "err its status is not known"
-    elif [ "$of_relay" -gt 1 ]; then
-        echo "err the status of the relay is $of_relay"
-    elif [ "$of_dd" != 0 ]; then
-        echo "dd the status of dd is $of_dd"
+    local number=$1 status
+    if ! read -r status <"$waiting/$number.status"; then
+        echo "its status is not known"
+    elif [ "$status" -gt 1 ]; then
+        echo "the status of the relay is $status"
     elif ! [[ $(tail -n 1 "$waiting/$number.err") =~ $counts_line ]]; then
-        echo "err its counts are not known"
-    else
-        said=$(tail -n 1 "$waiting/$number.dd") || said=""
-        said=${said%% *}
-        [ "$said" = "$count" ] || echo "dd dd gave ${said:-no} bytes of $count"
+        echo "its counts are not known"
     fi
 }
 
@@ -118,7 +108,7 @@ number_faults() {
     done
     while read -r number start count; do
         # A part that was not relayed ends the run.
-        [ -z "$(why_not "$number" "$count")" ] || break
+        [ -z "$(why_not "$number")" ] || break
         read -r _ _ lines _ items _ _ _ refused _ <<<"$(tail -n 1 "$waiting/$number.err")"
         case $by in
         item) first="--first-item $item" ;;
@@ -136,44 +126,28 @@ number_faults() {
         "${checks[@]}" --check || fail "the status of xargs is $?"
 }
 
-# Ends the run if a part was not relayed, or not the second time: NUMBER or NUMBER.again, and COUNT.
+# Ends the run if a part was not relayed, or not the second time: NUMBER or NUMBER.again.
 want_relayed() {
-    local number=${1%.again} shows why
-    read -r shows why <<<"$(why_not "$1" "$2")"
+    local number=${1%.again} why
+    why=$(why_not "$1")
     [ -n "$why" ] || return 0
-    sed "s/^/part $number, /" "$waiting/$1.$shows" >&2 || true
+    sed "s/^/part $number, /" "$waiting/$1.err" >&2 || true
     { echo >"$waiting/more"; } 2>/dev/null || echo "$(basename "$0" .sh): nothing more can be written to TMPDIR" >&2 || true
     fail "part $number: $why"
 }
 
-# Prints what a part that starts there told, with the offsets of the whole file in its objects: of the text and of its piece.
-with_offsets() {
-    local start=$1 told LC_ALL=C
-    local object='^(\{"item":[0-9]+,"line":[0-9]+,"offset":)([0-9]+)(,"piece_line":[0-9]+,"piece_offset":)([0-9]+)(,.*)$'
-    while IFS= read -r told; do
-        if [[ $told =~ $object ]]; then
-            told=${BASH_REMATCH[1]}$((BASH_REMATCH[2] + start))${BASH_REMATCH[3]}$((BASH_REMATCH[4] + start))${BASH_REMATCH[5]}
-        fi
-        printf '%s\n' "$told" || return
-    done
-}
-
-# Puts out what a part gave, and adds its counts to those of the whole: NUMBER, START and COUNT.
+# Puts out what the part of a number gave, and adds its counts to those of the whole.
 put_part() {
-    local number=$1 start=$2 count=$3 told=$1 counts word bytes_here lines_here carried_here refused_here
-    want_relayed "$number" "$count"
+    local number=$1 told=$1 counts count word bytes_here lines_here carried_here refused_here
+    want_relayed "$number"
     counts=$(tail -n 1 "$waiting/$number.err")
     if [ -n "${again[number]-}" ]; then
         told=$number.again
-        want_relayed "$told" "$count"
+        want_relayed "$told"
         [ "$(tail -n 1 "$waiting/$told.err")" = "$counts" ] || fail "part $number: a second relay counts otherwise"
     fi
     cat "$waiting/$number.out" || fail "the output cannot be written"
-    if [[ $start != 0 && " ${options[*]} " = *" --faults json "* ]]; then
-        head -n -1 "$waiting/$told.err" | with_offsets "$start" >&2 || fail "the faults cannot be written"
-    else
-        head -n -1 "$waiting/$told.err" >&2 || fail "the faults cannot be written"
-    fi
+    head -n -1 "$waiting/$told.err" >&2 || fail "the faults cannot be written"
     read -r bytes_here _ lines_here _ _ _ carried_here _ refused_here _ <<<"$counts"
     bytes=$((bytes + bytes_here))
     lines=$((lines + lines_here))
@@ -197,12 +171,10 @@ list_kinds() {
 
 # Puts out what all parts gave, with the fault numbers of the whole, and ends with the status of the whole.
 put_parts() {
-    local number start count bytes=0 lines=0 carried=0 refused=0 again=()
+    local number bytes=0 lines=0 carried=0 refused=0 again=()
     local -A kinds=()
     number_faults
-    while read -r number start count; do
-        put_part "$number" "$start" "$count"
-    done < <(list_parts)
+    for ((number = 1; number <= parts; number++)); do put_part "$number"; done
     [ -z "$counts_asked" ] ||
         echo "$bytes bytes, $lines lines, $((carried + refused)) items: $carried carried, $refused refused$(list_kinds)" >&2 || true
     exit "$((refused > 0))"

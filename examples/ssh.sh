@@ -21,18 +21,27 @@ take_parts "$1" "$2" "${@:4}"
 there=$(printf '%q ' "${LP_RELAY_THERE:-lp_relay}" "${options[@]}")
 IFS=, read -ra names <<<"$hosts"
 
-# Sends a part, from a slot of parallel, to the host of the slot that had it first, and at each further try to the next host.
+# Sends a part, from a slot of parallel, to the host of the slot that had it first, and at each further try to the next host. GNU's dd
+# cuts it out, and says how many bytes it gave. With `fullblock` it reads on after a short read, which would else count as a block.
 # shellcheck disable=SC2317  # parallel calls it
 send_part() {
-    local names ssh number count tries
+    local names ssh number start count tries statuses said
     IFS=, read -ra names <<<"$hosts"
     read -ra ssh <<<"${LP_SSH:-ssh}"
-    read -r number _ count <<<"$2"
+    read -r number start count <<<"$2"
     echo "$1" >>"$waiting/$number.tries"
     mapfile -t tries <"$waiting/$number.tries"
-    relay_part "$2" "${ssh[@]}" -o BatchMode=yes -o LogLevel=ERROR -o ServerAliveInterval=10 \
-        "${names[(tries[0] + ${#tries[@]} - 2) % ${#names[@]}]}" "$there"
-    [ -z "$(why_not "$number" "$count")" ]
+    LC_ALL=C dd if="$file" iflag=fullblock,skip_bytes,count_bytes skip="$start" count="$count" bs=64K 2>"$waiting/$number.dd" |
+        "${ssh[@]}" -o BatchMode=yes -o LogLevel=ERROR -o ServerAliveInterval=10 \
+            "${names[(tries[0] + ${#tries[@]} - 2) % ${#names[@]}]}" "$there" >"$waiting/$number.out" 2>"$waiting/$number.err"
+    statuses=("${PIPESTATUS[@]}")
+    said=$(tail -n 1 "$waiting/$number.dd") || said=""
+    if [ "${statuses[1]}" -le 1 ] && { [ "${statuses[0]}" != 0 ] || [ "${said%% *}" != "$count" ]; }; then
+        cat "$waiting/$number.dd" >>"$waiting/$number.err"
+        statuses[1]=2
+    fi
+    echo "${statuses[1]}" >"$waiting/$number.status" || true
+    [ -z "$(why_not "$number")" ]
 }
 export -f send_part why_not
 export hosts there

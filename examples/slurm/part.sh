@@ -12,12 +12,12 @@ file=$2
 folder=$3
 shift 3
 part=$(sed -n "${SLURM_ARRAY_TASK_ID}p" "$folder/parts")
-read -r number _ count <<<"$part"
+read -r number _ <<<"$part"
 waiting=$folder/$number.try.${SLURM_RESTART_COUNT:-0}
 mkdir "$waiting"
 # After `||` a status of 1 does not end the shell.
 relay_part "$part" "$@" || true
-why=$(why_not "$number" "$count")
-mv "$waiting/$number".{out,err,dd} "$folder"
+why=$(why_not "$number")
+mv "$waiting/$number".{out,err} "$folder"
 mv "$waiting/$number.status" "$folder"
 [ -z "$why" ] || fail "part $number: $why"

@@ -1,38 +1,38 @@
 -- The parts of a text that are relayed apart.
-use Rattle.std.proofs.Common.{◌≡◌, ℕ, List, [], ◌∷◌, ◌++◌, map, true, refl, sym, ap, ◌∙◌, append-nil}
+use Rattle.std.proofs.Common.{◌≡◌, ℕ, List, [], ◌∷◌, ◌++◌, true, take, if◌then◌else◌, refl, sym, ap, ◌∙◌, append-nil, arith}
 use Rattle.std.specs.List.{flat_map}
+use Rattle.std.specs.Str.{chars, is_utf8}
 use Rattle.std.proofs.lemmas.Grind.{flat_map-append}
 use Rattle.influxdb_line_protocol.specs.format.Dialects.{Dialect}
 use Rattle.influxdb_line_protocol.specs.format.Items.{answers_of_piece}
 use Rattle.influxdb_line_protocol.specs.format.Trimming.{trimmed}
-use Rattle.influxdb_line_protocol.specs.format.Pieces.{Pieces}
 use Rattle.influxdb_line_protocol.specs.code.Rules.{rules_of}
 use Rattle.influxdb_line_protocol.specs.laws.Laws.{PiecesAreUnique}
 use Rattle.lp_relay.specs.declared.taking.Settings.{Settings}
 use Rattle.lp_relay.specs.Cuts.{HavePieces}
 use Rattle.lp_relay.specs.Parts.{FaultsChangeNoLine, HaveEach, PartsGiveLines, PartsGiveRefused}
-use Rattle.lp_relay.specs.Relaying.{Item, is_too_long, item_line, items_batch, items_of, items_of_bytes, items_of_piece, limit_of, refused_piece, refused_pieces}
+use Rattle.lp_relay.specs.Relaying.{is_too_long, item_line, items_batch, items_of, items_of_bytes, items_of_piece, limit_of, refused_lines, refused_piece}
 use Rattle.std.proofs.Common.{Option, Some, None, Bool, false}
 
 -- no bytes are not too long
 short_enough : (limit : Option ℕ) → is_too_long limit [] ≡ false
 short_enough None = refl
-short_enough (Some limit) = refl
+short_enough (Some limit) = grind arith
 
 -- an empty piece has no item
 no_items : (s : Settings) → items_of_piece s [] ≡ []
-unfolding items_of_piece items_of_bytes answers_of_piece trimmed
+unfolding items_of_piece items_of_bytes answers_of_piece trimmed is_utf8 chars
 no_items s = rw (short_enough (limit_of s.limit)) refl
 
--- so nothing of it goes out as refused
+-- of no items nothing goes out as refused
+no_lines : (goes_out : Bool) (piece : List ℕ) → refused_lines goes_out piece [] ≡ []
+no_lines true piece = refl
+no_lines false piece = refl
+
+-- so it is of an empty piece
 none_refused : (s : Settings) → refused_piece s [] ≡ []
 unfolding refused_piece
-none_refused s = rw (no_items s) (no_lines s.puts_refused)
-where
-  -- of no items nothing goes out
-  no_lines : (goes_out : Bool) → _ ≡ []
-  no_lines true = refl
-  no_lines false = refl
+none_refused s = rw (no_items s) (no_lines s.puts_refused (if is_too_long (limit_of s.limit) [] then take s.limit [] else []))
 
 -- what is made of each piece is made of the pieces of each part, if nothing is made of an empty one
 joined : {X : Type 0} (f : List ℕ → List X) → f [] ≡ [] → PiecesAreUnique → (dialect : Dialect) (parts pieces : List (List ℕ))
@@ -50,7 +50,7 @@ joined f none unique dialect (part ∷ (next ∷ parts)) pieces (ps ∷ each) h 
     ∙ flat_map-append f h.0 h.1
     ∙ ap (λ l. flat_map f h.0 ++ l) (joined f none unique dialect (next ∷ parts) h.1 each h.3 k.1)
     ∙ ap (λ l. l ++ flat_map (flat_map f) each)
-      (sym (flat_map-append f h.0 ([] ∷ []) ∙ ap (λ l. flat_map f h.0 ++ (l ++ [])) none ∙ append-nil (flat_map f h.0)) ∙ ap (flat_map f) first)
+    (sym (flat_map-append f h.0 ([] ∷ []) ∙ ap (λ l. flat_map f h.0 ++ (l ++ [])) none ∙ append-nil (flat_map f h.0)) ∙ ap (flat_map f) first)
 
 -- what goes out for the items of pieces, piece by piece
 batch_by_piece : (s : Settings) (pieces : List (List ℕ)) → items_batch (items_of s pieces) ≡ flat_map (λ piece. items_batch (items_of_piece s piece)) pieces

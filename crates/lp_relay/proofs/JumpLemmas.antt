@@ -1,6 +1,6 @@
 -- Cuts of a text in which each newline ends a line.
-use Rattle.std.proofs.Common.{◌≡◌, ◌≢◌, ℕ, zero, suc, ◌+◌, ◌-◌, ◌<◌, ◌≤◌, List, [], ◌∷◌, ◌++◌, ◌⊎◌, inl, inr, length, take, drop, slice_range, slice_index}
-use Rattle.std.proofs.Common.{Option, Some, None, true, refl, sym, ap, subst, ◌∙◌, append_assoc, append-nil, length-append, arith}
+use Rattle.std.proofs.Common.{◌≡◌, ℕ, zero, suc, ◌+◌, ◌-◌, ◌<◌, ◌≤◌, List, [], ◌∷◌, ◌++◌, ◌⊎◌, inl, inr, length, take, slice_range, slice_index}
+use Rattle.std.proofs.Common.{Some, None, refl, sym, ap, subst, ◌∙◌, append_assoc, length-append, arith}
 use Rattle.std.proofs.lemmas.List.{length-take-le, get_or-take, get_or-drop}
 use Rattle.influxdb_line_protocol.specs.format.Dialects.{Dialect, NewlineDelimited}
 use Rattle.influxdb_line_protocol.specs.format.Pieces.{Pieces, Pieces.cut, Pieces.last}
@@ -8,7 +8,7 @@ use Rattle.influxdb_line_protocol.specs.format.Bytes.{newline}
 use Rattle.influxdb_line_protocol.specs.laws.Laws.{PiecesExist, LinesJoin}
 use Rattle.std.proofs.lemmas.Bool.{eqb-true, eq-eqb}
 use Rattle.std.proofs.Math.Seq.{get_or-append_seam}
-use Rattle.memchr.specs.Find.{IsFirstByte, NoneBefore, Nowhere, is_byte}
+use Rattle.memchr.specs.Find.{IsFirstByte, Nowhere, is_byte}
 use Rattle.lp_relay.specs.Cuts.{IsCutAt}
 use Rattle.lp_relay.specs.declared.cuts.Walk.{Walk}
 use Rattle.lp_relay.specs.CutSteps.{IsWalkOf, PassesNone}
@@ -55,7 +55,7 @@ ends_with_newline dialect u all (x ∷ (y ∷ us)) e (last piece h) = absurd (cc
 ends_with_newline dialect u all [] e (cut piece text pieces c h) = absurd (no_pieces dialect text pieces (cc) h)
 ends_with_newline dialect u all (x ∷ us) e (cut piece text pieces c h) =
     elim (ends_with_newline dialect text pieces us (cc) h) [
-      inl none ↦ inr (piece, ap (λ (l : List ℕ). piece ++ newline ∷ l) none)
+      | inl none ↦ inr (piece, ap (λ (l : List ℕ). piece ++ newline ∷ l) none)
       | inr some ↦ inr (
         piece ++ newline ∷ some.0,
         ap (λ (l : List ℕ). piece ++ newline ∷ l) some.1 ∙ sym (append_assoc piece (newline ∷ some.0) (newline ∷ [])),
@@ -79,7 +79,7 @@ newline_before dialect text other there some =
     let u = take other text in
     let len : length u ≡ other = length-take-le other text there.within in
     elim (ends_with_newline dialect u (there.pieces ++ [] ∷ []) there.pieces refl there.are) [
-      inl none ↦ absurd (omega (arith, ap (λ (l : List ℕ). length l) none, len, some))
+      | inl none ↦ absurd (omega (arith, ap (λ (l : List ℕ). length l) none, len, some))
       | inr ends ↦ last_of_front text ends.0 other ends.1 len some
     ]
 
@@ -103,7 +103,7 @@ pub none_on : (text rest : List ℕ) (from at : ℕ) → NoNewline text from at 
     → IsFirstByte (is_byte newline) rest None → NoNewline text from (at + length rest)
 none_on text rest from at none are found k low high is =
     elim (below_or_not k at) [
-      inl less ↦ none k low less is
+      | inl less ↦ none k low less is
       | inr more ↦ found (k - at) (omega arith) (omega (arith, high, more))
           (eq-eqb (slice_index rest (k - at)) newline (seen_in_part text rest at k are more high ∙ is))
     ]
@@ -113,7 +113,7 @@ newline_within : (text rest : List ℕ) (from at i k : ℕ) → NoNewline text f
     → IsFirstByte (is_byte newline) rest (Some i) → from ≤ k → k < at + i → slice_index text k ≡ newline → ⊥
 newline_within text rest from at i k none are found low high is =
     elim (below_or_not k at) [
-      inl less ↦ none k low less is
+      | inl less ↦ none k low less is
       | inr more ↦
           found.0.before (k - at) (omega arith) (omega (arith, high, more))
           (eq-eqb (slice_index rest (k - at)) newline

@@ -97,6 +97,10 @@ ends_all dialect text count ends all at so_far within is are =
           (λ d some. omega (arith, so_far.below (length ends - 1) d (omega arith)));
     })
 
+-- the last end is the text's length
+pub last_end : (ends all : List ℕ) (len n : ℕ) → all ≡ ends ++ n ∷ [] → len ≡ n → all ≡ ends ++ len ∷ []
+last_end ends all len n are is = are ∙ ap (λ (k : ℕ). ends ++ k ∷ []) (sym is)
+
 -- a front of a list that rises
 front_rises : (xs : List ℕ) (y : ℕ) → IsNonDecreasing (xs ++ y ∷ []) → IsNonDecreasing xs
 front_rises xs y rise i j d up h = grind (arith, rise i j d, length-append, get_or_append_left)

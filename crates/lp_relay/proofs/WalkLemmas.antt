@@ -1,12 +1,12 @@
 -- A walk from cut to cut.
 use Rattle.std.proofs.Common.{◌≡◌, ℕ, zero, suc, ◌+◌, ◌<◌, ◌≤◌, List, [], ◌∷◌, ◌++◌, length, take, drop, slice_range, slice_index}
 use Rattle.std.proofs.Common.{Option, Some, None, Bool, false, Result, Ok, Err, true, refl, sym, ap, subst, ◌∙◌, append_assoc, append-nil, length-append, arith}
-use Rattle.std.proofs.lemmas.List.{length-take-le, take-take, take_all, take_at}
+use Rattle.std.proofs.lemmas.List.{length-take-le, take-take, take_at}
 use Rattle.std.proofs.Math.Seq.{take-append_seam, drop-append_seam}
 use Rattle.influxdb_line_protocol.specs.format.Dialects.{Dialect}
 use Rattle.influxdb_line_protocol.specs.format.Pieces.{IsFirstCut, IsLastPiece, Pieces, Pieces.cut, Pieces.last}
 use Rattle.influxdb_line_protocol.specs.format.Bytes.{newline}
-use Rattle.lp_split.specs.code.{IsTrackOf, Track, TracksOn, CutsOrTracks}
+use Rattle.lp_split.specs.code.{IsTrackOf, Track, TracksOn}
 use Rattle.lp_split.proofs.lemmas.split.TrackedPieces.{tracked_is_last, tracks_cut}
 use Rattle.influxdb_line_protocol.specs.laws.Laws.{PiecesExist, PiecesAreUnique}
 use Rattle.lp_relay.specs.declared.cuts.Walk.{Walk}

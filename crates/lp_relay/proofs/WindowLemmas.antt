@@ -1,9 +1,9 @@
 -- The block of a text that a window holds.
 use Rattle.std.proofs.Common.{◌≡◌, ℕ, ◌+◌, ◌-◌, ◌<◌, ◌≤◌, List, length, take, drop, slice_range, sym, ap, ◌∙◌, arith}
-use Rattle.std.proofs.Common.{Option, Some}
+use Rattle.std.proofs.Common.{Option}
 use Rattle.lp_relay.specs.declared.windows.Window.{Window}
 use Rattle.lp_relay.specs.Windows.{HasText}
-use Rattle.std.proofs.lemmas.List.{drop-take, drop-drop, length-take-le, length-drop, take-take}
+use Rattle.std.proofs.lemmas.List.{drop-take, drop-drop, take-take}
 
 -- a front of what was read
 pub front_read : (text block : List ℕ) (place n m : ℕ) → take n block ≡ slice_range text place (place + n) → m ≤ n

@@ -1,9 +1,9 @@
 -- What words ask of the program.
-use Rattle.std.specs.Prelude.{ℕ, ◌^◌, nat_lt, Bool, true, false, not, ◌&&◌, ◌||◌, List, [], ◌∷◌, length, bytes_eq, codes}
+use Rattle.std.specs.Prelude.{ℕ, ◌+◌, ◌-◌, ◌^◌, nat_lt, take, drop, slice_index, Bool, true, false, not, ◌&&◌, ◌||◌, List, [], ◌∷◌, length, bytes_eq, codes}
 use Rattle.std.specs.Prelude.{Option, Some, None, is_none, is_some, option_map, option_and_then, unwrap_or}
 use Rattle.std.specs.Prelude.{◌==◌, if◌then◌else◌}
 use Rattle.std.specs.Borrow.{Bor}
-use Rattle.std.specs.List.{list_all}
+use Rattle.std.specs.List.{list_all, position}
 use Rattle.std.specs.Option.{option_map_or}
 use Rattle.std.specs.Str.{all_ascii_digits}
 use Rattle.std.specs.Str.Parse.{digits_value}
@@ -16,6 +16,7 @@ use Rattle.lp_relay.specs.declared.taking.LineForm.TheVariants.{Rebuilt, Verbati
 use Rattle.lp_relay.specs.declared.taking.Numbering.TheVariants as named
 use Rattle.lp_relay.specs.declared.taking.Settings.{Settings}
 use Rattle.lp_relay_program.specs.declared.words.Given.{Given}
+use Rattle.lp_relay_program.specs.declared.words.Range.{Range}
 use Rattle.lp_relay_program.specs.declared.words.Request.{Request}
 use Rattle.lp_relay_program.specs.declared.words.Task.{Task}
 use Rattle.lp_relay_program.specs.declared.words.Task.TheVariants.{Relay, Cut, Help, Version}
@@ -37,6 +38,7 @@ nothing_given = record {
   faults = None;
   output = None;
   refused = None;
+  range = None;
 }
 
 -- how many bytes a line may have if no option says it: 16 MiB
@@ -70,6 +72,10 @@ asked_dialect given = if given.strict then Strict else (if given.newline_delimit
 abbrev pub lines_form : Given → LineForm
 lines_form given = if given.verbatim then Verbatim else (if given.canonical then Canonical else Rebuilt)
 
+-- where the input begins in its file: at the range, if one is asked for
+abbrev pub first_offset : Given → ℕ
+first_offset given = option_map_or (λ range. range.from) given.range 0
+
 -- the settings of the options that were given: those that were not have their defaults
 abbrev pub given_settings : Given → Settings
 given_settings given = record {
@@ -82,6 +88,7 @@ given_settings given = record {
   puts_refused = is_some given.refused;
   counts_kinds = given.summary;
   file = None;
+  first_offset = first_offset given;
 }
 
 -- the number that a word writes: one digit or more and nothing else, if a usize holds it
@@ -110,16 +117,22 @@ are_at_odds given =
     (given.check && is_some given.output) || (is_some given.first_item && names_lines given) || (given.verbatim && given.canonical)
     || (given.strict && given.newline_delimited)
 
--- the relay of the options that were given and of the inputs that words name, if each names an input and no options exclude each other
+-- whether there is one word, if that is asked for
+abbrev pub is_one_if : Bool → List (Bor (List ℕ)) → Bool
+is_one_if asked words = not asked || length words == 1
+
+-- the relay of the options that were given and of the inputs that words name, if each names an input, just one does if a part of it is
+-- asked for, and no options exclude each other
 abbrev pub request_of : Given → List (Bor (List ℕ)) → Option Request
 request_of given words =
-    if are_inputs words && not (are_at_odds given)
+    if are_inputs words && is_one_if (is_some given.range) words && not (are_at_odds given)
     then Some (record {
       relay = given_settings given;
       progress = given.progress;
       check = given.check;
       output = given.output;
       refused = given.refused;
+      range = given.range;
       inputs = length words;
     })
     else None
@@ -148,6 +161,21 @@ faults_form word =
     if bytes_eq word (codes "line") then Some OneLine
     else (if bytes_eq word (codes "raw") then Some Raw else (if bytes_eq word (codes "json") then Some (Json 1) else None))
 
+-- the place that a range ends before, as a word writes it: none if it has no byte
+abbrev pub range_end : List ℕ → Option (Option ℕ)
+range_end [] = Some None
+range_end (b ∷ word) = option_map (λ to. Some to) (decimal (b ∷ word))
+
+-- the range from the place that a word writes, and before the one that another writes
+abbrev pub range_between : (from to : List ℕ) → Option Range
+range_between from to = option_and_then (λ start. option_map (λ end. record { from = start; to = end }) (range_end to)) (decimal from)
+
+-- the range that a word writes, as `14..28` or `14..`: two places, with two dots between them
+abbrev pub asked_range : List ℕ → Option Range
+asked_range word =
+    option_and_then (λ at. if nat_lt (length word - at) 2 || not (slice_index word (at + 1) == 46)
+    then None else range_between (take at word) (drop (at + 2) word)) (position (λ b. b == 46) word)
+
 -- the same, if the word after it says what it takes
 abbrev pub with_value : Given → List ℕ → Bor (List ℕ) → Option Given
 with_value given word value =
@@ -162,7 +190,9 @@ with_value given word value =
     else (if (bytes_eq word (codes "--output") || bytes_eq word (codes "-o")) && is_none given.output && names_file value.now
     then Some (record given { output = Some value })
     else (if bytes_eq word (codes "--refused") && is_none given.refused && names_file value.now
-    then Some (record given { refused = Some value }) else None)))))
+    then Some (record given { refused = Some value })
+    else (if bytes_eq word (codes "--range") && is_none given.range
+    then option_map (λ range. record given { range = Some range }) (asked_range value.now) else None))))))
 
 -- the relay that words ask for after the options given: each option is one that was not given before it, and inputs come last
 abbrev mutual
@@ -185,21 +215,13 @@ asked_alone (word ∷ []) =
     else (if bytes_eq word.now (codes "--version") then Some Version else None)
 asked_alone (word ∷ next ∷ words) = None
 
--- the greatest number of parts that an input is cut into
-abbrev pub most_parts : ℕ
-most_parts = 1000000
-
--- so many parts of so many inputs, or none if the parts are too many
-abbrev pub few_parts : Dialect → ℕ → ℕ → Option Task
-few_parts dialect inputs parts = if nat_lt most_parts parts then None else Some (Cut dialect parts inputs)
-
 -- `--cut` and a number ask for the ends of so many parts of the inputs that the other words name
 abbrev pub cut_task : Dialect → List (Bor (List ℕ)) → Option Task
 cut_task dialect [] = None
 cut_task dialect (word ∷ []) = None
 cut_task dialect (word ∷ count ∷ inputs) =
     if bytes_eq word.now (codes "--cut") && are_inputs inputs
-    then option_and_then (few_parts dialect (length inputs)) (decimal count.now) else None
+    then option_map (λ parts. Cut dialect parts (length inputs)) (decimal count.now) else None
 
 -- the cut that words ask for, first or after the option of a dialect
 abbrev pub asked_cut : List (Bor (List ℕ)) → Option Task

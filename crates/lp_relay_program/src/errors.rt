@@ -2,11 +2,16 @@
 //!
 //! The fault of a run says which side failed, and no more. So the program puts a [`Watched`] before each reader and writer of
 //! std: it hands on each call, and keeps the error that comes, for the message.
-ghost use Rattle.std.specs.Prelude.{◌≡◌};
+ghost use Rattle.std.specs.Prelude.{◌≡◌, None};
 
 use crate::endings::{Device, Devices};
+use crate::inputs::shorter;
+use lp_rebuild::DeviceFault;
+use lp_relay::ReadAt;
 use std::cell::Cell;
+use std::fs::File;
 use std::io::{self, Read, Write};
+use std::os::unix::fs::FileExt;
 
 /// The devices of a run with the errors that they have so far.
 pub(crate) type LastErrors<'n> = Devices<Cell<Device<'n>>>;
@@ -86,5 +91,22 @@ impl<'a, 'n, W: Write> Write for Watched<'a, 'n, W> {
         let answer = self.inner.flush();
         self.keep(&answer);
         answer
+    }
+}
+
+/// A file that ends before a place has failed there.
+impl<'a, 'n> ReadAt for Watched<'a, 'n, File> {
+    ghost text = { λ _. None };
+
+    fn read_at(&self, buf: &mut [u8], place: usize) -> Result<usize, DeviceFault> {
+        let answer = match self.inner.read_at(buf, place as u64) {
+            Ok(0) if !buf.is_empty() => Err(shorter()),
+            answer => answer,
+        };
+        self.keep(&answer);
+        match answer {
+            Ok(n) => Ok(n),
+            Err(_) => Err(DeviceFault),
+        }
     }
 }

@@ -5,9 +5,11 @@ ghost use Rattle.std.specs.Io.KnownBytes.{ReadConsumes};
 ghost use Rattle.lp_relay_program.specs.Inputs.{ReadsOn, ReadsOne, texts_left};
 
 use crate::endings::Device;
+use crate::places::path_of;
+use crate::words::Range;
 use std::cell::Cell;
 use std::fs::File;
-use std::io::{self, Read, Stdin};
+use std::io::{self, ErrorKind, Read, Seek, SeekFrom, Stdin, Take};
 
 /// What opens inputs.
 ///
@@ -93,8 +95,26 @@ impl<'n, O: Opener<'n>> Read for Inputs<'n, O, O::Input> {
 pub enum SystemInput {
     /// Standard input.
     Standard(Stdin),
-    /// A file.
+    /// A file, from where it is on.
     File(File),
+    /// So many bytes of a file, from where it is on.
+    Part(Take<File>),
+}
+
+/// The error of a file that ends before the bytes that it was said to have.
+pub(crate) fn shorter() -> io::Error {
+    io::Error::from(ErrorKind::UnexpectedEof)
+}
+
+// Reads a part of a file, which is an error where the file ends before the part does.
+fn read_part(part: &mut Take<File>, buf: &mut [u8]) -> io::Result<usize>
+    ensures bound { ReadsAtMost result buf.new }
+{
+    let n = part.read(buf)?;
+    if n == 0 && part.limit() > 0 && !buf.is_empty() {
+        return Err(shorter());
+    }
+    Ok(n)
 }
 
 impl Read for SystemInput {
@@ -102,6 +122,7 @@ impl Read for SystemInput {
         match self {
             SystemInput::Standard(stdin) => stdin.read(buf),
             SystemInput::File(file) => file.read(buf),
+            SystemInput::Part(part) => read_part(part, buf),
         }
     }
 }
@@ -112,12 +133,28 @@ pub struct SystemOpener<'a, 'n> {
     rt: &'a HostRuntime,
     /// The input that was opened last, for the message if it fails.
     device: &'a Cell<Device<'n>>,
+    /// The part of an input that is read, if not all of it is.
+    range: Option<Range>,
 }
 
 impl<'a, 'n> SystemOpener<'a, 'n> {
     /// It puts the name of each file that it opens into a cell.
-    pub(crate) fn new(rt: &'a HostRuntime, device: &'a Cell<Device<'n>>) -> Self {
-        SystemOpener { rt, device }
+    pub(crate) fn new(
+        rt: &'a HostRuntime,
+        device: &'a Cell<Device<'n>>,
+        range: Option<Range>,
+    ) -> Self {
+        SystemOpener { rt, device, range }
+    }
+
+    // Opens a file at the start of a range.
+    fn open_range(&self, path: &str, range: Range) -> io::Result<SystemInput> {
+        let mut file = File::open(self.rt, path)?;
+        file.seek(SeekFrom::Start(range.from as u64))?;
+        match range.to {
+            Some(to) => Ok(SystemInput::Part(file.take((to as u64).saturating_sub(range.from as u64)))),
+            None => Ok(SystemInput::File(file)),
+        }
     }
 }
 
@@ -132,6 +169,9 @@ impl<'a, 'n> Opener<'n> for SystemOpener<'a, 'n> {
             name: file,
             error: None,
         });
+        if let Some(range) = self.range {
+            return self.open_range(path_of(name), range);
+        }
         match file {
             Some(path) => Ok(SystemInput::File(File::open(self.rt, path)?)),
             None => Ok(SystemInput::Standard(self.rt.stdin())),

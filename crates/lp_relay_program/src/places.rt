@@ -2,7 +2,8 @@
 ghost use Rattle.std.specs.Prelude.{◌≡◌, IfOk, map};
 ghost use Rattle.lp_relay_program.specs.Refusals.{input_path};
 
-use crate::refusals::{FileId, Located, Refusal, refusal_of};
+use crate::refusals::{FileId, Located, Refusal, refusal_of, refusal_of_range};
+use crate::words::Range;
 use std::alloc::AllocError;
 use std::fs::{self, File, OpenOptions};
 use std::io::ErrorKind;
@@ -52,8 +53,8 @@ impl Closed {
     }
 }
 
-// The path of an input.
-fn path_of<'a>(name: &'a str) -> &'a str
+/// The path of an input.
+pub(crate) fn path_of<'a>(name: &'a str) -> &'a str
     ensures { result.now ≡ input_path name.now }
 {
     if name == "-" { STDIN } else { name }
@@ -107,8 +108,50 @@ pub(crate) fn refusal_at<'a>(
     Ok(refusal_of(inputs.as_slice(), output, refused))
 }
 
-/// How many bytes all inputs have, if each is a regular file.
-pub(crate) fn total_len(rt: &HostRuntime, names: &[&str]) -> Option<u64> {
+/// How many bytes the regular file has to which a path leads. Where nothing is found, it may have any number: that is told once it is
+/// opened.
+pub(crate) fn len_at(rt: &HostRuntime, path: &str) -> Option<usize> {
+    match fs::metadata(rt, path) {
+        Ok(file) if file.is_file() => Some(file.len() as usize),
+        Ok(_) => None,
+        Err(_) => Some(usize::MAX),
+    }
+}
+
+/// Why a range of the input of this name is refused, if it is. That no file is there is told once it is opened.
+pub(crate) fn range_refusal_at<'a>(rt: &HostRuntime, range: Range, name: &'a str) -> Option<Refusal<'a>> {
+    refusal_of_range(range, name, len_at(rt, path_of(name)))
+}
+
+/// How many bytes an input has that can be read at places: a regular file, but for one that does not tell how many it has, as some of
+/// the system's do.
+pub(crate) fn file_len(rt: &HostRuntime, name: &str) -> Option<usize> {
+    if name == "-" {
+        return None;
+    }
+    match len_at(rt, name) {
+        Some(len) if len > 0 => Some(len),
+        _ => None,
+    }
+}
+
+/// How many bytes are relayed, if each input is a regular file: of one of which a range is relayed, those of the range.
+pub(crate) fn relayed_len(rt: &HostRuntime, names: &[&str], range: Option<Range>) -> Option<u64> {
+    let total = total_len(rt, names)?;
+    match range {
+        Some(range) => {
+            let end = match range.to {
+                Some(to) => to as u64,
+                None => total,
+            };
+            Some(end.saturating_sub(range.from as u64))
+        }
+        None => Some(total),
+    }
+}
+
+// How many bytes all inputs have, if each is a regular file.
+fn total_len(rt: &HostRuntime, names: &[&str]) -> Option<u64> {
     let mut total = 0u64;
     for at in 0..names.len() {
         let file = fs::metadata(rt, path_of(names[at])).ok()?;

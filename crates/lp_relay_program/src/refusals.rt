@@ -1,7 +1,9 @@
-//! What is refused before anything is opened: an output that is an input, and a file of refused pieces that is one of these.
+//! What is refused before anything is opened: an output that is an input, a file of refused pieces that is one of these, a range that
+//! its file does not have, and parts that are none or too many.
 ghost use Rattle.std.specs.Prelude.{◌≡◌, ◌<◌, ◌-◌, [], ◌∷◌, codes, drop, length, map};
-ghost use Rattle.lp_relay_program.specs.Refusals.{are_one, input_at, input_text, refusal, refused_refusal};
+ghost use Rattle.lp_relay_program.specs.Refusals.{are_one, input_at, input_text, is_backwards, parts_refusal, range_refusal, refusal, refused_refusal};
 
+use crate::words::{MOST_PARTS, Range};
 use std::fmt;
 
 /// The names of inputs if no word names an input.
@@ -30,6 +32,14 @@ pub enum Refusal<'a> {
     RefusedIsInput(&'a str),
     /// The refused pieces would go where the lines go.
     RefusedIsOutput(&'a str),
+    /// A range ends before it begins.
+    RangeIsBackwards(Range),
+    /// A range begins or ends after the end of a file, which has so many bytes.
+    RangeIsPastEnd(&'a str, usize),
+    /// A range of what is no regular file.
+    RangeOfNoFile(&'a str),
+    /// No part is asked for, or so many that their ends are not held.
+    PartsOutOfRange(usize),
 }
 
 // Whether both are files, and one.
@@ -84,6 +94,40 @@ pub fn refusal_of<'a>(
     }
 }
 
+// Whether a range ends before it begins.
+fn is_backwards(range: Range) -> bool
+    ensures { result ≡ is_backwards range }
+{
+    match range.to {
+        Some(to) => to < range.from,
+        None => false,
+    }
+}
+
+/// Why a range of an input is refused that has so many bytes, if it is a regular file.
+pub fn refusal_of_range<'a>(range: Range, name: &'a str, len: Option<usize>) -> Option<Refusal<'a>>
+    ensures { result ≡ range_refusal range name.entry len }
+{
+    if is_backwards(range) {
+        return Some(Refusal::RangeIsBackwards(range));
+    }
+    match len {
+        None => Some(Refusal::RangeOfNoFile(name)),
+        Some(len) if len < range.to.unwrap_or(range.from) => Some(Refusal::RangeIsPastEnd(name, len)),
+        Some(_) => None,
+    }
+}
+
+/// Why a cut into so many parts is refused.
+pub fn refusal_of_parts<'a>(parts: usize) -> Option<Refusal<'a>>
+    ensures { result ≡ parts_refusal parts }
+{
+    if parts == 0 || parts > MOST_PARTS {
+        return Some(Refusal::PartsOutOfRange(parts));
+    }
+    None
+}
+
 // How an input is named.
 fn input_text<'a>(name: &'a str) -> &'a str
     ensures { result.now ≡ input_text name.now }
@@ -109,6 +153,21 @@ impl<'a> fmt::Display for Refusal<'a> {
             }
             Refusal::RefusedIsOutput(name) => {
                 write!(f, "the file of --refused is the output too: {name}")
+            }
+            Refusal::RangeIsBackwards(range) => {
+                let (from, to) = (range.from, range.to.unwrap_or(0));
+                write!(f, "the range {from}..{to} ends before it begins")
+            }
+            Refusal::RangeIsPastEnd(name, len) => {
+                let name = input_text(name);
+                write!(f, "the range goes past the end of {name}, which has {len} bytes")
+            }
+            Refusal::RangeOfNoFile(name) => {
+                let name = input_text(name);
+                write!(f, "--range reads a regular file, which this is not: {name}")
+            }
+            Refusal::PartsOutOfRange(parts) => {
+                write!(f, "--cut takes from 1 to 1000000 parts, not {parts}")
             }
         }
     }

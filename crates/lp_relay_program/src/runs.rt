@@ -10,14 +10,15 @@ use crate::errors::{LastErrors, Watched};
 use crate::files::Files;
 use crate::inputs::{Inputs, SystemOpener};
 use crate::meter::{Counted, Meter, MeteredSink, MeteredSource};
-use crate::places::{refusal_at, total_len};
-use crate::refusals::names_of;
+use crate::places::{file_len, range_refusal_at, refusal_at, relayed_len};
+use crate::refusals::{Refusal, names_of, refusal_of_parts};
 use crate::summary::Totals;
 use crate::words::{HELP, Request, Task, USAGE, VERSION, task_of};
 use influxdb_line_protocol::Dialect;
 use lp_rebuild::{Reading, RunFault, Source, Writing};
-use lp_relay::{Outputs, ThreeWriters};
+use lp_relay::{Outputs, ThreeWriters, part_ends_at};
 use std::alloc::Global;
+use std::fs::File;
 use std::io::IsTerminal;
 
 // Relays the inputs of these names over these devices.
@@ -49,13 +50,13 @@ fn relay_inputs<'n>(
         Counted::Lines
     };
     let meter = if request.progress && rt.stderr().is_terminal() {
-        Some(Meter::new(rt, total_len(rt, names)))
+        Some(Meter::new(rt, relayed_len(rt, names, request.range)))
     } else {
         None
     };
     let shown = meter.as_ref();
     let is_out_shown = destinations.is_on_terminal();
-    let inputs = Inputs::new(SystemOpener::new(rt, &errors.input), names);
+    let inputs = Inputs::new(SystemOpener::new(rt, &errors.input, request.range), names);
     let reader = Reading::new(Watched::new(&errors.input, inputs));
     let reader = MeteredSource::new(shown, reader);
     let lines = Writing::new(Watched::new(&errors.output, destinations.lines));
@@ -109,6 +110,48 @@ fn relay<'n>(rt: &HostRuntime, request: Request<'n>, names: &'n [&'n str]) -> u8
     end(rt, ending_of_relay(request.relay, answer))
 }
 
+// Where a file of so many bytes can be cut into parts. Blocks of it are read.
+fn ends_of_file<'n>(
+    rt: &HostRuntime,
+    dialect: Dialect,
+    count: usize,
+    name: &'n str,
+    len: usize,
+    errors: &LastErrors<'n>,
+) -> Result<Vec<usize>, RunFault> {
+    let file = File::open(rt, name);
+    errors.input.set(Device {
+        name: Some(name),
+        error: file.as_ref().err().copied(),
+    });
+    let Ok(file) = file else {
+        return Err(RunFault::Read);
+    };
+    let file = Watched::new(&errors.input, file);
+    part_ends_at(rt.alloc(), dialect, &file, len, count)
+}
+
+// Where the inputs of these names can be cut into parts. All of them are held, unless there is one, which can be read at places.
+fn ends_of<'n>(
+    rt: &HostRuntime,
+    dialect: Dialect,
+    count: usize,
+    names: &'n [&'n str],
+    errors: &LastErrors<'n>,
+) -> Result<Vec<usize>, RunFault> {
+    if let [name] = names {
+        if let Some(len) = file_len(rt, name) {
+            return ends_of_file(rt, dialect, count, name, len, errors);
+        }
+    }
+    let inputs = Inputs::new(SystemOpener::new(rt, &errors.input, None), names);
+    let mut inputs = lp_relay::Inputs {
+        reader: Reading::new(Watched::new(&errors.input, inputs)),
+        next: ReadsOn,
+    };
+    part_ends_of(rt.alloc(), dialect, count, names, &mut inputs)
+}
+
 // Prints where the inputs of these names can be cut into parts, a line for each end.
 fn print_ends<'n>(
     rt: &HostRuntime,
@@ -117,12 +160,7 @@ fn print_ends<'n>(
     names: &'n [&'n str],
     errors: &LastErrors<'n>,
 ) -> Result<(), RunFault> {
-    let inputs = Inputs::new(SystemOpener::new(rt, &errors.input), names);
-    let mut inputs = lp_relay::Inputs {
-        reader: Reading::new(Watched::new(&errors.input, inputs)),
-        next: ReadsOn,
-    };
-    for end in part_ends_of(rt.alloc(), dialect, count, names, &mut inputs)? {
+    for end in ends_of(rt, dialect, count, names, errors)? {
         if let Err(error) = println!(rt; "{end}") {
             errors.output.set(Device {
                 name: None,
@@ -152,7 +190,16 @@ pub(crate) fn refuse_words(rt: &HostRuntime) -> u8
     2
 }
 
-// Says why a run over the inputs of these names is refused, and answers with the exit status, if it is.
+// Says why a run is refused, and answers with the exit status, if it is.
+fn refuse(rt: &HostRuntime, refusal: Option<Refusal<'_>>) -> Option<u8>
+    ensures { IfSome result (λ status. status ≡ 2) }
+{
+    let refusal = refusal?;
+    let _ = eprintln!(rt; "lp_relay: {refusal}");
+    Some(2)
+}
+
+// Says why a run over the inputs of these names is refused for the files that they and its outputs are, if it is.
 fn refuse_files(
     rt: &HostRuntime,
     names: &[&str],
@@ -162,16 +209,37 @@ fn refuse_files(
     ensures { IfSome result (λ status. status ≡ 2) }
 {
     match refusal_at(rt, names, output, refused) {
-        Ok(Some(refusal)) => {
-            let _ = eprintln!(rt; "lp_relay: {refusal}");
-        }
-        Ok(None) => return None,
+        Ok(refusal) => refuse(rt, refusal),
         Err(_) => {
             let fault = RunFault::OutOfMemory;
             let _ = eprintln!(rt; "lp_relay: {fault}");
+            Some(2)
         }
     }
-    Some(2)
+}
+
+// Says why the relay of a request is refused, if it is: for its range, or for its files.
+fn refuse_request(rt: &HostRuntime, request: Request<'_>, names: &[&str]) -> Option<u8>
+    ensures { IfSome result (λ status. status ≡ 2) }
+{
+    let refusal = match (request.range, names) {
+        (Some(range), [name]) => range_refusal_at(rt, range, name),
+        _ => None,
+    };
+    match refuse(rt, refusal) {
+        Some(status) => Some(status),
+        None => refuse_files(rt, names, request.output, request.refused),
+    }
+}
+
+// Says why a cut into so many parts is refused, if it is.
+fn refuse_cut(rt: &HostRuntime, parts: usize, names: &[&str]) -> Option<u8>
+    ensures { IfSome result (λ status. status ≡ 2) }
+{
+    match refuse(rt, refusal_of_parts(parts)) {
+        Some(status) => Some(status),
+        None => refuse_files(rt, names, None, None),
+    }
 }
 
 /// Does what the words ask for, and answers with the exit status.
@@ -181,14 +249,14 @@ pub(crate) fn run_words(rt: &HostRuntime, words: &[&str]) -> u8
     match task_of(words) {
         Some(Task::Relay(request)) => {
             let names = names_of(words, request.inputs);
-            match refuse_files(rt, names, request.output, request.refused) {
+            match refuse_request(rt, request, names) {
                 Some(status) => status,
                 None => relay(rt, request, names),
             }
         }
         Some(Task::Cut(dialect, parts, inputs)) => {
             let names = names_of(words, inputs);
-            match refuse_files(rt, names, None, None) {
+            match refuse_cut(rt, parts, names) {
                 Some(status) => status,
                 None => cut(rt, dialect, parts, names),
             }

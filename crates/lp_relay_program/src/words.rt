@@ -1,8 +1,8 @@
 //! What the words after the program's name ask for.
 ghost use Rattle.std.specs.Prelude.{◌≡◌};
 ghost use Rattle.lp_relay_program.specs.Words.{are_at_odds, are_inputs, asked_cut, asked_dialect, asked_request, asked_task, cut_task, decimal, faults_form};
-ghost use Rattle.lp_relay_program.specs.Words.{first_named, first_number, given_settings, is_json, names_file, names_input, names_lines, told_form};
-ghost use Rattle.lp_relay_program.specs.Words.{nothing_given, request_of, with_flag, with_value};
+ghost use Rattle.lp_relay_program.specs.Words.{asked_range, first_named, first_number, first_offset, given_settings, is_one_if, is_json, names_file, names_input, names_lines, told_form};
+ghost use Rattle.lp_relay_program.specs.Words.{nothing_given, range_between, range_end, request_of, with_flag, with_value};
 
 use influxdb_line_protocol::Dialect;
 use lp_relay::{Faults, LineForm, Numbering, Settings};
@@ -11,7 +11,7 @@ use lp_relay::{Faults, LineForm, Numbering, Settings};
 pub const USAGE: &str = "usage: lp_relay [--strict | --newline-delimited] [--verbatim | --canonical]
                 [--faults line|raw|json] [--max-line BYTES]
                 [--first-item N | [--lines] [--first-line N]] [--progress] [--summary]
-                [--check | --output FILE] [--refused FILE] [FILE..]
+                [--check | --output FILE] [--refused FILE] [--range FROM..TO] [FILE..]
        lp_relay [--strict | --newline-delimited] --cut PARTS [FILE..]
        lp_relay --help | --version";
 
@@ -56,9 +56,12 @@ FILE that is - is standard input; ./-x names a file -x.
                      until then a FILE that was there stays as it was
   --refused FILE     writes each piece that is refused to FILE as it came, with its newline, and of a
                      line that is too long its first BYTES; FILE is there as that of --output is
-  --cut PARTS        prints where the input, which is held whole, can be cut into so many parts of
-                     about one length, 1000000 at most, to be relayed apart: the end of each, in
-                     bytes, a line each
+  --range FROM..TO   relays a part of one FILE, a regular file: its bytes from place FROM on, counted
+                     from 0, and before place TO, or to its end if it is FROM.. alone; objects tell
+                     the offset in FILE
+  --cut PARTS        prints where the input can be cut into so many parts of about one length, from
+                     1 to 1000000, to be relayed apart: the end of each, in bytes, a line each. One
+                     FILE that is a regular file is read by blocks, other inputs are held whole
   --help, -h         prints this
   --version          prints the version
 
@@ -78,6 +81,13 @@ pub const DEFAULT_MAX_LINE: usize = 16_777_216;
 /// machine runs as many processes at once.
 pub const MOST_PARTS: usize = 1_000_000;
 
+/// A part of a file: its bytes from a place on, and before another, or to the end.
+#[derive(Clone, Copy)]
+pub struct Range {
+    pub from: usize,
+    pub to: Option<usize>,
+}
+
 /// A relay that words ask for.
 #[derive(Clone, Copy)]
 pub struct Request<'a> {
@@ -91,6 +101,8 @@ pub struct Request<'a> {
     pub output: Option<&'a str>,
     /// The file that the refused pieces go to, if they go out.
     pub refused: Option<&'a str>,
+    /// The part of the input that is relayed, if it is not all. There is one input then.
+    pub range: Option<Range>,
     /// How many words name inputs: so many of the last. 0: standard input.
     pub inputs: usize,
 }
@@ -125,6 +137,7 @@ pub(crate) struct Given<'a> {
     faults: Option<Faults>,
     output: Option<&'a str>,
     refused: Option<&'a str>,
+    range: Option<Range>,
 }
 
 impl<'a> Given<'a> {
@@ -146,6 +159,7 @@ impl<'a> Given<'a> {
             faults: None,
             output: None,
             refused: None,
+            range: None,
         }
     }
 
@@ -191,6 +205,16 @@ impl<'a> Given<'a> {
         }
     }
 
+    // Where the input begins in its file.
+    fn first_offset(self) -> usize
+        ensures { result ≡ first_offset self.entry }
+    {
+        match self.range {
+            Some(range) => range.from,
+            None => 0,
+        }
+    }
+
     fn settings(self) -> Settings<'a>
         ensures { result ≡ given_settings self.entry }
     {
@@ -216,6 +240,7 @@ impl<'a> Given<'a> {
             puts_refused: self.refused.is_some(),
             counts_kinds: self.summary,
             file: None,
+            first_offset: self.first_offset(),
         }
     }
 
@@ -254,6 +279,7 @@ impl<'a> Given<'a> {
                 self.output = Some(value);
             }
             "--refused" if self.refused.is_none() && is_file(value) => self.refused = Some(value),
+            "--range" if self.range.is_none() => self.range = Some(range_of(value)?),
             _ => return None,
         }
         Some(self)
@@ -270,11 +296,12 @@ impl<'a> Given<'a> {
             || self.strict && self.newline_delimited
     }
 
-    // The request of these options and inputs, if each word names an input and no options exclude each other.
+    // The request of these options and inputs, if each word names an input, and just one does if a part of it is asked for, and no
+    // options exclude each other.
     fn request(self, words: &[&str]) -> Option<Request<'a>>
         ensures { result ≡ request_of self.entry words.now }
     {
-        if !are_inputs(words) || self.are_at_odds() {
+        if !are_inputs(words) || !is_one_if(self.range.is_some(), words) || self.are_at_odds() {
             return None;
         }
         Some(Request {
@@ -283,6 +310,7 @@ impl<'a> Given<'a> {
             check: self.check,
             output: self.output,
             refused: self.refused,
+            range: self.range,
             inputs: words.len(),
         })
     }
@@ -303,6 +331,43 @@ fn first_number_of(word: &str) -> Option<usize>
     ensures { result ≡ first_number word.now }
 {
     decimal_of(word).filter(|first| *first > 0)
+}
+
+// The place that a range ends before, as a word writes it: none if it has no byte.
+fn range_end_of(word: &str) -> Option<Option<usize>>
+    ensures { result ≡ range_end word.now }
+{
+    if word.is_empty() {
+        return Some(None);
+    }
+    Some(Some(decimal_of(word)?))
+}
+
+// The range from the place that a word writes, and before the one that another writes.
+fn range_between(from: &str, to: &str) -> Option<Range>
+    ensures { result ≡ range_between from.now to.now }
+{
+    let from = decimal_of(from)?;
+    let to = range_end_of(to)?;
+    Some(Range { from, to })
+}
+
+// The range that a word writes: two places, with two dots between them.
+fn range_of(word: &str) -> Option<Range>
+    ensures { result ≡ asked_range word.now }
+{
+    let at = word.as_bytes().iter().position(|byte| *byte == b'.')?;
+    if word.len() - at < 2 || word.as_bytes()[at + 1] != b'.' {
+        return None;
+    }
+    range_between(&word[..at], &word[at + 2..])
+}
+
+// Whether there is one word, if that is asked for.
+fn is_one_if(is_asked: bool, words: &[&str]) -> bool
+    ensures { result ≡ is_one_if is_asked words.now }
+{
+    !is_asked || words.len() == 1
 }
 
 // Whether faults are told as objects.
@@ -374,9 +439,6 @@ fn cut_task_of<'a>(dialect: Dialect, words: &[&str]) -> Option<Task<'a>>
     match words {
         [word, count, inputs @ ..] if *word == "--cut" && are_inputs(inputs) => {
             let parts = decimal_of(count)?;
-            if parts > MOST_PARTS {
-                return None;
-            }
             Some(Task::Cut(dialect, parts, inputs.len()))
         }
         _ => None,
@@ -412,6 +474,8 @@ fn cut_of<'a>(words: &[&str]) -> Option<Task<'a>>
 /// task_of(&["--max-line", "+80"])       gives  None
 /// task_of(&["--cut", "4"])              gives  the ends of 4 parts of the input
 /// task_of(&["--cut", "4", "--strict"])  gives  None
+/// task_of(&["--range", "14..", "a"])    gives  a relay of the file `a` from place 14 on
+/// task_of(&["--range", "14.."])         gives  None
 /// task_of(&["--help", "--strict"])      gives  None
 /// ```
 pub fn task_of<'a>(words: &[&'a str]) -> Option<Task<'a>>

@@ -1,5 +1,5 @@
 use Rattle.influxdb_line_protocol.specs.code.Rules.{rules_of}
-use Rattle.std.proofs.Common.{ℕ, ◌-◌, ◌∙◌, sym, subst, arith, rules}
+use Rattle.std.proofs.Common.{◌-◌, ◌∙◌, sym, subst, arith, rules}
 use Rattle.lp_relay.specs.declared.cuts.Walk.{Walk}
 use Rattle.lp_relay.specs.CutSteps.{IsWalkOf, PassesNone}
 use Rattle.lp_relay.proofs.JumpLemmas.{jump_found, none_on}

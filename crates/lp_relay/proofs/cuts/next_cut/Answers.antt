@@ -1,5 +1,5 @@
 use Rattle.influxdb_line_protocol.specs.code.Rules.{rules_of}
-use Rattle.std.proofs.Common.{ℕ, ◌∙◌, arith}
+use Rattle.std.proofs.Common.{◌∙◌, arith}
 use Rattle.lp_relay.proofs.WalkLemmas.{walk_ends, walk_longer, walk_on}
 use Rattle.lp_relay.proofs.WindowLemmas.{same_text}
 use Rattle.lp_relay.proofs.cuts.next_cut.Goals as goal
@@ -56,7 +56,7 @@ returns-clause-goes g c = λ text has w.
         λ other there. omega (
           arith,
           walk_ends c.pieces_join.ensures.some c.pieces_join.ensures.one (rules_of c.args.dialect) text c.loop-walk.walk here
-          (omega (arith, c.loop-walk-test.false, inv.within.given, inv.over.1, has.len_is)) other there,
+              (omega (arith, c.loop-walk-test.false, inv.within.given, inv.over.1, has.len_is)) other there,
           inv.at,
         ),
       ),

@@ -1,9 +1,9 @@
 use Rattle.influxdb_line_protocol.specs.code.Rules.{rules_of}
-use Rattle.std.proofs.Common.{ℕ, List, [], ◌∷◌, ◌++◌, ◌≤◌, ◌*◌, ◌/◌, length, max, length-append, ap, sym, subst, ◌∙◌, arith}
+use Rattle.std.proofs.Common.{ℕ, List, [], ◌∷◌, ◌≤◌, ◌*◌, ◌/◌, length, max, length-append, ap, sym, subst, ◌∙◌, arith}
 use Rattle.lp_relay.specs.Cuts.{IsCutFor}
 use Rattle.lp_relay.specs.Windows.{HasText}
 use Rattle.lp_relay.proofs.WalkLemmas.{walk_begins}
-use Rattle.lp_relay.proofs.PartEndLemmas.{EndsSoFar, ends_all, ends_more, ends_none, none_passed, start_is_cut}
+use Rattle.lp_relay.proofs.PartEndLemmas.{EndsSoFar, ends_all, ends_more, ends_none, last_end, none_passed, start_is_cut}
 use Rattle.lp_relay.proofs.cuts.part_ends_at.Goals as goal
 
 pub loop-k-init : goal.loop-k-init
@@ -38,8 +38,7 @@ loop-k-preserved g c =
           let on = c.in_ok-walk_to.ensures.goes text here so_far.0
           (λ other cut_there there.
           none_passed (rules_of c.args.dialect) text c.args.count c.loop-k.k c.loop-k.ends.items c.loop-k.walk.at so_far.1 inv.found
-          c.loop-k-test.true other cut_there (subst (λ (n : ℕ). n ≤ other) place there)) in
-          (
+          c.loop-k-test.true other cut_there (subst (λ (n : ℕ). n ≤ other) place there)) in (
             on.0,
             subst (λ (l : List ℕ). EndsSoFar (rules_of c.args.dialect) text c.args.count l at) (sym pushed)
                 (ends_more (rules_of c.args.dialect) text c.args.count c.loop-k.k c.loop-k.ends.items c.loop-k.walk.at at so_far.1 inv.found
@@ -61,5 +60,5 @@ returns g c = record {
       let so_far = c.loop-k.invariant.so_far text known len in
       ends_all (rules_of c.args.dialect) text c.args.count c.loop-k.ends.items c.push_end-2.new.ends.items c.loop-k.walk.at so_far.1 so_far.0.is_cut.within
       (omega (arith, c.loop-k.invariant.found, c.loop-k.invariant.few))
-      (c.in_ok-push_end-2.ensures ∙ ap (λ (n : ℕ). c.loop-k.ends.items ++ n ∷ []) (sym len));
+      (last_end c.loop-k.ends.items c.push_end-2.new.ends.items (length text) c.args.len c.in_ok-push_end-2.ensures len);
 }

@@ -1,5 +1,5 @@
 use Rattle.influxdb_line_protocol.specs.code.Rules.{rules_of}
-use Rattle.std.proofs.Common.{ℕ, ◌∙◌, arith, rules}
+use Rattle.std.proofs.Common.{arith, rules}
 use Rattle.lp_relay.proofs.WalkLemmas.{walk_last, walk_there}
 use Rattle.lp_relay.proofs.WindowLemmas.{same_text}
 use Rattle.lp_relay.proofs.cuts.walk_to.Goals as goal

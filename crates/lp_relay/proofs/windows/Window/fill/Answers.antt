@@ -1,4 +1,4 @@
-use Rattle.std.proofs.Common.{ℕ, sym, ap, arith}
+use Rattle.std.proofs.Common.{arith}
 use Rattle.lp_relay.proofs.WindowLemmas.{front_read}
 use Rattle.lp_relay.proofs.windows.Window.fill.Goals as goal
 
