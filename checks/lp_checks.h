@@ -11,8 +11,11 @@ uint64_t lp_checks_pieces(uint32_t dialect, const uint8_t *text, size_t len, uin
                           size_t entries);
 uint64_t lp_checks_streamed(uint32_t dialect, const uint8_t *text, size_t len, size_t part, uint8_t *out, size_t room,
                             uint64_t *ends, size_t entries);
+uint64_t lp_checks_parts(uint32_t dialect, size_t limit, const uint8_t *text, size_t len, const size_t *lens, size_t parts,
+                         uint64_t *refused_at, uint8_t *out, size_t room, uint64_t *ends, size_t entries);
 uint64_t lp_checks_items(uint32_t dialect, const uint8_t *text, size_t len, uint8_t *out, size_t room, uint64_t *ends,
                          size_t entries);
+uint64_t lp_checks_reused(const uint8_t *text, size_t len, uint8_t *out, size_t room, uint64_t *ends, size_t entries);
 uint64_t lp_checks_events(uint32_t dialect, const uint8_t *text, size_t len, uint8_t *out, size_t room, uint64_t *ends,
                           size_t entries);
 uint64_t lp_checks_pulled(uint32_t dialect, const uint8_t *text, size_t len, uint8_t *out, size_t room, uint64_t *ends,
@@ -31,4 +34,8 @@ uint8_t lp_checks_run(uint32_t dialect, const uint8_t *input, size_t len, uint8_
 uint8_t lp_checks_relay(const uint8_t *letters, size_t letters_len, size_t limit, const uint8_t *input, size_t len, size_t part,
                         uint8_t *out, size_t room, uint8_t *err, size_t err_room, uint8_t *refused, size_t refused_room,
                         uint64_t lens[3], uint64_t kinds[13]);
+uint8_t lp_checks_stepped(bool is_relay, const uint8_t *letters, size_t letters_len, const uint8_t *input, size_t len,
+                          const size_t *steps, size_t steps_len, uint64_t *reads, uint8_t *out, size_t room, const size_t *out_steps,
+                          size_t out_steps_len, uint64_t out_told[3], uint8_t *err, size_t err_room, const size_t *err_steps,
+                          size_t err_steps_len, uint64_t err_told[3]);
 #endif

@@ -1,5 +1,6 @@
 /* Refuses each request for memory in turn: for N = 1, 2, .. the Nth alone, until a run makes fewer than N requests.
    What must come is written out here, from the format's rules. The events and the blocks of the same texts must make no request.
+   Devices that fail in turn are in `devices.h`.
    `checks/refusals.sh` builds this and runs it.
 
    malloc, realloc and free of the library come here by the linker's --wrap. */
@@ -115,7 +116,7 @@ static void must_be_untouched(const uint8_t *bytes, const char *what) {
 enum { SOME = -1, ANY = -2 };
 struct entry { const char *wanted; long requests; };
 
-enum call { PIECES, ITEMS, STRICT_ITEMS, BASES, SHOWN, COPIES };
+enum call { PIECES, ITEMS, STRICT_ITEMS, REUSED, BASES, SHOWN, COPIES };
 
 static void call(enum call what, const char *text, unsigned long n) {
     const uint8_t *bytes = (const uint8_t *)text;
@@ -125,6 +126,7 @@ static void call(enum call what, const char *text, unsigned long n) {
     case PIECES: count = lp_checks_pieces(false, bytes, len, out, ROOM, ends, ENTRIES); break;
     case ITEMS: count = lp_checks_items(false, bytes, len, out, ROOM, ends, ENTRIES); break;
     case STRICT_ITEMS: count = lp_checks_items(true, bytes, len, out, ROOM, ends, ENTRIES); break;
+    case REUSED: count = lp_checks_reused(bytes, len, out, ROOM, ends, ENTRIES); break;
     case BASES: count = lp_checks_bases(bytes, len, out, ROOM, ends, ENTRIES); break;
     case SHOWN: count = lp_checks_shown(bytes, len, out, ROOM, ends, ENTRIES); break;
     case COPIES: count = lp_checks_copies(bytes, len, out, ROOM, ends, ENTRIES); break;
@@ -224,8 +226,18 @@ static void items(void) {
     EACH(ITEMS, "cpu,host=A,region=west usage_system=64i 1590488773254420000",
          {"line 22:cpu,host=A,region=west S3:cpu,S4:host=S1:A,S6:region=S4:west S12:usage_system=i64 at 1590488773254420000", 0});
     EACH(ITEMS, "\\,,\\==x a=\"\\\\\"", {"line 7:\\,,\\==x S1:,,S1:==S1:x S1:a=sS1:\\", 0});
-    EACH(ITEMS, "m 5\nfoo\n,x\nm, f=1i\nm\\\\ f=1i", {"FieldSetMissing", 0}, {"GenericParsingError", 0},
-         {"MeasurementValueInvalid", 0}, {"TagSetMalformed", 0}, {"EndsWithBackslash", ANY});
+    EACH(ITEMS, "m 5\nfoo\n,x\nm, f=1i\nm,=v f=1i\nm\\\\ f=1i", {"FieldSetMissing", 0}, {"GenericParsingError", 0},
+         {"MeasurementValueInvalid", 0}, {"TagSetMalformed", 0}, {"TagSetMalformed", 0}, {"EndsWithBackslash", ANY});
+    EACH(ITEMS,
+         "m,a=1,b=1,c=1,d=1,e=1,f=1,g=1,h=1 a=1i,b=1u,c=1.5,d=t\n"
+         "m,a=1,b=1,c=1,d=1,e=1,f=1,g=1,h=1,i=1 x=1i\n"
+         "k a=1i,b=1i,c=1i,d=1i,e=1i\n"
+         "m f=1i",
+         {"line 33:m,a=1,b=1,c=1,d=1,e=1,f=1,g=1,h=1 S1:m,S1:a=S1:1,S1:b=S1:1,S1:c=S1:1,S1:d=S1:1,S1:e=S1:1,S1:f=S1:1,"
+          "S1:g=S1:1,S1:h=S1:1 S1:a=i1 S1:b=u1 S1:c=f3:1.5 S1:d=true", 0},
+         {"line 37:m,a=1,b=1,c=1,d=1,e=1,f=1,g=1,h=1,i=1 S1:m,S1:a=S1:1,S1:b=S1:1,S1:c=S1:1,S1:d=S1:1,S1:e=S1:1,S1:f=S1:1,"
+          "S1:g=S1:1,S1:h=S1:1,S1:i=S1:1 S1:x=i1", SOME},
+         {"line 1:k S1:k S1:a=i1 S1:b=i1 S1:c=i1 S1:d=i1 S1:e=i1", SOME}, {"line 1:m S1:m S1:f=i1", 0});
     EACH(ITEMS,
          "m a=-9223372036854775809i\nm a=18446744073709551616u\nm a=1i 9223372036854775808\nm s=\"a\\b\"\nm a=1e5 7\nm a=T",
          {"IntegerValueInvalid Below 20:-9223372036854775809", 1}, {"UIntegerValueInvalid Above 20:18446744073709551616", 1},
@@ -249,6 +261,33 @@ static void long_name(void) {
     for (int i = 0; i < 1000; i++) strcat(wanted, " ");
     strcat(wanted, " S1:f=i1");
     EACH(ITEMS, text, {wanted, 1});
+}
+
+/* A text that repeats a part so many times. */
+static void repeat(char *text, const char *front, const char *part, int times, const char *back) {
+    strcpy(text, front);
+    while (times-- > 0) strcat(text, part);
+    strcat(text, back);
+}
+
+/* A line of 20 tags and 20 fields is read into a line that has held as many before, and asks for nothing, whatever comes between. */
+static void used_again(void) {
+    static const char *const between[] = {"", "m", "m,", ",x", "m f=1i", "m f=1i\nm f=1i", "m,a=1 f=1i", "m f=1i\nm,a=1 f=1i",
+                                          "m,a\\,b=1 f=1i", "m,t=v f", "m f=1x", "m,a=1 f=9223372036854775808i"};
+    static char tags[128], wide[256], text[1024], wanted[ENTRIES][1024];
+    struct entry entries[ENTRIES];
+    repeat(tags, "m", ",t=v", 20, " f=1i");
+    repeat(wide, tags, ",f=1i", 19, "");
+    for (size_t row = 0; row < COUNT(between); row++) {
+        snprintf(text, sizeof text, "%s\n%s\n%s", wide, between[row], wide);
+        call(ITEMS, text, 0);
+        const size_t items = (size_t)count;
+        for (size_t place = 0; place < items; place++) {
+            snprintf(wanted[place], sizeof wanted[place], "%.*s", (int)(ends[place] - from(place)), out + from(place));
+            entries[place] = (struct entry){wanted[place], place == 0 ? SOME : place + 1 == items ? 0 : ANY};
+        }
+        each_refused(REUSED, text, entries, items, 0);
+    }
 }
 
 static void bases(void) {
@@ -459,14 +498,7 @@ static void written(void) {
    without any. Each of the two lines whose fault comes after such a name asks for memory once, and has its fault also if that is
    refused. */
 enum { COPIES_BEFORE_FAULTS = 2 };
-static const char *const INPUT =
-    "m a=T 5\n# c\nx\nw\\\t a=1i\na\\ b f=1 x\na\\ b f=1i x\na\\ b,c\\ d=e\\ f  g\\ h=\"i\\\"j\"\nn,c=e  g=\"i\"\n";
-static const char *const BATCH = "m a=true 5\na\\ b,c\\ d=e\\ f g\\ h=\"i\\\"j\"\nn,c=e g=\"i\"\n";
-static const char *const FAULTS =
-    "item 2: A generic parsing error occurred: TakeWhile1\nitem 3: a name cannot be written again\n"
-    "item 4: Could not parse entire line. Found trailing content: ' x'\n"
-    "item 5: Could not parse entire line. Found trailing content: ' x'\n";
-static const char *const REFUSED_PIECES = "x\nw\\\t a=1i\na\\ b f=1 x\na\\ b f=1i x\n";
+#include "devices.h"
 
 static void rebuild(uint32_t dialect) {
     static const char *const subjects[] = {"rebuild", "rebuild in the strict dialect", "rebuild in the newline-delimited dialect"};
@@ -560,13 +592,6 @@ static void just_their_length(void) {
     largest_is(BASES, "m,a=x\\ y f=1i", 7);
 }
 
-/* A text that repeats a part so many times. */
-static void repeat(char *text, const char *front, const char *part, int times, const char *back) {
-    strcpy(text, front);
-    while (times-- > 0) strcat(text, part);
-    strcat(text, back);
-}
-
 /* Lines, with two spaces where the builder writes one, so that they are read into a line that is used again. They are rebuilt with
    few requests, of some hundred bytes at most for each byte of them. */
 static void few_requests(const char *what, const char *lines) {
@@ -646,13 +671,69 @@ static void streams(void) {
     if (most > 4 * strlen(lines)) fail("a request is for %zu bytes", most);
 }
 
+/* Texts, and their pieces. */
+static const char *const TEXTS[][8] = {
+    {"m,a=b s=\"a\nb\\\"\nc\",t=1i\n# d\ne f=\"\n\n\",g=\"h\nh\"\nlast\\\nlast", "m,a=b s=\"a\nb\\\"\nc\",t=1i", "# d",
+     "e f=\"\n\n\",g=\"h\nh\"", "last\\\nlast"},
+    {"m a=1i\n", "m a=1i", ""},
+    {"m s=\"12345a\nb, and more bytes than the buffer has room forc\"\nm a=1i\nn b=2i\na longer line\nnone of them\no c=3i",
+     "m s=\"12345a\nb, and more bytes than the buffer has room forc\"", "m a=1i", "n b=2i", "a longer line", "none of them", "o c=3i"},
+};
+
+/* Which of these texts comes, how many bytes a piece may have, the lengths of the parts, and how many requests each of the first three
+   makes. Bytes that are let go ask for nothing. A part that ends a piece of which all bytes were let go asks, as others do. */
+static const struct { int text; size_t limit, lens[11]; long asks[3]; } PARTS[] = {
+    {0, SIZE_MAX, {5, 5, 5, 5, 5, 5, 5, 5, 5, 5, 4}, {SOME, ANY, ANY}},
+    {0, 0, {1, 53}, {1, 1}}, {0, 3, {5, 49}, {1, 1}}, {0, 3, {18, 36}, {1, 1}}, {0, 12, {12, 42}, {1, 1}}, {0, 64, {9, 45}, {1, 1}},
+    {1, SIZE_MAX, {7}, {1}}, {1, 3, {7}, {1}},
+    {2, 8, {10, 48, 50}, {1, 0, 1}},
+};
+
+/* A part for which memory is refused is given again: nothing is lost. */
+static void parts(uint32_t dialect, size_t row) {
+    const char *const *text = TEXTS[PARTS[row].text];
+    const size_t limit = PARTS[row].limit;
+    long asks[ENTRIES] = {0};
+    size_t lens = 0;
+    char name[64], wanted[128];
+    snprintf(name, sizeof name, "row %zu of parts in dialect %u", row, (unsigned)dialect);
+    subject = name;
+    while (lens < COUNT(PARTS[row].lens) && PARTS[row].lens[lens]) lens++;
+    for (unsigned long n = 1;; n++) {
+        begin(n);
+        count = lp_checks_parts(dialect, limit, (const uint8_t *)text[0], strlen(text[0]), PARTS[row].lens, lens, &refused_at, out, ROOM,
+                                ends, ENTRIES);
+        end();
+        size_t pieces = 0;
+        for (const char *piece; pieces < count && (piece = text[pieces + 1]); pieces++) {
+            int newlines = 0;
+            for (const char *at = piece; *at; at++) newlines += *at == '\n';
+            if (strlen(piece) <= limit) snprintf(wanted, sizeof wanted, "%s", piece);
+            else snprintf(wanted, sizeof wanted, "TooLong %d %zu %.*s", newlines, strlen(piece), (int)limit, piece);
+            must_be(pieces, wanted);
+        }
+        if (pieces != count || text[pieces + 1]) fail("%lu answers came", (unsigned long)count);
+        if (asked < n) break;
+        if (refused_at >= lens) fail("no part was refused");
+        asks[refused_at]++;
+    }
+    refuse = 0;
+    for (size_t part = 0; part < COUNT(PARTS[row].asks); part++) {
+        const long should = PARTS[row].asks[part];
+        if (should == SOME ? asks[part] == 0 : should != ANY && asks[part] != should)
+            fail("part %zu makes %ld requests", part, asks[part]);
+    }
+}
+
 int main(void) {
+    join_lines();
     no_requests();
     just_their_length();
     growing();
     growing_builder();
     streams();
     items();
+    used_again();
     long_name();
     bases();
     copies();
@@ -660,11 +741,16 @@ int main(void) {
     written();
     for (uint32_t dialect = 0; dialect < 3; dialect++) {
         static const char *const letters[] = {"", "s", "n"};
+        for (size_t row = 0; dialect < 2 && row < COUNT(PARTS); row++) parts(dialect, row);
         rebuild(dialect);
         run(false, letters[dialect]);
         run(true, letters[dialect]);
+        refused_by_bytes(letters[dialect]);
     }
     run(true, "ork");
-    printf("%lu runs, and %lu texts whose events and blocks ask for nothing", runs, told);
+    by_bytes();
+    by_blocks();
+    random_texts();
+    printf("%lu runs, %lu runs and relays over devices, and %lu texts whose events and blocks ask for nothing", runs, stepped, told);
     return 0;
 }

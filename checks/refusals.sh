@@ -1,6 +1,6 @@
 #!/usr/bin/env bash
-# Refuses each request for memory in turn, and looks at what comes: `refusals.c` says what should. The address and leak
-# sanitizer of the C compiler watches, where it has one.
+# Refuses each request for memory in turn, fails each call of a device, and looks at what comes: `refusals.c` and `devices.h` say what
+# should. The address and leak sanitizer of the C compiler watches, where it has one.
 set -eu
 here=$(cd "$(dirname "$0")" && pwd)
 top=$(dirname "$here")

@@ -12,6 +12,7 @@ mod events;
 mod render;
 mod report;
 mod settings;
+mod steps;
 
 ghost use Rattle.std.specs.Prelude.{IsUtf8};
 ghost use Rattle.influxdb_line_protocol.specs.format.Pieces.{IsLastPiece};
@@ -21,14 +22,16 @@ use devices::{InParts, Room};
 use events::Items;
 use influxdb_line_protocol::builder::BeforeMeasurement;
 use influxdb_line_protocol::{
-    Dialect, EscapedStr, LineProtocolBuilder, LineStream, ParsedLine, parse_events_in, parse_lines,
-    parse_lines_in, read_events_in, split_lines_in, write_line,
+    BoundedLineStream, Dialect, EscapedStr, LineProtocolBuilder, LineStream, ParsedLine,
+    PieceTooLong, parse_events_in, parse_lines, parse_lines_in, read_events_in, split_lines_in,
+    write_line,
 };
-use lp_rebuild::{RunFault, rebuild_in, run_in};
-use lp_relay::{KINDS, Outputs, relay};
+use lp_rebuild::{Reading, RunFault, Writing, rebuild_in, run_in};
+use lp_relay::{KINDS, Nowhere, Outputs, relay};
 use report::Report;
-use std::alloc::Global;
+use std::alloc::{Allocator, Global};
 use std::fmt::Write;
+use steps::{Stepped, SteppedRoom};
 
 // The dialect of a number.
 fn dialect_of(number: u32) -> Dialect {
@@ -102,6 +105,69 @@ pub extern "C" fn lp_checks_streamed(
     report.count()
 }
 
+// Reports a piece, or how many newlines and bytes one has that is too long, and the first of them.
+fn report_bounded(report: &mut Report<'_>, answer: Result<&[u8], PieceTooLong<'_>>) {
+    match answer {
+        Ok(piece) => report.push(piece),
+        Err(
+            PieceTooLong {
+                newlines,
+                len,
+                front,
+            },
+        ) => {
+            let _ = write!(report, "TooLong {newlines} {len} ");
+            report.push(front);
+        }
+    }
+    report.end();
+}
+
+// Reports the answers that a stream can give after so many bytes, each of which ends one piece at most.
+fn report_answers(report: &mut Report<'_>, stream: &mut BoundedLineStream, len: usize) {
+    for _ in 0..=len {
+        match stream.next() {
+            Some(answer) => report_bounded(report, answer),
+            None => break,
+        }
+    }
+}
+
+/// The pieces of a text that comes in parts of these lengths, where a piece may have `limit` bytes: after each part all that there
+/// are, and the last one at the end. A part for which memory is refused is given again; its place is put to `refused_at`, counted from
+/// 0. No entry if memory was refused twice, or if the text has not so many bytes.
+#[unsafe(no_mangle)]
+pub extern "C" fn lp_checks_parts(
+    alloc: Global,
+    dialect: u32,
+    limit: usize,
+    text: &[u8],
+    lens: &[usize],
+    refused_at: &mut u64,
+    out: &mut [u8],
+    ends: &mut [u64],
+) -> u64 {
+    let mut report = Report::new(out, ends);
+    let mut stream = BoundedLineStream::new_in(alloc, dialect_of(dialect), limit);
+    let mut left = text;
+    for (place, len) in lens.iter().enumerate() {
+        let Some((part, rest)) = left.split_at_checked(*len) else {
+            return 0;
+        };
+        left = rest;
+        if stream.push(part).is_err() {
+            *refused_at = place as u64;
+            report_answers(&mut report, &mut stream, part.len());
+            if stream.push(part).is_err() {
+                return 0;
+            }
+        }
+        report_answers(&mut report, &mut stream, part.len());
+    }
+    report_bounded(&mut report, stream.finish());
+    report.count()
+}
+
 /// The items of a text, rendered as `render` says.
 #[unsafe(no_mangle)]
 pub extern "C" fn lp_checks_items(
@@ -119,6 +185,31 @@ pub extern "C" fn lp_checks_items(
         match &item {
             Ok(line) => render::render_line(&mut report, line),
             Err(fault) => render::render_fault(&mut report, fault),
+        }
+        report.end();
+    }
+    report.count()
+}
+
+/// The items of a text as `lp_checks_items` has them, each read into one line, which is used again.
+#[unsafe(no_mangle)]
+pub extern "C" fn lp_checks_reused(
+    alloc: Global,
+    text: &[u8],
+    out: &mut [u8],
+    ends: &mut [u64],
+) -> u64
+    requires { IsUtf8 text.now }
+{
+    let text = unsafe { str::from_utf8_unchecked(text) };
+    let mut report = Report::new(out, ends);
+    let mut lines = parse_lines(alloc, text);
+    let mut line = ParsedLine::new(alloc);
+    for _ in 0..=text.len() {
+        match &lines.next_into(&mut line) {
+            Some(Ok(())) => render::render_line(&mut report, &line),
+            Some(Err(fault)) => render::render_fault(&mut report, fault),
+            None => break,
         }
         report.end();
     }
@@ -281,17 +372,17 @@ pub extern "C" fn lp_checks_copies(
     report.count()
 }
 
-type Batch = LineProtocolBuilder<Vec<u8>, BeforeMeasurement>;
+type Batch<A> = LineProtocolBuilder<Vec<u8, A>, BeforeMeasurement>;
 
 // Writes a line again. If that is refused `refused_at` gets the item's place, and the line is written once more if
 // `again` is set. `Err` has the builder that the refused call handed back.
-fn write_item(
-    builder: Batch,
+fn write_item<A: Allocator>(
+    builder: Batch<A>,
     line: &ParsedLine<'_>,
     place: usize,
     again: bool,
     refused_at: &mut u64,
-) -> Result<Batch, Batch> {
+) -> Result<Batch<A>, Batch<A>> {
     if line.field_set.as_slice().is_empty() {
         return Ok(builder);
     }
@@ -514,4 +605,44 @@ pub extern "C" fn lp_checks_relay(
         }
     }
     0
+}
+
+/// Runs over bytes, or relays them if `is_relay` is set, by the settings that `letters` spell, over a reader and two writers of std. Each
+/// of the three does at its calls what its steps say, as `steps` has it. `reads` gets how many calls the reader had, and what is told
+/// of each writer how many bytes it holds, how many calls it had, and how many of them were flushes. The answer is that of `lp_checks_run`.
+#[unsafe(no_mangle)]
+pub extern "C" fn lp_checks_stepped(
+    alloc: Global,
+    is_relay: bool,
+    letters: &[u8],
+    input: &[u8],
+    steps: &[usize],
+    reads: &mut u64,
+    out: &mut [u8],
+    out_steps: &[usize],
+    out_told: &mut [u64; 3],
+    err: &mut [u8],
+    err_steps: &[usize],
+    err_told: &mut [u64; 3],
+) -> u8 {
+    let settings = settings::spelled(letters, usize::MAX);
+    let mut reader = Reading::new(Stepped::new(input, steps, reads));
+    let mut lines = Writing::new(SteppedRoom::new(out, out_steps, out_told));
+    let mut faults = Writing::new(SteppedRoom::new(err, err_steps, err_told));
+    if !is_relay {
+        let run = run_in(
+            alloc,
+            settings.dialect,
+            &mut reader,
+            &mut lines,
+            &mut faults,
+        );
+        return told_end(run.err());
+    }
+    let mut outputs = Outputs {
+        lines,
+        faults,
+        refused: Nowhere::new(),
+    };
+    told_end(relay(alloc, settings, &mut reader, &mut outputs).err())
 }

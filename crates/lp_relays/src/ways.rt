@@ -78,7 +78,7 @@ fn relayed_from<R: Source>(alloc: Global, settings: Settings<'_>, reader: &mut R
 pub fn relayed(alloc: Global, settings: Settings<'_>, way: Way, text: &[u8]) -> Wrote {
     match way {
         Way::Reads(len) => relayed_from(alloc, settings, &mut Blocks { left: text, len }),
-        Way::Cut(cuts) => relayed_from(alloc, settings, &mut CutSource::new(text, cuts, 0)),
+        Way::Cut(cuts) => relayed_from(alloc, settings, &mut CutSource::new(text, cuts)),
     }
 }
 

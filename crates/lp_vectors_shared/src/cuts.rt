@@ -3,7 +3,7 @@
 ghost use Rattle.std.specs.Prelude.{length};
 ghost use Rattle.std.specs.Iterator.{at_most};
 
-use lp_rebuild::{DeviceFault, Failures, Source};
+use lp_rebuild::{DeviceFault, Source};
 
 /// The parts of a text of at most 64 bytes, none of them empty. It is cut after its first byte if the lowest bit of
 /// `cuts` is set, after its second if the next bit is, and so on.
@@ -38,31 +38,20 @@ impl<'a> Iterator for Parts<'a> {
     }
 }
 
-/// A source that hands over one part of a text at each call, and may fail at one of them.
+/// A source that hands over one part of a text at each call.
 #[derive(Drop)]
 pub struct CutSource<'a> {
     part: &'a [u8],
     parts: Parts<'a>,
-    calls: usize,
-    fails_at: usize,
-    failures: Failures,
 }
 
 impl<'a> CutSource<'a> {
-    /// It hands over the [`Parts`] of this text, and fails at this call, counted from 1; at none if that is 0.
-    pub fn new(text: &'a [u8], cuts: u64, fails_at: usize) -> CutSource<'a> {
+    /// It hands over the [`Parts`] of this text.
+    pub fn new(text: &'a [u8], cuts: u64) -> CutSource<'a> {
         CutSource {
             part: b"".as_slice(),
             parts: Parts::new(text, cuts),
-            calls: 0,
-            fails_at,
-            failures: Failures::new(),
         }
-    }
-
-    /// Whether a call has failed.
-    pub fn has_failed(&self) -> bool {
-        self.fails_at != 0 && self.calls >= self.fails_at
     }
 }
 
@@ -71,14 +60,9 @@ impl<'a> Source for CutSource<'a> {
 
     ghost bytes = { λ _. None };
 
-    ghost failures = { λ s. s.failures.count };
+    ghost failures = { λ _. 0 };
 
     fn read(&mut self, buf: &mut [u8]) -> Result<usize, DeviceFault> {
-        self.calls = self.calls.saturating_add(1);
-        if self.calls == self.fails_at {
-            self.failures.add();
-            return Err(DeviceFault);
-        }
         if self.part.is_empty()
             && let Some(part) = self.parts.next()
         {
