@@ -1,7 +1,8 @@
 #!/usr/bin/env bash
 # Compares the items that events tell, to a sink and one after another, and those of the blocks of crates/lp_c, with the items of
-# `parse_lines_in`, over every short text of bytes that mean something, in each dialect: `events.c` says over which bytes. And lets
-# newline_delimited.py compare what is given in the third dialect with what each line gives alone.
+# `parse_lines_in`, and the pieces of the splitter with those that are found byte by byte, over every short text of bytes that mean
+# something, in each dialect: `events.c` says over which bytes, and what else it looks at. And lets newline_delimited.py compare what is
+# given in the third dialect with what each line gives alone.
 set -eu
 here=$(cd "$(dirname "$0")" && pwd)
 top=$(dirname "$here")
@@ -17,10 +18,10 @@ trap 'rm -rf "$built"' EXIT
 
 cc -O2 -Wall -Wextra -I"$top/include" "$here/events.c" "$library" "$archive" "$heap" -o "$built/events"
 if ! said=$("$built/events"); then
-    echo "events: they tell other items than are read, or blocks have others" >&2
+    echo "events: what should be told, read or cut was not" >&2
     exit 1
 fi
-echo "events: $said: told, and in blocks, as they are read"
+echo "events: $said: told, and in blocks, as they are read, and cut as byte by byte"
 
 if ! python3 -c 'import sys; sys.exit(sys.version_info < (3, 10))' 2>/dev/null; then
     left_out "lines that newlines end" "there is no Python 3.10 or later, for checks/events.sh"

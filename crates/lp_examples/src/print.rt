@@ -1,4 +1,5 @@
-//! Each line of a text, printed.
+//! Prints each line of standard input, and the fault of each line that cannot be read.
+#![tactic(auto)]
 
 use influxdb_line_protocol::parse_lines;
 use std::alloc::Global;
@@ -13,4 +14,9 @@ pub fn print_lines(rt: &impl Print, alloc: Global, text: &str) -> io::Result<()>
         }
     }
     Ok(())
+}
+
+pub fn main(rt: HostRuntime) -> io::Result<()> {
+    let text = io::read_to_string(rt.alloc(), rt.stdin())?;
+    print_lines(&rt, rt.alloc(), text.as_str())
 }

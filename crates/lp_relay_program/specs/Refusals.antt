@@ -68,6 +68,6 @@ refusal_text (RefusedIsOutput name) = codes "the file of --refused is the output
 refusal_text (RangeIsBackwards range) =
     codes "the range " ++ decimal range.from ++ codes ".." ++ decimal (unwrap_or range.to 0) ++ codes " ends before it begins"
 refusal_text (RangeIsPastEnd name len) =
-    codes "the range goes past the end of " ++ input_text name.now ++ codes ", which has " ++ decimal len ++ codes " bytes"
+    codes "the range goes past the " ++ decimal len ++ codes " bytes of " ++ input_text name.now
 refusal_text (RangeOfNoFile name) = codes "--range reads a regular file, which this is not: " ++ input_text name.now
 refusal_text (PartsOutOfRange parts) = codes "--cut takes from 1 to 1000000 parts, not " ++ decimal parts

@@ -1,5 +1,5 @@
 -- What words ask of the program.
-use Rattle.std.specs.Prelude.{ℕ, ◌+◌, ◌-◌, ◌^◌, nat_lt, take, drop, slice_index, Bool, true, false, not, ◌&&◌, ◌||◌, List, [], ◌∷◌, length, bytes_eq, codes}
+use Rattle.std.specs.Prelude.{ℕ, ◌+◌, ◌^◌, nat_lt, take, drop, slice_index, Bool, true, false, not, ◌&&◌, ◌||◌, List, [], ◌∷◌, length, bytes_eq, codes}
 use Rattle.std.specs.Prelude.{Option, Some, None, is_none, is_some, option_map, option_and_then, unwrap_or}
 use Rattle.std.specs.Prelude.{◌==◌, if◌then◌else◌}
 use Rattle.std.specs.Borrow.{Bor}
@@ -170,11 +170,15 @@ range_end (b ∷ word) = option_map (λ to. Some to) (decimal (b ∷ word))
 abbrev pub range_between : (from to : List ℕ) → Option Range
 range_between from to = option_and_then (λ start. option_map (λ end. record { from = start; to = end }) (range_end to)) (decimal from)
 
+-- the range of which a word writes the places before and after two dots, of which these are the places
+abbrev pub range_at : List ℕ → (at next : ℕ) → Option Range
+range_at word at next =
+    if nat_lt next (length word) && slice_index word next == 46 then range_between (take at word) (drop (next + 1) word) else None
+
 -- the range that a word writes, as `14..28` or `14..`: two places, with two dots between them
 abbrev pub asked_range : List ℕ → Option Range
 asked_range word =
-    option_and_then (λ at. if nat_lt (length word - at) 2 || not (slice_index word (at + 1) == 46)
-    then None else range_between (take at word) (drop (at + 2) word)) (position (λ b. b == 46) word)
+    option_and_then (λ at. range_at word at (at + 1)) (position (λ b. b == 46) word)
 
 -- the same, if the word after it says what it takes
 abbrev pub with_value : Given → List ℕ → Bor (List ℕ) → Option Given

@@ -155,12 +155,16 @@ impl<'a> fmt::Display for Refusal<'a> {
                 write!(f, "the file of --refused is the output too: {name}")
             }
             Refusal::RangeIsBackwards(range) => {
-                let (from, to) = (range.from, range.to.unwrap_or(0));
-                write!(f, "the range {from}..{to} ends before it begins")
+                let from = range.from;
+                let to = range.to.unwrap_or(0);
+                write!(f, "the range {from}..{to}")?;
+                f.write_str(" ends before it begins")
             }
             Refusal::RangeIsPastEnd(name, len) => {
                 let name = input_text(name);
-                write!(f, "the range goes past the end of {name}, which has {len} bytes")
+                let len = *len;
+                write!(f, "the range goes past the {len} bytes of ")?;
+                f.write_str(name)
             }
             Refusal::RangeOfNoFile(name) => {
                 let name = input_text(name);

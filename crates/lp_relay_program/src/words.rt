@@ -1,5 +1,6 @@
 //! What the words after the program's name ask for.
-ghost use Rattle.std.specs.Prelude.{◌≡◌};
+ghost use Rattle.std.specs.Prelude.{◌≡◌, ◌<◌, ◌==◌, IfSome, length, slice_index};
+ghost use Rattle.std.specs.List.{position};
 ghost use Rattle.lp_relay_program.specs.Words.{are_at_odds, are_inputs, asked_cut, asked_dialect, asked_request, asked_task, cut_task, decimal, faults_form};
 ghost use Rattle.lp_relay_program.specs.Words.{asked_range, first_named, first_number, first_offset, given_settings, is_one_if, is_json, names_file, names_input, names_lines, told_form};
 ghost use Rattle.lp_relay_program.specs.Words.{nothing_given, range_between, range_end, request_of, with_flag, with_value};
@@ -352,15 +353,24 @@ fn range_between(from: &str, to: &str) -> Option<Range>
     Some(Range { from, to })
 }
 
+// The place of the first dot.
+fn first_dot(word: &[u8]) -> Option<usize>
+    ensures place { result ≡ position (λ b. b == 46) word.now }
+    ensures dot { IfSome result (λ at. (at < length word.now) × (slice_index word.now at ≡ 46)) }
+{
+    word.iter().position(|byte| *byte == b'.')
+}
+
 // The range that a word writes: two places, with two dots between them.
 fn range_of(word: &str) -> Option<Range>
     ensures { result ≡ asked_range word.now }
 {
-    let at = word.as_bytes().iter().position(|byte| *byte == b'.')?;
-    if word.len() - at < 2 || word.as_bytes()[at + 1] != b'.' {
+    let at = first_dot(word.as_bytes())?;
+    let next = at + 1;
+    if next >= word.len() || word.as_bytes()[next] != b'.' {
         return None;
     }
-    range_between(&word[..at], &word[at + 2..])
+    range_between(&word[..at], &word[next + 1..])
 }
 
 // Whether there is one word, if that is asked for.

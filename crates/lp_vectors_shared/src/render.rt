@@ -9,10 +9,9 @@ use std::borrow::CowStr;
 /// A name: `S` and its text if it is a part of the input or a fixed text, and `C` if it is a
 /// copy.
 pub fn name(alloc: Global, name: &EscapedStr<'_>) -> Result<String, AllocError> {
-    let text = name.as_str();
     match name {
-        EscapedStr::SingleSlice(_) => format!(in alloc; "S<{text}>"),
-        EscapedStr::CopiedValue(_) => format!(in alloc; "C<{text}>"),
+        EscapedStr::SingleSlice(_) => format!(in alloc; "S<{name}>"),
+        EscapedStr::CopiedValue(_) => format!(in alloc; "C<{name}>"),
     }
 }
 

@@ -1,0 +1,124 @@
+//! What the callers that read and write again give for a text, printed.
+
+use crate::admitted::append;
+use crate::again::{Tally, tally_of};
+use crate::bases::lines_by_series;
+use crate::keys::{host, is_of_host};
+use crate::numbers::whole_number;
+use crate::pulled::first_fault;
+use crate::rebuilt::cleaned;
+use crate::strict::faults_in;
+use crate::tagged::count_tagged;
+use crate::values::{number, text};
+use crate::written::write_again;
+use influxdb_line_protocol::builder::NoRoom;
+use influxdb_line_protocol::{Dialect, LineProtocolBuilder, ParsedLine, parse_lines};
+use std::alloc::Global;
+use std::io;
+
+// What is asked of a line: the numbers and the text of its field `a`, and its host.
+fn print_line(rt: &impl Print, line: &ParsedLine<'_>) -> io::Result<()> {
+    let whole = whole_number(line, "a");
+    let value = line.field_value("a");
+    let number = value.and_then(number);
+    let text = value.and_then(text);
+    let (host, is_of_a) = (host(line), is_of_host(line, "A"));
+    println!(rt;
+        "{}: {whole:?}, {number:?}, {text:?}, {host:?}, {is_of_a}",
+        line.series
+    )
+}
+
+// What is asked of each line.
+fn print_each(rt: &impl Print, alloc: Global, text: &str) -> io::Result<()> {
+    for item in parse_lines(alloc, text) {
+        if let Ok(line) = &item {
+            print_line(rt, line)?;
+        }
+    }
+    Ok(())
+}
+
+// How many lines each series has.
+fn print_series(rt: &impl Print, alloc: Global, text: &str) -> io::Result<()> {
+    match lines_by_series(alloc, text) {
+        Ok(counts) => {
+            for (base, count) in counts.iter() {
+                println!(rt; "{base}: {count}")?;
+            }
+            Ok(())
+        }
+        Err(fault) => println!(rt; "no series: {fault}"),
+    }
+}
+
+// The lines of a text that read back, written again.
+fn written(alloc: Global, text: &str) -> Result<Vec<u8>, NoRoom> {
+    let mut lines = LineProtocolBuilder::new(alloc);
+    for item in parse_lines(alloc, text) {
+        if let Ok(line) = &item {
+            if line.field_set.len() > 0 {
+                lines = write_again(lines, line)?;
+            }
+        }
+    }
+    Ok(lines.build())
+}
+
+// The same, and how many lines were left out.
+fn appended(alloc: Global, text: &str) -> Result<(Vec<u8>, u64), NoRoom> {
+    let mut lines = LineProtocolBuilder::new(alloc);
+    let mut left_out = 0;
+    for item in parse_lines(alloc, text) {
+        if let Ok(line) = &item {
+            lines = append(lines, line, &mut left_out)?;
+        }
+    }
+    Ok((lines.build(), left_out))
+}
+
+// What is written of a text.
+fn print_written(rt: &impl Print, alloc: Global, text: &str) -> io::Result<()> {
+    if let Ok(lines) = written(alloc, text) {
+        println!(rt; "written <{}>", lines.as_slice().escape_ascii())?;
+    }
+    if let Ok((lines, left_out)) = appended(alloc, text) {
+        println!(rt;
+            "appended <{}>, {left_out} left out",
+            lines.as_slice().escape_ascii()
+        )?;
+    }
+    let cleaned = cleaned(alloc, text)?;
+    let (batch, faults) = (cleaned.batch.as_slice(), cleaned.faults.as_slice());
+    println!(rt; "carried {} <{}>", cleaned.carried, batch.escape_ascii())?;
+    println!(rt; "refused {} <{}>", cleaned.refused, faults.escape_ascii())
+}
+
+// The first fault of a text.
+fn print_fault(rt: &impl Print, text: &str) -> io::Result<()> {
+    match first_fault(text) {
+        Some(fault) => println!(rt; "first fault: {fault}"),
+        None => println!(rt; "no fault"),
+    }
+}
+
+// How many fields, faults and tagged lines a text has.
+fn print_counts(rt: &impl Print, alloc: Global, text: &str) -> io::Result<()> {
+    let Tally { fields, faults } = tally_of(alloc, text);
+    let by_crate = faults_in(alloc, Dialect::Crate, text);
+    let by_strict = faults_in(alloc, Dialect::Strict, text);
+    let spaced = count_tagged(text, "t", "a b");
+    let plain = count_tagged(text, "t", "a");
+    println!(rt; "{fields} fields, {faults} faults: {by_crate} by the crate, {by_strict} strict")?;
+    println!(rt; "{spaced} lines with t=a b, {plain} with t=a")
+}
+
+/// Prints what the callers give for a text.
+pub fn print_answers(rt: &impl Print, alloc: Global, text: &str) -> io::Result<()> {
+    println!(rt; "\ntext <{}>", text.as_bytes().escape_ascii())?;
+    print_each(rt, alloc, text)?;
+    print_counts(rt, alloc, text)?;
+    print_fault(rt, text)?;
+    print_series(rt, alloc, text)?;
+    print_written(rt, alloc, text)
+}
