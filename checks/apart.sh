@@ -4,8 +4,8 @@
 #
 #   checks/apart.sh [RELAY]
 #
-# RELAY: a built lp_relay, which then relays files in parts too, also by random options, and with `split`. SEED: the number that the last line tells, to try
-# the same options again.
+# RELAY: a built lp_relay, which then relays files in parts too, also by random options, with `split`, and by checks/ranges.py. SEED: the
+# number that these tell, to try the same options and texts again.
 # shellcheck disable=SC2016
 set -eu
 top=$(cd "$(dirname "$0")/.." && pwd)
@@ -306,6 +306,8 @@ for _ in $(seq 24); do
     compare "${inputs[RANDOM % 3]}" $((2 + RANDOM % 63)) $options
 done
 echo "apart: a relay's parts give what the whole gives, also its faults, in $compared runs, by random options of SEED=$seed"
+
+python3 -B "$top/checks/ranges.py" "$relay" "$seed"
 
 # Where each newline ends a line, parts that `split` cuts give the same lines, and the same faults but for their numbers.
 export relay

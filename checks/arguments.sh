@@ -288,7 +288,7 @@ cp "$work/out" "$work/help"
 wanted 0 "$(cat "$work/help")$newline" "" -h
 # Each option begins a line of its own.
 for option in $(options); do
-    if ! grep -qE "^  $option( [A-Z]+)?(, -[a-z])?(  |$)" "$work/help"; then
+    if ! grep -qE "^  $option( [A-Z.]+)?(, -[a-z])?(  |$)" "$work/help"; then
         echo "arguments: --help does not say what $option does"
         exit 1
     fi
@@ -461,9 +461,44 @@ given 2 'm b=2i\n' "b: item 2: $x\n${unread}none: $none\n" --summary b none
 given 0 '14\n16\n' '' --cut 2 a b
 given 0 '7\n14\n' '' --strict --cut 2 - c
 given 2 '' "${unread}none: $none\n" --cut 2 a none
+given 2 '' "${unread}none: $none\n" --cut 2 none
+given 2 '' "${unread}d: Is a directory (os error 21)\n" --cut 2 d
+given 0 '0\n6\n' '' --cut 2 a
+given 0 '0\n0\n' '' --cut 2 e
+given 0 '7\n9\n' '' --newline-delimited --cut 2 b
+given 2 '' "lp_relay: --cut takes from 1 to 1000000 parts, not 0\n" --cut 0 a
+given 2 '' "lp_relay: --cut takes from 1 to 1000000 parts, not 1000001\n" --strict --cut 1000001 a b
+given 0 'm b=2i\n' '' --range 0..7 b
+given 1 '' "item 1: $x\n" --range 7.. b
+given 1 '' "line 12: $x\n" --range 7..9 --first-line 12 b
+given 1 '' '{"item":1,"line":1,"offset":7,"piece_line":1,"piece_offset":7,"kind":"generic_parsing_error","text":"'"$x"'","stop_line":1,"stop_column":2}\n' \
+    --faults json --range 7.. b
+given 1 'm d=5i\n' "item 2: $x\n" --newline-delimited --range 7.. open
+given 0 '' '' --range 9..9 b
+given 0 '' '' --range 9.. b
+given 0 '' '' --range 000.. e
+given 0 'm s=4i\n' '7 bytes, 1 lines, 1 items: 1 carried, 0 refused\n' --range 0..7 --summary -
+given 2 '' "lp_relay: the range 7..6 ends before it begins\n" --range 7..6 b
+given 2 '' "lp_relay: the range 7..6 ends before it begins\n" --range 7..6 none
+given 2 '' "lp_relay: the range goes past the 9 bytes of b\n" --range 7..10 b
+given 2 '' "lp_relay: the range goes past the 9 bytes of b\n" --range 10.. b
+given 2 '' "lp_relay: the range goes past the 7 bytes of standard input\n" --range 8.. -
+given 2 '' "lp_relay: --range reads a regular file, which this is not: d\n" --range 0.. d
+given 2 '' "${unread}none: $none\n" --range 0..7 none
+for range in "" 7 7. . .. ..7 7...8 7..x x..7 7..-1 +1..2 7..18446744073709551616; do
+    given 2 '' "$usage" --range "$range" b
+done
+given 2 '' "$usage" --range 0..
+given 2 '' "$usage" --range 0..7 a b
+given 2 '' "$usage" --range 0..7 --range 0..7 b
 for name in $(seq 300); do printf 'm f=%si' "$name" >"$work/many-$name"; printf 'm f=%si\n' "$name"; done >"$work/many"
 given 0 "$(cat "$work/many")\\n" '' $(seq -f "$work/many-%g" 300)
 given 0 "$(cat "$work/many")\\n" '' --max-line 8 $(seq -f "$work/many-%g" 300)
+told=$(printf 'm a=1i\n' | "$relay" --range 0.. - 2>&1) && status=0 || status=$?
+if [ "$status $told" != "2 lp_relay: --range reads a regular file, which this is not: standard input" ]; then
+    echo "arguments: of a range of a pipe the status is $status, and lp_relay says: $told"
+    exit 1
+fi
 echo "arguments: lp_relay reads files, in $files ways"
 
 files=0

@@ -5,16 +5,20 @@
 ghost use Rattle.std.specs.Prelude.{◌≡◌, None};
 
 use crate::endings::{Device, Devices};
-use crate::inputs::shorter;
 use lp_rebuild::DeviceFault;
 use lp_relay::ReadAt;
 use std::cell::Cell;
 use std::fs::File;
-use std::io::{self, Read, Write};
+use std::io::{self, ErrorKind, Read, Write};
 use std::os::unix::fs::FileExt;
 
 /// The devices of a run with the errors that they have so far.
 pub(crate) type LastErrors<'n> = Devices<Cell<Device<'n>>>;
+
+/// The error of a file that ends before the bytes that it was said to have.
+pub(crate) fn shorter() -> io::Error {
+    io::Error::from(ErrorKind::UnexpectedEof)
+}
 
 // A device that has not failed so far, which is the file of this name, if it has one.
 fn device<'n>(name: Option<&'n str>) -> Cell<Device<'n>> {

@@ -5,11 +5,12 @@ ghost use Rattle.std.specs.Io.KnownBytes.{ReadConsumes};
 ghost use Rattle.lp_relay_program.specs.Inputs.{ReadsOn, ReadsOne, texts_left};
 
 use crate::endings::Device;
+use crate::errors::shorter;
 use crate::places::path_of;
 use crate::words::Range;
 use std::cell::Cell;
 use std::fs::File;
-use std::io::{self, ErrorKind, Read, Seek, SeekFrom, Stdin, Take};
+use std::io::{self, Read, Seek, SeekFrom, Stdin, Take};
 
 /// What opens inputs.
 ///
@@ -101,11 +102,6 @@ pub enum SystemInput {
     Part(Take<File>),
 }
 
-/// The error of a file that ends before the bytes that it was said to have.
-pub(crate) fn shorter() -> io::Error {
-    io::Error::from(ErrorKind::UnexpectedEof)
-}
-
 // Reads a part of a file, which is an error where the file ends before the part does.
 fn read_part(part: &mut Take<File>, buf: &mut [u8]) -> io::Result<usize>
     ensures bound { ReadsAtMost result buf.new }
@@ -152,7 +148,10 @@ impl<'a, 'n> SystemOpener<'a, 'n> {
         let mut file = File::open(self.rt, path)?;
         file.seek(SeekFrom::Start(range.from as u64))?;
         match range.to {
-            Some(to) => Ok(SystemInput::Part(file.take((to as u64).saturating_sub(range.from as u64)))),
+            Some(to) => {
+                let len = to.saturating_sub(range.from);
+                Ok(SystemInput::Part(file.take(len as u64)))
+            }
             None => Ok(SystemInput::File(file)),
         }
     }

@@ -119,7 +119,11 @@ pub(crate) fn len_at(rt: &HostRuntime, path: &str) -> Option<usize> {
 }
 
 /// Why a range of the input of this name is refused, if it is. That no file is there is told once it is opened.
-pub(crate) fn range_refusal_at<'a>(rt: &HostRuntime, range: Range, name: &'a str) -> Option<Refusal<'a>> {
+pub(crate) fn range_refusal_at<'a>(
+    rt: &HostRuntime,
+    range: Range,
+    name: &'a str,
+) -> Option<Refusal<'a>> {
     refusal_of_range(range, name, len_at(rt, path_of(name)))
 }
 

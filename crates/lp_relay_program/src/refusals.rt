@@ -111,9 +111,10 @@ pub fn refusal_of_range<'a>(range: Range, name: &'a str, len: Option<usize>) -> 
     if is_backwards(range) {
         return Some(Refusal::RangeIsBackwards(range));
     }
+    let end = range.to.unwrap_or(range.from);
     match len {
         None => Some(Refusal::RangeOfNoFile(name)),
-        Some(len) if len < range.to.unwrap_or(range.from) => Some(Refusal::RangeIsPastEnd(name, len)),
+        Some(len) if len < end => Some(Refusal::RangeIsPastEnd(name, len)),
         Some(_) => None,
     }
 }
