@@ -114,7 +114,7 @@ static void writes_fail(bool is_relay, int device, size_t step) {
     const size_t len = strlen(INPUT), batch = strlen(BATCH), faults = strlen(FAULTS), whole = device == OUT ? batch : faults;
     all_go_by_bytes();
     run_stepped(is_relay, "", INPUT, len);
-    for (size_t at = 1, last = (size_t)calls_of(device); at <= last; at++) {
+    for (size_t at = 1, last = is_relay ? (size_t)calls_of(device) : whole + 1; at <= last; at++) {
         go_by_bytes(device, at, step);
         run_stepped(is_relay, "", INPUT, len);
         const bool is_flush = is_relay ? ended == END : at > whole;

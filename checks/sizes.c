@@ -282,6 +282,7 @@ static uint64_t ends[ENTRIES], count;
 static void call_pieces(const uint8_t *text, size_t len) { count = lp_checks_pieces(false, text, len, out, ROOM, ends, ENTRIES); }
 static void call_streamed(const uint8_t *text, size_t len) { count = lp_checks_streamed(false, text, len, 64, out, ROOM, ends, ENTRIES); }
 static void call_items(const uint8_t *text, size_t len) { count = lp_checks_items(false, text, len, out, ROOM, ends, ENTRIES); }
+static void call_reused(const uint8_t *text, size_t len) { count = lp_checks_reused(text, len, out, ROOM, ends, ENTRIES); }
 static void call_events(const uint8_t *text, size_t len) { count = lp_checks_events(false, text, len, out, ROOM, ends, ENTRIES); }
 static void call_pulled(const uint8_t *text, size_t len) { count = lp_checks_pulled(false, text, len, out, ROOM, ends, ENTRIES); }
 static void call_bases(const uint8_t *text, size_t len) { count = lp_checks_bases(text, len, out, ROOM, ends, ENTRIES); }
@@ -302,7 +303,7 @@ static void call_relay(const uint8_t *text, size_t len) {
 static const struct { const char *name; growth_call *call; } CALLS[] = {
     {"pieces", call_pieces}, {"pieces of parts", call_streamed}, {"items", call_items}, {"events", call_events},
     {"pulled events", call_pulled}, {"bases", call_bases}, {"shown lines", call_shown}, {"a rebuild", call_rebuild}, {"a run", call_run},
-    {"a relay", call_relay},
+    {"a relay", call_relay}, {"items by one line", call_reused},
 };
 
 static const struct { const char *name; struct growth growth; } TEXTS[] = {
@@ -320,7 +321,7 @@ static const struct { const char *name; struct growth growth; } TEXTS[] = {
 };
 
 /* Calls of CALLS that must give the same: the second gives what the first does. */
-static const int SAME[][2] = {{0, 1}, {2, 3}, {2, 4}};
+static const int SAME[][2] = {{0, 1}, {2, 3}, {2, 4}, {2, 10}};
 
 static void fail_growing(const char *name, const char *call, const char *what) {
     fprintf(stderr, "sizes: %s of many %s: %s\n", call, name, what);
