@@ -2,7 +2,7 @@
 
 use influxdb_line_protocol::{Dialect, FloatText, ParsedLine, is_as_written_in, parse_lines_in};
 use lp_rebuild::{Kept, rebuild_in, run_in, status};
-use lp_vectors_shared::render;
+use lp_vectors::render;
 use std::alloc::{AllocError, Global};
 
 /// The words for what a row asks of its text.

@@ -6,7 +6,7 @@ mod answers;
 
 use answers::{KINDS, answer};
 use influxdb_line_protocol::Dialect;
-use lp_vectors_shared::rows::{Table, compare, text_of, unless_same};
+use lp_vectors::rows::{Table, compare, text_of, unless_same};
 use std::alloc::{AllocError, Global};
 use std::process::ExitCode;
 

@@ -2,7 +2,7 @@
 
 use influxdb_line_protocol::Dialect;
 use lp_relay::{Faults, LineForm, Numbering, Settings};
-use lp_vectors_shared::rows::number_of;
+use lp_vectors::rows::number_of;
 
 const ALL: &[Dialect] = &[Dialect::Crate, Dialect::Strict, Dialect::NewlineDelimited];
 

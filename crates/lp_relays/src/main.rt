@@ -12,7 +12,7 @@ mod ways;
 
 use asked::{Asked, asked_by};
 use lp_relay::Settings;
-use lp_vectors_shared::rows::{Table, compare, number_of, text_of};
+use lp_vectors::rows::{Table, compare, number_of, text_of};
 use numbers::with_numbers;
 use std::alloc::{AllocError, Global};
 use std::process::ExitCode;

@@ -5,8 +5,8 @@ use crate::ways::{Way, relayed, ways};
 use influxdb_line_protocol::Dialect;
 use lp_rebuild::{Rebuilt, rebuild_in};
 use lp_relay::{Settings, part_ends};
-use lp_vectors_shared::random::Random;
-use lp_vectors_shared::short_texts::{COUNTS, short_text};
+use lp_vectors::random::Random;
+use lp_vectors::short_texts::{COUNTS, short_text};
 use std::alloc::{AllocError, Global};
 
 // A text that comes so is relayed as it was rebuilt.

@@ -1,6 +1,6 @@
 //! Why a row is not as it says.
 
-use lp_vectors_shared::rows::unless_same;
+use lp_vectors::rows::unless_same;
 use std::alloc::{AllocError, Global};
 
 /// Why a row is not as it says.

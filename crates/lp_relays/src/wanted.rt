@@ -5,7 +5,7 @@ use crate::unlike::{Unlike, same};
 use crate::ways::{Blocks, Wrote, relayed, relayed_each, ways};
 use lp_rebuild::{Kept, Rebuilt, RunFault, rebuild_in, run_in, status};
 use lp_relay::{KINDS, Relayed};
-use lp_vectors_shared::rows::text_of;
+use lp_vectors::rows::text_of;
 use std::alloc::{AllocError, Global};
 
 // What is given, in the order of the cells.

@@ -2,7 +2,7 @@
 
 use lp_rebuild::{DeviceFault, Kept, RunFault, Source};
 use lp_relay::{Inputs, Outputs, Relayed, Settings, relay, relay_inputs};
-use lp_vectors_shared::cuts::CutSource;
+use lp_vectors::cuts::CutSource;
 use std::alloc::{AllocError, Global};
 
 /// How a text comes.
@@ -10,7 +10,7 @@ use std::alloc::{AllocError, Global};
 pub enum Way {
     /// So many bytes at each read.
     Reads(usize),
-    /// In parts, as [`Parts`](lp_vectors_shared::cuts::Parts) cuts it.
+    /// In parts, as [`Parts`](lp_vectors::cuts::Parts) cuts it.
     Cut(u64),
 }
 

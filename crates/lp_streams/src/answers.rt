@@ -1,8 +1,8 @@
 //! What streams give, spelled as the file of rows says at its head.
 
 use influxdb_line_protocol::{Dialect, PieceTooLong, split_lines_in};
-use lp_vectors_shared::rows::unless_same;
-use lp_vectors_shared::streams::AnyStream;
+use lp_vectors::rows::unless_same;
+use lp_vectors::streams::AnyStream;
 use std::alloc::{AllocError, Global};
 
 /// Why a row is not as it says.

@@ -2,8 +2,8 @@
 
 use crate::answers::{Asked, Wrong, put_answer, put_piece};
 use influxdb_line_protocol::LineStream;
-use lp_vectors_shared::rows::text_of;
-use lp_vectors_shared::streams::AnyStream;
+use lp_vectors::rows::text_of;
+use lp_vectors::streams::AnyStream;
 use std::alloc::{AllocError, Global};
 use std::str::Utf8Error;
 

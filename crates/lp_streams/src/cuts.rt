@@ -2,10 +2,10 @@
 
 use crate::answers::{Asked, Wrong};
 use influxdb_line_protocol::split_lines_in;
-use lp_vectors_shared::cuts::Parts;
-use lp_vectors_shared::random::Random;
-use lp_vectors_shared::short_texts::{COUNTS, short_text};
-use lp_vectors_shared::streams::{AnyStream, takes_answers, takes_last_answer};
+use lp_vectors::cuts::Parts;
+use lp_vectors::random::Random;
+use lp_vectors::short_texts::{COUNTS, short_text};
+use lp_vectors::streams::{AnyStream, takes_answers, takes_last_answer};
 use std::alloc::AllocError;
 
 // A stream that holds nothing, and how many texts it was given.

@@ -8,7 +8,7 @@ mod cuts;
 mod rows;
 
 use answers::Wrong;
-use lp_vectors_shared::rows::{Table, compare};
+use lp_vectors::rows::{Table, compare};
 use rows::{KINDS, compare_row};
 use std::alloc::{AllocError, Global};
 use std::process::ExitCode;

@@ -4,8 +4,8 @@ use crate::answers::{Asked, Wrong};
 use crate::calls::calls;
 use crate::cuts::{random_texts, short_texts};
 use influxdb_line_protocol::Dialect;
-use lp_vectors_shared::render;
-use lp_vectors_shared::rows::{number_of, text_of};
+use lp_vectors::render;
+use lp_vectors::rows::{number_of, text_of};
 use std::alloc::{AllocError, Global};
 
 /// The words for what a row asks.

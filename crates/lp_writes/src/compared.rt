@@ -1,6 +1,6 @@
 //! What differs first of what a row asks for.
 
-use lp_vectors_shared::rows::unless_same;
+use lp_vectors::rows::unless_same;
 use std::alloc::{AllocError, Global};
 
 /// Compares one thing after another.

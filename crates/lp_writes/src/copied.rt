@@ -6,9 +6,9 @@ use crate::compared::Compared;
 use influxdb_line_protocol::{
     Dialect, EscapedStr, EventSink, FieldValue, Spelled, SpelledFault, SpelledValue, read_events_in,
 };
-use lp_vectors_shared::fault::Fault;
-use lp_vectors_shared::render;
-use lp_vectors_shared::rows::text_of;
+use lp_vectors::fault::Fault;
+use lp_vectors::render;
+use lp_vectors::rows::text_of;
 use std::alloc::Global;
 
 // A name that is held so is copied as it is, and given as this `String`.

@@ -9,8 +9,8 @@ mod shown;
 mod written;
 
 use compared::Compared;
-use lp_vectors_shared::fault::Fault;
-use lp_vectors_shared::rows::{Table, compare};
+use lp_vectors::fault::Fault;
+use lp_vectors::rows::{Table, compare};
 use std::alloc::{AllocError, Global};
 use std::process::ExitCode;
 

@@ -3,11 +3,11 @@
 use influxdb_line_protocol::{
     EscapedStr, FieldSet, FieldValue, FloatText, ParsedLine, Series, TagSet,
 };
-use lp_vectors_shared::building::{
+use lp_vectors::building::{
     Begun, Lines, Whole, closed, closed_at, next_begun, tagged, with_field, with_next_field,
 };
-use lp_vectors_shared::fault::Fault;
-use lp_vectors_shared::rows::text_of;
+use lp_vectors::fault::Fault;
+use lp_vectors::rows::text_of;
 use std::alloc::Global;
 
 // What the second cell of a pair spells.

@@ -2,10 +2,10 @@
 
 use crate::compared::Compared;
 use crate::points;
-use lp_vectors_shared::fault::Fault;
-use lp_vectors_shared::given::series;
-use lp_vectors_shared::render;
-use lp_vectors_shared::rows::{number_of, text_of};
+use lp_vectors::fault::Fault;
+use lp_vectors::given::series;
+use lp_vectors::render;
+use lp_vectors::rows::{number_of, text_of};
 use std::alloc::{AllocError, Global};
 
 /// A value is shown so.

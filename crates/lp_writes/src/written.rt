@@ -7,11 +7,11 @@ use influxdb_line_protocol::{
     Dialect, LineProtocolBuilder, ParsedLine, is_admitted, write_admitted_line,
     write_admitted_line_in, write_line,
 };
-use lp_vectors_shared::building::{Lines, closed, next_begun, with_field};
-use lp_vectors_shared::fault::Fault;
-use lp_vectors_shared::given::{accepted, parsed};
-use lp_vectors_shared::render;
-use lp_vectors_shared::rows::{number_of, text_of};
+use lp_vectors::building::{Lines, closed, next_begun, with_field};
+use lp_vectors::fault::Fault;
+use lp_vectors::given::{accepted, parsed};
+use lp_vectors::render;
+use lp_vectors::rows::{number_of, text_of};
 use std::alloc::Global;
 
 // What `write_line` makes of a line.

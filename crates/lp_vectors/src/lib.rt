@@ -1,4 +1,4 @@
-//! What the crates of tests share: the fault that a test ends with, items as text, texts in parts.
+//! What the programs over tables of rows share: how a row is spelled, the fault that a run ends with, items as text, texts in parts.
 #![tactic(auto)]
 
 pub mod building;
