@@ -3,12 +3,14 @@
 
 uint64_t lp_bench_stream(const uint8_t *text, size_t len, size_t part_len);
 uint64_t lp_bench_relay(const uint8_t *text, size_t len, size_t part_len);
+uint64_t lp_bench_relay_newline_delimited(const uint8_t *text, size_t len, size_t part_len);
 
 enum { BLOCK = 1 << 16 };
 
 static uint64_t stream(const uint8_t *text, size_t len) { return lp_bench_stream(text, len, BLOCK); }
 static uint64_t stream_bytes(const uint8_t *text, size_t len) { return lp_bench_stream(text, len, 1); }
 static uint64_t relay(const uint8_t *text, size_t len) { return lp_bench_relay(text, len, BLOCK); }
+static uint64_t relay_lines(const uint8_t *text, size_t len) { return lp_bench_relay_newline_delimited(text, len, BLOCK); }
 static uint64_t relay_bytes(const uint8_t *text, size_t len) { return lp_bench_relay(text, len, 1); }
 
 const struct call calls[] = {
@@ -16,6 +18,7 @@ const struct call calls[] = {
     { "stream bytes", stream_bytes },
     { "relay", relay },
     { "relay bytes", relay_bytes },
+    { "relay newline-delimited", relay_lines },
     { NULL, NULL },
 };
 

@@ -3,7 +3,7 @@
 
 ghost use Rattle.influxdb_line_protocol.specs.format.Pieces.{IsLastPiece};
 
-use influxdb_line_protocol::LineStream;
+use influxdb_line_protocol::{Dialect, LineStream};
 use lp_rebuild::program::BLOCK;
 use lp_rebuild::{DeviceFault, Sink, Source};
 use lp_relay::{Nowhere, Outputs, Settings, relay};
@@ -92,6 +92,17 @@ impl Sink for Room {
 /// Relays a text that comes in parts of so many bytes, and gives the number of bytes written; 0 if memory was refused.
 #[unsafe(no_mangle)]
 pub extern "C" fn lp_bench_relay(alloc: Global, text: &[u8], len: usize) -> u64 {
+    relayed(alloc, Dialect::Crate, text, len)
+}
+
+/// The same by the rules of the newline-delimited dialect.
+#[unsafe(no_mangle)]
+pub extern "C" fn lp_bench_relay_newline_delimited(alloc: Global, text: &[u8], len: usize) -> u64 {
+    relayed(alloc, Dialect::NewlineDelimited, text, len)
+}
+
+// Relays a text by the rules of a dialect.
+fn relayed(alloc: Global, dialect: Dialect, text: &[u8], len: usize) -> u64 {
     let mut reader = InParts { left: text, len };
     let lines = Room {
         bytes: [0; BLOCK],
@@ -103,7 +114,11 @@ pub extern "C" fn lp_bench_relay(alloc: Global, text: &[u8], len: usize) -> u64 
         faults: Nowhere::new(),
         refused: Nowhere::new(),
     };
-    match relay(alloc, Settings::default(), &mut reader, &mut outputs) {
+    let settings = Settings {
+        dialect,
+        ..Settings::default()
+    };
+    match relay(alloc, settings, &mut reader, &mut outputs) {
         Ok(_) => outputs.lines.written,
         Err(_) => 0,
     }
