@@ -608,8 +608,9 @@ pub extern "C" fn lp_checks_relay(
 }
 
 /// Runs over bytes, or relays them if `is_relay` is set, by the settings that `letters` spell, over a reader and two writers of std. Each
-/// of the three does at its calls what its steps say, as `steps` has it. `reads` gets how many calls the reader had, and what is told
-/// of each writer how many bytes it holds, how many calls it had, and how many of them were flushes. The answer is that of `lp_checks_run`.
+/// of the three does at its calls what its steps say, as `steps` has it. `reads` counts the calls of the reader. What is told of each
+/// writer counts the bytes that it holds, its calls, and those of them that were flushes. All counts go on from what is there. The
+/// answer is that of `lp_checks_run`.
 #[unsafe(no_mangle)]
 pub extern "C" fn lp_checks_stepped(
     alloc: Global,
