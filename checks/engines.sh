@@ -77,9 +77,9 @@ wanted_of lines --strict --lines
 cat >stops <<STOPS
 #!/bin/sh
 PATH=/usr/bin:/bin
-case " \$* " in *" --cut "*) exec "$relay" "\$@" ;; esac
-if ! [ /dev/stdin -ef /dev/null ] && mkdir "$work/first" 2>/dev/null; then
-    head -c 3000000 | "$relay" "\$@"
+case " \$* " in *" --cut "*) exec "$relay" "\$@" ;; *" --range "*) ranged=yes ;; *) ranged= ;; esac
+if { [ "\$ranged" ] || ! [ /dev/stdin -ef /dev/null ]; } && mkdir "$work/first" 2>/dev/null; then
+    if [ "\$ranged" ]; then "$relay" "\$@" | head -c 3000000; else head -c 3000000 | "$relay" "\$@"; fi
     [ ! -e "$work/fails" ] || exit 2
     echo \$\$ >"$work/first/of"
     mv "$work/first/of" "$work/first/pid"
