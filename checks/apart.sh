@@ -141,7 +141,7 @@ done
 CUTS="seq 19 30"
 RELAYS='echo >>running; tries=0; while [ "$(wc -l <running)" -lt 12 ] && [ $tries -lt 100 ]; do sleep 0.1; tries=$((tries + 1)); done
 [ $tries -lt 100 ] || exit 2; cat'
-wanted 0 "$text" "" "$apart" "$file" 12
+wanted 0 "$text" "" env LP_JOBS=12 "$apart" "$file" 12
 # A hundred parts, of which the last one has all.
 CUTS="yes 0 | head -n 99; echo 30"
 RELAYS="cat"
@@ -192,7 +192,7 @@ CUTS=$cuts
 # A relay that fails, at the third part. What the parts before it gave was put out.
 relays_wanted() {
     RELAYS=$1
-    wanted 2 "first line" "$2" "$apart" "$file" 4
+    wanted 2 "${3-first line}" "$2" "$apart" "$file" 4
 }
 relays_wanted 'text=$(cat); case $text in ,*) printf "%s\n" "item 1: no line" "lp_relay: why" >&2; exit 2 ;; *) printf %s "$text" ;; esac' \
     "apart: part 3: the status of the relay is 2"
@@ -200,17 +200,17 @@ grep -qx 'part 3, item 1: no line' err
 grep -qx 'part 3, lp_relay: why' err
 relays_wanted 'text=$(cat); case $text in ,*) kill -9 $$ ;; *) printf %s "$text" ;; esac' \
     "apart: part 3: the status of the relay is 137"
-# So does a relay that tells no counts, and one that fails, or counts otherwise, when the part is relayed once more.
+# So does a relay that tells no counts, and one that fails, or counts otherwise, when the part is relayed once more: all lines came before.
 COUNTS=:
 relays_wanted 'text=$(cat); printf %s "$text"; case $text in ,*) ;; *) status=0; eval "$counts" >&2 ;; esac' \
     "apart: part 3: its counts are not known"
 relays_wanted 'text=$(cat); printf %s "$text"; echo "item $first: no line" >&2; status=1
 case $text$again in ,*yes) echo "7 bytes, 1 lines, 2 items: 1 carried, 1 refused" >&2 ;; *) eval "$counts" >&2 ;; esac; exit 1' \
-    "apart: part 3: a second relay counts otherwise"
+    "apart: part 3: a second relay counts otherwise" "$text"
 COUNTS=$counts
 relays_wanted 'text=$(cat); printf %s "$text"; echo "item $first: no line" >&2
 case $text$again in ,*yes) echo "lp_relay: why" >&2; exit 2 ;; esac; exit 1' \
-    "apart: part 3: the status of the relay is 2"
+    "apart: part 3: the status of the relay is 2" "$text"
 faults_wanted "item 1: no line
 item 2: no line
 part 3, item 3: no line
@@ -242,7 +242,7 @@ to_a_closed_pipe() { "$apart" "$file" 4 | head -c 1; return "${PIPESTATUS[0]}"; 
 wanted 2 y "apart: the output cannot be written" to_a_closed_pipe
 faults_to_full() { "$apart" "$file" 4 2>/dev/full; }
 RELAYS='cat; echo "item 1: no line" >&2; exit 1'
-wanted 2 "first line" "" faults_to_full
+wanted 2 "$text" "" faults_to_full
 if [ -n "$(ls -A waiting)" ]; then
     echo "apart: a run has left $(ls -A waiting) in TMPDIR"
     exit 1

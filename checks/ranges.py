@@ -92,6 +92,18 @@ def walk(relay, number, seed):
     return ranges + 1
 
 
+def worked(relay, folder):
+    """Cuts that are worked by hand: what the parts before and after a newline give is what the text gives, just if it ends a piece."""
+    for dialect, text, is_same in (DIALECTS[1], b"m a=1i\nx\nn b=2i\n", True), (DIALECTS[1], b'm s="a\nb"\n', False), (DIALECTS[2], b'm s="a\nb"\n', True):
+        file = os.path.join(folder, "text")
+        with open(file, "wb") as made:
+            made.write(text)
+        at = text.index(b"\n") + 1
+        parts = b"".join(run(relay, [*dialect, "--range", part, file]).stdout for part in (f"0..{at}", f"{at}.."))
+        if (parts == run(relay, [*dialect, file]).stdout) != is_same:
+            raise Fault(f"{dialect}: of {text!r}, cut at {at}, the parts give {parts!r}")
+
+
 def becomes_shorter(relay, folder):
     """A file becomes shorter while a range of it is relayed: that is told, and what came before it is written."""
     file = os.path.join(folder, "long")
@@ -114,6 +126,7 @@ def main():
         with ThreadPoolExecutor(os.cpu_count()) as pool:
             ranges = sum(pool.map(lambda number: walk(relay, number, seed), range(301)))
         with tempfile.TemporaryDirectory() as folder:
+            worked(relay, folder)
             becomes_shorter(relay, folder)
     except Fault as fault:
         sys.exit(f"ranges: {fault}; SEED={seed}")

@@ -1,25 +1,29 @@
 #!/usr/bin/env bash
-# Relays a file by several processes at once, each of which takes a part of it.
+# Relays a file in parts, by as many processes at once as there are processors.
 #
 #   examples/apart.sh FILE PARTS [OPTION..] >again.lp 2>faults
 #
 # FILE: a regular file, since it is read more than once. PARTS: 1 to 999. The options are those of a relay, as `lp_relay --help`
 # lists them, but for --output, --refused, --first-item and --first-line, and no other files. LP_RELAY: the program, by default
-# ../lp_relay of this script. TMPDIR: where the outputs wait for their turn.
+# ../lp_relay of this script. LP_JOBS: how many processes, if not as many as there are processors. TMPDIR: where the outputs wait for
+# their turn.
 #
-# Both outputs are what one lp_relay writes. A part that refused something is relayed a second time, to check alone, once the counts
-# of the parts before it tell the number of its first item; so the faults come once all parts were relayed.
+# Both outputs are what one lp_relay writes. The lines of a part are put out while later parts are relayed, so with several parts for each
+# processor less waits. A part that refused something is relayed a second time, to check alone, once the counts of the parts before it
+# tell the number of its first item; so the faults come once all parts were relayed.
 #
 # Status 0: every item was written again; 1: some item was not; 2: the arguments are wrong, or the run failed. The last line of
 # standard error, which starts with `apart: `, then says why, and both outputs have a beginning of what was meant for them: where a
-# part failed, what the parts before it gave. What the failed part wrote to standard error comes before that line, each line after
-# `part N, `.
+# part failed, the lines of the parts before it; where it failed the second time, all lines, and the faults of the parts before it. What
+# the failed part wrote to standard error comes before that line, each line after `part N, `.
 set -eu -o pipefail
 . "$(dirname "$(readlink -f "$0")")/parts.sh"
 
 [ $# -ge 2 ] || fail "usage: examples/apart.sh FILE PARTS [OPTION..]"
 take_parts "$@"
+# What was begun ends before the folder goes in which it writes.
+trap 'wait; rm -rf "$waiting"' EXIT
 # shellcheck disable=SC2016
-list_parts | xargs -P "$parts" -I PART bash -c 'relay_part "$1" "$program" "${@:2}"' relay_part PART "${options[@]}" ||
-    fail "the status of xargs is $?"
+list_parts | xargs -P "${LP_JOBS:-$(nproc)}" -I PART bash -c 'relay_part "$1" "$program" "${@:2}"' relay_part PART "${options[@]}" &
+relays=$!
 put_parts

@@ -75,7 +75,8 @@ relay_part() {
     read -r number start count <<<"$1"
     shift
     "$@" --range "$start..$((start + count))" "$file" >"$waiting/$number.out" 2>"$waiting/$number.err" || status=$?
-    echo "$status" >"$waiting/$number.status" || true
+    # It comes to its place whole, since put_lines waits for it.
+    { echo "$status" >"$waiting/$number.ended" && mv "$waiting/$number.ended" "$waiting/$number.status"; } || true
 }
 export -f relay_part
 
@@ -107,8 +108,6 @@ number_faults() {
         if [ "$word" != --lines ] && [ "$word" != --check ]; then checks+=("$word"); fi
     done
     while read -r number start count; do
-        # A part that was not relayed ends the run.
-        [ -z "$(why_not "$number")" ] || break
         read -r _ _ lines _ items _ _ _ refused _ <<<"$(tail -n 1 "$waiting/$number.err")"
         case $by in
         item) first="--first-item $item" ;;
@@ -136,17 +135,23 @@ want_relayed() {
     fail "part $number: $why"
 }
 
-# Puts out what the part of a number gave, and adds its counts to those of the whole.
-put_part() {
+# Puts out the lines that the part of a number gave, once it was relayed, or once `relays`, the process that has the parts relayed, ended.
+put_lines() {
+    while [ ! -e "$waiting/$1.status" ] && [ -n "${relays-}" ] && kill -0 "$relays" 2>/dev/null; do sleep 0.02; done
+    want_relayed "$1"
+    cat "$waiting/$1.out" || fail "the output cannot be written"
+    rm "$waiting/$1.out"
+}
+
+# Puts out the faults of the part of a number, and adds its counts to those of the whole.
+put_faults() {
     local number=$1 told=$1 counts count word bytes_here lines_here carried_here refused_here
-    want_relayed "$number"
     counts=$(tail -n 1 "$waiting/$number.err")
     if [ -n "${again[number]-}" ]; then
         told=$number.again
         want_relayed "$told"
         [ "$(tail -n 1 "$waiting/$told.err")" = "$counts" ] || fail "part $number: a second relay counts otherwise"
     fi
-    cat "$waiting/$number.out" || fail "the output cannot be written"
     head -n -1 "$waiting/$told.err" >&2 || fail "the faults cannot be written"
     read -r bytes_here _ lines_here _ _ _ carried_here _ refused_here _ <<<"$counts"
     bytes=$((bytes + bytes_here))
@@ -169,12 +174,13 @@ list_kinds() {
     done < <(printf '%s\n' "${!kinds[@]}" | LC_ALL=C sort)
 }
 
-# Puts out what all parts gave, with the fault numbers of the whole, and ends with the status of the whole.
+# Puts out what all parts gave, the lines first, and the faults with the numbers of the whole, and ends with the status of the whole.
 put_parts() {
     local number bytes=0 lines=0 carried=0 refused=0 again=()
     local -A kinds=()
+    for ((number = 1; number <= parts; number++)); do put_lines "$number"; done
     number_faults
-    for ((number = 1; number <= parts; number++)); do put_part "$number"; done
+    for ((number = 1; number <= parts; number++)); do put_faults "$number"; done
     [ -z "$counts_asked" ] ||
         echo "$bytes bytes, $lines lines, $((carried + refused)) items: $carried carried, $refused refused$(list_kinds)" >&2 || true
     exit "$((refused > 0))"
