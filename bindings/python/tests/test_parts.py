@@ -194,7 +194,7 @@ class Files(Folder):
 
 @unittest.skipUnless(os.access(RELAY, os.X_OK), "LP_RELAY names no program")
 class BesideTheProgram(Folder):
-    def compare(self, path, all_parts=(0, 1, 2, 3, 8, 64, 1001)):
+    def compare(self, path, all_parts=(1, 2, 3, 8, 64, 1001)):
         for dialect, words in OPTIONS.items():
             for parts in all_parts:
                 said = subprocess.run([RELAY, *words, "--cut", str(parts), path], check=True, stdout=subprocess.PIPE).stdout
