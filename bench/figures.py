@@ -67,6 +67,7 @@ BESIDE = {
     "stream bytes": "library split",
     "relay": "library rebuild",
     "relay bytes": "library rebuild",
+    "relay newline-delimited": "library rebuild newline-delimited",
     "rust parse": "crate parse",
     "rust split": "crate split",
     "rust rebuild": "crate rebuild",
