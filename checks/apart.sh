@@ -192,7 +192,7 @@ CUTS=$cuts
 # A relay that fails, at the third part. What the parts before it gave was put out.
 relays_wanted() {
     RELAYS=$1
-    wanted 2 "${3-first line}" "$2" "$apart" "$file" 4
+    wanted 2 "${3-first line}" "$2" "$apart" "$file" 4 "${@:4}"
 }
 relays_wanted 'text=$(cat); case $text in ,*) printf "%s\n" "item 1: no line" "lp_relay: why" >&2; exit 2 ;; *) printf %s "$text" ;; esac' \
     "apart: part 3: the status of the relay is 2"
@@ -200,17 +200,18 @@ grep -qx 'part 3, item 1: no line' err
 grep -qx 'part 3, lp_relay: why' err
 relays_wanted 'text=$(cat); case $text in ,*) kill -9 $$ ;; *) printf %s "$text" ;; esac' \
     "apart: part 3: the status of the relay is 137"
-# So does a relay that tells no counts, and one that fails, or counts otherwise, when the part is relayed once more: all lines came before.
+# So does a relay that tells no counts, and one that fails, or counts otherwise, when the part is relayed once more, as for raw faults: all
+# lines came before.
 COUNTS=:
 relays_wanted 'text=$(cat); printf %s "$text"; case $text in ,*) ;; *) status=0; eval "$counts" >&2 ;; esac' \
     "apart: part 3: its counts are not known"
 relays_wanted 'text=$(cat); printf %s "$text"; echo "item $first: no line" >&2; status=1
 case $text$again in ,*yes) echo "7 bytes, 1 lines, 2 items: 1 carried, 1 refused" >&2 ;; *) eval "$counts" >&2 ;; esac; exit 1' \
-    "apart: part 3: a second relay counts otherwise" "$text"
+    "apart: part 3: a second relay counts otherwise" "$text" --faults raw
 COUNTS=$counts
 relays_wanted 'text=$(cat); printf %s "$text"; echo "item $first: no line" >&2
 case $text$again in ,*yes) echo "lp_relay: why" >&2; exit 2 ;; esac; exit 1' \
-    "apart: part 3: the status of the relay is 2" "$text"
+    "apart: part 3: the status of the relay is 2" "$text" --faults raw
 faults_wanted "item 1: no line
 item 2: no line
 part 3, item 3: no line

@@ -95,10 +95,35 @@ why_not() {
     fi
 }
 
-# Relays once more each part that refused something, to check alone, from the number on that its first item, or line, has in the
-# whole file. The counts of the parts before it tell that number. Sets again: which parts these are.
+# Prints faults that a part told, each on a line, with the numbers of the whole: ITEMS and LINES come before the part, and START bytes before
+# what its offsets are counted from. It fails at a line that is no such fault, or is long.
+with_numbers() {
+    local items=$1 lines=$2 start=$3 told rest LC_ALL=C n='([0-9]{1,18})' fault object stop
+    fault="^(item|line) $n(: .*)$"
+    object="^\\{\"item\":$n,\"line\":$n,\"offset\":$n,\"piece_line\":$n,\"piece_offset\":$n,(.*)\\}$"
+    stop="^(.*\",\"stop_line\":)$n(,\"stop_column\":[0-9]+)$"
+    while IFS= read -r told; do
+        [ ${#told} -le 2000 ] || return
+        if [[ $told =~ $fault ]]; then
+            local -n before=${BASH_REMATCH[1]}s
+            printf '%s %s%s\n' "${BASH_REMATCH[1]}" $((BASH_REMATCH[2] + before)) "${BASH_REMATCH[3]}" || return
+        elif [[ $told =~ $object ]]; then
+            told="{\"item\":$((BASH_REMATCH[1] + items)),\"line\":$((BASH_REMATCH[2] + lines)),\"offset\":$((BASH_REMATCH[3] + start))"
+            told+=",\"piece_line\":$((BASH_REMATCH[4] + lines)),\"piece_offset\":$((BASH_REMATCH[5] + start))"
+            rest=${BASH_REMATCH[6]}
+            if [[ $rest =~ $stop ]]; then rest=${BASH_REMATCH[1]}$((BASH_REMATCH[2] + lines))${BASH_REMATCH[3]}; fi
+            printf '%s,%s}\n' "$told" "$rest" || return
+        else
+            return 1
+        fi
+    done
+}
+
+# Gives the faults of each part the numbers that they have in the whole file, which the counts of the parts before it tell. Up to 10,000 are
+# written with these, if each is told on a line. Else a part is relayed once more, to check alone, from these numbers on. Sets again: which
+# parts these are.
 number_faults() {
-    local number start count word items refused lines first item=1 line=1 by=item checks=("$program")
+    local number start count word items refused lines first item=1 line=1 by=item few=10000 checks=("$program")
     # An object names its item and its line, also with --lines; a fault line names its item, or with --lines its line.
     case " ${options[*]} " in
     *" --faults json "*) by=both ;;
@@ -114,7 +139,14 @@ number_faults() {
         line) first="--first-line $line" ;;
         both) first="--first-item $item --first-line $line" ;;
         esac
-        if [ "$refused" != 0 ] && [ "$start" != 0 ]; then again[number]="$number.again $start $count $first"; fi
+        if [ "$refused" != 0 ] && [ "$start" != 0 ]; then
+            few=$((few - refused))
+            if [ "$few" -lt 0 ] || [[ " ${options[*]} " = *" --faults raw "* ]] || ! head -n -1 "$waiting/$number.err" |
+                with_numbers $((item - 1)) $((line - 1)) "$((${is_sent:-0} * start))" >"$waiting/$number.numbered"; then
+                rm -f "$waiting/$number.numbered"
+                again[number]="$number.again $start $count $first"
+            fi
+        fi
         item=$((item + items))
         line=$((line + lines))
     done < <(list_parts)
@@ -152,7 +184,11 @@ put_faults() {
         want_relayed "$told"
         [ "$(tail -n 1 "$waiting/$told.err")" = "$counts" ] || fail "part $number: a second relay counts otherwise"
     fi
-    head -n -1 "$waiting/$told.err" >&2 || fail "the faults cannot be written"
+    if [ -e "$waiting/$number.numbered" ]; then
+        cat "$waiting/$number.numbered" >&2 || fail "the faults cannot be written"
+    else
+        head -n -1 "$waiting/$told.err" >&2 || fail "the faults cannot be written"
+    fi
     read -r bytes_here _ lines_here _ _ _ carried_here _ refused_here _ <<<"$counts"
     bytes=$((bytes + bytes_here))
     lines=$((lines + lines_here))

@@ -18,6 +18,8 @@ set -eu -o pipefail
 hosts=$3
 [[ $hosts =~ ^[^,-][^,]*(,[^,-][^,]*)*$ ]] || fail "$hosts is not a list of hosts"
 take_parts "$1" "$2" "${@:4}"
+# The offsets that a host tells are those in what it is sent.
+is_sent=1
 there=$(printf '%q ' "${LP_RELAY_THERE:-lp_relay}" "${options[@]}")
 IFS=, read -ra names <<<"$hosts"
 
