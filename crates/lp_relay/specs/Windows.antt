@@ -13,9 +13,10 @@ pub record HasText {R : Type 0} (text_of : R → Option (List ℕ)) (window : Wi
   pub known : text_of window.file.now ≡ Some text
   pub len_is : length text ≡ window.len
 
--- the block of a window holds bytes of its text
+-- a window holds one block of 64 KiB, whatever its text is, and that holds bytes of its text
 pub record IsWindow {R : Type 0} (text_of : R → Option (List ℕ)) (window : Window R) : Type 0 where
   pub fits : window.len < 2 ^ 64
+  pub block : length window.block.items ≡ 65536
   pub few : window.filled ≤ length window.block.items
   pub within : 0 < window.filled → window.from + window.filled ≤ window.len
   pub bytes : (text : List ℕ) → HasText text_of window text

@@ -43,6 +43,7 @@ impl<'a> ReadAt for &'a [u8] {
 fn read_block<R: ReadAt>(file: &R, block: &mut Vec<u8>, place: usize) -> Result<usize, RunFault>
     ensures some { IfOk result (λ n. 0 < n) }
     ensures few { IfOk result (λ n. n ≤ vec_len block.new) }
+    ensures block { vec_len block.new ≡ vec_len block.old }
     ensures bytes { (all : List ℕ) → R.text file.now ≡ Some all →
         IfOk result (λ n. take n block.new.items ≡ slice_range all place (place + n)) }
 {

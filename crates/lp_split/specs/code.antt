@@ -14,4 +14,4 @@ pub use Tracks.{Quoted, Place, Track, ToNewline, Blanks, Line}
 pub use Searches.{IsKnown, IsHeldAt, FindsCut, SearchesOn, CutsOrTracks}
 pub use Streams.{Held, HoldsThen, TakesPiece, GivesCut, GivesCutText, GivesFront, GivesLast, GivesLastText}
 pub use Bounded.{HeldWithin, IsTooLong, CutsTo, Counts, HoldsBy, IsKept, Holds, kept, most_given, KeepsRules, TellsOf, GivesWithin}
-pub use Bounded.{IsLongFirst, FindsWithin, TakesLong, IsLongLast, FindsLast, GivesLastWithin}
+pub use Bounded.{IsLongFirst, FindsWithin, TakesLong, IsLongLast, FindsLast, GivesLastWithin, TellsSoFar}

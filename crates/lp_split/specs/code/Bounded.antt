@@ -129,3 +129,9 @@ abbrev pub GivesLastWithin : HeldWithin → Result (Bor (List ℕ)) PieceTooLong
 GivesLastWithin before result after =
     KeepsRules before after × Holds after []
     × ((text : List ℕ) → Holds before text → IsLastPiece before.held.dialect text → IsLastOf before.limit text result)
+
+-- of a piece that no newline has ended, a call tells what came of it exactly if it is too long already
+abbrev pub TellsSoFar : HeldWithin → Option PieceTooLong → Type 0
+TellsSoFar stream None = (text : List ℕ) → Holds stream text → IsLastPiece stream.held.dialect text → length text ≤ stream.limit
+TellsSoFar stream (Some fault) =
+    (text : List ℕ) → Holds stream text → IsLastPiece stream.held.dialect text → TellsOf stream.limit text fault

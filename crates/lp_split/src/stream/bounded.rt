@@ -3,7 +3,7 @@
 ghost use Rattle.std.specs.Prelude.{◌≡◌, ◌+◌, ◌++◌, ◌<◌, ◌≤◌, ◌^◌, ℕ, List, [], length, OnOk, OnErr};
 ghost use Rattle.std.specs.Borrow.{sem};
 ghost use Rattle.lp_split.specs.code.{rules_of, Counts, FindsLast, FindsWithin, GivesLastWithin, GivesWithin, Holds, kept, KeepsRules};
-ghost use Rattle.lp_split.specs.code.{TakesLong};
+ghost use Rattle.lp_split.specs.code.{TakesLong, TellsSoFar};
 ghost use Rattle.lp_split.specs.declared.stream.bounded.Skipped.{Skipped};
 ghost use Rattle.lp_format.specs.format.{newlines_in, IsLastPiece};
 
@@ -217,6 +217,29 @@ impl BoundedLineStream {
             Skipped::Nothing => Some(Counted::of(self.stream.held())),
             Skipped::Within { counted, .. } | Skipped::Ended { counted } => Some(counted),
         }
+    }
+
+    /// What came of the first piece, if no newline has ended it and it is too long already: how many newlines and bytes it has so
+    /// far, and its first bytes, as many as the limit. So that it is too long can be told before it ends. `None` if what came of
+    /// it has not more bytes than the limit.
+    ///
+    /// It is called once [`next`](Self::next) has given `None`, and changes nothing: the fault of the piece comes from `next` or
+    /// [`finish`](Self::finish) as ever. It takes no memory, and no more time for a longer piece.
+    ///
+    /// ```text
+    /// new_in(alloc, Dialect::Crate, 6)
+    /// push(b"longer a=")   next gives None, too_long_so_far gives newlines 0, len 9, front b"longer"
+    /// push(b"1i\nm b=")    next gives Err: newlines 0, len 11, front b"longer"; then None; too_long_so_far gives None
+    /// ```
+    pub fn too_long_so_far(&self) -> Option<PieceTooLong<'_>>
+        ensures { TellsSoFar self.now result }
+    {
+        let counted = self.long_last()?;
+        Some(PieceTooLong {
+            newlines: counted.newlines,
+            len: counted.len,
+            front: &self.stream.held()[..self.limit],
+        })
     }
 
     /// The last piece, or a fault in its place if it is too long, once [`next`](Self::next) has given `None` and no more
