@@ -160,6 +160,13 @@ pair=$((${#line} + 3))
 printf '%s\n' "$((pairs * pair / 2))" "$((pairs * pair))" >ends_wanted
 all_pairs | in_memory 320000 "$relay" --cut 2 >out 2>err && status=0 || status=$?
 wanted 0 ends_wanted none "in 320 MB of memory $relay --cut 2"
+# Of a file, a cut holds one block.
+all_pairs >all
+for dialect in --strict --newline-delimited; do
+    in_memory 32000 "$relay" "$dialect" --cut 2 all >out 2>err && status=0 || status=$?
+    wanted 0 ends_wanted none "in 32 MB of memory $relay $dialect --cut 2, of a file,"
+done
+rm all
 runs=$((runs + 1))
 
 # The ends of 5,000 parts: with 801 bytes each, they would end within the block at many places.
@@ -203,16 +210,16 @@ else
 fi
 echo "inputs: $runs runs over $((${#block} * blocks)) bytes and more gave what the table says"
 
-# at_once INPUT OUTPUT PLACE: what is put into a pipe in one write, and no more, gives all of an output before the pipe is closed.
-# PLACE is `out` or `err`.
+# at_once INPUT OUTPUT PLACE [OPTION..]: what is put into a pipe in one write, and no more, gives all of an output before the pipe is
+# closed. PLACE is `out` or `err`.
 mkfifo pipe_in pipe_out
 at_once() {
     local reader program
     timeout 20 head -c "$(wc -c <"$2")" <pipe_out >got &
     reader=$!
     case $3 in
-    out) "$relay" <pipe_in >pipe_out 2>none & ;;
-    err) "$relay" <pipe_in >none 2>pipe_out & ;;
+    out) "$relay" "${@:4}" <pipe_in >pipe_out 2>none & ;;
+    err) "$relay" "${@:4}" <pipe_in >none 2>pipe_out & ;;
     esac
     program=$!
     exec 3>pipe_in
@@ -221,7 +228,7 @@ at_once() {
     exec 3>&-
     wait "$program" || true
     if ! cmp got "$2"; then
-        echo "inputs: of $(wc -c <"$1") bytes that are put into a pipe, lp_relay writes less until the pipe is closed"
+        echo "inputs: of $(wc -c <"$1") bytes that are put into a pipe, lp_relay ${*:4} writes less until the pipe is closed"
         exit 1
     fi
 }
@@ -237,5 +244,11 @@ for bytes in 65535 65536 65537 131072; do
     head -c "$bytes" <(yes x) >faulty
     seq -f 'item %.0f: A generic parsing error occurred: TakeWhile1' 1 "$((bytes / 2))" >faults
     at_once faulty faults err
+done
+# A line that is too long is told before its newline has come.
+printf 'm a=1i\nm b=234567' >long
+printf 'item 2: the line is too long\n' >faults
+for option in --verbatim --strict --newline-delimited; do
+    at_once long faults err "$option" --max-line 9
 done
 echo "inputs: lp_relay writes what a pipe gave it before it reads on"

@@ -5,7 +5,7 @@ use Rattle.std.proofs.lemmas.List.{append_cancel_right, length-take-le, take-app
 use Rattle.std.proofs.lemmas.List.Folds.{drop_split}
 use Rattle.std.proofs.Math.Seq.{take-append-add}
 use Rattle.influxdb_line_protocol.specs.format.Dialects.{Dialect}
-use Rattle.influxdb_line_protocol.specs.format.Pieces.{IsLastPiece, Pieces, Pieces.cut, Pieces.last}
+use Rattle.influxdb_line_protocol.specs.format.Pieces.{IsCutPiece, IsLastPiece, Pieces, Pieces.cut, Pieces.last}
 use Rattle.influxdb_line_protocol.specs.laws.Laws.{PiecesExist, PiecesAreUnique}
 use Rattle.lp_relay.specs.Cuts.{IsCutAt}
 use Rattle.influxdb_line_protocol.specs.format.Bytes.{newline}
@@ -47,6 +47,19 @@ none_is_last exist dialect = let p = exist dialect [] in nothing_is_last dialect
 -- an empty text is one empty piece
 pub nothing_is_piece : PiecesExist → (dialect : Dialect) → Pieces dialect [] ([] ∷ [])
 nothing_is_piece exist dialect = last [] (none_is_last exist dialect)
+
+-- each text has a piece
+pub some_piece : (dialect : Dialect) (text : List ℕ) (pieces : List (List ℕ)) → Pieces dialect text pieces → pieces ≡ [] → ⊥
+some_piece dialect text pieces h e = grind (arith)
+
+-- a text that is one piece is cut nowhere
+pub cut_nowhere : PiecesExist → PiecesAreUnique → (dialect : Dialect) (text piece rest : List ℕ) → IsLastPiece dialect text
+    → IsCutPiece dialect piece → text ≡ piece ++ newline ∷ rest → ⊥
+cut_nowhere exist unique dialect text piece rest is_last is_cut e =
+    let others = exist dialect rest in
+    let two = subst (λ (l : List ℕ). Pieces dialect l (piece ∷ others.0)) (sym e) (cut piece rest others.0 is_cut others.1) in
+    let same : text ∷ [] ≡ piece ∷ others.0 = unique dialect text (text ∷ []) (piece ∷ others.0) (last text is_last) two in
+    some_piece dialect rest others.0 others.1 (cc)
 
 -- the pieces of a text that ends with a newline that ends a piece, and those of a text after it, are joined
 pub pieces_joined : (dialect : Dialect) (u t : List ℕ) (us fs ts : List (List ℕ)) → us ≡ fs ++ [] ∷ [] → Pieces dialect u us

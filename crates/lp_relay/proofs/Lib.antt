@@ -9,6 +9,7 @@ pub mod PassLemmas
 pub mod ItemLemmas
 pub mod FaultLines
 pub mod KindLemmas
+pub mod AheadLemmas
 pub mod RelayLemmas
 pub mod DifferingLemmas
 pub mod CanonicalLemmas

@@ -1,7 +1,7 @@
 -- The steps of a relay: what is made of pieces, one after another, and written.
-use Rattle.std.proofs.Common.{◌≡◌, ◌<◌, ℕ, List, [], ◌∷◌, ◌++◌, length, map}
-use Rattle.std.proofs.Common.{Result, refl, sym, ap, ◌∙◌, arith, append-nil}
-use Rattle.std.proofs.Common.{IsErr, MatchResult}
+use Rattle.std.proofs.Common.{◌≡◌, ◌<◌, ◌+◌, ℕ, List, [], ◌∷◌, ◌++◌, length, map, Bool, false, Option, Some, None}
+use Rattle.std.proofs.Common.{Result, refl, sym, ap, subst, ◌∙◌, arith, append-nil}
+use Rattle.std.proofs.Common.{Err, IsErr, MatchResult, Ok, OnOk}
 use Rattle.std.proofs.lemmas.Result.{MatchResult-from_err}
 use Rattle.std.specs.Borrow.{Bor}
 use Rattle.std.specs.Str.{IsUtf8}
@@ -12,21 +12,23 @@ use Rattle.influxdb_line_protocol.specs.format.Dialects.{Dialect}
 use Rattle.influxdb_line_protocol.specs.format.Readings.{Fault}
 use Rattle.influxdb_line_protocol.specs.format.Lines.{Line, answer}
 use Rattle.influxdb_line_protocol.specs.format.Trimming.{trimmed}
-use Rattle.influxdb_line_protocol.specs.code.Bounded.{IsLastOf}
+use Rattle.influxdb_line_protocol.specs.code.Bounded.{IsLastOf, IsTooLong}
 use Rattle.influxdb_line_protocol.specs.code.Rules.{rules_of}
 use Rattle.influxdb_line_protocol.specs.types.PieceTooLong.{PieceTooLong}
 use Rattle.lp_relay.specs.declared.taking.LineForm.{LineForm}
 use Rattle.lp_relay.specs.declared.taking.Settings.{Settings}
 use Rattle.lp_relay.specs.Kinds.{kinds_after, kinds_of_none}
 use Rattle.lp_relay.specs.Objects.{stop_given, stop_of_piece}
-use Rattle.lp_relay.specs.Relaying.{item_of, items_batch, items_of, items_of_bytes, items_of_piece, refused_piece, refused_pieces}
+use Rattle.lp_relay.specs.Relaying.{Item, item_of, items_batch, items_of, items_of_bytes, items_of_piece, refused_piece, refused_pieces}
 use Rattle.lp_relay.specs.Relaying.{carried_items, refused_items}
 use Rattle.lp_relay.specs.declared.telling.Place.{Place}
-use Rattle.lp_relay.specs.FaultsTold.{after_piece, first_place, place_after, told_faults, told_items, told_piece}
-use Rattle.lp_relay.specs.RelaySteps.{HasTaken, HasWritten, Stage, TakesGiven, Unwritten, after_given, items_given, len_given, newlines_given}
-use Rattle.lp_relay.specs.RelaySteps.{next_place, place_past, refused_given, told_given, unwritten_of_none}
+use Rattle.lp_relay.specs.FaultsTold.{after_piece, first_place, line_after, place_after, told_faults, told_items, told_piece}
+use Rattle.lp_relay.specs.RelaySteps.{EndsAhead, GainsBut, HasMade, HasTaken, HasWritten, IsAhead, Stage, TakesAhead, TakesBy, TakesGiven}
+use Rattle.lp_relay.specs.RelaySteps.{Unwritten, after_given, items_before, items_given, len_given, made_of, newlines_given, next_place}
+use Rattle.lp_relay.specs.RelaySteps.{place_by, place_past, refused_given, told_given, unwritten_of_none}
 use Rattle.lp_relay.specs.Writers.{GainsFronts, KeepsBytes, Told}
 use Rattle.lp_rebuild.proofs.RebuildLemmas.{blank_answers, piece_answers}
+use Rattle.lp_relay.proofs.AheadLemmas.{MakesSame, front_makes, long_more}
 use Rattle.lp_relay.proofs.PassLemmas.{but_front, but_more, front_none}
 use Rattle.lp_relay.proofs.ItemLemmas.{batch_append, carried_append, item_of_long, items_of_short, items_of_text, items_push}
 use Rattle.lp_relay.proofs.ItemLemmas.{refused_append, refused_long, refused_short, stop_long, stop_short}
@@ -89,24 +91,27 @@ given_told s pieces piece result now is place =
     ∙ ap (told_items s.faults now (stop_given (rules_of s.dialect) result)) (sym (given_items s piece result is)))
 
 -- before the first piece
-pub taken_none : (s : Settings) (a : Told) → HasTaken s [] a (record { unwritten = unwritten_of_none s; told = a })
+pub taken_none : (s : Settings) (a : Told) → HasTaken s [] None a (record { unwritten = unwritten_of_none s; told = a })
 taken_none s a =
     record {
-      lines = ([], Appends-nil a.lines.bytes, refl);
-      faults = ([], Appends-nil a.faults.bytes, refl);
-      refused = ([], Appends-nil a.refused.bytes, refl);
-      carried = omega arith;
-      refusals = refl;
-      kinds = sym (kinds_of_nothing (kinds_of_none s));
+      made = record {
+        lines = ([], Appends-nil a.lines.bytes, refl);
+        faults = ([], Appends-nil a.faults.bytes, refl);
+        refused = ([], Appends-nil a.refused.bytes, refl);
+        carried = omega arith;
+        refusals = refl;
+        kinds = sym (kinds_of_nothing (kinds_of_none s));
+      };
       place = first_is s;
+      is_ahead = refl;
     }
 
--- one piece more was taken, which a call gave
-pub taken_more : (s : Settings) (pieces : List (List ℕ)) (piece : List ℕ) (result : Result (Bor (List ℕ)) PieceTooLong) (a : Told)
-    (now : Stage) (next : Unwritten) → HasTaken s pieces a now → IsLastOf s.limit piece result → TakesGiven s now.unwritten result next
-    → next_place s next ≡ after_given s (next_place s now.unwritten) result
-    → HasTaken s (pieces ++ piece ∷ []) a (record { unwritten = next; told = now.told })
-taken_more s pieces piece result a now next h is takes start =
+-- one piece more makes what a call took of it
+made_more : (s : Settings) (pieces : List (List ℕ)) (piece : List ℕ) (result : Result (Bor (List ℕ)) PieceTooLong) (a : Told)
+    (now : Stage) (next : Unwritten) → HasMade s pieces a now → next_place s now.unwritten ≡ place_past s (first_place s) pieces
+    → IsLastOf s.limit piece result → TakesGiven s now.unwritten result next
+    → HasMade s (pieces ++ piece ∷ []) a (record { unwritten = next; told = now.told })
+made_more s pieces piece result a now next h place is takes =
     let items : items_of s (pieces ++ piece ∷ []) ≡ items_of s pieces ++ items_given s result =
     items_push s pieces piece ∙ ap (λ l. items_of s pieces ++ l) (sym (given_items s piece result is)) in
     let put : refused_pieces s (pieces ++ piece ∷ []) ≡ refused_pieces s pieces ++ refused_given s result =
@@ -114,43 +119,137 @@ taken_more s pieces piece result a now next h is takes start =
     ∙ ap (λ l. refused_pieces s pieces ++ l) (append-nil (refused_piece s piece) ∙ sym (given_refused s piece result is)) in
     record {
       lines = but_more _ _ _ _ _ _ _ h.lines takes.batch (ap items_batch items ∙ batch_append (items_of s pieces) (items_given s result));
-      faults = but_more _ _ _ _ _ _ _ h.faults takes.faults (given_told s pieces piece result (next_place s now.unwritten) is h.place);
+      faults = but_more _ _ _ _ _ _ _ h.faults takes.faults (given_told s pieces piece result (next_place s now.unwritten) is place);
       refused = but_more _ _ _ _ _ _ _ h.refused takes.pieces put;
       carried = omega (arith, takes.carried, h.carried, ap carried_items items, carried_append (items_of s pieces) (items_given s result));
       refusals = omega (arith, takes.refused, h.refusals, ap refused_items items, refused_append (items_of s pieces) (items_given s result));
       kinds = takes.kinds ∙ ap (kinds_after (items_given s result)) h.kinds ∙ kinds_of_more (items_of s pieces) (items_given s result) (kinds_of_none s)
           ∙ ap (λ l. kinds_after l (kinds_of_none s)) (sym items);
-      place = given_place s pieces piece result _ _ is h.place start;
     }
 
--- the bytes of the writers stayed
-pub taken_kept : (s : Settings) (pieces : List (List ℕ)) (a c : Told) (now : Stage) → HasTaken s pieces a now → KeepsBytes now.told c
-    → HasTaken s pieces a (record { unwritten = now.unwritten; told = c })
-taken_kept s pieces a c now h k =
+-- pieces that make the same were made too, whatever the next place is
+made_same : (s : Settings) (pieces others : List (List ℕ)) (a : Told) (now : Stage) (line : Option ℕ) (offset : ℕ) (ahead : Bool)
+    → HasMade s pieces a now → MakesSame s pieces others
+    → HasMade s others a (record {
+      unwritten = record now.unwritten { made = record now.unwritten.made { line = line }; offset = offset; ahead = ahead };
+      told = now.told;
+    })
+made_same s pieces others a now line offset ahead h same =
     record {
-      lines = (h.lines.0, Appends-kept _ _ _ _ h.lines.1 k.0, h.lines.2);
-      faults = (h.faults.0, Appends-kept _ _ _ _ h.faults.1 k.1, h.faults.2);
-      refused = (h.refused.0, Appends-kept _ _ _ _ h.refused.1 k.2, h.refused.2);
-      carried = h.carried;
-      refusals = h.refusals;
-      kinds = h.kinds;
+      lines = subst (λ l. GainsBut a.lines.bytes now.told.lines.bytes (items_batch l) now.unwritten.made.batch) same.0 h.lines;
+      faults = subst (λ l. GainsBut a.faults.bytes now.told.faults.bytes l now.unwritten.made.faults) same.1 h.faults;
+      refused = subst (λ l. GainsBut a.refused.bytes now.told.refused.bytes l now.unwritten.pieces) same.2 h.refused;
+      carried = h.carried ∙ ap (λ l. items_before s.numbering s.first + carried_items l) same.0;
+      refusals = h.refusals ∙ ap refused_items same.0;
+      kinds = h.kinds ∙ ap (λ l. kinds_after l (kinds_of_none s)) same.0;
+    }
+
+-- one piece more was taken, of which nothing was taken ahead
+taken_more : (s : Settings) (pieces : List (List ℕ)) (piece : List ℕ) (result : Result (Bor (List ℕ)) PieceTooLong) (a : Told)
+    (now : Stage) (next : Unwritten) → HasTaken s pieces None a now → IsLastOf s.limit piece result
+    → TakesBy false s now.unwritten result next
+    → HasTaken s (pieces ++ piece ∷ []) None a (record { unwritten = next; told = now.told })
+taken_more s pieces piece result a now next h is takes =
+    record {
+      made = made_more s pieces piece result a now next h.made h.place is takes.0;
+      place = given_place s pieces piece result _ _ is h.place takes.1;
+      is_ahead = takes.0.ahead ∙ h.is_ahead;
+    }
+
+-- a piece was taken ahead
+pub taken_ahead : (s : Settings) (pieces : List (List ℕ)) (front : List ℕ) (result : Result (Bor (List ℕ)) PieceTooLong) (a : Told)
+    (now : Stage) (next : Unwritten) → HasTaken s pieces None a now → IsLastOf s.limit front result
+    → TakesAhead s now.unwritten result next
+    → HasTaken s pieces (Some front) a (record { unwritten = next; told = now.told })
+taken_ahead s pieces front result a now next h is takes =
+    let mid = record next { ahead = now.unwritten.ahead } in
+    record {
+      made = made_same s _ _ a (record { unwritten = mid; told = now.told }) next.made.line next.offset next.ahead
+          (made_more s pieces front result a now mid h.made h.place is takes.takes) (refl, refl, refl);
+      place = takes.place ∙ ap (place_by (Some front)) h.place;
+      is_ahead = takes.ahead;
+    }
+
+-- the place after a piece that was taken ahead
+place_ended : (s : Settings) (pieces : List (List ℕ)) (piece : List ℕ) (result : Result (Bor (List ℕ)) PieceTooLong) (old new : Unwritten)
+    (front : List ℕ) → IsTooLong s.limit piece → IsLastOf s.limit piece result
+    → next_place s old ≡ place_by (Some front) (place_past s (first_place s) pieces) → EndsAhead old result new
+    → next_place s new ≡ place_past s (first_place s) (pieces ++ piece ∷ [])
+place_ended s pieces piece result old new front long is place ends =
+    let size = given_size s piece result is in
+    let past = place_past s (first_place s) pieces in
+    ap (next_place s) ends.is
+    ∙ ap (λ l. record (next_place s old) { line = l; offset = new.offset }) (ends.line ∙ ap (line_after old.made.line) size.0)
+    ∙ ap (λ n. record (next_place s old) { line = line_after old.made.line (newlines_in piece); offset = n })
+    (ends.offset ∙ ap (λ n. old.offset + n + 1) size.1)
+    ∙ ap (λ (q : Place). record q { line = line_after q.line (newlines_in piece); offset = q.offset + length piece + 1 }) place
+    ∙ ap (λ (l : List Item). place_after past (length l) (newlines_in piece) (length piece)) (sym (item_of_long s piece long))
+    ∙ sym (place_append s (first_place s) pieces (piece ∷ []))
+
+-- a piece that was taken ahead has ended
+taken_ended : (s : Settings) (pieces : List (List ℕ)) (front more piece : List ℕ) (result : Result (Bor (List ℕ)) PieceTooLong)
+    (a : Told) (now : Stage) (next : Unwritten) → HasTaken s pieces (Some front) a now → IsTooLong s.limit front → piece ≡ front ++ more
+    → IsLastOf s.limit piece result → EndsAhead now.unwritten result next
+    → HasTaken s (pieces ++ piece ∷ []) None a (record { unwritten = next; told = now.told })
+taken_ended s pieces front more piece result a now next h long begins is ends =
+    record {
+      made = subst (λ u. HasMade s (pieces ++ piece ∷ []) a (record { unwritten = u; told = now.told })) (sym ends.is)
+          (made_same s _ _ a now next.made.line next.offset false h.made (front_makes s pieces front more piece long begins));
+      place = place_ended s pieces piece result now.unwritten next front (long_more s.limit front more piece long begins) is h.place ends;
+      is_ahead = ap (λ (u : Unwritten). u.ahead) ends.is;
+    }
+
+-- one piece more was taken, or ended if it was taken ahead
+pub taken_next : (s : Settings) (pieces : List (List ℕ)) (ahead : Option (List ℕ)) (piece : List ℕ)
+    (result : Result (Bor (List ℕ)) PieceTooLong) (a : Told) (now : Stage) (next : Unwritten) → HasTaken s pieces ahead a now
+    → IsAhead s piece ahead → IsLastOf s.limit piece result → TakesBy now.unwritten.ahead s now.unwritten result next
+    → HasTaken s (pieces ++ piece ∷ []) None a (record { unwritten = next; told = now.told })
+taken_next s pieces None piece result a now next h begun is takes =
+    taken_more s pieces piece result a now next h is (subst (λ b. TakesBy b s now.unwritten result next) h.is_ahead takes)
+taken_next s pieces (Some front) piece result a now next h begun is takes =
+    taken_ended s pieces front begun.2.0 piece result a now next h begun.0 begun.2.1 is
+    (subst (λ b. TakesBy b s now.unwritten result next) h.is_ahead takes)
+
+-- the bytes of the writers stayed
+pub taken_kept : (s : Settings) (pieces : List (List ℕ)) (ahead : Option (List ℕ)) (a c : Told) (now : Stage)
+    → HasTaken s pieces ahead a now → KeepsBytes now.told c
+    → HasTaken s pieces ahead a (record { unwritten = now.unwritten; told = c })
+taken_kept s pieces ahead a c now h k =
+    let made = h.made in
+    record {
+      made = record {
+        lines = (made.lines.0, Appends-kept _ _ _ _ made.lines.1 k.0, made.lines.2);
+        faults = (made.faults.0, Appends-kept _ _ _ _ made.faults.1 k.1, made.faults.2);
+        refused = (made.refused.0, Appends-kept _ _ _ _ made.refused.1 k.2, made.refused.2);
+        carried = made.carried;
+        refusals = made.refusals;
+        kinds = made.kinds;
+      };
       place = h.place;
+      is_ahead = h.is_ahead;
     }
 
 -- a front of what was held was written
-pub taken_some : (s : Settings) (pieces : List (List ℕ)) (a c : Told) (now : Stage) → HasTaken s pieces a now
-    → GainsFronts now.told c now.unwritten.made.batch now.unwritten.made.faults now.unwritten.pieces → HasWritten s pieces a c
-taken_some s pieces a c now h p =
-    (but_front _ _ _ _ _ h.lines p.0, but_front _ _ _ _ _ h.faults p.1, but_front _ _ _ _ _ h.refused p.2)
+pub taken_some : (s : Settings) (pieces : List (List ℕ)) (ahead : Option (List ℕ)) (a c : Told) (now : Stage)
+    → HasTaken s pieces ahead a now
+    → GainsFronts now.told c now.unwritten.made.batch now.unwritten.made.faults now.unwritten.pieces
+    → HasWritten s (made_of pieces ahead) a c
+taken_some s pieces ahead a c now h p =
+    (but_front _ _ _ _ _ h.made.lines p.0, but_front _ _ _ _ _ h.made.faults p.1, but_front _ _ _ _ _ h.made.refused p.2)
 
 -- what was written so far is one
-pub taken_so_far : (s : Settings) (pieces : List (List ℕ)) (a : Told) (now : Stage) → HasTaken s pieces a now
-    → HasWritten s pieces a now.told
-taken_so_far s pieces a now h = taken_some s pieces a now.told now h (front_none _ _, front_none _ _, front_none _ _)
+pub taken_so_far : (s : Settings) (pieces : List (List ℕ)) (ahead : Option (List ℕ)) (a : Told) (now : Stage)
+    → HasTaken s pieces ahead a now → HasWritten s (made_of pieces ahead) a now.told
+taken_so_far s pieces ahead a now h = taken_some s pieces ahead a now.told now h (front_none _ _, front_none _ _, front_none _ _)
 
 -- what holds at a fault
 pub at_fault : {T E Q : Type 0} (P : T → Type 0) (r : Result T E) → IsErr r → Q → MatchResult r P (λ _. Q)
 at_fault P r failed q = MatchResult-from_err r P _ failed (λ _. q)
+
+-- what two clauses say where there is none
+pub on_ok_pair : {T E : Type 0} (P Q : Type 0) (r : Result T E) → OnOk r P → OnOk r Q → OnOk r (P × Q)
+on_ok_pair P Q (Ok v) p q = (p, q)
+on_ok_pair P Q (Err e) p q = tt
 
 -- what holds at a fault or not
 pub either : {T E P Q : Type 0} (r : Result T E) → P → Q → MatchResult r (λ _. P) (λ _. Q)

@@ -4,7 +4,7 @@ use Rattle.std.proofs.Common.{append-nil, option_map}
 use Rattle.std.specs.Borrow.{Bor}
 use Rattle.std.specs.Prelude.{if◌then◌else◌}
 use Rattle.influxdb_line_protocol.specs.code.Rules.{rules_of}
-use Rattle.influxdb_line_protocol.specs.format.Bytes.{newline}
+use Rattle.influxdb_line_protocol.specs.format.Bytes.{newline, newlines_in}
 use Rattle.influxdb_line_protocol.specs.format.Dialects.{Dialect}
 use Rattle.influxdb_line_protocol.specs.types.PieceTooLong.{PieceTooLong}
 use Rattle.lp_relay.specs.declared.pieces.Piece.{Piece}
@@ -17,7 +17,7 @@ use Rattle.lp_relay.specs.Kinds.{with_fault}
 use Rattle.lp_relay.specs.Objects.{item_front, stop_given}
 use Rattle.lp_relay.specs.Refusals.{EndsPiece, GaveSame, IsRefusal, RefusesPiece, front_in, given_of, is_fault, reason_of, refusal_kind, stop_in}
 use Rattle.lp_relay.specs.Relaying.{Item, answered, as_it_came, not_as_written, not_utf8, too_long, is_carried_item, item_line, refused_lines}
-use Rattle.lp_relay.specs.RelaySteps.{TakesGiven, Unwritten, after_given, bytes_given, items_given}
+use Rattle.lp_relay.specs.RelaySteps.{EndsAhead, TakesAhead, TakesBy, TakesGiven, Unwritten, after_given, bytes_given, items_given}
 use Rattle.lp_relay.specs.RelaySteps.{len_given, newlines_given, next_place}
 use Rattle.lp_relay.proofs.ItemLemmas.{items_add_up}
 use Rattle.lp_relay.proofs.KindLemmas.{kinds_of_carried, kinds_of_nothing, kinds_of_refused, no_kind}
@@ -68,6 +68,7 @@ ends_blank s piece mid before t =
       refused = rw t.0 (omega arith);
       pieces = rw t.0 (nothing_put s.puts_refused mid.pieces);
       kinds = rw t.0 (sym (kinds_of_nothing mid.kinds));
+      ahead = refl;
     }
 
 -- a piece whose line was added ends once that is counted
@@ -81,6 +82,7 @@ ends_carried s piece mid before (item, one, carries, copied) =
       refused = rw (one, carries) (omega arith);
       pieces = rw (one, carries) (nothing_put s.puts_refused mid.pieces);
       kinds = rw one (sym (kinds_of_carried item mid.kinds carries));
+      ahead = refl;
     }
 
 -- a piece whose item is refused ends once that is told and counted, and the piece is put out
@@ -91,8 +93,8 @@ pub refuses : (s : Settings) (piece : Piece) (refusal : Refusal) (item : Item) (
     → new.made.carried ≡ old.made.carried → new.made.refused ≡ old.made.refused + 1
     → new.kinds ≡ option_map (with_fault (refusal_kind refusal)) old.kinds
     → new.pieces ≡ old.pieces ++ (if s.puts_refused then bytes_given (given_of piece) ++ newline ∷ [] else [])
-    → TakesGiven s old (given_of piece) new
-refuses s piece refusal item old new n r numbered batch faults carried refused kinds pieces =
+    → new.ahead ≡ old.ahead → TakesGiven s old (given_of piece) new
+refuses s piece refusal item old new n r numbered batch faults carried refused kinds pieces ahead =
     let d = rules_of s.dialect in
     let is = r.refused in
     let told = told_is s.faults d (record (next_place s old) { number = n }) piece refusal item (stop_given d (given_of piece)) is r.front r.stop in
@@ -103,6 +105,7 @@ refuses s piece refusal item old new n r numbered batch faults carried refused k
       refused = rw (r.is, is.refused) (refused ∙ omega arith);
       pieces = rw r.is (pieces ∙ ap (λ (l : List ℕ). old.pieces ++ l) (sym (refused_put s.puts_refused (bytes_given (given_of piece)) item is.refused)));
       kinds = rw r.is (kinds ∙ kinds_of_refused item (refusal_kind refusal) old.kinds (sym is.kind));
+      ahead = ahead;
     }
 
 -- a piece ends so
@@ -117,7 +120,7 @@ pub given_same : (s : Settings) (old new : Unwritten) (given other : Result (Bor
     → TakesGiven s old given new → TakesGiven s old other new
 given_same s old new (Ok piece) (Ok other) same t =
     let h = subst (λ (l : List ℕ). TakesGiven s old (Ok (record piece { now = l })) new) same t in
-    record { batch = h.batch; faults = h.faults; carried = h.carried; refused = h.refused; pieces = h.pieces; kinds = h.kinds }
+    record { batch = h.batch; faults = h.faults; carried = h.carried; refused = h.refused; pieces = h.pieces; kinds = h.kinds; ahead = h.ahead }
 given_same s old new (Ok piece) (Err other) same t = absurd same
 given_same s old new (Err fault) (Ok other) same t = absurd same
 given_same s old new (Err fault) (Err other) same t = subst (λ f. TakesGiven s old (Err f) new) same t
@@ -129,6 +132,41 @@ same_place s place (Ok piece) (Ok other) same = ap (λ (l : List ℕ). after_giv
 same_place s place (Ok piece) (Err other) same = absurd same
 same_place s place (Err fault) (Ok other) same = absurd same
 same_place s place (Err fault) (Err other) same = ap (λ f. after_given s place (Err f)) same
+
+-- so is all of the step, or of the end of a piece that was taken ahead
+pub step_same : (ahead : Bool) (s : Settings) (old new : Unwritten) (given other : Result (Bor (List ℕ)) PieceTooLong)
+    → GaveSame given other → TakesBy ahead s old given new → TakesBy ahead s old other new
+step_same false s old new given other same t =
+    (given_same s old new given other same t.0, t.1 ∙ same_place s (next_place s old) given other same)
+step_same true s old new (Ok piece) (Ok other) same t =
+    record {
+      is = t.is;
+      line = t.line ∙ ap (λ (l : List ℕ). line_after old.made.line (newlines_in l)) same;
+      offset = t.offset ∙ ap (λ (l : List ℕ). old.offset + length l + 1) same;
+    }
+step_same true s old new (Ok piece) (Err other) same t = absurd same
+step_same true s old new (Err fault) (Ok other) same t = absurd same
+step_same true s old new (Err fault) (Err other) same t = subst (λ f. EndsAhead old (Err f) new) same t
+
+-- of what was taken and counted as refused, the place stays if it is taken ahead
+pub counts_ahead : (s : Settings) (old mid : Unwritten) (given : Result (Bor (List ℕ)) PieceTooLong) → TakesGiven s old given mid
+    → (mid.made.carried ≡ old.made.carried) × (mid.made.refused ≡ old.made.refused + 1)
+    → (mid.made.line ≡ old.made.line) × (mid.offset ≡ old.offset) → TakesAhead s old given (record mid { ahead = true })
+counts_ahead s old mid given t counts place =
+    let number : mid.made.carried + mid.made.refused + 1 ≡ old.made.carried + old.made.refused + 1 + 1 = omega (arith, counts.0, counts.1) in
+    record {
+      takes = record {
+        batch = t.batch;
+        faults = t.faults;
+        carried = t.carried;
+        refused = t.refused;
+        pieces = t.pieces;
+        kinds = t.kinds;
+        ahead = refl;
+      };
+      place = rw (place.0, place.1, number) refl;
+      ahead = refl;
+    }
 
 -- once a piece was taken, the next place comes after it
 pub place_taken : (s : Settings) (old new : Unwritten) (given : Result (Bor (List ℕ)) PieceTooLong) (line : Option ℕ) (offset : ℕ)

@@ -8,20 +8,16 @@ use Rattle.std.specs.Borrow.{Bor}
 use Rattle.std.specs.List.{All, AllByRecursion}
 use Rattle.influxdb_line_protocol.specs.format.Bytes.{newline}
 use Rattle.influxdb_line_protocol.specs.format.Dialects.{Dialect}
-use Rattle.influxdb_line_protocol.specs.format.Pieces.{GivesPiece, IsCutPiece, IsLastPiece, Left, Pieces, Pieces.cut, Pieces.last}
+use Rattle.influxdb_line_protocol.specs.format.Pieces.{GivesPiece, IsCutPiece, IsLastPiece, Left, Pieces}
 use Rattle.influxdb_line_protocol.specs.format.Pieces.{PiecesLeft}
 use Rattle.influxdb_line_protocol.specs.code.Bounded.{CutsTo, HeldWithin, Holds}
 use Rattle.influxdb_line_protocol.specs.code.Rules.{rules_of}
 use Rattle.influxdb_line_protocol.specs.laws.Laws.{PiecesAreTheText, PiecesAreUnique, PiecesExist}
 use Rattle.lp_relay.specs.declared.taking.Settings.{Settings}
-use Rattle.lp_relay.specs.RelaySteps.{SoFar, Stage, TakesFirst, TakesGiven, Unwritten, after_given, next_place}
+use Rattle.lp_relay.specs.RelaySteps.{SoFar, Stage, TakesBy, TakesFirst, TakesGiven, Unwritten, after_given, next_place}
 use Rattle.lp_relay.specs.Writers.{Told}
-use Rattle.lp_relay.proofs.CutLemmas.{no_newline}
-use Rattle.lp_relay.proofs.RelaysSoFar.{so_far_given, so_far_more}
-
--- each text has a piece
-some_piece : (dialect : Dialect) (text : List ℕ) (pieces : List (List ℕ)) → Pieces dialect text pieces → pieces ≡ [] → ⊥
-some_piece dialect text pieces h e = grind (arith)
+use Rattle.lp_relay.proofs.CutLemmas.{cut_nowhere, no_newline, some_piece}
+use Rattle.lp_relay.proofs.RelaysSoFar.{so_far_ended, so_far_given, so_far_more}
 
 -- if a newline comes only at the end, a text is cut there
 ends_there : (front piece rest : List ℕ) → AllByRecursion (λ b. b ≢ newline) front → front ++ newline ∷ [] ≡ piece ++ newline ∷ rest
@@ -41,15 +37,6 @@ cut_there (b ∷ text) front (x ∷ piece) rest none e =
       | inl done ↦ inl done
       | inr before ↦ let f : b ≡ x = cc in inr (before.0, ap (λ (y : ℕ). y ∷ text) f ∙ ap (λ (l : List ℕ). x ∷ l) before.1)
     ]
-
--- a text that is one piece is cut nowhere
-cut_nowhere : PiecesExist → PiecesAreUnique → (dialect : Dialect) (text piece rest : List ℕ) → IsLastPiece dialect text
-    → IsCutPiece dialect piece → text ≡ piece ++ newline ∷ rest → ⊥
-cut_nowhere exist unique dialect text piece rest is_last is_cut e =
-    let others = exist dialect rest in
-    let two = subst (λ (l : List ℕ). Pieces dialect l (piece ∷ others.0)) (sym e) (cut piece rest others.0 is_cut others.1) in
-    let same : text ∷ [] ≡ piece ∷ others.0 = unique dialect text (text ∷ []) (piece ∷ others.0) (last text is_last) two in
-    some_piece dialect rest others.0 others.1 (cc)
 
 -- of a text that is one piece, and a line after it that a newline ends, a cut leaves nothing
 nothing_left : PiecesExist → PiecesAreUnique → (dialect : Dialect) (text front piece rest : List ℕ) → IsLastPiece dialect text
@@ -137,15 +124,16 @@ line_given exist texts dialect before after piece rest bytes taken same within b
     record { is_cut = cuts.1; within = next.1; ends = next.2; left = (r.0, begins.1, r.1, next.0) }
 
 -- such a line was taken
-pub line_taken : (s : Settings) (given bytes : List ℕ) (taken : ℕ) (piece : Bor (List ℕ)) (after : Option (List ℕ)) (a : Told)
-    (now : Stage) (next : Unwritten) → SoFar s (given ++ take taken bytes) [] a now
+pub line_taken : PiecesExist → PiecesAreUnique → (s : Settings) (given bytes : List ℕ) (taken : ℕ) (piece : Bor (List ℕ))
+    (after : Option (List ℕ)) (a : Told) (now : Stage) (next : Unwritten) → SoFar s (given ++ take taken bytes) [] a now
     → LineGiven (rules_of s.dialect) after piece.now bytes taken → length piece.now ≤ s.limit → TakesGiven s now.unwritten (Ok piece) next
     → next_place s next ≡ after_given s (next_place s now.unwritten) (Ok piece)
     → SoFar s (given ++ take (taken + (length piece.now + 1)) bytes) [] a (record { unwritten = next; told = now.told })
-line_taken s given bytes taken piece after a now next h line short takes start =
+line_taken exist unique s given bytes taken piece after a now next h line short takes start =
     let front = given ++ take taken bytes in
     let ended = piece.now ++ newline ∷ [] in
     subst (λ (l : List ℕ). SoFar s l [] a (record { unwritten = next; told = now.told }))
     (append_assoc given (take taken bytes) ended ∙ ap (λ (l : List ℕ). given ++ l) (sym line.ends))
-    (so_far_more s (front ++ ended) ended piece.now [] (Ok piece) a now next (so_far_given s front [] ended a now h)
-    (refl, short) (refl, line.is_cut) takes start)
+    (so_far_more exist unique s (front ++ ended) ended piece.now [] (Ok piece) a now next (so_far_given s front [] ended a now h)
+    (refl, short) (refl, line.is_cut)
+    (subst (λ b. TakesBy b s now.unwritten (Ok piece) next) (sym (so_far_ended s front a now h)) (takes, start)))

@@ -1,13 +1,13 @@
 -- What each step of a relay takes of the stream, and what it writes or holds of it.
 use Rattle.std.specs.Prelude.{◌≡◌, ◌<◌, ℕ, ◌+◌, ◌-◌, ◌++◌, ◌^◌, List, [], ◌∷◌, length, take, string_bytes, Option}
-use Rattle.std.specs.Prelude.{Bool, true, false, Result, Ok, Err, MatchResult}
+use Rattle.std.specs.Prelude.{Bool, true, false, None, Some, is_some, Result, Ok, Err, MatchResult}
 use Rattle.std.specs.Borrow.{Bor}
 use Rattle.std.specs.Io.KnownBytes.{Appends}
 use Rattle.influxdb_line_protocol.specs.format.Dialects.{Dialect}
 use Rattle.influxdb_line_protocol.specs.format.Bytes.{newlines_in}
 use Rattle.influxdb_line_protocol.specs.format.Pieces.{IsLastPiece, Pieces}
 use Rattle.influxdb_line_protocol.specs.types.PieceTooLong.{PieceTooLong}
-use Rattle.influxdb_line_protocol.specs.code.Bounded.{CutsTo, HeldWithin, Holds}
+use Rattle.influxdb_line_protocol.specs.code.Bounded.{CutsTo, HeldWithin, Holds, IsTooLong}
 use Rattle.influxdb_line_protocol.specs.laws.StreamLaws.{Run}
 use Rattle.influxdb_line_protocol.specs.code.Rules.{rules_of}
 use Rattle.lp_relay.specs.declared.taking.Progress.{Progress}
@@ -16,7 +16,7 @@ use Rattle.lp_relay.specs.declared.taking.Numbering.{Numbering}
 use Rattle.lp_relay.specs.declared.taking.Numbering.TheVariants as named
 use Rattle.lp_relay.specs.declared.taking.Settings.{Settings}
 use Rattle.lp_relay.specs.declared.telling.Place.{Place}
-use Rattle.lp_relay.specs.FaultsTold.{after_piece, first_line, first_place, place_after, told_faults, told_items}
+use Rattle.lp_relay.specs.FaultsTold.{after_piece, first_line, first_place, line_after, place_after, told_faults, told_items}
 use Rattle.lp_relay.specs.Kinds.{Counts, counts_if, kinds_after, kinds_of_none}
 use Rattle.lp_relay.specs.Objects.{stop_given}
 use Rattle.lp_relay.specs.Relaying.{Item, kept_of, too_long, items_of_bytes, items_of, items_batch, carried_items}
@@ -83,22 +83,29 @@ made so_far = record {
   line = so_far.line;
 }
 
--- what was made so far, the refused pieces that are not written yet, how many bytes come before the next piece, and how many items
--- were refused for each kind of fault, if that is counted
+-- what was made so far, the refused pieces that are not written yet, how many bytes come before the next piece, how many items
+-- were refused for each kind of fault, if that is counted, and whether the fault of the next piece was told ahead of its end
 pub record Unwritten : Type 0 where
   pub made : Made
   pub pieces : List ℕ
   pub offset : ℕ
   pub kinds : Option Counts
+  pub ahead : Bool
 
 -- before the first item
 abbrev pub unwritten_of_none : Settings → Unwritten
-unwritten_of_none s = record { made = made_of_none s; pieces = []; offset = s.first_offset; kinds = kinds_of_none s }
+unwritten_of_none s =
+    record { made = made_of_none s; pieces = []; offset = s.first_offset; kinds = kinds_of_none s; ahead = false }
 
 -- what a relay has not written yet
 abbrev pub unwritten_of : Pending → Unwritten
-unwritten_of pending =
-    record { made = made pending.so_far; pieces = pending.pieces.items; offset = pending.offset; kinds = counts_if pending.kinds }
+unwritten_of pending = record {
+  made = made pending.so_far;
+  pieces = pending.pieces.items;
+  offset = pending.offset;
+  kinds = counts_if pending.kinds;
+  ahead = pending.ahead;
+}
 
 -- the place of the next item, by the settings
 abbrev pub next_place : Settings → Unwritten → Place
@@ -142,6 +149,26 @@ pub record TakesGiven (s : Settings) (old : Unwritten) (result : Result (Bor (Li
   pub refused : new.made.refused ≡ old.made.refused + refused_items (items_given s result)
   pub pieces : new.pieces ≡ old.pieces ++ refused_given s result
   pub kinds : new.kinds ≡ kinds_after (items_given s result) old.kinds
+  pub ahead : new.ahead ≡ old.ahead
+
+-- what came of a piece that is too long was taken ahead of its end: its item and what is told of it. The next place is still that
+-- of the piece, but for the number
+pub record TakesAhead (s : Settings) (old : Unwritten) (result : Result (Bor (List ℕ)) PieceTooLong) (new : Unwritten)
+    : Type 0 where
+  pub takes : TakesGiven s old result (record new { ahead = old.ahead })
+  pub place : next_place s new ≡ record (next_place s old) { number = (next_place s old).number + 1 }
+  pub ahead : new.ahead ≡ true
+
+-- a piece that was taken ahead has ended: the next place comes after it, and nothing else is made of it
+pub record EndsAhead (old : Unwritten) (result : Result (Bor (List ℕ)) PieceTooLong) (new : Unwritten) : Type 0 where
+  pub is : new ≡ record old { made = record old.made { line = new.made.line }; offset = new.offset; ahead = false }
+  pub line : new.made.line ≡ line_after old.made.line (newlines_given result)
+  pub offset : new.offset ≡ old.offset + len_given result + 1
+
+-- what a call gave was taken, or it ended what was taken ahead
+abbrev pub TakesBy : (ahead : Bool) → Settings → (old : Unwritten) → Result (Bor (List ℕ)) PieceTooLong → (new : Unwritten) → Type 0
+TakesBy false s old result new = TakesGiven s old result new × (next_place s new ≡ after_given s (next_place s old) result)
+TakesBy true s old result new = EndsAhead old result new
 
 -- a stage of a relay: what it has not written yet, and what its writers tell
 pub record Stage : Type 0 where
@@ -156,15 +183,30 @@ stage_of pending told = record { unwritten = unwritten_of pending; told = told }
 abbrev pub GainsBut : Option (List ℕ) → Option (List ℕ) → (all left : List ℕ) → Type 0
 GainsBut before after all left = (written : List ℕ) × Appends before after written × (all ≡ written ++ left)
 
--- these pieces were taken, from the first one on: what they make was written, or is held, and their items were counted
-pub record HasTaken (s : Settings) (pieces : List (List ℕ)) (before : Told) (now : Stage) : Type 0 where
+-- what these pieces make, from the first one on, was written, or is held, and their items were counted
+pub record HasMade (s : Settings) (pieces : List (List ℕ)) (before : Told) (now : Stage) : Type 0 where
   pub lines : GainsBut before.lines.bytes now.told.lines.bytes (items_batch (items_of s pieces)) now.unwritten.made.batch
   pub faults : GainsBut before.faults.bytes now.told.faults.bytes (told_faults s pieces) now.unwritten.made.faults
   pub refused : GainsBut before.refused.bytes now.told.refused.bytes (refused_pieces s pieces) now.unwritten.pieces
   pub carried : now.unwritten.made.carried ≡ items_before s.numbering s.first + carried_items (items_of s pieces)
   pub refusals : now.unwritten.made.refused ≡ refused_items (items_of s pieces)
   pub kinds : now.unwritten.kinds ≡ kinds_after (items_of s pieces) (kinds_of_none s)
-  pub place : next_place s now.unwritten ≡ place_past s (first_place s) pieces
+
+-- the pieces of which all was made: those that were taken, and the front of the next one, if that was taken ahead of its end
+abbrev pub made_of : (pieces : List (List ℕ)) → (ahead : Option (List ℕ)) → List (List ℕ)
+made_of pieces None = pieces
+made_of pieces (Some front) = pieces ++ front ∷ []
+
+-- the place of a piece, and the number of the item after those that were counted
+abbrev pub place_by : (ahead : Option (List ℕ)) → Place → Place
+place_by None place = place
+place_by (Some front) place = record place { number = place.number + 1 }
+
+-- these pieces were taken, from the first one on, and the front of the next one, if there is one here, ahead of its end
+pub record HasTaken (s : Settings) (pieces : List (List ℕ)) (ahead : Option (List ℕ)) (before : Told) (now : Stage) : Type 0 where
+  pub made : HasMade s (made_of pieces ahead) before now
+  pub place : next_place s now.unwritten ≡ place_by ahead (place_past s (first_place s) pieces)
+  pub is_ahead : now.unwritten.ahead ≡ is_some ahead
 
 -- each writer gained a front of what these pieces make
 abbrev pub HasWritten : Settings → List (List ℕ) → (before after : Told) → Type 0
@@ -173,21 +215,32 @@ HasWritten s pieces before after = GainsFronts before after
 
 -- nothing of what was taken is lost from one stage to another; after a fault each writer has a front of it
 abbrev pub Writes : Result (Unit {0}) RunFault → (old new : Stage) → Type 0
-Writes result old new = (s : Settings) (pieces : List (List ℕ)) (before : Told) → HasTaken s pieces before old
-    → MatchResult result (λ _. HasTaken s pieces before new) (λ _. HasWritten s pieces before new.told)
+Writes result old new = (s : Settings) (pieces : List (List ℕ)) (ahead : Option (List ℕ)) (before : Told)
+    → HasTaken s pieces ahead before old
+    → MatchResult result (λ _. HasTaken s pieces ahead before new) (λ _. HasWritten s (made_of pieces ahead) before new.told)
 
--- of what was given so far, all pieces were taken but for what is left
+-- what is left begins with this front, if there is one: it is too long for a piece, and no newline in it ends one
+abbrev pub IsAhead : Settings → (left : List ℕ) → (ahead : Option (List ℕ)) → Type 0
+IsAhead s left None = Unit {0}
+IsAhead s left (Some front) =
+    IsTooLong s.limit front × IsLastPiece (rules_of s.dialect) front × ((more : List ℕ) × (left ≡ front ++ more))
+
+-- of what was given so far, all pieces were taken but for what is left, of which a front may be taken ahead
 pub record SoFar (s : Settings) (given left : List ℕ) (before : Told) (now : Stage) : Type 0 where
   pub pieces : List (List ℕ)
+  pub ahead : Option (List ℕ)
   pub run : Run (rules_of s.dialect) given pieces left
-  pub taken : HasTaken s pieces before now
+  pub is_ahead : IsAhead s left ahead
+  pub taken : HasTaken s pieces ahead before now
 
--- of what was given so far, pieces were taken, and each writer has a front of what they make
+-- of what was given so far, pieces were taken, and maybe a front of the next one, and each writer has a front of what they make
 pub record SomeSoFar (s : Settings) (given : List ℕ) (before after : Told) : Type 0 where
   pub pieces : List (List ℕ)
+  pub ahead : Option (List ℕ)
   pub left : List ℕ
   pub run : Run (rules_of s.dialect) given pieces left
-  pub written : HasWritten s pieces before after
+  pub is_ahead : IsAhead s left ahead
+  pub written : HasWritten s (made_of pieces ahead) before after
 
 -- a stream has the rules of the settings
 abbrev pub HasRules : Settings → HeldWithin → Type 0
@@ -230,5 +283,16 @@ RelaysPart s part result taken stream stream_after old new = (given : List ℕ) 
 abbrev pub RelaysLast : Settings → Result (Unit {0}) RunFault → (stream : HeldWithin) → (old new : Stage) → Type 0
 RelaysLast s result stream old new = (given : List ℕ) (before : Told) → SoFarBy s given stream before old
     → MatchResult result
-    (λ _. (pieces : List (List ℕ)) × Pieces (rules_of s.dialect) given pieces × HasTaken s pieces before new)
+    (λ _. (pieces : List (List ℕ)) × Pieces (rules_of s.dialect) given pieces × HasTaken s pieces None before new)
     (λ _. RelaysFronts s given (bytes_of before) (bytes_of new.told))
+
+-- if what a stream holds is too long already, and no newline ended it, it was taken ahead
+abbrev pub IsToldAhead : Settings → HeldWithin → (now : Unwritten) → Type 0
+IsToldAhead s stream now =
+    (text : List ℕ) → Holds stream text → IsLastPiece (rules_of s.dialect) text → IsTooLong s.limit text → now.ahead ≡ true
+
+-- whatever came before, what a stream holds was taken ahead, or nothing was
+abbrev pub RelaysAhead : Settings → HeldWithin → (old new : Unwritten) → Type 0
+RelaysAhead s stream old new = (given : List ℕ) (before told : Told)
+    → SoFarBy s given stream before (record { unwritten = old; told = told })
+    → SoFarBy s given stream before (record { unwritten = new; told = told })

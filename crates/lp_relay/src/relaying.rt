@@ -3,8 +3,8 @@ ghost use Rattle.std.specs.Prelude.{◌≡◌, ◌≢◌, ◌+◌, ◌<◌, ◌�
 ghost use Rattle.std.specs.List.{All};
 ghost use Rattle.influxdb_line_protocol.specs.format.Bytes.{newline};
 ghost use Rattle.influxdb_line_protocol.specs.code.Bounded.{most_given};
-ghost use Rattle.lp_relay.specs.RelaySteps.{HoldsLess, HoldsNone, IsReady, RelaysFirst, RelaysLast, RelaysLines};
-ghost use Rattle.lp_relay.specs.RelaySteps.{RelaysPart, Writes, counted, stage_of};
+ghost use Rattle.lp_relay.specs.RelaySteps.{HoldsLess, HoldsNone, IsReady, IsToldAhead, RelaysAhead, RelaysFirst, RelaysLast, RelaysLines};
+ghost use Rattle.lp_relay.specs.RelaySteps.{RelaysPart, Writes, counted, stage_of, unwritten_of};
 ghost use Rattle.lp_relay.specs.Relays.{Relays};
 ghost use Rattle.lp_relay.specs.Writers.{AreFlushed, CountsWriteFault};
 ghost use Rattle.lp_rebuild.specs.Running.{reader_told};
@@ -12,14 +12,16 @@ ghost use Rattle.lp_rebuild.specs.Running.{reader_told};
 use crate::kinds::KindCounts;
 use crate::outputs::ThreeWriters;
 use crate::pieces::Piece;
-use crate::taking::{Pending, Settings, items_before, nothing_made, take_given, take_piece};
+use crate::taking::{
+    Pending, Settings, items_before, nothing_made, take_ahead, take_given, take_piece,
+};
 use crate::texts::text_of;
 use influxdb_line_protocol::{BoundedLineStream, laws, split_lines_in};
 use lp_rebuild::batch::LineReader;
 use lp_rebuild::program::{BLOCK, read_block};
 use lp_rebuild::{RunFault, Source};
 use memchr::{memchr, memrchr};
-use std::alloc::Global;
+use std::alloc::{AllocError, Global};
 
 /// How many items of a relay went out, and how many it refused.
 #[derive(Clone, Copy, Debug, PartialEq, Eq)]
@@ -38,6 +40,7 @@ fn pour<O: ThreeWriters>(pending: &mut Pending, outputs: &mut O) -> Result<(), R
     ensures none { OnOk result (HoldsNone pending.new) }
     ensures counts { CountsWriteFault result (O.told outputs.old) (O.told outputs.new) }
     ensures same { counted pending.new ≡ counted pending.old }
+    ensures ahead { pending.new.ahead ≡ pending.old.ahead }
 {
     let so_far = &pending.so_far;
     outputs.put(
@@ -73,6 +76,7 @@ fn pour_and_flush<O: ThreeWriters>(pending: &mut Pending, outputs: &mut O) -> Re
     ensures none { OnOk result (HoldsNone pending.new) }
     ensures counts { CountsWriteFault result (O.told outputs.old) (O.told outputs.new) }
     ensures same { counted pending.new ≡ counted pending.old }
+    ensures ahead { pending.new.ahead ≡ pending.old.ahead }
     ensures flushed { OnOk result (AreFlushed (O.told outputs.new)) }
 {
     pour(pending, outputs)?;
@@ -93,6 +97,7 @@ fn relay_piece<O: ThreeWriters>(
         (stage_of pending.old (O.told outputs.old)) (stage_of pending.new (O.told outputs.new)) }
     ensures counts { CountsWriteFault result (O.told outputs.old) (O.told outputs.new) }
 {
+    laws::pieces_join();
     let Some(piece) = stream.next() else {
         return Ok(false);
     };
@@ -208,7 +213,28 @@ fn relay_begun<O: ThreeWriters>(
     Ok(end + taken)
 }
 
-// Takes a part of the text, and each piece that is there then. All that these make is written and flushed.
+// Takes ahead what the stream holds, if no newline ended it and it is too long already.
+fn relay_ahead(
+    settings: &Settings<'_>,
+    stream: &BoundedLineStream,
+    pending: &mut Pending,
+) -> Result<(), AllocError>
+    requires ready { IsReady settings.now stream.now pending.old }
+    ensures fits { OnOk result (counted pending.new ≤ usize.MAX) }
+    ensures relays { OnOk result (RelaysAhead settings.now stream.now (unwritten_of pending.old) (unwritten_of pending.new)) }
+    ensures told { OnOk result (IsToldAhead settings.now stream.now (unwritten_of pending.new)) }
+{
+    if pending.ahead {
+        return Ok(());
+    }
+    match stream.too_long_so_far() {
+        Some(fault) => take_ahead(settings, pending, fault),
+        None => Ok(()),
+    }
+}
+
+// Takes a part of the text, and each piece that is there then, and what comes after them if that is too long already. All that these
+// make is written and flushed.
 fn relay_part<O: ThreeWriters>(
     settings: Settings<'_>,
     stream: &mut BoundedLineStream,
@@ -221,12 +247,16 @@ fn relay_part<O: ThreeWriters>(
     ensures ready { OnOk result (IsReady settings.entry stream.new pending.new) }
     ensures relays { RelaysPart settings.entry part.now result (λ _. part.now) stream.old stream.new
         (stage_of pending.old (O.told outputs.old)) (stage_of pending.new (O.told outputs.new)) }
+    ensures told { OnOk result (IsToldAhead settings.entry stream.new (unwritten_of pending.new)) }
     ensures none { OnOk result (HoldsNone pending.new) }
     ensures counts { CountsWriteFault result (O.told outputs.old) (O.told outputs.new) }
     ensures flushed { OnOk result (AreFlushed (O.told outputs.new)) }
 {
     let given = relay_begun(settings, stream, pending, part, outputs)?;
     relay_pieces(settings, stream, pending, &part[given..], outputs)?;
+    if relay_ahead(&settings, stream, pending).is_err() {
+        return Err(RunFault::OutOfMemory);
+    }
     pour_and_flush(pending, outputs)
 }
 
@@ -261,7 +291,8 @@ fn finish<O: ThreeWriters>(
 /// If `settings.counts_kinds` says so, the answer tells how many items were refused for each kind of fault; they add up to all that
 /// were.
 ///
-/// What each read completes is written and flushed before the next read is asked for, and the rest at the end. What is held of
+/// What each read completes is written and flushed before the next read is asked for, and the rest at the end. So is the fault of a
+/// piece that is longer than `settings.limit`, as soon as so many bytes of it and one more have come. What is held of
 /// the input is the line that has not ended yet and two blocks at most, and of each output less than a block and what one line
 /// makes, since it is written too if it fills a block. So by `LineForm::Rebuilt` the lines are what [`run`](lp_rebuild::run) writes, and
 /// by `Faults::Raw`, if items are named from 1 on, the faults are too, but not in its order.

@@ -1,5 +1,5 @@
 //! What a relay takes of a piece of its input.
-ghost use Rattle.std.specs.Prelude.{◌≡◌, ◌≢◌, ◌+◌, ◌<◌, ◌≤◌, ◌++◌, List, false, true, ℕ, length, option_map, string_bytes, IfOk, Ok, OnOk};
+ghost use Rattle.std.specs.Prelude.{◌≡◌, ◌≢◌, ◌+◌, ◌<◌, ◌≤◌, ◌++◌, List, false, true, ℕ, length, option_map, string_bytes, Err, IfOk, Ok, OnOk};
 ghost use Rattle.influxdb_line_protocol.specs.code.Rules.{rules_of};
 ghost use Rattle.influxdb_line_protocol.specs.format.Dialects.{Dialect as AnyDialect};
 ghost use Rattle.influxdb_line_protocol.specs.format.Lines.{answer};
@@ -9,7 +9,8 @@ ghost use Rattle.lp_relay.specs.Kinds.{counts_if, with_fault};
 ghost use Rattle.lp_relay.specs.Refusals.{EndsPiece, GaveSame, IsKnown, RefusesPiece, TakesItem, TakesPiece, given_of, reason_of, refusal_kind};
 ghost use Rattle.lp_relay.specs.Relaying.{Item, canonical_item, front_of, item_of, kept_of};
 ghost use Rattle.lp_relay.specs.FaultsTold.{first_line, line_after, told_fault};
-ghost use Rattle.lp_relay.specs.RelaySteps.{HoldsLess, TakesGiven, after_given, items_before, len_given, made, newlines_given, next_place};
+ghost use Rattle.lp_relay.specs.RelaySteps.{EndsAhead, HoldsLess, TakesAhead, TakesBy, TakesGiven, after_given, items_before, len_given, made};
+ghost use Rattle.lp_relay.specs.RelaySteps.{newlines_given, next_place};
 ghost use Rattle.lp_relay.specs.RelaySteps.{unwritten_of, unwritten_of_none};
 
 use crate::differing::{differing_part, part_text};
@@ -133,6 +134,8 @@ pub(crate) struct Pending {
     pub(crate) offset: usize,
     /// How many items were refused for each kind of fault, if that is counted.
     pub(crate) kinds: Option<KindCounts>,
+    /// Whether the fault of the next piece was told ahead of its end, since it is too long already.
+    pub(crate) ahead: bool,
 }
 
 /// What came of a piece.
@@ -189,6 +192,7 @@ pub(crate) fn nothing_made(alloc: Global, settings: Settings<'_>) -> Pending
         } else {
             None
         },
+        ahead: false,
     }
 }
 
@@ -290,17 +294,24 @@ fn kept_of(settings: &Settings<'_>) -> Option<usize>
     }
 }
 
-// The line of the next piece, if fault lines name lines. It is refused if it, or the number of an item more, would not fit.
+// The number of an item more is refused if it would not fit.
 #[inline(always)]
-fn line_after(so_far: &Progress, piece: Piece<'_>) -> Result<Option<usize>, AllocError>
-    requires fits { so_far.now.carried + so_far.now.refused ≤ usize.MAX }
-    ensures room { OnOk result (so_far.now.carried + so_far.now.refused < usize.MAX) }
-    ensures line { IfOk result (λ next. next ≡ line_after so_far.now.line (newlines_given (given_of piece.entry))) }
+fn has_number(so_far: &Progress) -> Result<(), AllocError>
+    requires { so_far.now.carried + so_far.now.refused ≤ usize.MAX }
+    ensures { OnOk result (so_far.now.carried + so_far.now.refused < usize.MAX) }
 {
     if so_far.carried + so_far.refused == usize::MAX {
         return Err(AllocError);
     }
-    let Some(line) = so_far.line else {
+    Ok(())
+}
+
+// The line of the piece after this one, which begins on a line, if fault lines name lines. It is refused if it would not fit.
+#[inline(always)]
+fn line_after(line: Option<usize>, piece: Piece<'_>) -> Result<Option<usize>, AllocError>
+    ensures { IfOk result (λ next. next ≡ line_after line (newlines_given (given_of piece.entry))) }
+{
+    let Some(line) = line else {
         return Ok(None);
     };
     let end = line.checked_add(piece.newlines()).ok_or(AllocError)?;
@@ -359,6 +370,7 @@ fn refuse(
         → TakesGiven settings.now (unwritten_of pending.old) (given_of piece.entry) (unwritten_of pending.new)) }
     ensures counted { OnOk result
         ((pending.new.so_far.carried ≡ pending.old.so_far.carried) × (pending.new.so_far.refused ≡ pending.old.so_far.refused + 1)) }
+    ensures place { (pending.new.so_far.line ≡ pending.old.so_far.line) × (pending.new.offset ≡ pending.old.offset) }
 {
     pending.so_far.refused += 1;
     count(&mut pending.kinds, refusal.kind())?;
@@ -498,7 +510,8 @@ pub(crate) fn take_piece<'a>(
     ensures fits { OnOk result (pending.new.so_far.carried + pending.new.so_far.refused ≤ usize.MAX) }
     ensures dialect { reader.new.dialect ≡ reader.old.dialect }
 {
-    let next = line_after(&pending.so_far, piece)?;
+    has_number(&pending.so_far)?;
+    let next = line_after(pending.so_far.line, piece)?;
     let end = offset_after(pending.offset, piece)?;
     take_item(settings, pending, reader, piece)?;
     pending.so_far.line = next;
@@ -506,7 +519,34 @@ pub(crate) fn take_piece<'a>(
     Ok(())
 }
 
-// Takes what the stream gave, by way of a line of its own, which is freed by its parts.
+// Takes what came of a piece that is too long, ahead of its end: its item is refused.
+pub(crate) fn take_ahead(
+    settings: &Settings<'_>,
+    pending: &mut Pending,
+    fault: PieceTooLong<'_>,
+) -> Result<(), AllocError>
+    requires fits { pending.old.so_far.carried + pending.old.so_far.refused ≤ usize.MAX }
+    ensures taken { OnOk result (TakesAhead settings.now (unwritten_of pending.old) (Err fault.entry) (unwritten_of pending.new)) }
+    ensures fits { OnOk result (pending.new.so_far.carried + pending.new.so_far.refused ≤ usize.MAX) }
+{
+    has_number(&pending.so_far)?;
+    let refusal = Refusal::TooLong(kept_of(settings));
+    refuse(settings, pending, &refusal, Piece::TooLong(fault))?;
+    pending.ahead = true;
+    Ok(())
+}
+
+// Ends a piece that was taken ahead.
+fn end_ahead(pending: &mut Pending, piece: Piece<'_>) -> Result<(), AllocError>
+    ensures { OnOk result (EndsAhead (unwritten_of pending.old) (given_of piece.entry) (unwritten_of pending.new)) }
+{
+    pending.so_far.line = line_after(pending.so_far.line, piece)?;
+    pending.offset = offset_after(pending.offset, piece)?;
+    pending.ahead = false;
+    Ok(())
+}
+
+// Takes what the stream gave, by way of a line of its own, which is freed by its parts; or ends what was taken ahead.
 #[inline(never)]
 pub(crate) fn take_given(
     settings: &Settings<'_>,
@@ -515,13 +555,16 @@ pub(crate) fn take_given(
 ) -> Result<(), AllocError>
     requires fits { pending.old.so_far.carried + pending.old.so_far.refused ≤ usize.MAX }
     requires few { HoldsLess BLOCK pending.old }
-    ensures taken { OnOk result (TakesGiven settings.now (unwritten_of pending.old) given.entry (unwritten_of pending.new)) }
-    ensures start { OnOk result (next_place settings.now (unwritten_of pending.new)
-        ≡ after_given settings.now (next_place settings.now (unwritten_of pending.old)) given.entry) }
+    ensures taken { OnOk result
+        (TakesBy pending.old.ahead settings.now (unwritten_of pending.old) given.entry (unwritten_of pending.new)) }
     ensures fits { OnOk result (pending.new.so_far.carried + pending.new.so_far.refused ≤ usize.MAX) }
 {
+    let piece = piece_of(given);
+    if pending.ahead {
+        return end_ahead(pending, piece);
+    }
     let mut reader = LineReader::new(pending.alloc, settings.dialect);
-    let taken = take_piece(settings, pending, &mut reader, piece_of(given));
+    let taken = take_piece(settings, pending, &mut reader, piece);
     reader.free();
     taken
 }

@@ -36,7 +36,7 @@ pub returns-in_err-n : goal.returns-in_err-n
 returns-in_err-n g c =
     let h = c.loop.invariant in
     failed c.utf8_by_pieces.ensures c.pieces_join.ensures.one _ c.from_residual.result _ _ _ _ c.from_residual.ensures.0
-    (fronts_so_far c.pieces_join.ensures.some c.runs_give_pieces.ensures.runs _ _ _ h.so_far.0 _ _ h.so_far.1
+    (fronts_so_far c.pieces_join.ensures.some c.pieces_join.ensures.one c.runs_give_pieces.ensures.runs _ _ _ h.so_far.0 _ _ h.so_far.1
     (some_so_far _ _ _ _ _ h.so_far.2.2))
     (read_fault _ c.in_err-n.field-0.0 _ _ _ _ _ c.from_residual.ensures.1 c.in_err-n.ensures.counts h.reader_unfailed h.unfailed)
 
@@ -61,7 +61,7 @@ returns-then-n-eq0 g c =
     let done = c.in_ok-finish.ensures in
     let all = done.relays h.so_far.0 _ h.so_far.2 in
     let carried : c.saturating_sub.result + items_before c.args.settings.numbering c.args.settings.first ≡ c.finish.new.pending.so_far.carried =
-    omega (arith, c.saturating_sub.ensures, c.items_before.ensures, all.2.carried) in
+    omega (arith, c.saturating_sub.ensures, c.items_before.ensures, all.2.made.carried) in
     ended c.utf8_by_pieces.ensures c.pieces_join.ensures.one _ _ _ _ _ _
     (so_far_all c.args.settings _ _ h.so_far.0 all.0 _ _ _ (read_none _ _ _ _ _ c.in_ok-n.n c.if-n-eq0.true h.so_far.1 read.ok)
     (read.end c.if-n-eq0.true) all.1 all.2 done.none.0 done.none.1 done.none.2 carried refl refl)
@@ -73,7 +73,7 @@ returns-in_err-relay_part g c =
     let read = c.in_ok-n.ensures in
     failed c.utf8_by_pieces.ensures c.pieces_join.ensures.one _ c.from_residual-in_err-relay_part.result _ _ _ _
     c.from_residual-in_err-relay_part.ensures.0
-    (fronts_so_far c.pieces_join.ensures.some c.runs_give_pieces.ensures.runs _ _ _ _ _ _
+    (fronts_so_far c.pieces_join.ensures.some c.pieces_join.ensures.one c.runs_give_pieces.ensures.runs _ _ _ _ _ _
     (Consumes-trans _ _ _ h.so_far.0 _ h.so_far.1
     (subst (λ bs. Consumes (g.R.Source.bytes c.loop.reader) (g.R.Source.bytes c.read_block.new.reader) (take c.in_ok-n.n bs))
     (sym c.deref.ensures.value) read.ok))
@@ -104,6 +104,6 @@ pub returns : goal.returns
 returns g c =
     let h = c.loop.invariant in
     failed c.utf8_by_pieces.ensures c.pieces_join.ensures.one _ (Err OutOfMemory) _ _ _ _ refl
-    (fronts_so_far c.pieces_join.ensures.some c.runs_give_pieces.ensures.runs _ _ _ h.so_far.0 _ _ h.so_far.1
+    (fronts_so_far c.pieces_join.ensures.some c.pieces_join.ensures.one c.runs_give_pieces.ensures.runs _ _ _ h.so_far.0 _ _ h.so_far.1
     (some_so_far _ _ _ _ _ h.so_far.2.2))
     (read_fault (Err OutOfMemory) OutOfMemory _ _ _ _ _ refl refl h.reader_unfailed h.unfailed)

@@ -46,7 +46,7 @@ loop-piece-preserved g c =
       held = poured.held;
       relays = λ given before old.
           so_far_written c.args.settings _ [] before (Ok tt) _ _ poured.writes
-          (line_taken c.args.settings given c.args.bytes.now c.loop-piece.taken c.in-Some.piece c.next.new.self.text before _ _
+          (line_taken c.pieces_join.ensures.some c.pieces_join.ensures.one c.args.settings given c.args.bytes.now c.loop-piece.taken c.in-Some.piece c.next.new.self.text before _ _
           (h.relays given before old) line c.if-piece-settings.false
           (at_no_fault c.take_piece.result c.if-is_err.ensures.value taken.taken)
           (at_no_fault c.take_piece.result c.if-is_err.ensures.value taken.start));
@@ -63,7 +63,7 @@ returns-in_err-pour_full-clause-relays g c given before old =
     (some_of_front c.args.settings given c.args.bytes.now _ before _
     (so_far_written c.args.settings _ [] before (Err c.in_err-pour_full.field-0.0) _
     (stage_of c.pour_full.new.pending (g.O.ThreeWriters.told c.pour_full.new.outputs)) c.in_err-pour_full.ensures.writes
-    (line_taken c.args.settings given c.args.bytes.now c.loop-piece.taken c.in-Some.piece c.next.new.self.text before _ _
+    (line_taken c.pieces_join.ensures.some c.pieces_join.ensures.one c.args.settings given c.args.bytes.now c.loop-piece.taken c.in-Some.piece c.next.new.self.text before _ _
     (h.relays given before old) line c.if-piece-settings.false
     (at_no_fault c.take_piece.result c.if-is_err.ensures.value c.take_piece.ensures.taken)
     (at_no_fault c.take_piece.result c.if-is_err.ensures.value c.take_piece.ensures.start))))

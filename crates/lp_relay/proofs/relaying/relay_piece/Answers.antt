@@ -17,9 +17,8 @@ returns-in_err-pour_full-clause-relays g c given text before holds h =
     at_fault _ c.from_residual.result c.from_residual.ensures.0
     (so_far_written c.args.settings given first.1 before (Err c.in_err-pour_full.field-0.0) _
     (stage_of c.pour_full.new.pending (g.O.ThreeWriters.told c.pour_full.new.outputs)) c.in_err-pour_full.ensures.writes
-    (so_far_more c.args.settings given text first.0 first.1 c.in-Some.piece before _ _ h first.2 first.3
-    (at_no_fault c.take_given.result c.if-is_err.ensures.value c.take_given.ensures.taken)
-    (at_no_fault c.take_given.result c.if-is_err.ensures.value c.take_given.ensures.start)))
+    (so_far_more c.pieces_join.ensures.some c.pieces_join.ensures.one c.args.settings given text first.0 first.1 c.in-Some.piece before _ _ h first.2 first.3
+    (at_no_fault c.take_given.result c.if-is_err.ensures.value c.take_given.ensures.taken)))
 
 pub returns-clause-relays : goal.returns-clause-relays
 returns-clause-relays g c given text before holds h =
@@ -29,8 +28,7 @@ returns-clause-relays g c given text before holds h =
       first.1,
       first.4,
       so_far_written c.args.settings given first.1 before (Ok tt) _ _ c.in_ok-pour_full.ensures.writes
-          (so_far_more c.args.settings given text first.0 first.1 c.in-Some.piece before _ _ h first.2 first.3
-          (at_no_fault c.take_given.result c.if-is_err.ensures.value c.take_given.ensures.taken)
-          (at_no_fault c.take_given.result c.if-is_err.ensures.value c.take_given.ensures.start)),
+          (so_far_more c.pieces_join.ensures.some c.pieces_join.ensures.one c.args.settings given text first.0 first.1 c.in-Some.piece before _ _ h first.2 first.3
+          (at_no_fault c.take_given.result c.if-is_err.ensures.value c.take_given.ensures.taken)),
       (first.0, first.3),
     )

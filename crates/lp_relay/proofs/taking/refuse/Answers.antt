@@ -12,7 +12,7 @@ returns-then-not-settings-clause-taken c item r =
     let unasked : c.args.settings.now.puts_refused ≡ false = grind (arith, nat_tests) in
     refuses c.args.settings.now c.args.piece c.args.refusal.now item (unwritten_of c.args.pending.now) _ _ r (omega arith) refl c.in_ok-tell.ensures refl refl
     (c.in_ok-count.ensures ∙ ap (λ k. option_map (with_fault k) (counts_if c.args.pending.now.kinds)) c.kind.ensures)
-    (put_unasked c.args.pending.now.pieces.items _ c.args.settings.now.puts_refused unasked)
+    (put_unasked c.args.pending.now.pieces.items _ c.args.settings.now.puts_refused unasked) refl
 
 pub returns-clause-taken : goal.returns-clause-taken
 returns-clause-taken c =
@@ -22,5 +22,5 @@ returns-clause-taken c =
     refuses c.args.settings.now c.args.piece c.args.refusal.now item (unwritten_of c.args.pending.now) _ _ r (omega arith) refl c.in_ok-tell.ensures refl refl
     (c.in_ok-count.ensures ∙ ap (λ k. option_map (with_fault k) (counts_if c.args.pending.now.kinds)) c.kind.ensures)
     (put ∙ ap (λ (l : List ℕ). c.args.pending.now.pieces.items ++ (l ++ newline ∷ [])) c.bytes.ensures
-    ∙ put_asked c.args.pending.now.pieces.items _ c.args.settings.now.puts_refused asked))
+    ∙ put_asked c.args.pending.now.pieces.items _ c.args.settings.now.puts_refused asked) refl)
     c.copy_line.ensures
