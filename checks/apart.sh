@@ -244,6 +244,40 @@ wanted 2 y "apart: the output cannot be written" to_a_closed_pipe
 faults_to_full() { "$apart" "$file" 4 2>/dev/full; }
 RELAYS='cat; echo "item 1: no line" >&2; exit 1'
 wanted 2 "$text" "" faults_to_full
+
+# An output that is a file: the parts come to their places, what came before stays, and what comes after follows. So it is if the file is
+# appended to, or written over in its midst, and if its parts fail or it is full: then it ends with a part.
+# in_file OUTPUT STATUS ERROR [TEXT]: runs `into_file`, which writes to the file `filed`, in which a text may be.
+in_file() {
+    local status=0 output=$1
+    printf %s "${4-}" >filed
+    into_file 2>err || status=$?
+    # shellcheck disable=SC2053
+    if [ "$status" != "$2" ] || [ "$(cat filed)" != "$output" ] || [[ $(tail -n 1 err) != $3 ]]; then
+        echo "apart: in a file, status is $status, where $2 is wanted, and its output is $(head -c 200 filed)"
+        head -n 20 err
+        exit 1
+    fi
+    tried=$((tried + 1))
+}
+RELAYS="cat"
+into_file() { "$apart" "$file" 4 >filed; }
+in_file "$text" 0 ""
+into_file() { { printf '<'; "$apart" "$file" 4; printf '>'; } >filed; }
+in_file "<$text>" 0 ""
+into_file() { { "$apart" "$file" 4; printf '>'; } >>filed; }
+in_file "before $text>" 0 "" "before "
+into_file() { { "$apart" "$file" 4; printf '>'; } 1<>filed; }
+in_file "$text> and more" 0 "" "0123456789012345678901234567890 and more"
+RELAYS='text=$(cat); case $text in ,*) echo "lp_relay: why" >&2; exit 2 ;; *) printf %s "$text" ;; esac'
+into_file() { { printf '<'; "$apart" "$file" 4 && ended=0 || ended=$?; printf '>'; return "$ended"; } >filed; }
+in_file "<first line>" 2 "apart: part 3: the status of the relay is 2"
+# A limit of 4 KiB. Each part fits, and three of them do not.
+RELAYS='head -c 2000 /dev/zero | tr "\0" x'
+CUTS="seq 27 30"
+into_file() { limited 4 "$apart" "$file" 4 >filed; }
+in_file "$(head -c 4000 /dev/zero | tr '\0' x)" 2 "apart: the output cannot be written"
+CUTS=$cuts
 if [ -n "$(ls -A waiting)" ]; then
     echo "apart: a run has left $(ls -A waiting) in TMPDIR"
     exit 1
@@ -251,7 +285,7 @@ fi
 echo "apart: $tried runs with a stub ended as they should"
 [ -n "$relay" ] || exit 0
 
-# Compares both outputs of a relay in parts, and its status, with those of one relay: INPUT "PARTS.." OPTION..
+# Compares both outputs of a relay in parts, which are files, and its status, with those of one relay: INPUT "PARTS.." OPTION..
 compared=0
 seed=${SEED:-$RANDOM}
 compare() {
@@ -259,7 +293,7 @@ compare() {
     shift 2
     "$relay" "$@" <"$input" >wanted 2>wanted_err || status_wanted=$?
     for parts in $counts; do
-        run env LP_RELAY="$relay" "$apart" "$input" "$parts" "$@"
+        LP_RELAY=$relay "$apart" "$input" "$parts" "$@" >out 2>err && status=0 || status=$?
         if [ "$status" != "$status_wanted" ] || ! cmp out wanted || ! cmp err wanted_err; then
             echo "apart: of $input in $parts parts ($*) lp_relay writes something else, or has status $status, not $status_wanted; SEED=$seed"
             exit 1

@@ -9,9 +9,9 @@
 # their turn.
 #
 # Both outputs are what one lp_relay writes. The lines of a part are put out while later parts are relayed, so with several parts for each
-# processor less waits. The counts of the parts before it tell which numbers the faults of a part have, so the faults come once all parts
-# were relayed. Where they are more than 10,000, or are not told on a line each, a part that refused something is relayed a second time, to
-# check alone, from these numbers on.
+# processor less waits; if the output is a file that is written at its end, those of several parts at once. The counts of the parts before
+# it tell which numbers the faults of a part have, so the faults come once all parts were relayed. Where they are more than 10,000, or are
+# not told on a line each, a part that refused something is relayed a second time, to check alone, from these numbers on.
 #
 # Status 0: every item was written again; 1: some item was not; 2: the arguments are wrong, or the run failed. The last line of
 # standard error, which starts with `apart: `, then says why, and both outputs have a beginning of what was meant for them: where a

@@ -162,17 +162,66 @@ want_relayed() {
     local number=${1%.again} why
     why=$(why_not "$1")
     [ -n "$why" ] || return 0
+    end_copies 0
+    move_output || true
     sed "s/^/part $number, /" "$waiting/$1.err" >&2 || true
     { echo >"$waiting/more"; } 2>/dev/null || echo "$(basename "$0" .sh): nothing more can be written to TMPDIR" >&2 || true
     fail "part $number: $why"
 }
 
+# Finds whether the output is a file that is written at its end: then parts are copied to their places side by side. Sets: place and
+# moved, both that end, and else nothing; and copies, none.
+find_place() {
+    local _ at flags
+    place='' moved='' copies=()
+    [ -f "/proc/$$/fd/1" ] && [ -w "/proc/$$/fd/1" ] || return 0
+    { read -r _ at && read -r _ flags; } <"/proc/$$/fdinfo/1" || return 0
+    # 02000 is O_APPEND: each write goes to the end, wherever that is.
+    if ((8#$flags & 8#2000)) || [ "$(stat -Lc %s "/proc/$$/fd/1")" != "$at" ]; then return 0; fi
+    place=$at moved=$at
+}
+
+# Moves the output past what was copied, for what is written next.
+move_output() {
+    [ -z "$place" ] || dd if=/dev/null bs=1 seek=$((place - moved)) oflag=seek_bytes status=none || return
+    moved=$place
+}
+
+# Waits for the copies that began first, until no more than this many go on. If one failed, the output ends where its part begins.
+end_copies() {
+    local copy other
+    while [ ${#copies[@]} -gt "$1" ]; do
+        copy=${copies[0]}
+        copies=("${copies[@]:1}")
+        if ! wait "${copy% *}"; then
+            for other in "${copies[@]}"; do wait "${other% *}" || true; done
+            place=${copy#* }
+            { truncate -s "$place" "/proc/$$/fd/1" && move_output; } || true
+            fail "the output cannot be written"
+        fi
+    done
+}
+
+# Copies the lines of the part of a number to a place of the output.
+copy_lines() {
+    dd if="$waiting/$1.out" of="/proc/$$/fd/1" bs=1M seek="$2" oflag=seek_bytes conv=notrunc status=none && rm "$waiting/$1.out"
+}
+
 # Puts out the lines that the part of a number gave, once it was relayed, or once `relays`, the process that has the parts relayed, ended.
 put_lines() {
+    local length
     while [ ! -e "$waiting/$1.status" ] && [ -n "${relays-}" ] && kill -0 "$relays" 2>/dev/null; do sleep 0.02; done
     want_relayed "$1"
-    cat "$waiting/$1.out" || fail "the output cannot be written"
-    rm "$waiting/$1.out"
+    if [ -z "$place" ]; then
+        cat "$waiting/$1.out" || fail "the output cannot be written"
+        rm "$waiting/$1.out"
+        return
+    fi
+    end_copies "$(($(nproc) - 1))"
+    length=$(stat -c %s "$waiting/$1.out") || fail "what part $1 gave is lost"
+    copy_lines "$1" "$place" &
+    copies+=("$! $place")
+    place=$((place + length))
 }
 
 # Puts out the faults of the part of a number, and adds its counts to those of the whole.
@@ -212,9 +261,12 @@ list_kinds() {
 
 # Puts out what all parts gave, the lines first, and the faults with the numbers of the whole, and ends with the status of the whole.
 put_parts() {
-    local number bytes=0 lines=0 carried=0 refused=0 again=()
+    local number place moved copies bytes=0 lines=0 carried=0 refused=0 again=()
     local -A kinds=()
+    find_place
     for ((number = 1; number <= parts; number++)); do put_lines "$number"; done
+    end_copies 0
+    move_output || fail "the output cannot be written"
     number_faults
     for ((number = 1; number <= parts; number++)); do put_faults "$number"; done
     [ -z "$counts_asked" ] ||
