@@ -197,7 +197,7 @@ abbrev pub made_of : (pieces : List (List ℕ)) → (ahead : Option (List ℕ)) 
 made_of pieces None = pieces
 made_of pieces (Some front) = pieces ++ front ∷ []
 
--- the place of a piece, and the number of the item after those that were counted
+-- the next place: that of the next piece, with a number more if its item was counted ahead of its end
 abbrev pub place_by : (ahead : Option (List ℕ)) → Place → Place
 place_by None place = place
 place_by (Some front) place = record place { number = place.number + 1 }

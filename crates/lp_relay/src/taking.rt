@@ -294,9 +294,9 @@ fn kept_of(settings: &Settings<'_>) -> Option<usize>
     }
 }
 
-// The number of an item more is refused if it would not fit.
+// Refuses an item more if no `usize` holds its number.
 #[inline(always)]
-fn has_number(so_far: &Progress) -> Result<(), AllocError>
+fn check_number(so_far: &Progress) -> Result<(), AllocError>
     requires { so_far.now.carried + so_far.now.refused ≤ usize.MAX }
     ensures { OnOk result (so_far.now.carried + so_far.now.refused < usize.MAX) }
 {
@@ -510,7 +510,7 @@ pub(crate) fn take_piece<'a>(
     ensures fits { OnOk result (pending.new.so_far.carried + pending.new.so_far.refused ≤ usize.MAX) }
     ensures dialect { reader.new.dialect ≡ reader.old.dialect }
 {
-    has_number(&pending.so_far)?;
+    check_number(&pending.so_far)?;
     let next = line_after(pending.so_far.line, piece)?;
     let end = offset_after(pending.offset, piece)?;
     take_item(settings, pending, reader, piece)?;
@@ -529,14 +529,14 @@ pub(crate) fn take_ahead(
     ensures taken { OnOk result (TakesAhead settings.now (unwritten_of pending.old) (Err fault.entry) (unwritten_of pending.new)) }
     ensures fits { OnOk result (pending.new.so_far.carried + pending.new.so_far.refused ≤ usize.MAX) }
 {
-    has_number(&pending.so_far)?;
+    check_number(&pending.so_far)?;
     let refusal = Refusal::TooLong(kept_of(settings));
     refuse(settings, pending, &refusal, Piece::TooLong(fault))?;
     pending.ahead = true;
     Ok(())
 }
 
-// Ends a piece that was taken ahead.
+// Ends a piece that was taken ahead: the next place comes after it.
 fn end_ahead(pending: &mut Pending, piece: Piece<'_>) -> Result<(), AllocError>
     ensures { OnOk result (EndsAhead (unwritten_of pending.old) (given_of piece.entry) (unwritten_of pending.new)) }
 {

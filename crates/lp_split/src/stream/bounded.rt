@@ -219,12 +219,12 @@ impl BoundedLineStream {
         }
     }
 
-    /// What came of the first piece, if no newline has ended it and it is too long already: how many newlines and bytes it has so
-    /// far, and its first bytes, as many as the limit. So that it is too long can be told before it ends. `None` if what came of
-    /// it has not more bytes than the limit.
+    /// What came of the first piece, once [`next`](Self::next) has given `None`, if it is too long already: how many newlines and
+    /// bytes it has so far, and its first bytes, as many as the limit. So a caller can tell of it before it ends. `None` if no more
+    /// bytes of it came than the limit.
     ///
-    /// It is called once [`next`](Self::next) has given `None`, and changes nothing: the fault of the piece comes from `next` or
-    /// [`finish`](Self::finish) as ever. It takes no memory, and no more time for a longer piece.
+    /// Nothing is changed: the fault of the piece comes from `next` or [`finish`](Self::finish) as ever. It takes no memory, and no
+    /// more time for a longer piece.
     ///
     /// ```text
     /// new_in(alloc, Dialect::Crate, 6)
