@@ -1,5 +1,5 @@
 #!/usr/bin/env bash
-# Builds the archive, and runs the tests of the callers in C, Python and Rust over it. Each says what it did; where its tools are
+# Builds the archive, and runs the tests of the callers in C, Python, Rust and Go over it. Each says what it did; where its tools are
 # missing, it says so and passes. bindings/rust/test.sh says at its head what it can be told.
 #
 #     bindings/test.sh             makes the archive first
@@ -11,3 +11,4 @@ archive=$(realpath "${1:-$(dirname "$here")/crates/lp_c/out/liblp_c.a}")
 "$here/c/test.sh" "$archive"
 "$here/python/test.sh" "$archive"
 LP_LIB_DIR=$(dirname "$archive") "$here/rust/test.sh"
+"$here/go/test.sh" "$archive"

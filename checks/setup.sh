@@ -10,7 +10,7 @@
 set -eu
 PATH=$PATH:/usr/sbin
 packages=(gcc g++ git valgrind strace bsdutils dash python3 python3-dev python3-venv python3-numpy python3-pandas mypy cargo librust-bytes-dev
-    librust-nom-dev librust-smallvec-dev shellcheck man-db groff mandoc)
+    librust-nom-dev librust-smallvec-dev golang-go shellcheck man-db groff mandoc)
 if [ "${1-}" = --engines ]; then
     packages+=(slurm-wlm munge parallel openssh-client openssh-server python3-distributed)
     shift
@@ -31,6 +31,7 @@ is_here() {
     case $1 in
     gcc) command -v cc ;;
     bsdutils) command -v script ;;
+    golang-go) command -v go ;;
     man-db) command -v man ;;
     slurm-wlm) command -v slurmctld && command -v slurmd && command -v sbatch ;;
     munge) command -v munged ;;

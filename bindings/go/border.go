@@ -1,0 +1,113 @@
+package lineprotocol
+
+// The library, by pkg-config; or by the tag lp_lib_dir, as lib_dir.go says.
+
+/*
+#cgo !lp_lib_dir pkg-config: influxdb_line_protocol
+#include <stdlib.h>
+#include "influxdb_line_protocol.h"
+*/
+import "C"
+
+import (
+	"errors"
+	"math"
+	"unsafe"
+)
+
+// The first byte of a slice, for C, which wants a place also where there are no bytes.
+func first(bytes []byte) *C.uint8_t {
+	if len(bytes) == 0 {
+		return &nothing
+	}
+	return (*C.uint8_t)(&bytes[0])
+}
+
+var nothing C.uint8_t
+
+// A block is what one call of the library fills: rows of items, and their parts, with offsets into the text and the room. All of it is
+// memory of Go's without pointers.
+type block struct {
+	rows   []C.lp_offset_row
+	parts  []C.lp_offset_part
+	room   []byte
+	filled C.lp_block
+}
+
+// The memory of a new block: a line with more parts, or more to copy, makes it grow.
+func newBlock() block {
+	return block{rows: make([]C.lp_offset_row, 1024), parts: make([]C.lp_offset_part, 16384), room: make([]byte, 64<<10)}
+}
+
+// The greatest part of a text that one call is given. Offsets have 32 bits.
+const mostGiven = math.MaxInt32
+
+// errDialect is of a number that no dialect has, and of what no call here gives.
+var errDialect = errors.New("lineprotocol: no dialect has the number")
+
+// read fills rows from the start of a text on, of which the first line has this number; last: the text ends there. It gives how many
+// rows were filled, and how many bytes they and blank pieces take. The next piece goes on in the text that comes if both are 0.
+func (b *block) read(text []byte, dialect Dialect, last bool, line uint64) (rows, taken int, err error) {
+	for {
+		b.filled = C.lp_block{line: C.uint64_t(line)}
+		answer := C.lp_offsets_block(first(text), C.size_t(len(text)), C.uint32_t(dialect), C.bool(last), &b.filled, first(b.room),
+			C.size_t(len(b.room)), &b.rows[0], C.size_t(len(b.rows)), &b.parts[0], C.size_t(len(b.parts)))
+		if answer == C.LP_NOT_A_DIALECT || answer == C.LP_TOO_LONG {
+			return 0, 0, errDialect
+		}
+		if b.filled.rows > 0 {
+			break
+		}
+		// The row after the filled ones says how much its line takes.
+		if answer == C.LP_MORE_PARTS {
+			b.parts = make([]C.lp_offset_part, 2*(int(b.rows[0].tags)+int(b.rows[0].fields)))
+		} else if answer == C.LP_MORE_ROOM {
+			b.room = make([]byte, 2*int(b.rows[0].room_len))
+		} else {
+			break
+		}
+	}
+	return int(b.filled.rows), int(b.filled.at), nil
+}
+
+// message gives what the library says of the first item of a piece: what is wrong with it. The library reads a copy, in memory of C's,
+// since what it gives of a fault has pointers.
+func message(piece []byte, dialect Dialect) string {
+	text := C.CBytes(piece)
+	defer C.free(text)
+	room := C.malloc(C.size_t(len(piece)) + 1)
+	defer C.free(room)
+	lines, line := C.lp_no_lines, C.lp_empty_line
+	if !C.lp_lines_begin((*C.uint8_t)(text), C.size_t(len(piece)), C.uint32_t(dialect), &lines) {
+		return "the line is not UTF-8"
+	}
+	lent := C.lp_room{at: (*C.uint8_t)(room), len: C.size_t(len(piece) + 1)}
+	var none C.lp_part = C.lp_empty_part
+	if C.lp_lines_next(&lines, &lent, &line, &none, 0) != C.LP_FAULT {
+		return "the line cannot be read"
+	}
+	told := make([]byte, 256+len(piece))
+	var n C.size_t
+	if C.lp_fault_message(&line, first(told), C.size_t(len(told)), &n) != C.LP_WRITTEN {
+		return "the line cannot be read"
+	}
+	return string(told[:n])
+}
+
+// A search for the end of a piece that is too long.
+type search struct{ cuts C.lp_cuts }
+
+func newSearch(dialect Dialect) (s search) {
+	C.lp_cuts_begin(C.uint32_t(dialect), C.SIZE_MAX, &s.cuts)
+	return s
+}
+
+// find goes on over the bytes that come next: the place of the newline that ends the piece, if it is one of them.
+func (s *search) find(text []byte) (cut int, found bool) {
+	var at C.size_t
+	found = C.lp_cuts_next(&s.cuts, first(text), C.size_t(len(text)), &at) == C.LP_PIECE
+	return int(at), found
+}
+
+// A string of bytes that stay as they are while it is used.
+func stringOf(bytes []byte) string { return *(*string)(unsafe.Pointer(&bytes)) }

@@ -1,0 +1,405 @@
+// Package lineprotocol reads InfluxDB line protocol by a proved library. Its names are those of
+// github.com/influxdata/line-protocol/v2/lineprotocol, so a program that reads by that package changes its import.
+//
+// What it does otherwise: a line is read as a whole, so a line with a fault gives none of its tags and fields, but the fault; each line
+// after it is read as ever. Raw gives a line as it came, Fault its fault. A line that is too long costs no memory beyond MaxLine.
+//
+// All that it gives are views of the memory of Go, as long as the next call of Next: copy what is to stay. No call takes memory once
+// the decoder has what its longest lines need. One call of the library serves up to 1,024 lines. A decoder is for one goroutine; many
+// may go side by side.
+package lineprotocol
+
+// #include "influxdb_line_protocol.h"
+import "C"
+
+import (
+	"bytes"
+	"errors"
+	"io"
+	"math"
+	"strconv"
+	"time"
+)
+
+// Dialect is by whose rules lines are read.
+type Dialect uint32
+
+const (
+	// Crate has the rules of the Rust crate influxdb-line-protocol 2.0.0.
+	Crate Dialect = 0
+	// Strict has them too, but a comment ends at its own newline, and a comma after a field has a field after it.
+	Strict Dialect = 1
+	// NewlineDelimited is strict, and each newline ends a line, whatever is open: whatever a line holds, each other line is read as if it
+	// were alone. No string holds a newline. It is for lines of others.
+	NewlineDelimited Dialect = 2
+)
+
+// Precision is the unit of a time.
+type Precision byte
+
+const (
+	Nanosecond Precision = iota
+	Microsecond
+	Millisecond
+	Second
+)
+
+var units = [...]time.Duration{time.Nanosecond, time.Microsecond, time.Millisecond, time.Second}
+
+// Duration gives the unit as a duration.
+func (p Precision) Duration() time.Duration { return units[p] }
+
+// ErrTimeRange is of a time that no int64 of nanoseconds holds.
+var ErrTimeRange = errors.New("lineprotocol: the time is out of range")
+
+// MaxLine is how many bytes a line may have that NewDecoder reads, if SetMaxLine says nothing else.
+const MaxLine = 16 << 20
+
+// A Decoder reads lines one after another: those of a reader, or of bytes.
+type Decoder struct {
+	reader  io.Reader
+	err     error
+	dialect Dialect
+	most    int
+	// The bytes from at to end are not read yet; the first of them is in this line.
+	buf     []byte
+	at, end int
+	line    uint64
+	ended   bool
+	// What the last call filled: of which text, which begins in this line, how many bytes and rows of it; and which row is read, and where
+	// the next piece begins.
+	block block
+	text  []byte
+	first uint64
+	taken int
+	rows  int
+	row   int
+	next  int
+	// The next tag and the next field of the row, and its fault.
+	tag, field int
+	fault      *DecodeError
+	// A piece that is too long is told, and passed over.
+	front   []byte
+	passing bool
+	search  search
+}
+
+// NewDecoder makes a decoder that reads r to its end, in blocks. Lines have MaxLine bytes at most.
+func NewDecoder(r io.Reader) *Decoder {
+	return &Decoder{reader: r, most: MaxLine, line: 1, buf: make([]byte, 128<<10), block: newBlock(), row: -1}
+}
+
+// NewDecoderWithBytes makes a decoder that reads buf in place. It must stay as it is until all was read. No line is too long.
+func NewDecoderWithBytes(buf []byte) *Decoder {
+	d := &Decoder{block: newBlock()}
+	d.ResetBytes(buf)
+	return d
+}
+
+// ResetBytes begins anew with other bytes, in the memory that the decoder has, and by its dialect.
+func (d *Decoder) ResetBytes(buf []byte) {
+	*d = Decoder{dialect: d.dialect, most: math.MaxInt, line: 1, buf: buf, end: len(buf), ended: true, block: d.block, row: -1}
+}
+
+// SetDialect says by whose rules lines are read: Crate if it is not called. It comes before the first Next.
+func (d *Decoder) SetDialect(dialect Dialect) { d.dialect = dialect }
+
+// SetMaxLine says how many bytes a line may have, its newline left out. A longer one is a fault, told as soon as so many bytes have come.
+func (d *Decoder) SetMaxLine(most int) { d.most = most }
+
+// Err gives the error of the reader, if there was one. Then Next gave false.
+func (d *Decoder) Err() error { return d.err }
+
+// Next goes to the next line, also to one that has a fault. False: there is none, or the reader failed, as Err says.
+func (d *Decoder) Next() bool {
+	d.tag, d.field, d.fault, d.front = 0, 0, nil, nil
+	for {
+		row, end := d.row+1, d.taken
+		if row < d.rows {
+			end = int(d.block.rows[row].piece.at)
+		}
+		if end-d.next > d.most && d.passBlanks(end) {
+			return true
+		}
+		if row < d.rows {
+			d.begin(row)
+			return true
+		}
+		if !d.fill() {
+			return false
+		}
+		if d.front != nil {
+			return true
+		}
+	}
+}
+
+// begin goes to a row of the block.
+func (d *Decoder) begin(at int) {
+	row := &d.block.rows[at]
+	d.row, d.next = at, int(row.piece.at)+int(row.piece.len)+1
+	if row.answer != C.LP_LINE || int(row.piece.len) > d.most {
+		d.fault = d.faultOf(row)
+	}
+}
+
+// passBlanks goes over the pieces before this place, which hold blanks and comments alone. True: one is too long, which is told.
+func (d *Decoder) passBlanks(end int) bool {
+	search := newSearch(d.dialect)
+	for d.next < end {
+		piece := d.text[d.next:end]
+		if cut, found := search.find(piece); found {
+			piece = piece[:cut]
+		}
+		line := d.first + uint64(bytes.Count(d.text[:d.next], newline))
+		d.next += len(piece) + 1
+		if len(piece) > d.most {
+			d.tell(piece, line)
+			return true
+		}
+	}
+	return false
+}
+
+// tell tells of a piece that is too long, which begins in this line.
+func (d *Decoder) tell(piece []byte, line uint64) {
+	d.front = piece[:d.most]
+	d.fault = &DecodeError{Line: int64(line), Column: 1, Kind: TooLong, Err: tooLong}
+}
+
+// fill reads a block of lines, or finds one that is too long. False: no line is left.
+func (d *Decoder) fill() bool {
+	d.row, d.rows, d.next, d.taken = -1, 0, 0, 0
+	if d.passing {
+		d.pass()
+	}
+	for d.err == nil && !(d.at == d.end && d.ended) {
+		text := d.buf[d.at:d.end]
+		if len(text) > mostGiven {
+			text = text[:mostGiven]
+		}
+		last := d.ended && len(text) == d.end-d.at
+		rows, taken, err := d.block.read(text, d.dialect, last, d.line)
+		if err != nil {
+			d.err = err
+			break
+		}
+		d.text, d.first, d.rows, d.taken = text, d.line, rows, taken
+		d.at += taken
+		d.line = uint64(d.block.filled.line)
+		if rows > 0 || taken > d.most {
+			return true
+		}
+		if d.ended && !last && taken == 0 {
+			d.err = errors.New("lineprotocol: a line of 2 GiB and more")
+		}
+		if !d.ended && d.grow() {
+			return true
+		}
+	}
+	return false
+}
+
+// grow reads on until the piece at hand ends. Each byte is searched once, however little comes at a time. True: it is too long, which is
+// told, and it is passed over then.
+func (d *Decoder) grow() bool {
+	d.search = newSearch(d.dialect)
+	for searched := 0; d.err == nil; {
+		piece := d.buf[d.at:d.end]
+		_, found := d.search.find(piece[searched:])
+		if found || d.ended {
+			break
+		}
+		if len(piece) > d.most {
+			d.tell(piece, d.line)
+			d.row, d.rows, d.next, d.taken = -1, 0, 0, 0
+			d.passing = true
+			d.take(piece)
+			return true
+		}
+		searched = len(piece)
+		d.more()
+	}
+	return false
+}
+
+// pass goes over the rest of a piece that is too long.
+func (d *Decoder) pass() {
+	for d.passing && d.err == nil {
+		text := d.buf[d.at:d.end]
+		cut, found := d.search.find(text)
+		if found {
+			text = text[:cut+1]
+		}
+		d.take(text)
+		d.passing = !found && !d.ended
+		if d.passing {
+			d.more()
+		}
+	}
+}
+
+// take passes bytes.
+func (d *Decoder) take(text []byte) {
+	d.at += len(text)
+	d.line += uint64(bytes.Count(text, newline))
+}
+
+var newline = []byte{'\n'}
+
+// more reads more bytes, after those that are not read yet. The buffer grows if they fill it.
+func (d *Decoder) more() {
+	if d.at > 0 {
+		d.end = copy(d.buf, d.buf[d.at:d.end])
+		d.at = 0
+	}
+	if d.end == len(d.buf) {
+		bigger := make([]byte, 2*len(d.buf))
+		copy(bigger, d.buf)
+		d.buf = bigger
+	}
+	for tries := 0; tries < 100; tries++ {
+		n, err := d.reader.Read(d.buf[d.end:])
+		d.end += n
+		if err == io.EOF {
+			d.ended = true
+			return
+		}
+		if err != nil {
+			d.err = err
+			return
+		}
+		if n > 0 {
+			return
+		}
+	}
+	d.err = io.ErrNoProgress
+}
+
+// faultOf makes the fault of a row.
+func (d *Decoder) faultOf(row *C.lp_offset_row) *DecodeError {
+	piece := d.view(row.piece, 0)
+	fault := &DecodeError{Line: int64(row.line), Column: 1}
+	switch {
+	case len(piece) > d.most:
+		fault.Kind, fault.Err = TooLong, tooLong
+	case row.answer == C.LP_NOT_UTF8:
+		fault.Kind, fault.Err = NotUTF8, notUTF8
+	default:
+		before := piece[:row.stop_at-row.piece.at]
+		fault.Line += int64(bytes.Count(before, newline))
+		fault.Column = len(before) - bytes.LastIndexByte(before, '\n')
+		fault.Kind, fault.Err = faultKinds[row.fault], faultText{append([]byte(nil), piece...), d.dialect}
+	}
+	return fault
+}
+
+// view gives the bytes at a place of the text, or of the room, if they were copied there.
+func (d *Decoder) view(span C.lp_span, copied C.uint16_t) []byte {
+	if copied != 0 {
+		return d.block.room[span.at : span.at+span.len : span.at+span.len]
+	}
+	return d.text[span.at : span.at+span.len : span.at+span.len]
+}
+
+// Fault gives the fault of this line, or nil if it has none.
+func (d *Decoder) Fault() *DecodeError { return d.fault }
+
+// Raw gives this line as it came, with the blanks and comments before it, and without the newline that ends it: of one that is too long
+// its first bytes.
+func (d *Decoder) Raw() []byte {
+	if d.front != nil {
+		return d.front
+	}
+	raw := d.view(d.block.rows[d.row].piece, 0)
+	if len(raw) > d.most {
+		raw = raw[:d.most]
+	}
+	return raw
+}
+
+// Line gives the number of the line of the input with which this one begins, from 1.
+func (d *Decoder) Line() int64 {
+	if d.front != nil {
+		return d.fault.Line
+	}
+	return int64(d.block.rows[d.row].line)
+}
+
+// Measurement gives the measurement, or the fault of the line.
+func (d *Decoder) Measurement() ([]byte, error) {
+	if d.fault != nil {
+		return nil, d.fault
+	}
+	row := &d.block.rows[d.row]
+	return d.view(row.measurement, row.measurement_copied), nil
+}
+
+// NextTag gives the next tag: its key is nil if there is none. Else it gives the fault of the line.
+func (d *Decoder) NextTag() (key, value []byte, err error) {
+	if d.fault != nil {
+		return nil, nil, d.fault
+	}
+	row := &d.block.rows[d.row]
+	if d.tag == int(row.tags) {
+		return nil, nil, nil
+	}
+	part := &d.block.parts[int(row.parts_at)+d.tag]
+	d.tag++
+	return d.view(part.key, part.key_copied), d.view(part.text, part.text_copied), nil
+}
+
+// NextField gives the next field: its key is nil if there is none. Else it gives the fault of the line.
+func (d *Decoder) NextField() (key []byte, value Value, err error) {
+	if d.fault != nil {
+		return nil, Value{}, d.fault
+	}
+	row := &d.block.rows[d.row]
+	if d.field == int(row.fields) {
+		return nil, Value{}, nil
+	}
+	part := &d.block.parts[int(row.parts_at)+int(row.tags)+d.field]
+	d.field++
+	return d.view(part.key, part.key_copied), d.value(part), nil
+}
+
+func (d *Decoder) value(part *C.lp_offset_part) Value {
+	switch part.kind {
+	case C.LP_INTEGER:
+		return Value{kind: Int, number: uint64(part.number)}
+	case C.LP_UNSIGNED:
+		return Value{kind: Uint, number: uint64(part.number)}
+	case C.LP_BOOLEAN:
+		return Value{kind: Bool, number: uint64(part.number)}
+	case C.LP_STRING:
+		return Value{kind: String, bytes: d.view(part.text, part.text_copied)}
+	}
+	number, _ := strconv.ParseFloat(stringOf(d.view(part.text, part.text_copied)), 64)
+	return Value{kind: Float, number: math.Float64bits(number)}
+}
+
+// Timestamp gives the number that the line has for its time. False: it has none, or a fault.
+func (d *Decoder) Timestamp() (number int64, ok bool) {
+	if d.fault != nil {
+		return 0, false
+	}
+	row := &d.block.rows[d.row]
+	return int64(row.timestamp), row.has_timestamp != 0
+}
+
+// Time gives the time of the line, whose number is of this precision, or defaultTime if it has none. Else it gives the fault of the line,
+// or ErrTimeRange.
+func (d *Decoder) Time(prec Precision, defaultTime time.Time) (time.Time, error) {
+	if d.fault != nil {
+		return time.Time{}, d.fault
+	}
+	number, ok := d.Timestamp()
+	if !ok {
+		return defaultTime, nil
+	}
+	unit := int64(prec.Duration())
+	if number > math.MaxInt64/unit || number < math.MinInt64/unit {
+		return time.Time{}, ErrTimeRange
+	}
+	return time.Unix(0, number*unit), nil
+}

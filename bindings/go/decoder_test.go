@@ -1,0 +1,296 @@
+package lineprotocol
+
+import (
+	"bytes"
+	"errors"
+	"fmt"
+	"io"
+	"math"
+	"reflect"
+	"strings"
+	"testing"
+	"testing/iotest"
+	"time"
+)
+
+// What a decoder gives of its lines, one after another.
+func told(d *Decoder) (items []string) {
+	for d.Next() {
+		items = append(items, item(d))
+	}
+	return items
+}
+
+func item(d *Decoder) string {
+	name, err := d.Measurement()
+	if err != nil {
+		return fmt.Sprintf("%d %q %v", d.Line(), d.Raw(), err)
+	}
+	var s strings.Builder
+	fmt.Fprintf(&s, "%d %q %q", d.Line(), d.Raw(), name)
+	for key, value, _ := d.NextTag(); key != nil; key, value, _ = d.NextTag() {
+		fmt.Fprintf(&s, ",%q=%q", key, value)
+	}
+	for key, value, _ := d.NextField(); key != nil; key, value, _ = d.NextField() {
+		fmt.Fprintf(&s, " %q=%v", key, value)
+	}
+	if number, ok := d.Timestamp(); ok {
+		fmt.Fprintf(&s, " at %d", number)
+	}
+	return s.String()
+}
+
+// Each text with what comes of it, by the three dialects.
+var texts = []struct {
+	text  string
+	items [3][]string
+}{
+	{"", [3][]string{}},
+	{"\n\n# c\n \n", [3][]string{}},
+	{"m,k=v f=1i,g=2u,h=1.5,s=\"a b\",b=T 7", [3][]string{
+		0: {`1 "m,k=v f=1i,g=2u,h=1.5,s=\"a b\",b=T 7" "m","k"="v" "f"=1i "g"=2u "h"=1.5 "s"="a b" "b"=true at 7`},
+	}},
+	{"wea\\,ther,a\\ b=c\\=d k\\ 1=\"say \\\"hi\\\"\"", [3][]string{
+		0: {`1 "wea\\,ther,a\\ b=c\\=d k\\ 1=\"say \\\"hi\\\"\"" "wea,ther","a b"="c=d" "k 1"="say \"hi\""`},
+	}},
+	{"x\nm f=1i\n", [3][]string{
+		0: {`1 "x" at line 1:2: A generic parsing error occurred: TakeWhile1`, `2 "m f=1i" "m" "f"=1i`},
+	}},
+	{"m f=1i 9223372036854775808\nm f=9223372036854775808i\nm 5\nm f=1i x", [3][]string{
+		0: {
+			`1 "m f=1i 9223372036854775808" at line 1:8: Unable to parse timestamp value '9223372036854775808'`,
+			`2 "m f=9223372036854775808i" at line 2:5: Unable to parse integer value '9223372036854775808'`,
+			`3 "m 5" at line 3:4: No fields were provided`,
+			`4 "m f=1i x" at line 4:7: Could not parse entire line. Found trailing content: ' x'`,
+		},
+	}},
+	{"a f=1i\n\xff\xfe\nb f=2i", [3][]string{
+		0: {`1 "a f=1i" "a" "f"=1i`, `2 "\xff\xfe" at line 2:1: the line is not UTF-8`, `3 "b f=2i" "b" "f"=2i`},
+	}},
+	// A newline within a string: one line in two dialects.
+	{"m s=\"a\nb\"\nn f=1i", [3][]string{
+		0: {`1 "m s=\"a\nb\"" "m" "s"="a\nb"`, `3 "n f=1i" "n" "f"=1i`},
+		2: {
+			`1 "m s=\"a" at line 1:5: No fields were provided`,
+			`2 "b\"" at line 2:3: A generic parsing error occurred: TakeWhile1`,
+			`3 "n f=1i" "n" "f"=1i`,
+		},
+	}},
+	{"m s=\"a\n\n\" x\nn f=1i", [3][]string{
+		0: {`1 "m s=\"a\n\n\" x" at line 3:2: Could not parse entire line. Found trailing content: ' x'`, `4 "n f=1i" "n" "f"=1i`},
+		2: {
+			`1 "m s=\"a" at line 1:5: No fields were provided`,
+			`3 "\" x" at line 3:4: No fields were provided`,
+			`4 "n f=1i" "n" "f"=1i`,
+		},
+	}},
+}
+
+func TestTexts(t *testing.T) {
+	for _, row := range texts {
+		for dialect, items := range row.items {
+			if items == nil {
+				items = row.items[0]
+			}
+			d := NewDecoderWithBytes([]byte(row.text))
+			d.SetDialect(Dialect(dialect))
+			if got := told(d); !reflect.DeepEqual(got, items) {
+				t.Errorf("dialect %d of %q:\n%s\nwanted:\n%s", dialect, row.text, strings.Join(got, "\n"), strings.Join(items, "\n"))
+			}
+			for _, reader := range []io.Reader{iotest.OneByteReader(strings.NewReader(row.text)), iotest.DataErrReader(strings.NewReader(row.text))} {
+				d := NewDecoder(reader)
+				d.SetDialect(Dialect(dialect))
+				if got := told(d); !reflect.DeepEqual(got, items) || d.Err() != nil {
+					t.Errorf("dialect %d of %q from a reader: %q, %v", dialect, row.text, got, d.Err())
+				}
+			}
+		}
+	}
+}
+
+// A text of many lines, one of them with more parts and one with more to copy than a block has room for.
+func many() string {
+	var b strings.Builder
+	for i := 0; i < 3000; i++ {
+		fmt.Fprintf(&b, "m,host=h%d f=%di %d\n", i, i, i)
+	}
+	b.WriteString("wide f=0i")
+	for i := 1; i < 40000; i++ {
+		fmt.Fprintf(&b, ",f=%di", i)
+	}
+	b.WriteString("\nm s=\"" + strings.Repeat("\\\"", 200000) + "\"\nx\nlast f=1i\n")
+	return b.String()
+}
+
+func TestMany(t *testing.T) {
+	text := many()
+	whole := told(NewDecoderWithBytes([]byte(text)))
+	if len(whole) != 3004 || !strings.HasPrefix(whole[3003], "3004 ") || !strings.Contains(whole[3000], `"f"=39999i`) ||
+		strings.Count(whole[3001], `\\\"`) < 200000 {
+		t.Fatalf("%d lines", len(whole))
+	}
+	for _, reader := range []io.Reader{strings.NewReader(text), iotest.HalfReader(strings.NewReader(text))} {
+		if got := told(NewDecoder(reader)); !reflect.DeepEqual(got, whole) {
+			t.Errorf("a reader gives other lines")
+		}
+	}
+	d := NewDecoderWithBytes(nil)
+	for i := 0; i < 2; i++ {
+		d.ResetBytes([]byte(text))
+		if got := told(d); !reflect.DeepEqual(got, whole) {
+			t.Errorf("the second time it gives other lines")
+		}
+	}
+}
+
+func TestMaxLine(t *testing.T) {
+	long := "m f=1i\nm s=\"" + strings.Repeat("x", 300000) + "\n\"\nn f=2i\nm f=12345i\nn f=3i"
+	for _, reader := range []io.Reader{strings.NewReader(long), iotest.HalfReader(strings.NewReader(long)), iotest.OneByteReader(strings.NewReader(long))} {
+		d := NewDecoder(reader)
+		d.SetMaxLine(8)
+		items := []string{
+			`1 "m f=1i" "m" "f"=1i`,
+			`2 "m s=\"xxx" at line 2:1: the line is too long`,
+			`4 "n f=2i" "n" "f"=2i`,
+			`5 "m f=1234" at line 5:1: the line is too long`,
+			`6 "n f=3i" "n" "f"=3i`,
+		}
+		if got := told(d); !reflect.DeepEqual(got, items) || d.Err() != nil {
+			t.Errorf("%q, %v", got, d.Err())
+		}
+		if len(d.buf) > 256<<10 {
+			t.Errorf("it holds %d bytes", len(d.buf))
+		}
+	}
+	d := NewDecoder(strings.NewReader("m f=1i"))
+	d.SetMaxLine(0)
+	if got := told(d); len(got) != 1 || !strings.HasSuffix(got[0], "the line is too long") {
+		t.Errorf("%q", got)
+	}
+}
+
+// A line that is too long is told before it ends.
+func TestMaxLineAtOnce(t *testing.T) {
+	r, w := io.Pipe()
+	d := NewDecoder(r)
+	d.SetMaxLine(8)
+	go w.Write([]byte("m f=1i\nm f=12345678"))
+	if !d.Next() || d.Fault() != nil || !d.Next() || d.Fault() == nil || d.Fault().Kind != TooLong {
+		t.Fatal("the line is not told")
+	}
+	go func() { w.Write([]byte("90i\nn f=2i\n")); w.Close() }()
+	if got := told(d); !reflect.DeepEqual(got, []string{`3 "n f=2i" "n" "f"=2i`}) {
+		t.Errorf("%q", got)
+	}
+}
+
+func TestReaderFails(t *testing.T) {
+	failure := errors.New("torn")
+	d := NewDecoder(io.MultiReader(strings.NewReader("m f=1i\nm f="), iotest.ErrReader(failure)))
+	if got := told(d); !reflect.DeepEqual(got, []string{`1 "m f=1i" "m" "f"=1i`}) || d.Err() != failure {
+		t.Errorf("%q, %v", got, d.Err())
+	}
+	if d.Next() {
+		t.Error("it goes on after the failure")
+	}
+	d = NewDecoder(stuck{})
+	if d.Next() || d.Err() != io.ErrNoProgress {
+		t.Errorf("%v", d.Err())
+	}
+	d = NewDecoderWithBytes([]byte("m f=1i"))
+	d.SetDialect(7)
+	if d.Next() || d.Err() == nil {
+		t.Error("a dialect that is none is read")
+	}
+}
+
+type stuck struct{}
+
+func (stuck) Read([]byte) (int, error) { return 0, nil }
+
+func TestTime(t *testing.T) {
+	now := time.Now()
+	for _, row := range []struct {
+		stamp string
+		prec  Precision
+		nanos int64
+		err   error
+	}{
+		{" 5", Nanosecond, 5, nil}, {" 5", Second, 5e9, nil}, {" -7", Millisecond, -7e6, nil}, {" 3", Microsecond, 3e3, nil},
+		{" 9223372036854775807", Nanosecond, math.MaxInt64, nil}, {" 9223372036854775807", Microsecond, 0, ErrTimeRange},
+		{" -9223372036854775807", Second, 0, ErrTimeRange}, {"", Second, now.UnixNano(), nil},
+	} {
+		d := NewDecoderWithBytes([]byte("m f=1i" + row.stamp))
+		d.Next()
+		at, err := d.Time(row.prec, now)
+		if err != row.err || err == nil && at.UnixNano() != row.nanos {
+			t.Errorf("%q: %v, %v", row.stamp, at, err)
+		}
+	}
+}
+
+func TestValues(t *testing.T) {
+	for _, x := range []interface{}{int64(math.MinInt64), uint64(math.MaxUint64), 1.5, true, false, "a\"b", ""} {
+		v, ok := NewValue(x)
+		if !ok || v.Interface() != x || !v.Equal(v) {
+			t.Errorf("%v: %v, %v", x, v, ok)
+		}
+	}
+	for _, x := range []interface{}{math.NaN(), math.Inf(1), 5, nil} {
+		if v, ok := NewValue(x); ok {
+			t.Errorf("%v is %v", x, v)
+		}
+	}
+	if v, _ := NewValue([]byte("ab")); v.Kind() != String || string(v.BytesV()) != "ab" || v.Equal(IntValue(1)) || v.Kind().String() != "string" {
+		t.Error(v)
+	}
+	defer func() {
+		if recover() == nil {
+			t.Error("a string is an integer")
+		}
+	}()
+	v, _ := StringValue("1")
+	v.IntV()
+}
+
+// No memory is taken for a line, once the decoder has what the longest ones need.
+func TestAllocations(t *testing.T) {
+	text := bytes.Repeat([]byte("cpu,host=a\\ b,region=west usage=1.5,n=2i,s=\"a\\\"b\" 1590488773254420000\n"), 1000)
+	d := NewDecoderWithBytes(text)
+	pass := func() {
+		d.ResetBytes(text)
+		for d.Next() {
+			item := 0
+			for key, _, _ := d.NextTag(); key != nil; key, _, _ = d.NextTag() {
+				item++
+			}
+			for key, _, _ := d.NextField(); key != nil; key, _, _ = d.NextField() {
+				item++
+			}
+			if item != 5 {
+				t.Fatal(item)
+			}
+		}
+	}
+	pass()
+	if n := testing.AllocsPerRun(5, pass); n > 4 {
+		t.Errorf("1,000 lines take memory %v times", n)
+	}
+}
+
+// Eight goroutines, each with a decoder of its own.
+func TestGoroutines(t *testing.T) {
+	text := many()
+	whole := told(NewDecoderWithBytes([]byte(text)))
+	done := make(chan bool)
+	for i := 0; i < 8; i++ {
+		go func() {
+			done <- reflect.DeepEqual(told(NewDecoder(strings.NewReader(text))), whole)
+		}()
+	}
+	for i := 0; i < 8; i++ {
+		if !<-done {
+			t.Error("a goroutine gets other lines")
+		}
+	}
+}

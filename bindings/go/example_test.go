@@ -1,0 +1,58 @@
+package lineprotocol_test
+
+import (
+	"fmt"
+	"io"
+	"strings"
+
+	"influxdb_line_protocol/lineprotocol"
+)
+
+// [go_faults]
+
+// Prints each line of r that can be read, and of each other where reading it stopped, and why.
+func printLines(r io.Reader) error {
+	d := lineprotocol.NewDecoder(r)
+	d.SetDialect(lineprotocol.NewlineDelimited)
+	for d.Next() {
+		if fault := d.Fault(); fault != nil {
+			fmt.Printf("line %d, column %d: %s: %q\n", fault.Line, fault.Column, fault.Err, d.Raw())
+			continue
+		}
+		name, _ := d.Measurement()
+		fmt.Printf("%s", name)
+		for key, value, _ := d.NextTag(); key != nil; key, value, _ = d.NextTag() {
+			fmt.Printf(",%s=%s", key, value)
+		}
+		for key, value, _ := d.NextField(); key != nil; key, value, _ = d.NextField() {
+			fmt.Printf(" %s=%v", key, value)
+		}
+		fmt.Println()
+	}
+	return d.Err()
+}
+
+// [end]
+
+func Example() {
+	if err := printLines(strings.NewReader("cpu,host=a usage=0.5,n=2i 5\nm note=\"open\ndisk free=7u\n")); err != nil {
+		fmt.Println(err)
+	}
+	// Output:
+	// cpu,host=a usage=0.5 n=2i
+	// line 2, column 8: No fields were provided: "m note=\"open"
+	// disk free=7u
+}
+
+func ExampleDecoder() {
+	// [go_reading]
+	d := lineprotocol.NewDecoder(strings.NewReader("cpu,host=A usage=64i 5\nm 5\n"))
+	for d.Next() {
+		name, err := d.Measurement()
+		fmt.Printf("%s %v\n", name, err)
+	}
+	// [end]
+	// Output:
+	// cpu <nil>
+	//  at line 2:4: No fields were provided
+}

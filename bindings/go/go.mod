@@ -1,0 +1,3 @@
+module influxdb_line_protocol/lineprotocol
+
+go 1.19

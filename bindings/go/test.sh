@@ -1,0 +1,50 @@
+#!/usr/bin/env bash
+# Tests the Go package of this folder over the static library of crates/lp_c: its own tests, the table of answers and its examples, as they
+# are, beside the race detector, and with each pointer watched that goes to C; and looks at it by gofmt and vet.
+#
+#     bindings/go/test.sh             makes the archive first
+#     bindings/go/test.sh ARCHIVE     takes one that was made before
+set -eu
+here=$(cd "$(dirname "$0")" && pwd)
+top=$(dirname "$(dirname "$here")")
+. "$top/checks/left_out.sh"
+if ! command -v go >/dev/null; then
+    left_out bindings/go "there is no go"
+    exit 0
+fi
+[ $# != 0 ] || "$(dirname "$here")/build.sh" >/dev/null
+archive=${1:-$top/crates/lp_c/out/liblp_c.a}
+built=$(mktemp -d)
+trap 'chmod -R u+w "$built"; rm -rf "$built"' EXIT
+cp "$archive" "$built/liblp_c.a"
+export GOCACHE=$built/cache GOPATH=$built/path GOFLAGS=-tags=lp_lib_dir GOPROXY=off CGO_ENABLED=1 CGO_LDFLAGS="-L$built"
+cd "$here"
+
+# Runs a command of go, and tells what it says only if it fails.
+try() {
+    if ! "$@" >"$built/log" 2>&1; then
+        cat "$built/log" >&2
+        echo "go: $* failed" >&2
+        exit 1
+    fi
+}
+unformatted=$(gofmt -l .)
+if [ -n "$unformatted" ]; then
+    echo "go: gofmt lays these files out otherwise: $unformatted" >&2
+    exit 1
+fi
+try go vet .
+try go test -v .
+tests=$(grep -c '^--- PASS' "$built/log")
+answers=$(sed -n 's/.*\(answers.tsv: .*\)/\1/p' "$built/log")
+try env GODEBUG=cgocheck=2 go test .
+watched="cgocheck"
+printf 'package main\n\nfunc main() {}\n' >"$built/nothing.go"
+if go run -race "$built/nothing.go" >"$built/log" 2>&1; then
+    try go test -race .
+    watched+=" and the race detector"
+else
+    left_out "race detector of Go" "$(tail -n 1 "$built/log")"
+fi
+echo "go: $answers"
+echo "go: $tests tests and examples passed, also watched by $watched, with $(go version | cut -d ' ' -f 3)"
