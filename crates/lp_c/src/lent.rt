@@ -32,7 +32,7 @@ fn put<'a>(room: &mut Room<'a>, text: &[u8]) -> &'a [u8]
 
 // Whether a text reads as it is spelled: it holds no backslash.
 #[inline(always)]
-fn reads_as_spelled(text: Spelled<'_>) -> bool
+pub fn reads_as_spelled(text: Spelled<'_>) -> bool
     ensures { result ≡ true → spelled_text text.entry ≡ record { bytes = spelling_of text.entry; is_single = true } }
 {
     text.is_plain()
@@ -302,7 +302,7 @@ fn side_of(source: OutOfRange) -> Side
 }
 
 // What a caller sees of a fault.
-fn fault_seen<'a>(fault: SpelledFault<'a>) -> (FaultKind, Side, &'a str)
+pub fn fault_seen<'a>(fault: SpelledFault<'a>) -> (FaultKind, Side, &'a str)
     ensures { fault_seen (spelled_fault fault.entry) ≡ record { kind = result.0; side = result.1; text = result.2.now } }
 {
     match fault {
