@@ -32,7 +32,7 @@ fn put<'a>(room: &mut Room<'a>, text: &[u8]) -> &'a [u8]
 
 // Whether a text reads as it is spelled: it holds no backslash.
 #[inline(always)]
-pub fn reads_as_spelled(text: Spelled<'_>) -> bool
+fn reads_as_spelled(text: Spelled<'_>) -> bool
     ensures { result ≡ true → spelled_text text.entry ≡ record { bytes = spelling_of text.entry; is_single = true } }
 {
     text.is_plain()
@@ -40,7 +40,7 @@ pub fn reads_as_spelled(text: Spelled<'_>) -> bool
 
 // The logical text, if it is a part of the input: without a backslash it is the spelling, and of one escape the byte after it.
 #[inline(always)]
-fn shared<'a>(spelled: Spelled<'a>) -> Option<&'a [u8]>
+pub fn shared<'a>(spelled: Spelled<'a>) -> Option<&'a [u8]>
     ensures { MatchOption result ((spelled_text spelled.entry).is_single ≡ false)
         (λ text. record { bytes = text.now; is_single = true } ≡ spelled_text spelled.entry) }
 {

@@ -164,8 +164,8 @@ fn show_time(row: &mut OffsetRow, timestamp: Option<i64>)
     }
 }
 
-// Puts down the line of a piece, and gives its answer, how many parts it has, and how many bytes of the room are in use with it.
-#[inline(always)]
+// Puts down the line of a piece, and gives what came of it, how many parts it has, and how many bytes of the room are in use with it.
+#[inline(never)]
 fn put_line(
     dialect: Rules,
     text: &[u8],

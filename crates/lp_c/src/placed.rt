@@ -11,9 +11,10 @@ ghost use Rattle.lp_c.specs.Numbers.{kind_number};
 ghost use Rattle.lp_c.specs.Offsets.{bytes_at, field_at, tag_at};
 ghost use Rattle.lp_c.specs.Rooms.{Grows, Shows};
 
-use crate::lent::reads_as_spelled;
+use crate::lent::shared;
 use crate::views::Kind;
 use influxdb_line_protocol::{Spelled, SpelledValue};
+use std::simd::prelude::*;
 
 /// So many bytes from a place on.
 #[repr(C)]
@@ -100,7 +101,7 @@ pub(crate) fn place_copy(room: &mut [u8], used: usize, spelled: Spelled<'_>) -> 
     (Placed { span, copied: 1 }, all)
 }
 
-// Where a text lies: in the input, if it is there at this place, or else in the room, into which it is put.
+// Where a text lies: in the input, if it is a part of that and is there at this place, or else in the room, into which it is put.
 #[inline(always)]
 pub(crate) fn place_text(
     text: &[u8],
@@ -112,8 +113,10 @@ pub(crate) fn place_text(
     ensures grows { Grows room.old used room.new result.1 }
     ensures shows { Shows (λ r. bytes_at text.now r result.0.copied result.0.span) room.new result.1 (spelled_text spelled.entry).bytes }
 {
-    if reads_as_spelled(spelled) {
-        if let Some(placed) = found_at(text, at, spelled.spelled().as_bytes()) {
+    if let Some(shared) = shared(spelled) {
+        // Of one escape the byte after the backslash is the text.
+        let escape = spelled.spelled().len().wrapping_sub(shared.len());
+        if let Some(placed) = found_at(text, at.wrapping_add(escape), shared) {
             return (placed, used);
         }
     }
@@ -249,8 +252,27 @@ pub(crate) fn past_spaces(text: &[u8], from: usize) -> usize {
     at
 }
 
+// How many bytes are looked at by one load.
+const WIDE: usize = 16;
+
 // The first place from this one on at which a comma or a space is, or where the text ends.
+#[inline(always)]
 pub(crate) fn value_end(text: &[u8], from: usize) -> usize {
+    let mut at = from.min(text.len());
+    while text.len() - at >= WIDE {
+        let v = u8x16::from_slice(&text[at..]);
+        let ends = v.simd_eq(u8x16::splat(b',')) | v.simd_eq(u8x16::splat(b' '));
+        let mask = ends.to_bitmask();
+        if mask != 0 {
+            return at.wrapping_add(mask.trailing_zeros() as usize);
+        }
+        at += WIDE;
+    }
+    value_end_near(text, at)
+}
+
+// The same, byte by byte.
+fn value_end_near(text: &[u8], from: usize) -> usize {
     let mut at = from;
     while at < text.len() && text[at] != b',' && text[at] != b' ' {
         at += 1;
