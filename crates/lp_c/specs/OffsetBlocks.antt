@@ -1,5 +1,5 @@
 -- Many items in one call, by offsets.
-use Rattle.std.specs.Prelude.{◌≡◌, ◌⊎◌, ◌<◌, ◌≤◌, ◌+◌, ◌-◌, ◌^◌, ◌==◌, ℕ, ℤ, Bool, true, false, List, [], ◌∷◌, ◌++◌, length, map, min, not, take, drop}
+use Rattle.std.specs.Prelude.{◌≡◌, ◌⊎◌, ◌<◌, ◌≤◌, ◌+◌, ◌-◌, ◌^◌, ◌==◌, ℕ, ℤ, pos, Bool, true, false, List, [], ◌∷◌, ◌++◌, length, map, min, not, take, drop}
 use Rattle.std.specs.Borrow.{Bor}
 use Rattle.std.specs.Prelude.{if◌then◌else◌, Option, Some, None, Result, Ok, Err, IsUtf8}
 use Rattle.influxdb_line_protocol.specs.format.Dialects.{Dialect}
@@ -102,6 +102,14 @@ is_too_much Came.MoreParts = true
 is_too_much Came.MoreRoom = true
 is_too_much came = false
 
+-- a row shows no fault
+abbrev pub HasNoFault : OffsetRow → Type 0
+HasNoFault row = (row.fault ≡ 0) × (row.side ≡ 0)
+
+-- a row shows nothing of a line
+abbrev pub HasNoLine : OffsetRow → Type 0
+HasNoLine row = (row.tags ≡ 0) × (row.fields ≡ 0) × (row.has_timestamp ≡ 0) × (row.timestamp ≡ pos 0) × (row.measurement.len ≡ 0)
+
 -- what came of a line: it is shown; or it takes more than is left; or its fault is shown
 abbrev pub AnswersRow : Result format.Line Fault → Came → List ℕ → List OffsetPart → List ℕ → ℕ → ℕ → ℕ → OffsetRow → Type 0
 AnswersRow (Ok read) Came.Line text parts room used own all row =
@@ -115,15 +123,15 @@ AnswersRow read came text parts room used own all row = ⊥
 -- what a row shows of the item of a piece: its line, its fault, or that it is not UTF-8
 pub data ShowsItem (dialect : Dialect) (text : List ℕ) (piece : Piece) (own : List OffsetPart) (room : List ℕ) (used : ℕ)
     (row : OffsetRow) : Type 0 where
-  line : (read : format.Line) → row.answer ≡ answer_number Answer.Line → IsUtf8 (piece_in text piece)
+  line : (read : format.Line) → row.answer ≡ answer_number Answer.Line → HasNoFault row → IsUtf8 (piece_in text piece)
       → format.answer dialect (trimmed (piece_in text piece)) ≡ Ok read → ShowsRow read text own room used row
       → ShowsItem dialect text piece own room used row
-  fault : (fault : Fault) → row.answer ≡ answer_number Answer.Fault → IsUtf8 (piece_in text piece)
+  fault : (fault : Fault) → row.answer ≡ answer_number Answer.Fault → HasNoLine row → IsUtf8 (piece_in text piece)
       → format.answer dialect (trimmed (piece_in text piece)) ≡ Err fault
       → row.fault ≡ fault_number (fault_seen fault).kind → row.side ≡ side_number (fault_seen fault).side
       → row.stop_at ≡ piece.at + piece.len - length (reading_stop dialect (trimmed (piece_in text piece))).1
       → own ≡ [] → ShowsItem dialect text piece own room used row
-  no_text : row.answer ≡ answer_number Answer.NotUtf8 → ¬ IsUtf8 (piece_in text piece) → own ≡ []
+  no_text : row.answer ≡ answer_number Answer.NotUtf8 → HasNoFault row → HasNoLine row → ¬ IsUtf8 (piece_in text piece) → own ≡ []
       → ShowsItem dialect text piece own room used row
 
 -- the line of a piece takes more than is left, as a row tells
@@ -144,6 +152,7 @@ pub record IsPlaced (piece : Piece) (line parts : ℕ) (row : OffsetRow) : Type 
   pub len : row.piece.len ≡ piece.len
   pub line_is : row.line ≡ line
   pub parts_at : row.parts_at ≡ parts
+  pub kept : (row.key ≡ 0) × (row.verdict ≡ 0)
 
 -- the rows are the items of the next pieces, in order, but for blank ones, each with its own parts after those of the rows before it
 pub data OffsetRows (dialect : Dialect) (last : Bool) (text : List ℕ) (from : Spot) (room : List ℕ) (used : ℕ)

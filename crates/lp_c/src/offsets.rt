@@ -7,7 +7,7 @@ ghost use Rattle.influxdb_line_protocol.specs.format.Lines.{answer};
 ghost use Rattle.lp_events.specs.code.Stops.{reading_stop};
 ghost use Rattle.lp_c.specs.Crossing.{dialect_of, fault_seen};
 ghost use Rattle.lp_c.specs.Numbers.{answer_number, fault_number, side_number};
-ghost use Rattle.lp_c.specs.OffsetBlocks.{AnswersRow, IsItemIn, IsPlaced, PutsRow, ReadsOffsets, ReadsRow, ReadsRows, block_answer, came_number, has_row, in_32, is_too_much, timestamp_in};
+ghost use Rattle.lp_c.specs.OffsetBlocks.{AnswersRow, HasNoFault, HasNoLine, IsItemIn, IsPlaced, PutsRow, ReadsOffsets, ReadsRow, ReadsRows, block_answer, came_number, has_row, in_32, is_too_much, timestamp_in};
 ghost use Rattle.lp_c.specs.Rooms.{Grows};
 ghost use Rattle.lp_c.specs.declared.offsets.Came.TheVariants as Came;
 ghost use Rattle.lp_c.specs.declared.views.Answer.TheVariants as Answer;
@@ -182,6 +182,9 @@ fn put_line(
     ensures size { length parts.new ≡ length parts.old }
     ensures grows { Grows room.old used room.new result.2 }
     ensures piece { (row.new.piece ≡ row.old.piece) × (row.new.line ≡ row.old.line) × (row.new.parts_at ≡ row.old.parts_at) }
+    ensures kept { (row.new.key ≡ row.old.key) × (row.new.verdict ≡ row.old.verdict) }
+    ensures line { result.0 ≡ Came.Line → HasNoFault row.old → HasNoFault row.new }
+    ensures fault { result.0 ≡ Came.Fault → HasNoLine row.old → HasNoLine row.new }
     ensures answers { AnswersRow (answer (rules_of dialect) line.now) result.0 text.now parts.new room.new used result.1 result.2 row.new }
     ensures fits { result.1 ≤ length parts.new }
     ensures stays { is_too_much result.0 ≡ true → (result.1 ≡ 0) × (result.2 ≡ used) }
@@ -217,7 +220,8 @@ fn put_line(
 #[inline(always)]
 fn begun_row(piece: Piece, line: u64, parts: usize) -> OffsetRow
     requires { (piece.at < 2 ^ 32) × (piece.len < 2 ^ 32) × (parts < 2 ^ 32) }
-    ensures { IsPlaced piece line parts result }
+    ensures placed { IsPlaced piece line parts result }
+    ensures shows { HasNoFault result × HasNoLine result }
 {
     OffsetRow {
         line,

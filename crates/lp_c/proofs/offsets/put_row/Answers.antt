@@ -14,3 +14,4 @@ returns-clause-puts c =
     line_puts dialect c.args.text.now piece (answer dialect c.in-Some.line.now) put.result.0 put.new.parts put.new.room c.args.used put.result.1
     put.result.2 c.number-row-2.result put.new.row item.0 (sym (ap (answer dialect) item.1)) put.ensures.answers
     (λ is. put.ensures.stop is ∙ ap (λ line. piece.at + piece.len - length (reading_stop dialect line).1) item.1) c.number-row-2.ensures
+    (λ is. put.ensures.line is c.begun_row.ensures.shows.0) (λ is. put.ensures.fault is c.begun_row.ensures.shows.1)
