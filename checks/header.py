@@ -14,7 +14,7 @@ SOURCE = TOP / "crates" / "lp_c" / "src"
 HEADER = TOP / "include" / "influxdb_line_protocol.h"
 EMPTY = TOP / "bindings" / "c" / "empty.c"
 
-SCALARS = {"u8": "uint8_t", "u32": "uint32_t", "u64": "uint64_t", "i64": "int64_t", "usize": "size_t", "bool": "bool",
+SCALARS = {"u8": "uint8_t", "u16": "uint16_t", "u32": "uint32_t", "u64": "uint64_t", "i64": "int64_t", "usize": "size_t", "bool": "bool",
            "f64": "double"}
 WORDS = {"unsigned": "unsigned_integer"}  # fields whose names are words of C
 

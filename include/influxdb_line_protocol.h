@@ -128,6 +128,51 @@ typedef struct lp_cuts {
     bool escaped;
 } lp_cuts;
 
+/* So many bytes from a place on. */
+typedef struct lp_span { uint32_t at; uint32_t len; } lp_span;
+
+/* A tag or a field by offsets. `kind`, of enum lp_kind, tells what counts: the text of LP_TAG, LP_FLOAT and LP_STRING, the number of
+ * LP_INTEGER, in two's complement, of LP_UNSIGNED and of LP_BOOLEAN, which is 1 for true. */
+typedef struct lp_offset_part {
+    lp_span key;
+    lp_span text;         /* a value, or the literal of a float as it was spelled: lp_float_value has its number */
+    uint64_t number;      /* 0 where the value is a text */
+    uint32_t kind;
+    uint16_t key_copied;  /* 1 where the key lies in the room, 0 where it lies in the text */
+    uint16_t text_copied; /* the same of the value */
+} lp_offset_part;
+
+/* An item by offsets. `answer` is LP_LINE, LP_FAULT or LP_NOT_UTF8: the piece is not UTF-8. Where a line was read, `fault` and `side` are
+ * 0; else `measurement`, `tags`, `fields` and the timestamp are 0, but where the row tells what a line takes. */
+typedef struct lp_offset_row {
+    uint64_t line;               /* the number of the line in which the piece begins */
+    int64_t timestamp;           /* 0 where the line has none */
+    uint64_t key;                /* 0: kept for a later version */
+    uint64_t verdict;            /* 0: kept for a later version */
+    lp_span piece;               /* the piece, without the newline that ends it */
+    lp_span measurement;
+    uint32_t line_at;            /* where the line begins in its piece, after blanks and comments; of what is not UTF-8 the piece */
+    uint32_t stop_at;            /* where reading the line stopped: its end, where it was read */
+    uint32_t parts_at;           /* where its parts begin */
+    uint32_t tags;               /* so many of the parts are tags: the first ones */
+    uint32_t fields;             /* and so many after them are fields */
+    uint32_t room_len;           /* so many bytes of room its texts take */
+    uint32_t answer;             /* of enum lp_answer */
+    uint32_t fault;              /* of enum lp_fault_kind */
+    uint32_t side;               /* of enum lp_side, where the fault is that of a number */
+    uint16_t measurement_copied; /* 1 where the measurement lies in the room, 0 where it lies in the text */
+    uint16_t has_timestamp;      /* 1 where the line has one */
+} lp_offset_row;
+
+/* Where a block begins, and then where to go on and how much was filled. */
+typedef struct lp_block {
+    uint64_t line;  /* the number of the line at `at` */
+    uint32_t at;    /* where in the text the next piece begins */
+    uint32_t rows;  /* so many rows were filled */
+    uint32_t parts; /* so many parts they have */
+    uint32_t room;  /* so many bytes of room their texts take */
+} lp_block;
+
 /* How much was rebuilt. */
 typedef struct lp_counts {
     size_t batch_len;  /* so many bytes the lines take that are written again */
@@ -181,6 +226,21 @@ uint32_t lp_lines_next(lp_lines *lines, lp_room *room, lp_line *line, lp_part *p
  * `copied_len` over the filled rows. It asks for no memory. Begin with LP_EMPTY_ROW. */
 uint32_t lp_lines_block(lp_lines *lines, lp_room *room, lp_row *rows, size_t rows_len, lp_part *parts, size_t parts_len,
                         size_t *filled);
+
+/* Reads items by offsets, for callers whose memory moves, or that may keep no pointers of others. No pointer is kept or put out, and no
+ * memory is asked for. The text needs not be UTF-8: a piece that is not is an item of its own. What rows, parts and room hold before
+ * does not matter: they may hold anything, or nothing yet.
+ *
+ * It begins at `block->at`, 0 at first, in the line of the number `block->line`, 1 at first, and fills rows as long as rows, parts and room
+ * last. Then `block` says where to go on, in which line, and how many rows, parts and bytes of room were filled. Blank pieces have no
+ * row. `last`: the text ends after these bytes. Else its last piece, which no newline ends, is left: bring it again with more text.
+ *
+ * LP_LINE: all rows were filled. LP_END: no item is left. LP_MORE_TEXT: what is left is a piece that goes on. LP_MORE_PARTS,
+ * LP_MORE_ROOM: the line of the next piece takes more than is left: the row after the filled ones has its `tags` and `fields`, and its
+ * `room_len`. Lend that much. LP_NOT_A_DIALECT: no dialect has the number. LP_TOO_LONG: a length has more than 32 bits. At the two last
+ * answers all is as it was. A room as long as the text suffices for all of it. */
+uint32_t lp_offsets_block(const uint8_t *text, size_t len, uint32_t dialect, bool last, lp_block *block, uint8_t *room, size_t room_len,
+                          lp_offset_row *rows, size_t rows_len, lp_offset_part *parts, size_t parts_len);
 
 /* Takes the next piece of the text, as the splitter cuts it, not parsed. False: none is left, and `lines` is as it was. */
 bool lp_lines_piece(lp_lines *lines, lp_view *piece);

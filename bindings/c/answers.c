@@ -128,6 +128,55 @@ static void give_items_of_blocks(FILE *out, lp_text text, uint32_t dialect) {
     if (answer != LP_END) put_item(out, answer, NULL, NULL);
 }
 
+/* A text of an item by offsets. */
+static lp_view view_at(lp_text text, lp_span span, uint16_t copied) {
+    return (lp_view){ { (copied ? room_bytes : text.at) + span.at, span.len }, copied != 0 };
+}
+
+/* The line of a row by offsets and its parts, with pointers. */
+static lp_line line_at(lp_text text, const lp_offset_row *row, const lp_offset_part *own) {
+    lp_line line = LP_EMPTY_LINE;
+    line.measurement = view_at(text, row->measurement, row->measurement_copied);
+    line.tags = row->tags, line.fields = row->fields;
+    line.timestamp = row->timestamp, line.has_timestamp = row->has_timestamp;
+    for (size_t at = 0; at < line.tags + line.fields; at++, own++) {
+        parts[at] = lp_empty_part;
+        parts[at].key = view_at(text, own->key, own->key_copied);
+        parts[at].text = view_at(text, own->text, own->text_copied);
+        parts[at].kind = own->kind, parts[at].integer = (int64_t)own->number, parts[at].unsigned_integer = own->number;
+        parts[at].boolean = own->number == 1;
+    }
+    return line;
+}
+
+/* The fault of a row by offsets has the text that the fault of its piece has, when that is read alone. */
+static void put_fault_at(FILE *out, lp_text text, uint32_t dialect, const lp_offset_row *row) {
+    lp_lines lines = begin((lp_text){ text.at + row->piece.at, row->piece.len }, dialect);
+    lp_line line = LP_EMPTY_LINE;
+    next(&lines, &line);
+    if (line.fault != row->fault || line.side != row->side) fputs("another fault: ", out);
+    put_fault(out, &line);
+}
+
+/* What is lent holds anything. */
+static void give_items_by_offsets(FILE *out, lp_text text, uint32_t dialect) {
+    static lp_offset_part own[PARTS];
+    lp_offset_row rows[ROWS];
+    lp_block block = { 1, 0, 0, 0, 0 };
+    uint32_t answer = LP_LINE;
+    for (size_t item = 0; answer == LP_LINE;) {
+        memset(rows, 0xa5, sizeof rows), memset(own, 0xa5, sizeof own), memset(room_bytes, 0xa5, sizeof room_bytes);
+        answer = lp_offsets_block(text.at, text.len, dialect, true, &block, room_bytes, BYTES, rows, ROWS, own, PARTS);
+        for (size_t at = 0; at < block.rows; at++, item++) {
+            if (item > 0) fputs("|", out);
+            lp_line line = line_at(text, &rows[at], own + rows[at].parts_at);
+            if (rows[at].answer == LP_FAULT) put_fault_at(out, text, dialect, &rows[at]);
+            else put_item(out, rows[at].answer, &line, parts);
+        }
+    }
+    if (answer != LP_END) put_item(out, answer, NULL, NULL);
+}
+
 static void give_pieces(FILE *out, lp_text text, uint32_t dialect) {
     lp_lines lines = begin(text, dialect);
     lp_view piece = LP_NO_VIEW;
@@ -234,20 +283,20 @@ static void give_number(FILE *out, lp_text text, uint32_t dialect) {
 }
 
 /* The kinds of rows: the calls that answer them, or none, and then the rows are passed over. */
-static struct kind { const char *word; giver *give, *again; size_t rows; } kinds[] = {
-    { "items", give_items, give_items_of_blocks, 0 },
-    { "pieces", give_pieces, NULL, 0 },
-    { "rests_of_pieces", give_rests_of_pieces, NULL, 0 },
-    { "rests_of_items", give_rests_of_items, NULL, 0 },
-    { "series", give_series, NULL, 0 },
-    { "base", give_base, NULL, 0 },
-    { "shown", give_shown, NULL, 0 },
-    { "rebuilt", give_rebuilt, NULL, 0 },
-    { "run", give_run, NULL, 0 },
-    { "float", give_float, give_number, 0 },
-    { "columns", NULL, NULL, 0 },
-    { "fault", give_fault, NULL, 0 },
-    { "as_written", NULL, NULL, 0 },
+static struct kind { const char *word; giver *give, *again; size_t rows; giver *third; } kinds[] = {
+    { "items", give_items, give_items_of_blocks, 0, give_items_by_offsets },
+    { "pieces", give_pieces, NULL, 0, NULL },
+    { "rests_of_pieces", give_rests_of_pieces, NULL, 0, NULL },
+    { "rests_of_items", give_rests_of_items, NULL, 0, NULL },
+    { "series", give_series, NULL, 0, NULL },
+    { "base", give_base, NULL, 0, NULL },
+    { "shown", give_shown, NULL, 0, NULL },
+    { "rebuilt", give_rebuilt, NULL, 0, NULL },
+    { "run", give_run, NULL, 0, NULL },
+    { "float", give_float, give_number, 0, NULL },
+    { "columns", NULL, NULL, 0, NULL },
+    { "fault", give_fault, NULL, 0, NULL },
+    { "as_written", NULL, NULL, 0, NULL },
 };
 /* The dialects, in the order of the answers of a row. */
 static const char *const NAMES[] = { "the dialect of the crate", "the strict dialect", "the newline-delimited dialect" };
@@ -305,7 +354,8 @@ static bool is_right(char **cells, size_t count, size_t *answers) {
         uint32_t dialect = (uint32_t)at - 2;
         answers[dialect]++;
         is_given &= unescape(cells[at], &wanted) && gives(kind->give, text, dialect, wanted) &&
-                    (!kind->again || gives(kind->again, text, dialect, wanted));
+                    (!kind->again || gives(kind->again, text, dialect, wanted)) &&
+                    (!kind->third || gives(kind->third, text, dialect, wanted));
     }
     return is_given;
 }

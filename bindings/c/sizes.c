@@ -357,6 +357,15 @@ static void call_block(const uint8_t *text, size_t len) {
     for (items = 0; filled == 4; items += filled) lp_lines_block(&lines, &room, rows, 4, parts, 4, &filled);
 }
 
+static void call_offsets(const uint8_t *text, size_t len) {
+    lp_offset_row rows[4];
+    lp_offset_part parts[4];
+    lp_block block = { 1, 0, 0, 0, 0 };
+    uint32_t answer = LP_LINE;
+    for (items = 0; answer == LP_LINE; items += block.rows)
+        answer = lp_offsets_block(text, len, LP_CRATE, true, &block, (uint8_t *)parts, 0, rows, 4, parts, 4);
+}
+
 static void call_piece(const uint8_t *text, size_t len) {
     lp_lines lines = LP_NO_LINES;
     lp_view piece;
@@ -374,8 +383,8 @@ static void call_cuts(const uint8_t *text, size_t len) {
 /* Whether a million short lines come of each call that reads or cuts, in time that grows as the text does. */
 static bool reads_evenly(void) {
     static const struct { const char *name; growth_call *call; } calls[] = {
-        { "lp_lines_next", call_next }, { "lp_lines_block", call_block }, { "lp_lines_piece", call_piece },
-        { "lp_cuts_next", call_cuts },
+        { "lp_lines_next", call_next }, { "lp_lines_block", call_block }, { "lp_offsets_block", call_offsets },
+        { "lp_lines_piece", call_piece }, { "lp_cuts_next", call_cuts },
     };
     static const struct growth lines = { "", "m a=1i\n", "" };
     for (size_t at = 0; at < sizeof calls / sizeof *calls; at++) {

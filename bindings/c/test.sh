@@ -1,7 +1,7 @@
 #!/usr/bin/env bash
 # Builds the static library of crates/lp_c, and programs over it, watched by the address and undefined behaviour sanitizers;
 # compares what the example prints with example.out, and lets answers.c compare the table of answers, lending.c read with little lent
-# and no request for memory, cuts.c cut texts that come in parts, writing.c write with little lent and memory refused, numbers.c ask
+# and no request for memory, offsets.c read by offsets, cuts.c cut texts that come in parts, writing.c write with little lent and memory refused, numbers.c ask
 # for the numbers of literals, and sizes.c hand over what is large. threads.c is watched by the thread sanitizer, and by helgrind,
 # which sees the library's own loads and stores too; and the archive must hold no variable. The header goes through a C++ compiler
 # too.
@@ -45,6 +45,11 @@ if ! lent=$("$built/lending"); then
     echo "c: what should come where little is lent did not come: $lent" >&2
     exit 1
 fi
+build offsets "${watched[@]}" -DLP_REFUSE
+if ! offsets=$("$built/offsets"); then
+    echo "c: by offsets texts do not give what they should: $offsets" >&2
+    exit 1
+fi
 build cuts "${watched[@]}" -DLP_REFUSE
 if ! cut=$("$built/cuts"); then
     echo "c: texts that come in parts are not cut as they should be: $cut" >&2
@@ -65,7 +70,7 @@ if ! sizes=$("$built/sizes"); then
     echo "c: what should come of what is large did not come: $sizes" >&2
     exit 1
 fi
-said="the example prints what it should; $lent; $cut; $written; $numbers; $sizes"
+said="the example prints what it should; $lent; $offsets; $cut; $written; $numbers; $sizes"
 
 # Runs threads.c, built with these flags, by this command.
 run_threads() {

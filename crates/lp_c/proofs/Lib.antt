@@ -3,6 +3,10 @@ pub mod CursorLemmas
 pub mod CutLemmas
 pub mod FillLemmas
 pub mod FloatLemmas
+pub mod PlacingLemmas
+pub mod RoomLemmas
+pub mod RowLemmas
+pub mod RowsLemmas
 pub mod TextLemmas
 pub mod ToldLemmas
 pub mod WritingLemmas

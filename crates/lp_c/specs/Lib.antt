@@ -4,6 +4,10 @@ pub mod Cutting
 pub mod Handed
 pub mod Messages
 pub mod Numbers
+pub mod OffsetBlocks
+pub mod Offsets
+pub mod Placing
 pub mod Rebuilding
+pub mod Rooms
 pub mod Telling
 pub mod Writing

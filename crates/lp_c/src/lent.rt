@@ -40,7 +40,7 @@ fn reads_as_spelled(text: Spelled<'_>) -> bool
 
 // The logical text, if it is a part of the input: without a backslash it is the spelling, and of one escape the byte after it.
 #[inline(always)]
-fn shared<'a>(spelled: Spelled<'a>) -> Option<&'a [u8]>
+pub fn shared<'a>(spelled: Spelled<'a>) -> Option<&'a [u8]>
     ensures { MatchOption result ((spelled_text spelled.entry).is_single ≡ false)
         (λ text. record { bytes = text.now; is_single = true } ≡ spelled_text spelled.entry) }
 {
@@ -302,7 +302,7 @@ fn side_of(source: OutOfRange) -> Side
 }
 
 // What a caller sees of a fault.
-fn fault_seen<'a>(fault: SpelledFault<'a>) -> (FaultKind, Side, &'a str)
+pub fn fault_seen<'a>(fault: SpelledFault<'a>) -> (FaultKind, Side, &'a str)
     ensures { fault_seen (spelled_fault fault.entry) ≡ record { kind = result.0; side = result.1; text = result.2.now } }
 {
     match fault {

@@ -1,0 +1,17 @@
+use Rattle.std.proofs.Common.{◌+◌, ◌-◌, ◌∙◌, ap, length, sym}
+use Rattle.influxdb_line_protocol.specs.code.Rules.{rules_of}
+use Rattle.influxdb_line_protocol.specs.format.Lines.{answer}
+use Rattle.lp_events.specs.code.Stops.{reading_stop}
+use Rattle.lp_c.proofs.RowLemmas.{line_puts}
+use Rattle.lp_c.proofs.offsets.put_row.Goals as goal
+
+pub returns-clause-puts : goal.returns-clause-puts
+returns-clause-puts c =
+    let item = rw c.in-Some.is at c.requires.item in
+    let put = c.put_line-came in
+    let dialect = rules_of c.args.dialect in
+    let piece = c.args.piece in
+    line_puts dialect c.args.text.now piece (answer dialect c.in-Some.line.now) put.result.0 put.new.parts put.new.room c.args.used put.result.1
+    put.result.2 c.number-row-2.result put.new.row item.0 (sym (ap (answer dialect) item.1)) put.ensures.answers
+    (λ is. put.ensures.stop is ∙ ap (λ line. piece.at + piece.len - length (reading_stop dialect line).1) item.1) c.number-row-2.ensures
+    (λ is. put.ensures.line is c.begun_row.ensures.shows.0) (λ is. put.ensures.fault is c.begun_row.ensures.shows.1)
