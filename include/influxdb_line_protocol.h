@@ -238,7 +238,7 @@ uint32_t lp_lines_block(lp_lines *lines, lp_room *room, lp_row *rows, size_t row
  * LP_LINE: all rows were filled. LP_END: no item is left. LP_MORE_TEXT: what is left is a piece that goes on. LP_MORE_PARTS,
  * LP_MORE_ROOM: the line of the next piece takes more than is left: the row after the filled ones has its `tags` and `fields`, and its
  * `room_len`. Lend that much. LP_NOT_A_DIALECT: no dialect has the number. LP_TOO_LONG: a length has more than 32 bits. At the two last
- * answers all is as it was. A room as long as the text suffices for all of it. */
+ * answers all is as it was. */
 uint32_t lp_offsets_block(const uint8_t *text, size_t len, uint32_t dialect, bool last, lp_block *block, uint8_t *room, size_t room_len,
                           lp_offset_row *rows, size_t rows_len, lp_offset_part *parts, size_t parts_len);
 

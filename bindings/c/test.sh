@@ -1,10 +1,10 @@
 #!/usr/bin/env bash
 # Builds the static library of crates/lp_c, and programs over it, watched by the address and undefined behaviour sanitizers;
-# compares what the example prints with example.out, and lets answers.c compare the table of answers, lending.c read with little lent
-# and no request for memory, offsets.c read by offsets, cuts.c cut texts that come in parts, writing.c write with little lent and memory refused, numbers.c ask
-# for the numbers of literals, and sizes.c hand over what is large. threads.c is watched by the thread sanitizer, and by helgrind,
-# which sees the library's own loads and stores too; and the archive must hold no variable. The header goes through a C++ compiler
-# too.
+# compares what the example prints with example.out, and lets answers.c compare the table of answers, lending.c read with little
+# lent and no request for memory, offsets.c read by offsets, cuts.c cut texts that come in parts, writing.c write with little
+# lent and memory refused, numbers.c ask for the numbers of literals, and sizes.c hand over what is large. threads.c is watched
+# by the thread sanitizer, and by helgrind, which sees the library's own loads and stores too; and the archive must hold no
+# variable. The header goes through a C++ compiler too.
 #
 #     bindings/c/test.sh             makes the archive first
 #     bindings/c/test.sh ARCHIVE     takes one that was made before

@@ -5,7 +5,7 @@ use Rattle.std.proofs.lemmas.List.{drop-take, length-take-le, take-take}
 use Rattle.influxdb_line_protocol.specs.format.Lines as format
 use Rattle.influxdb_line_protocol.specs.format.Readings.{Fault}
 use Rattle.influxdb_line_protocol.specs.types.SpelledFault.{SpelledFault}
-use Rattle.lp_c.specs.OffsetBlocks.{AnswersRow, HasNoFault, HasNoLine, IsTooMuch, PutsRow, ShowsRow, came_number, fault as is_fault, line as is_line, piece_in, timestamp_in}
+use Rattle.lp_c.specs.OffsetBlocks.{AnswersRow, BeginsAt, HasNoFault, HasNoLine, IsTooMuch, PutsRow, ShowsRow, came_number, fault as is_fault, line as is_line, piece_in, timestamp_in}
 use Rattle.lp_format.specs.format.{Dialect, trimmed}
 use Rattle.lp_events.specs.code.Stops.{reading_stop}
 use Rattle.lp_c.specs.Offsets.{field_at, tag_at}
@@ -72,18 +72,19 @@ pub line_puts : (dialect : Dialect) (text : List ℕ) (piece : Piece) (read : Re
     → format.answer dialect (trimmed (piece_in text piece)) ≡ read → AnswersRow read came text parts room used own all row
     → (came ≡ Came.Fault → row.stop_at ≡ piece.at + piece.len - length (reading_stop dialect (trimmed (piece_in text piece))).1)
     → number ≡ came_number came → (came ≡ Came.Line → HasNoFault row) → (came ≡ Came.Fault → HasNoLine row)
+    → BeginsAt text piece row → (came ≡ Came.Line → row.stop_at ≡ piece.at + piece.len)
     → PutsRow dialect text piece came (take own parts) (length parts) room used all (record row { answer = number })
-line_puts dialect text piece (Ok l) Came.Line parts room used own all number row utf8 answered is stop numbered line fault =
-    is_line l numbered (line refl) utf8 answered (shows_numbered l text (take own parts) room all number row is.0)
-line_puts dialect text piece (Ok l) Came.Fault parts room used own all number row utf8 answered is stop numbered line fault = absurd is
-line_puts dialect text piece (Ok l) Came.NotUtf8 parts room used own all number row utf8 answered is stop numbered line fault = absurd is
-line_puts dialect text piece (Ok l) Came.MoreParts parts room used own all number row utf8 answered is stop numbered line fault =
+line_puts dialect text piece (Ok l) Came.Line parts room used own all number row utf8 answered is stop numbered line fault begins end =
+    is_line l numbered (line refl) utf8 begins (end refl) answered (shows_numbered l text (take own parts) room all number row is.0)
+line_puts dialect text piece (Ok l) Came.Fault parts room used own all number row utf8 answered is stop numbered line fault begins end = absurd is
+line_puts dialect text piece (Ok l) Came.NotUtf8 parts room used own all number row utf8 answered is stop numbered line fault begins end = absurd is
+line_puts dialect text piece (Ok l) Came.MoreParts parts room used own all number row utf8 answered is stop numbered line fault begins end =
     record { read = l; answered = answered; too_much = tells_numbered l Came.MoreParts number row (length parts) (length room) used is }
-line_puts dialect text piece (Ok l) Came.MoreRoom parts room used own all number row utf8 answered is stop numbered line fault =
+line_puts dialect text piece (Ok l) Came.MoreRoom parts room used own all number row utf8 answered is stop numbered line fault begins end =
     record { read = l; answered = answered; too_much = tells_numbered l Came.MoreRoom number row (length parts) (length room) used is }
-line_puts dialect text piece (Err f) Came.Line parts room used own all number row utf8 answered is stop numbered line fault = absurd is
-line_puts dialect text piece (Err f) Came.Fault parts room used own all number row utf8 answered is stop numbered line fault =
-    is_fault f numbered (fault refl) utf8 answered is.0 is.1 (stop refl) (ap (λ n. take n parts) is.2)
-line_puts dialect text piece (Err f) Came.NotUtf8 parts room used own all number row utf8 answered is stop numbered line fault = absurd is
-line_puts dialect text piece (Err f) Came.MoreParts parts room used own all number row utf8 answered is stop numbered line fault = absurd is
-line_puts dialect text piece (Err f) Came.MoreRoom parts room used own all number row utf8 answered is stop numbered line fault = absurd is
+line_puts dialect text piece (Err f) Came.Line parts room used own all number row utf8 answered is stop numbered line fault begins end = absurd is
+line_puts dialect text piece (Err f) Came.Fault parts room used own all number row utf8 answered is stop numbered line fault begins end =
+    is_fault f numbered (fault refl) utf8 begins answered is.0 is.1 (stop refl) (ap (λ n. take n parts) is.2)
+line_puts dialect text piece (Err f) Came.NotUtf8 parts room used own all number row utf8 answered is stop numbered line fault begins end = absurd is
+line_puts dialect text piece (Err f) Came.MoreParts parts room used own all number row utf8 answered is stop numbered line fault begins end = absurd is
+line_puts dialect text piece (Err f) Came.MoreRoom parts room used own all number row utf8 answered is stop numbered line fault begins end = absurd is

@@ -42,15 +42,15 @@ module _ (dialect : Dialect) (last : Bool) (text : List ℕ) where
   -- what is shown stays so as the room grows
   item_on : (piece : Piece) (own : List OffsetPart) (mid new : List ℕ) (m all : ℕ) (row : OffsetRow) → Grows mid m new all
       → ShowsItem dialect text piece own mid m row → ShowsItem dialect text piece own new all row
-  item_on piece own mid new m all row grows (line read is clear utf8 answered shows) = line read is clear utf8 answered (record {
+  item_on piece own mid new m all row grows (line read is clear utf8 begins end answered shows) = line read is clear utf8 begins end answered (record {
     measurement = shows_on _ _ mid new m all grows shows.measurement;
     tags = shows_on _ _ mid new m all grows shows.tags;
     fields = shows_on _ _ mid new m all grows shows.fields;
     timestamp = shows.timestamp;
     all = shows.all;
   })
-  item_on piece own mid new m all row grows (fault f is clear utf8 answered kind side stop none_own) =
-      fault f is clear utf8 answered kind side stop none_own
+  item_on piece own mid new m all row grows (fault f is clear utf8 begins answered kind side stop none_own) =
+      fault f is clear utf8 begins answered kind side stop none_own
   item_on piece own mid new m all row grows (no_text is clear bare not none_own) = no_text is clear bare not none_own
 
   -- so it is with all rows

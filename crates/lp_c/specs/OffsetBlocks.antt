@@ -110,6 +110,10 @@ HasNoFault row = (row.fault ≡ 0) × (row.side ≡ 0)
 abbrev pub HasNoLine : OffsetRow → Type 0
 HasNoLine row = (row.tags ≡ 0) × (row.fields ≡ 0) × (row.has_timestamp ≡ 0) × (row.timestamp ≡ pos 0) × (row.measurement.len ≡ 0)
 
+-- a row tells where the line of a piece begins: what is left of the piece when it is trimmed is its end
+abbrev pub BeginsAt : List ℕ → Piece → OffsetRow → Type 0
+BeginsAt text piece row = row.line_at ≡ piece.at + piece.len - length (trimmed (piece_in text piece))
+
 -- what came of a line: it is shown; or it takes more than is left; or its fault is shown
 abbrev pub AnswersRow : Result format.Line Fault → Came → List ℕ → List OffsetPart → List ℕ → ℕ → ℕ → ℕ → OffsetRow → Type 0
 AnswersRow (Ok read) Came.Line text parts room used own all row =
@@ -124,9 +128,11 @@ AnswersRow read came text parts room used own all row = ⊥
 pub data ShowsItem (dialect : Dialect) (text : List ℕ) (piece : Piece) (own : List OffsetPart) (room : List ℕ) (used : ℕ)
     (row : OffsetRow) : Type 0 where
   line : (read : format.Line) → row.answer ≡ answer_number Answer.Line → HasNoFault row → IsUtf8 (piece_in text piece)
+      → BeginsAt text piece row → row.stop_at ≡ piece.at + piece.len
       → format.answer dialect (trimmed (piece_in text piece)) ≡ Ok read → ShowsRow read text own room used row
       → ShowsItem dialect text piece own room used row
   fault : (fault : Fault) → row.answer ≡ answer_number Answer.Fault → HasNoLine row → IsUtf8 (piece_in text piece)
+      → BeginsAt text piece row
       → format.answer dialect (trimmed (piece_in text piece)) ≡ Err fault
       → row.fault ≡ fault_number (fault_seen fault).kind → row.side ≡ side_number (fault_seen fault).side
       → row.stop_at ≡ piece.at + piece.len - length (reading_stop dialect (trimmed (piece_in text piece))).1

@@ -1,12 +1,12 @@
 //! Many items in one call, by offsets: for callers whose memory moves, or that may keep no pointers of others.
 
-ghost use Rattle.std.specs.Prelude.{◌≡◌, ◌≢◌, ◌⊎◌, ◌≤◌, ◌<◌, ◌+◌, ◌-◌, ◌^◌, drop, length, take, true};
+ghost use Rattle.std.specs.Prelude.{◌≡◌, ◌≢◌, ◌↔◌, ◌⊎◌, ◌≤◌, ◌<◌, ◌+◌, ◌-◌, ◌^◌, drop, false, length, take, true};
 ghost use Rattle.influxdb_line_protocol.specs.code.Rules.{rules_of};
 ghost use Rattle.influxdb_line_protocol.specs.code.SpelledParts.{spelled_fault};
 ghost use Rattle.influxdb_line_protocol.specs.format.Lines.{answer};
 ghost use Rattle.lp_events.specs.code.Stops.{reading_stop};
 ghost use Rattle.lp_c.specs.Crossing.{dialect_of, fault_seen};
-ghost use Rattle.lp_c.specs.Numbers.{answer_number, fault_number, side_number};
+ghost use Rattle.lp_c.specs.Numbers.{IsNoDialect, answer_number, fault_number, side_number};
 ghost use Rattle.lp_c.specs.OffsetBlocks.{AnswersRow, HasNoFault, HasNoLine, IsItemIn, IsPlaced, PutsRow, ReadsOffsets, ReadsRow, ReadsRows, block_answer, came_number, has_row, in_32, is_too_much, timestamp_in};
 ghost use Rattle.lp_c.specs.Rooms.{Grows};
 ghost use Rattle.lp_c.specs.declared.offsets.Came.TheVariants as Came;
@@ -183,6 +183,8 @@ fn put_line(
     ensures grows { Grows room.old used room.new result.2 }
     ensures piece { (row.new.piece ≡ row.old.piece) × (row.new.line ≡ row.old.line) × (row.new.parts_at ≡ row.old.parts_at) }
     ensures kept { (row.new.key ≡ row.old.key) × (row.new.verdict ≡ row.old.verdict) }
+    ensures begins { row.new.line_at ≡ piece.at + piece.len - length line.now }
+    ensures end { result.0 ≡ Came.Line → row.new.stop_at ≡ piece.at + piece.len }
     ensures line { result.0 ≡ Came.Line → HasNoFault row.old → HasNoFault row.new }
     ensures fault { result.0 ≡ Came.Fault → HasNoLine row.old → HasNoLine row.new }
     ensures answers { AnswersRow (answer (rules_of dialect) line.now) result.0 text.now parts.new room.new used result.1 result.2 row.new }
@@ -389,7 +391,8 @@ fn block_answer(came: Option<Came>, last: bool) -> u32
 
 // Whether 32 bits hold this number.
 fn is_in_32(number: usize) -> bool
-    ensures { result ≡ true → number < 2 ^ 32 }
+    ensures fits { result ≡ true → number < 2 ^ 32 }
+    ensures long { result ≡ false → 2 ^ 32 ≤ number }
 {
     number <= u32::MAX as usize
 }
@@ -417,6 +420,9 @@ pub extern "C" fn lp_offsets_block(
         → ∥ ReadsOffsets (dialect_of dialect) last text.now block.old rows.new parts.new room.new block.new result ∥₁ }
     ensures refused { (result ≡ answer_number Answer.NotADialect) ⊎ (result ≡ answer_number Answer.TooLong)
         → (block.new ≡ block.old) × (rows.new ≡ rows.old) × (parts.new ≡ parts.old) × (room.new ≡ room.old) }
+    ensures not_a_dialect { result ≡ answer_number Answer.NotADialect ↔ IsNoDialect dialect }
+    ensures too_long { result ≡ answer_number Answer.TooLong → (2 ^ 32 ≤ length text.now) ⊎ (2 ^ 32 ≤ length rows.new)
+        ⊎ (2 ^ 32 ≤ length parts.new) ⊎ (2 ^ 32 ≤ length room.new) }
     ensures memory { result ≢ answer_number Answer.OutOfMemory }
 {
     let Some(rules) = Dialect::numbered(dialect) else {

@@ -15,3 +15,4 @@ returns-clause-puts c =
     put.result.2 c.number-row-2.result put.new.row item.0 (sym (ap (answer dialect) item.1)) put.ensures.answers
     (λ is. put.ensures.stop is ∙ ap (λ line. piece.at + piece.len - length (reading_stop dialect line).1) item.1) c.number-row-2.ensures
     (λ is. put.ensures.line is c.begun_row.ensures.shows.0) (λ is. put.ensures.fault is c.begun_row.ensures.shows.1)
+    (put.ensures.begins ∙ ap (λ line. piece.at + piece.len - length line) item.1) put.ensures.end
