@@ -105,7 +105,12 @@ func (d *Decoder) ResetBytes(buf []byte) {
 func (d *Decoder) SetDialect(dialect Dialect) { d.dialect = dialect }
 
 // SetMaxLine says how many bytes a line may have, its newline left out. A longer one is a fault, told as soon as so many bytes have come.
-func (d *Decoder) SetMaxLine(most int) { d.most = most }
+func (d *Decoder) SetMaxLine(most int) {
+	if most < 0 {
+		most = 0
+	}
+	d.most = most
+}
 
 // Err gives the error of the reader, if there was one. Then Next gave false.
 func (d *Decoder) Err() error { return d.err }
@@ -302,6 +307,19 @@ func (d *Decoder) view(span C.lp_span, copied C.uint16_t) []byte {
 	return d.text[span.at : span.at+span.len : span.at+span.len]
 }
 
+// The row of this line, or its fault.
+func (d *Decoder) current() (*C.lp_offset_row, error) {
+	if d.fault != nil {
+		return nil, d.fault
+	}
+	if d.row < 0 {
+		return nil, errNoLine
+	}
+	return &d.block.rows[d.row], nil
+}
+
+var errNoLine = errors.New("lineprotocol: Next gave no line")
+
 // Fault gives the fault of this line, or nil if it has none.
 func (d *Decoder) Fault() *DecodeError { return d.fault }
 
@@ -310,6 +328,9 @@ func (d *Decoder) Fault() *DecodeError { return d.fault }
 func (d *Decoder) Raw() []byte {
 	if d.front != nil {
 		return d.front
+	}
+	if d.row < 0 {
+		return nil
 	}
 	raw := d.view(d.block.rows[d.row].piece, 0)
 	if len(raw) > d.most {
@@ -323,24 +344,27 @@ func (d *Decoder) Line() int64 {
 	if d.front != nil {
 		return d.fault.Line
 	}
+	if d.row < 0 {
+		return 0
+	}
 	return int64(d.block.rows[d.row].line)
 }
 
 // Measurement gives the measurement, or the fault of the line.
 func (d *Decoder) Measurement() ([]byte, error) {
-	if d.fault != nil {
-		return nil, d.fault
+	row, err := d.current()
+	if err != nil {
+		return nil, err
 	}
-	row := &d.block.rows[d.row]
 	return d.view(row.measurement, row.measurement_copied), nil
 }
 
 // NextTag gives the next tag: its key is nil if there is none. Else it gives the fault of the line.
 func (d *Decoder) NextTag() (key, value []byte, err error) {
-	if d.fault != nil {
-		return nil, nil, d.fault
+	row, err := d.current()
+	if err != nil {
+		return nil, nil, err
 	}
-	row := &d.block.rows[d.row]
 	if d.tag == int(row.tags) {
 		return nil, nil, nil
 	}
@@ -351,10 +375,10 @@ func (d *Decoder) NextTag() (key, value []byte, err error) {
 
 // NextField gives the next field: its key is nil if there is none. Else it gives the fault of the line.
 func (d *Decoder) NextField() (key []byte, value Value, err error) {
-	if d.fault != nil {
-		return nil, Value{}, d.fault
+	row, err := d.current()
+	if err != nil {
+		return nil, Value{}, err
 	}
-	row := &d.block.rows[d.row]
 	if d.field == int(row.fields) {
 		return nil, Value{}, nil
 	}
@@ -380,23 +404,24 @@ func (d *Decoder) value(part *C.lp_offset_part) Value {
 
 // Timestamp gives the number that the line has for its time. False: it has none, or a fault.
 func (d *Decoder) Timestamp() (number int64, ok bool) {
-	if d.fault != nil {
+	row, err := d.current()
+	if err != nil {
 		return 0, false
 	}
-	row := &d.block.rows[d.row]
 	return int64(row.timestamp), row.has_timestamp != 0
 }
 
 // Time gives the time of the line, whose number is of this precision, or defaultTime if it has none. Else it gives the fault of the line,
 // or ErrTimeRange.
 func (d *Decoder) Time(prec Precision, defaultTime time.Time) (time.Time, error) {
-	if d.fault != nil {
-		return time.Time{}, d.fault
+	row, err := d.current()
+	if err != nil {
+		return time.Time{}, err
 	}
-	number, ok := d.Timestamp()
-	if !ok {
+	if row.has_timestamp == 0 {
 		return defaultTime, nil
 	}
+	number := int64(row.timestamp)
 	unit := int64(prec.Duration())
 	if number > math.MaxInt64/unit || number < math.MinInt64/unit {
 		return time.Time{}, ErrTimeRange

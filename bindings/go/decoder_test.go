@@ -204,6 +204,34 @@ func TestReaderFails(t *testing.T) {
 	}
 }
 
+// Before the first line, and after the last, there is none.
+func TestNoLine(t *testing.T) {
+	d := NewDecoder(strings.NewReader("m f=1i 5"))
+	d.SetMaxLine(-1)
+	d.SetMaxLine(8)
+	none := func() {
+		t.Helper()
+		_, a := d.Measurement()
+		_, _, b := d.NextTag()
+		_, _, c := d.NextField()
+		_, e := d.Time(Second, time.Time{})
+		_, ok := d.Timestamp()
+		if a == nil || b == nil || c == nil || e == nil || ok || d.Raw() != nil || d.Line() != 0 || d.Fault() != nil {
+			t.Error("there is a line")
+		}
+	}
+	none()
+	if !d.Next() || d.Fault() != nil {
+		t.Error("there is no line")
+	}
+	for i := 0; i < 2; i++ {
+		if d.Next() {
+			t.Error("there is a second line")
+		}
+		none()
+	}
+}
+
 type stuck struct{}
 
 func (stuck) Read([]byte) (int, error) { return 0, nil }
