@@ -189,7 +189,7 @@ fn take_fields<'a>(
     Ok(())
 }
 
-/// Takes the line that a row and its parts hold into one that says nothing.
+/// Takes the line that a row and its parts hold into the place of another, whose memory is used again.
 pub(crate) fn take_row<'a>(
     alloc: Global,
     text: &'a [u8],
@@ -198,7 +198,6 @@ pub(crate) fn take_row<'a>(
     parts: &[OffsetPart],
     taken: &mut ParsedLine<'a>,
 ) -> Result<(), Answer>
-    requires none { taken.old.field_set.items ≡ [] }
     ensures ok { OnOk result (IsRowIn text.now room.now parts.now row.now
         × (parsed_point taken.new ≡ point_there text.now room.now parts.now row.now)) }
     ensures some { OnOk result (0 < length taken.new.field_set.items) }
@@ -217,7 +216,13 @@ pub(crate) fn take_row<'a>(
     } else {
         None
     };
-    let tags = taken.series.tag_set.insert(TagSet::new(alloc));
-    take_tags(text, room, &parts[at..fields_at], tags)?;
+    if let Some(tags) = &mut taken.series.tag_set {
+        tags.clear();
+        take_tags(text, room, &parts[at..fields_at], tags)?;
+    } else {
+        let tags = taken.series.tag_set.insert(TagSet::new(alloc));
+        take_tags(text, room, &parts[at..fields_at], tags)?;
+    }
+    taken.field_set.clear();
     take_fields(text, room, &parts[fields_at..end], &mut taken.field_set)
 }

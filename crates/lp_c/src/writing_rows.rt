@@ -16,7 +16,9 @@ use crate::placed::OffsetPart;
 use crate::views::{Answer, Dialect};
 use crate::writing::put_front;
 use influxdb_line_protocol::builder::Unwritten;
-use influxdb_line_protocol::{Dialect as Rules, LineProtocolBuilder, write_admitted_line_in};
+use influxdb_line_protocol::{
+    Dialect as Rules, LineProtocolBuilder, ParsedLine, write_admitted_line_in,
+};
 use std::alloc::Global;
 use std::mem;
 
@@ -47,14 +49,15 @@ fn stop_for(answer: Answer) -> Stop
 }
 
 // Writes the line of a row after others, if it reads back and all take no more than so many bytes.
-fn write_row(
+fn write_row<'a>(
     alloc: Global,
     dialect: Rules,
-    text: &[u8],
-    room: &[u8],
+    text: &'a [u8],
+    room: &'a [u8],
     row: &OffsetRow,
     parts: &[OffsetPart],
     most: usize,
+    taken: &mut ParsedLine<'a>,
     lines: &mut Vec<u8>,
 ) -> Result<(), Stop>
     requires { length lines.old.items ≤ most }
@@ -64,13 +67,12 @@ fn write_row(
     ensures stops { IfErr result (λ stop. StopsAtRow (rules_of dialect) text.now room.now parts.now most (length lines.old.items) stop row.now) }
     ensures kept { IfErr result (λ stop. lines.new.items ≡ lines.old.items) }
 {
-    let mut taken = empty_line(alloc);
-    if let Err(answer) = take_row(alloc, text, room, row, parts, &mut taken) {
+    if let Err(answer) = take_row(alloc, text, room, row, parts, taken) {
         return Err(stop_for(answer));
     }
     let used = lines.len();
     let before = mem::replace(lines, Vec::new(alloc));
-    match write_admitted_line_in(LineProtocolBuilder::new_with(before), dialect, &taken) {
+    match write_admitted_line_in(LineProtocolBuilder::new_with(before), dialect, taken) {
         Ok(longer) => {
             *lines = longer.build();
             if lines.len() <= most {
@@ -112,8 +114,12 @@ fn write_rows(
     ensures lines { AreLinesOf (rules_of dialect) text.now room.now parts.now (take result.0 rows.now) lines.new.items }
     ensures stops { StopsAt (rules_of dialect) text.now room.now parts.now most (length lines.new.items) result.1 (drop result.0 rows.now) }
 {
+    let mut taken = empty_line(alloc);
     for at in 0..rows.len() {
-        if let Err(stop) = write_row(alloc, dialect, text, room, &rows[at], parts, most, lines) {
+        let row = &rows[at];
+        if let Err(stop) = write_row(
+            alloc, dialect, text, room, row, parts, most, &mut taken, lines,
+        ) {
             return (at, stop);
         }
     }
