@@ -1,13 +1,13 @@
 /* Reads texts by offsets: rows that were worked out by hand, and random texts in each dialect, whole and as they come, with as little
- * lent as can be. Each whole text that is UTF-8 gives what lp_lines_next gives. What is lent holds anything before, and no request for
- * memory is made. Compile heap.c with -DLP_REFUSE. */
+ * lent as can be. Each whole text that is UTF-8 gives what lp_lines_next gives, and its rows, written again, what lp_rebuild gives. What
+ * is lent holds anything before, and reading makes no request for memory. Compile heap.c with -DLP_REFUSE. */
 #define _POSIX_C_SOURCE 200809L
 #include "influxdb_line_protocol.h"
 #include <stdio.h>
 #include <stdlib.h>
 #include <string.h>
 
-extern long lp_requests;
+extern long lp_refused, lp_requests;
 
 enum { DIALECTS = 3, TEXTS = 4000, LONGEST = 60 };
 
@@ -141,6 +141,104 @@ static void compare_with_next(const uint8_t *text, size_t len, uint32_t dialect)
     take_back(lent);
 }
 
+/* Writes rows into a buffer of just so many bytes, which it gives. What is not filled is as it was. */
+static uint8_t *written_rows(const uint8_t *text, size_t len, uint32_t dialect, struct lent lent, const lp_block *block, size_t room,
+                             lp_rows_written *written, uint32_t *answer) {
+    uint8_t *out = malloc(room ? room : 1);
+    memset(out, '~', room);
+    *answer = lp_offsets_write(dialect, text, len, lent.room, lent.room_len, lent.rows, block->rows, lent.parts, block->parts, out, room,
+                               written);
+    expect(written->len <= room, "more is written than was lent");
+    for (size_t at = written->len; at < room; at++) expect(out[at] == '~', "a byte is written after those that are filled");
+    return out;
+}
+
+/* The rows of a text are written again, all that can be, into buffers of so many bytes, or of one more line: that is what lp_rebuild
+ * writes, and the lines of refused rows are those of the items that it refuses. */
+static void write_again(const uint8_t *text, size_t len, uint32_t dialect, size_t room) {
+    uint8_t batch[8 * LONGEST], faults[64 * LONGEST], all[8 * LONGEST];
+    lp_counts counts;
+    lp_block block = { 1, 0, 0, 0, 0 };
+    struct lent lent = lend(64, 256, 256);
+    size_t filled = 0, refused = 0;
+    uint32_t answer = LP_MORE_ROOM;
+    expect(read_block(text, len, dialect, true, &block, lent) == LP_END, "a text has more");
+    for (lp_rows_written written = { 0, 0, 0 }; answer != LP_WRITTEN;) {
+        uint8_t *out = written_rows(text, len, dialect, lent, &block, room, &written, &answer);
+        memcpy(all + filled, out, written.len);
+        filled += written.len;
+        free(out);
+        expect((answer == LP_MORE_ROOM) == (written.need != 0), "a need is told otherwise");
+        if (answer == LP_MORE_ROOM && written.len == 0) room = written.need;
+        else if (answer == LP_NOT_ADMITTED || answer == LP_NOT_A_LINE) {
+            expect((answer == LP_NOT_A_LINE) == (lent.rows[written.row].answer != LP_LINE), "a row is refused for another reason");
+            written.row++, refused++;
+        } else if (answer != LP_MORE_ROOM) expect(answer == LP_WRITTEN && written.row == block.rows, "rows end otherwise");
+    }
+    if (lp_rebuild(dialect, text, len, batch, sizeof batch, faults, sizeof faults, &counts) == LP_WRITTEN)
+        expect(filled == counts.batch_len && memcmp(all, batch, filled) == 0 && refused == counts.refused, "a text is not rebuilt");
+    take_back(lent);
+}
+
+/* What a row and a part that were read answer where this is another: it holds no line. */
+#define REFUSES(place, other) do { \
+        lp_offset_row kept_row = lent.rows[1]; \
+        lp_offset_part kept_parts[3] = { lent.parts[1], lent.parts[2], lent.parts[3] }; \
+        (place) = (other), written = (lp_rows_written){ 0, 9, 9 }; \
+        free(written_rows(text, len, LP_CRATE, lent, &block, 64, &written, &answer)); \
+        expect(answer == LP_NOT_A_LINE && written.row == 1 && written.len == 6 && written.need == 0, #place " = " #other " passes"); \
+        lent.rows[1] = kept_row, memcpy(lent.parts + 1, kept_parts, sizeof kept_parts); \
+    } while (0)
+
+/* Rows that hold no line, rows that are not admitted, little room, and no memory. */
+static void write_rows(void) {
+    static const uint8_t text[] = "m f=1\nn,a\\ b=c g=2.5,s=\"\xc3\xa9\" 5\n\xff";
+    static const char lines[] = "m f=1\nn,a\\ b=c g=2.5,s=\"\xc3\xa9\" 5\n";
+    const size_t len = sizeof text - 1, all = sizeof lines - 1;
+    lp_block block = { 1, 0, 0, 0, 0 };
+    struct lent lent = lend(3, 4, 3);
+    lp_rows_written written;
+    uint32_t answer;
+    expect(read_block(text, len, LP_CRATE, true, &block, lent) == LP_LINE && block.parts == 4 && block.room == 3, "three rows are not read");
+    for (size_t room = 0; room <= all + 1; room++) {
+        size_t fits = room < 6 ? 0 : room < all ? 6 : all;
+        written = (lp_rows_written){ 0, 9, 9 };
+        uint8_t *out = written_rows(text, len, LP_CRATE, lent, &block, room, &written, &answer);
+        expect(written.len == fits && memcmp(out, lines, fits) == 0, "other lines are written");
+        expect(answer == (room < all ? LP_MORE_ROOM : LP_NOT_A_LINE) && written.row == (room < 6 ? 0 : room < all ? 1 : 2), "rows stop elsewhere");
+        expect(written.need == (room < 6 ? 6 : room < all ? all - 6 : 0), "another need is told");
+        free(out);
+    }
+    REFUSES(lent.rows[1].measurement.at, (uint32_t)len);
+    REFUSES(lent.rows[1].measurement.len, UINT32_MAX);
+    REFUSES(lent.rows[1].parts_at, 2);
+    REFUSES(lent.rows[1].parts_at, UINT32_MAX);
+    REFUSES(lent.rows[1].tags, UINT32_MAX);
+    REFUSES(lent.rows[1].fields, 0);
+    REFUSES(lent.rows[1].fields, 3);
+    REFUSES(lent.parts[1].key.at, 1);
+    REFUSES(lent.parts[1].kind, LP_STRING);
+    REFUSES(lent.parts[2].kind, LP_TAG);
+    REFUSES(lent.parts[2].kind, 6);
+    REFUSES(lent.parts[2].key_copied, 1);
+    REFUSES(lent.parts[2].text.len, 0);
+    REFUSES(lent.parts[3].text.len, 1);
+    lent.rows[1].measurement = (lp_span){ 5, 2 }, written = (lp_rows_written){ 1, 9, 9 };
+    free(written_rows(text, len, LP_CRATE, lent, &block, 64, &written, &answer));
+    expect(answer == LP_NOT_ADMITTED && written.row == 1 && written.len == 0, "a measurement that holds a newline is written");
+    written = (lp_rows_written){ 7, 9, 9 };
+    free(written_rows(text, len, LP_CRATE, lent, &block, 64, &written, &answer));
+    expect(answer == LP_WRITTEN && written.row == 3 && written.len == 0, "rows are written past the last one");
+    written = (lp_rows_written){ 0, 0, 9 };
+    free(written_rows(text, len, 3, lent, &block, 64, &written, &answer));
+    expect(answer == LP_NOT_A_DIALECT && written.row == 0 && written.need == 9, "rows are written in a fourth dialect");
+    lp_requests = 0, lp_refused = 0;
+    free(written_rows(text, len, LP_CRATE, lent, &block, 64, &written, &answer));
+    expect(answer == LP_OUT_OF_MEMORY && written.row == 0 && written.len == 0, "a request that is refused is answered otherwise");
+    lp_requests = 0, lp_refused = -1;
+    take_back(lent);
+}
+
 static uint32_t draw(void) {
     static uint64_t state = 1;
     state = state * 6364136223846793005u + 1442695040888963407u;
@@ -205,6 +303,11 @@ int main(void) {
     take_back(lent);
     expect(sizeof(lp_offset_part) == 32 && sizeof(lp_offset_row) == 88, "a row or a part has another size");
     expect(lp_requests == 0, "memory was asked for");
-    printf("%zu texts by offsets, and %d random ones", known, TEXTS);
+    write_rows();
+    for (int at = 0; at < TEXTS; at++) {
+        size_t len = random_text(text);
+        for (uint32_t dialect = 0; dialect < DIALECTS; dialect++) write_again(text, len, dialect, draw() % (2 * LONGEST));
+    }
+    printf("%zu texts by offsets, and %d random ones, and as many written again", known, TEXTS);
     return failed;
 }

@@ -2,6 +2,7 @@ pub mod Blocks
 pub mod Crossing
 pub mod Cutting
 pub mod Handed
+pub mod HandedRows
 pub mod Messages
 pub mod Numbers
 pub mod OffsetBlocks
@@ -11,3 +12,4 @@ pub mod Rebuilding
 pub mod Rooms
 pub mod Telling
 pub mod Writing
+pub mod WritingRows

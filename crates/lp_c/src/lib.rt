@@ -7,6 +7,7 @@
 mod blocks;
 mod cuts;
 mod handed;
+mod handed_rows;
 mod lent;
 mod messages;
 mod numbers;
@@ -19,3 +20,4 @@ mod rebuilding;
 mod telling;
 mod views;
 mod writing;
+mod writing_rows;
