@@ -218,6 +218,28 @@ build_over() {
     told+=("3 programs by pkg-config, each shared and static")
 }
 
+# Builds a program in Go over the packed module, and over the library that is installed.
+build_go() {
+    local module=$work/go/lineprotocol how
+    if ! command -v go >/dev/null; then
+        left_out "programs in Go" "there is no go"
+        return
+    fi
+    mkdir "$work/go"
+    tar -C "$work/go" -xzf "$work/one/influxdb-line-protocol-go-$version-x86_64-linux.tgz"
+    printf '%s\n' 'package main' 'import ("fmt"; "strings"; "influxdb_line_protocol/lineprotocol")' 'func main() {' \
+        'd := lineprotocol.NewDecoder(strings.NewReader("x\nm f=1i"))' \
+        'for d.Next() { name, err := d.Measurement(); fmt.Printf("%s %v\n", name, err) } }' >"$work/go/main.go"
+    printf 'module prog\n\ngo 1.19\n' >"$work/go/go.mod"
+    export GOCACHE=$work/go/cache GOPATH=$work/go/path GOFLAGS=-modcacherw GOPROXY=off
+    for how in "$module" "$top/bindings/go"; do
+        (cd "$work/go" && go mod edit -replace "influxdb_line_protocol/lineprotocol=$how" && go mod tidy && go build -o prog .) >"$work/log" 2>&1 ||
+            fail "over $how no program in Go was built: $(cat "$work/log")"
+        equal "what a program in Go prints" $' at line 1:2: A generic parsing error occurred: TakeWhile1\nm <nil>' "$(LD_LIBRARY_PATH=$prefix/lib "$work/go/prog")"
+    done
+    told+=("a program in Go over the packed module and over the installed library")
+}
+
 # Runs the programs that were built, with these letters after their names.
 run_built() {
     local LD_LIBRARY_PATH=$prefix/lib
@@ -403,6 +425,7 @@ refuse_places
 refuse_tools
 told+=("$refusals refusals")
 build_over
+build_go
 build_by_cmake
 run_programs "$prefix/bin"
 read_page

@@ -1,6 +1,6 @@
-// Reads corpora by this library's package, from bytes and from a reader, and by InfluxDB 1.x's ParsePoints, and looks at each value. All go
-// in turns in one run; the best round of each counts, by processor time. It prints MB/s, the ratio to ParsePoints, and how often memory is
-// taken for a point.
+// Reads corpora by this library's package, from bytes and from a reader, and by InfluxDB 1.x's ParsePoints, and looks at each value; and
+// writes their lines again by the package, and by InfluxDB's NewPoint and AppendString. All go in turns in one run; the best round of each
+// counts, by processor time. It prints MB/s, the ratio to InfluxDB's, and how often memory is taken for a point.
 //
 //	golang FILE..
 package main
@@ -96,9 +96,113 @@ func parsePoints(text []byte) (lines int) {
 	return lines
 }
 
+// A line to write, for both.
+type line struct {
+	name   string
+	tags   []tag
+	fields []field
+	at     time.Time
+	// For NewPoint.
+	tagSet   models.Tags
+	fieldSet models.Fields
+}
+
+type tag struct{ key, value string }
+
+type field struct {
+	key   string
+	value lineprotocol.Value
+}
+
+// The lines of a text.
+func linesOf(text []byte) (lines []line) {
+	d := lineprotocol.NewDecoderWithBytes(text)
+	for d.Next() {
+		name, err := d.Measurement()
+		if err != nil {
+			continue
+		}
+		one := line{name: string(name), fieldSet: models.Fields{}}
+		tags := map[string]string{}
+		for key, value, _ := d.NextTag(); key != nil; key, value, _ = d.NextTag() {
+			one.tags = append(one.tags, tag{string(key), string(value)})
+			tags[string(key)] = string(value)
+		}
+		for key, value, _ := d.NextField(); key != nil; key, value, _ = d.NextField() {
+			copied, _ := lineprotocol.NewValue(value.Interface())
+			one.fields = append(one.fields, field{string(key), copied})
+			one.fieldSet[string(key)] = value.Interface()
+		}
+		one.tagSet = models.NewTags(tags)
+		one.at, _ = d.Time(lineprotocol.Nanosecond, time.Unix(0, 0))
+		lines = append(lines, one)
+	}
+	return lines
+}
+
+// Writes lines by an encoder, which gathers some of them, and then is emptied.
+func write(e *lineprotocol.Encoder, lines []line) (bytes int) {
+	for i := range lines {
+		one := &lines[i]
+		e.StartLine(one.name)
+		for _, tag := range one.tags {
+			e.AddTag(tag.key, tag.value)
+		}
+		for _, field := range one.fields {
+			e.AddField(field.key, field.value)
+		}
+		e.EndLine(one.at)
+		if i%1000 == 999 || i == len(lines)-1 {
+			bytes += len(e.Bytes())
+			e.Reset()
+		}
+	}
+	return bytes
+}
+
+// The same by NewPoint and AppendString.
+func writePoints(buf []byte, lines []line) (bytes int) {
+	for i := range lines {
+		one := &lines[i]
+		point, err := models.NewPoint(one.name, one.tagSet, one.fieldSet, one.at)
+		if err != nil {
+			continue
+		}
+		buf = append(point.AppendString(buf), '\n')
+		if i%1000 == 999 || i == len(lines)-1 {
+			bytes += len(buf)
+			buf = buf[:0]
+		}
+	}
+	return bytes
+}
+
+// Lets each way have its turn, and gives the least time of each, what it gave, and how often memory was taken.
+func turns(ways ...func() int) (best []time.Duration, gave []int, taken []float64) {
+	best, gave, taken = make([]time.Duration, len(ways)), make([]int, len(ways)), make([]float64, len(ways))
+	for round := 0; round <= rounds; round++ {
+		for i, way := range ways {
+			var before, after runtime.MemStats
+			runtime.GC()
+			runtime.ReadMemStats(&before)
+			from := now()
+			gave[i] = way()
+			took := now() - from
+			runtime.ReadMemStats(&after)
+			taken[i] = float64(after.Mallocs - before.Mallocs)
+			if round > 0 && (best[i] == 0 || took < best[i]) {
+				best[i] = took
+			}
+		}
+	}
+	return best, gave, taken
+}
+
+func rate(bytes int, took time.Duration) float64 { return float64(bytes) / 1e6 / took.Seconds() }
+
 func main() {
-	fmt.Println("| corpus | bytes | reader | ParsePoints | bytes to ParsePoints | memory taken for a point |")
-	fmt.Println("|---|---|---|---|---|---|")
+	fmt.Println("| corpus | read bytes | read a reader | ParsePoints | times | write | NewPoint | times | memory taken for a point |")
+	fmt.Println("|---|---|---|---|---|---|---|---|---|")
 	for _, place := range os.Args[1:] {
 		text, err := os.ReadFile(place)
 		if err != nil {
@@ -106,33 +210,25 @@ func main() {
 			os.Exit(2)
 		}
 		decoder := lineprotocol.NewDecoderWithBytes(nil)
-		ways := []func() int{
+		best, _, taken := turns(
 			func() int { decoder.ResetBytes(text); return look(decoder) },
 			func() int { return look(lineprotocol.NewDecoder(bytes.NewReader(text))) },
 			func() int { return parsePoints(text) },
+		)
+		lines := linesOf(text)
+		var encoder lineprotocol.Encoder
+		encoder.SetLax(true)
+		buf := make([]byte, 0, 1<<20)
+		wrote, sizes, _ := turns(
+			func() int { return write(&encoder, lines) },
+			func() int { return writePoints(buf, lines) },
+		)
+		if encoder.Err() != nil {
+			fmt.Fprintln(os.Stderr, place, encoder.Err())
 		}
-		best := [3]time.Duration{}
-		taken := [3]float64{}
-		for round := 0; round <= rounds; round++ {
-			for i, way := range ways {
-				var before, after runtime.MemStats
-				runtime.GC()
-				runtime.ReadMemStats(&before)
-				from := now()
-				lines := way()
-				took := now() - from
-				runtime.ReadMemStats(&after)
-				taken[i] = float64(after.Mallocs-before.Mallocs) / float64(lines)
-				if round > 0 && (best[i] == 0 || took < best[i]) {
-					best[i] = took
-				}
-			}
-		}
-		name := strings.TrimSuffix(filepath.Base(place), ".lp")
-		fmt.Printf("| `%s` |", name)
-		for _, took := range best {
-			fmt.Printf(" %.0f |", float64(len(text))/1e6/took.Seconds())
-		}
-		fmt.Printf(" %.1f | %.2f and %.2f |\n", float64(best[2])/float64(best[0]), taken[0], taken[2])
+		points := float64(len(lines))
+		fmt.Printf("| `%s` | %.0f | %.0f | %.0f | %.1f | %.0f | %.0f | %.1f | %.2f, %.2f |\n", strings.TrimSuffix(filepath.Base(place), ".lp"),
+			rate(len(text), best[0]), rate(len(text), best[1]), rate(len(text), best[2]), float64(best[2])/float64(best[0]),
+			rate(sizes[0], wrote[0]), rate(sizes[1], wrote[1]), rate(sizes[0], wrote[0])/rate(sizes[1], wrote[1]), taken[0]/points, taken[2]/points)
 	}
 }

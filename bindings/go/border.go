@@ -111,3 +111,11 @@ func (s *search) find(text []byte) (cut int, found bool) {
 
 // A string of bytes that stay as they are while it is used.
 func stringOf(bytes []byte) string { return *(*string)(unsafe.Pointer(&bytes)) }
+
+// The bytes of a string, which must not be written.
+func bytesOf(text string) []byte {
+	if text == "" {
+		return nil
+	}
+	return unsafe.Slice(*(**byte)(unsafe.Pointer(&text)), len(text))
+}

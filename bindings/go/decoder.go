@@ -1,12 +1,13 @@
-// Package lineprotocol reads InfluxDB line protocol by a proved library. Its names are those of
-// github.com/influxdata/line-protocol/v2/lineprotocol, so a program that reads by that package changes its import.
+// Package lineprotocol reads and writes InfluxDB line protocol by a proved library. Its names are those of
+// github.com/influxdata/line-protocol/v2/lineprotocol, so a program over that package changes its import.
 //
 // What it does otherwise: a line is read as a whole, so a line with a fault gives none of its tags and fields, but the fault; each line
-// after it is read as ever. Raw gives a line as it came, Fault its fault. A line that is too long costs no memory beyond MaxLine.
+// after it is read as ever. Raw gives a line as it came, Fault its fault. A line that is too long costs no memory beyond MaxLine. A line
+// is written only if it reads back as it was given, and then whole.
 //
-// All that it gives are views of the memory of Go, as long as the next call of Next: copy what is to stay. No call takes memory once
-// the decoder has what its longest lines need. One call of the library serves up to 1,024 lines. A decoder is for one goroutine; many
-// may go side by side.
+// All that a Decoder gives are views of the memory of Go, as long as the next call of Next: copy what is to stay. No call takes memory once
+// a decoder or an encoder has what its longest lines need. One call of the library serves up to 1,024 lines. Each is for one goroutine;
+// many may go side by side.
 package lineprotocol
 
 // #include "influxdb_line_protocol.h"

@@ -4,6 +4,7 @@ import (
 	"fmt"
 	"io"
 	"strings"
+	"time"
 
 	"influxdb_line_protocol/lineprotocol"
 )
@@ -55,4 +56,20 @@ func ExampleDecoder() {
 	// Output:
 	// cpu <nil>
 	//  at line 2:4: No fields were provided
+}
+
+func ExampleEncoder() {
+	var e lineprotocol.Encoder
+	e.SetPrecision(lineprotocol.Second)
+	for _, host := range []string{"a", "b\\", "c d"} {
+		e.StartLine("cpu")
+		e.AddTag("host", host)
+		e.AddField("n", lineprotocol.IntValue(2))
+		e.EndLine(time.Unix(1590488773, 0))
+	}
+	fmt.Printf("%s%v\n", e.Bytes(), e.Err())
+	// Output:
+	// cpu,host=a n=2i 1590488773
+	// cpu,host=c\ d n=2i 1590488773
+	// line 2: lineprotocol: the line would not read back
 }

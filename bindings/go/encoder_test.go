@@ -1,0 +1,245 @@
+package lineprotocol
+
+import (
+	"bytes"
+	"errors"
+	"math"
+	"reflect"
+	"strings"
+	"testing"
+	"time"
+)
+
+func value(t *testing.T, x interface{}) Value {
+	v, ok := NewValue(x)
+	if !ok {
+		t.Fatal(x)
+	}
+	return v
+}
+
+func TestEncoder(t *testing.T) {
+	var e Encoder
+	e.StartLine("wea,ther")
+	e.AddTag("a b", "c=d")
+	e.AddTag("host", "h1")
+	e.AddField("i", value(t, int64(-5)))
+	e.AddField("u", value(t, uint64(math.MaxUint64)))
+	e.AddField("f", value(t, 1.5e300))
+	e.AddField("b", value(t, true))
+	e.AddField("s", value(t, "say \"hi\"\nto\\all"))
+	e.EndLine(time.Unix(0, 7))
+	e.StartLine("m")
+	e.AddField("f", value(t, int64(1)))
+	e.EndLine(time.Time{})
+	wanted := "wea\\,ther,a\\ b=c\\=d,host=h1 i=-5i,u=18446744073709551615u,f=1.5e+300,b=true,s=\"say \\\"hi\\\"\nto\\\\all\" 7\nm f=1i\n"
+	if got := string(e.Bytes()); got != wanted || e.Err() != nil {
+		t.Errorf("%s%v", got, e.Err())
+	}
+	if got := told(NewDecoderWithBytes(e.Bytes())); len(got) != 2 || !strings.Contains(got[0], `"wea,ther","a b"="c=d","host"="h1"`) {
+		t.Errorf("%q", got)
+	}
+	e.Reset()
+	if len(e.Bytes()) != 0 {
+		t.Error("Reset leaves bytes")
+	}
+}
+
+// Lines that are not written, each between two that are: what is wrong with it, and how it is made.
+func TestEncoderRefuses(t *testing.T) {
+	one := IntValue(1)
+	for _, row := range []struct {
+		err  error
+		make func(e *Encoder)
+	}{
+		{ErrNotAdmitted, func(e *Encoder) { e.StartLine(""); e.AddField("f", one); e.EndLine(time.Time{}) }},
+		{ErrNotAdmitted, func(e *Encoder) { e.StartLine("m\n"); e.AddField("f", one); e.EndLine(time.Time{}) }},
+		{ErrNotAdmitted, func(e *Encoder) { e.StartLine("#m"); e.AddField("f", one); e.EndLine(time.Time{}) }},
+		{ErrNotAdmitted, func(e *Encoder) { e.StartLine("m"); e.AddTag("k", "v\\"); e.AddField("f", one); e.EndLine(time.Time{}) }},
+		{ErrNotAdmitted, func(e *Encoder) { e.StartLine("m"); e.AddField("a\tb", one); e.EndLine(time.Time{}) }},
+		{ErrNotALine, func(e *Encoder) { e.StartLine("m\xff"); e.AddField("f", one); e.EndLine(time.Time{}) }},
+		{ErrNotALine, func(e *Encoder) { e.StartLine("m"); e.AddField("f", Value{}); e.EndLine(time.Time{}) }},
+		{ErrNotALine, func(e *Encoder) {
+			e.StartLine("m")
+			e.AddField("f", Value{kind: Float, number: math.Float64bits(math.NaN())})
+			e.EndLine(time.Time{})
+		}},
+		{ErrOrder, func(e *Encoder) { e.StartLine("m"); e.EndLine(time.Time{}) }},
+		{ErrOrder, func(e *Encoder) { e.StartLine("m"); e.AddField("f", one); e.AddTag("k", "v"); e.EndLine(time.Time{}) }},
+		{ErrOrder, func(e *Encoder) { e.StartLine("m"); e.AddField("f", one) }},
+		{ErrTagOrder, func(e *Encoder) {
+			e.StartLine("m")
+			e.AddTag("b", "v")
+			e.AddTag("a", "v")
+			e.AddField("f", one)
+			e.EndLine(time.Time{})
+		}},
+		{ErrTagOrder, func(e *Encoder) {
+			e.StartLine("m")
+			e.AddTag("a", "v")
+			e.AddTag("a", "w")
+			e.AddField("f", one)
+			e.EndLine(time.Time{})
+		}},
+	} {
+		var e Encoder
+		good := func(name string) {
+			e.StartLine(name)
+			e.AddTag("k", "v")
+			e.AddField("f", one)
+			e.EndLine(time.Time{})
+		}
+		good("first")
+		row.make(&e)
+		good("last")
+		var why *EncodeError
+		if got := string(e.Bytes()); got != "first,k=v f=1i\nlast,k=v f=1i\n" || !errors.As(e.Err(), &why) || why.Line != 2 || why.Err != row.err {
+			t.Errorf("%v: %q, %v", row.err, got, e.Err())
+		}
+		e.ClearErr()
+		if e.Err() != nil {
+			t.Error("ClearErr leaves the error")
+		}
+	}
+	var e Encoder
+	e.AddTag("k", "v")
+	if !errors.Is(e.Err(), ErrOrder) {
+		t.Error(e.Err())
+	}
+	e.ClearErr()
+	e.SetLax(true)
+	e.StartLine("m")
+	e.AddTag("b", "v")
+	e.AddTag("a", "v")
+	e.AddField("f", one)
+	e.EndLine(time.Time{})
+	if got := string(e.Bytes()); got != "m,b=v,a=v f=1i\n" || e.Err() != nil {
+		t.Errorf("%q, %v", got, e.Err())
+	}
+	e.SetDialect(NewlineDelimited)
+	e.StartLine("m")
+	e.AddField("s", value(t, "a\nb"))
+	e.EndLine(time.Time{})
+	if got := string(e.Bytes()); got != "m,b=v,a=v f=1i\n" || !errors.Is(e.Err(), ErrNotAdmitted) {
+		t.Errorf("%q, %v", got, e.Err())
+	}
+	e.SetDialect(9)
+	e.StartLine("m")
+	e.AddField("f", one)
+	e.EndLine(time.Time{})
+	if got := string(e.Bytes()); got != "m,b=v,a=v f=1i\n" {
+		t.Errorf("%q, %v", got, e.Err())
+	}
+}
+
+func TestEncoderTimes(t *testing.T) {
+	at := time.Unix(1590488773, 254420001)
+	for prec, wanted := range []string{"1590488773254420001", "1590488773254420", "1590488773254", "1590488773"} {
+		var e Encoder
+		e.SetPrecision(Precision(prec))
+		e.StartLine("m")
+		e.AddField("f", IntValue(1))
+		e.EndLine(at)
+		if got := string(e.Bytes()); got != "m f=1i "+wanted+"\n" {
+			t.Errorf("%q", got)
+		}
+	}
+}
+
+// Many lines, of which one is long, and all that a decoder reads is written again.
+func TestEncoderMany(t *testing.T) {
+	text := many()
+	var e Encoder
+	e.SetBuffer([]byte("# before\n"))
+	d := NewDecoderWithBytes([]byte(text))
+	lines := 0
+	for d.Next() {
+		name, err := d.Measurement()
+		if err != nil {
+			continue
+		}
+		e.StartLineRaw(name)
+		for key, value, _ := d.NextTag(); key != nil; key, value, _ = d.NextTag() {
+			e.AddTagRaw(key, value)
+		}
+		for key, value, _ := d.NextField(); key != nil; key, value, _ = d.NextField() {
+			e.AddFieldRaw(key, value)
+		}
+		at, _ := d.Time(Nanosecond, time.Time{})
+		e.EndLine(at)
+		lines++
+	}
+	written := e.Bytes()
+	if e.Err() != nil || lines != 3003 || !bytes.HasPrefix(written, []byte("# before\nm,host=h0 f=0i 0\n")) {
+		t.Fatalf("%d lines, %v", lines, e.Err())
+	}
+	wanted := []string{}
+	for _, line := range strings.SplitAfter(text, "\n") {
+		if line != "x\n" {
+			wanted = append(wanted, line)
+		}
+	}
+	if got := strings.SplitAfter(string(written[len("# before\n"):]), "\n"); !reflect.DeepEqual(got, wanted) {
+		t.Errorf("other lines are written")
+	}
+}
+
+// No memory is taken for a line, once the encoder has what many need.
+func TestEncoderAllocations(t *testing.T) {
+	var e Encoder
+	half, _ := FloatValue(0.5)
+	pass := func() {
+		e.Reset()
+		for i := 0; i < 1000; i++ {
+			e.StartLine("cpu")
+			e.AddTag("host", "a")
+			e.AddField("usage", half)
+			e.AddField("n", IntValue(int64(i)))
+			e.EndLine(time.Unix(0, int64(i)))
+		}
+		e.Bytes()
+	}
+	pass()
+	if n := testing.AllocsPerRun(5, pass); n > 4 {
+		t.Errorf("1,000 lines take memory %v times", n)
+	}
+}
+
+// A line is written only if it is read back as it was given, and then the line after it is, in each dialect.
+func FuzzEncoder(f *testing.F) {
+	f.Add("m", "k", "v", "f", "s", int64(5), uint8(0))
+	f.Add("we,a ther", "a=b", "c d", "\\x", "say \"hi\"\n", int64(-1), uint8(2))
+	f.Add("#m", "", "\t", "e\\", "\xff", int64(0), uint8(1))
+	f.Fuzz(func(t *testing.T, name, key, tag, field, text string, number int64, dialect uint8) {
+		var e Encoder
+		e.SetDialect(Dialect(dialect % 3))
+		e.StartLine(name)
+		e.AddTag(key, tag)
+		e.AddField(field, value(t, text))
+		e.AddField(field, IntValue(number))
+		e.EndLine(time.Unix(0, number))
+		refused := e.Err() != nil
+		e.StartLine("next")
+		e.AddField("f", IntValue(1))
+		e.EndLine(time.Time{})
+		d := NewDecoderWithBytes(append(e.Bytes(), '\n'))
+		d.SetDialect(Dialect(dialect % 3))
+		if !refused {
+			if !d.Next() {
+				t.Fatalf("%q gives no line", e.Bytes())
+			}
+			m, _ := d.Measurement()
+			k, v, _ := d.NextTag()
+			a, s, _ := d.NextField()
+			b, i, _ := d.NextField()
+			at, has := d.Timestamp()
+			if string(m) != name || string(k) != key || string(v) != tag || string(a) != field || string(b) != field ||
+				s.StringV() != text || i.IntV() != number || at != number || !has {
+				t.Errorf("%q reads otherwise", e.Bytes())
+			}
+		}
+		if rest := told(d); len(rest) != 1 || !strings.HasSuffix(rest[0], `"next f=1i" "next" "f"=1i`) {
+			t.Errorf("%q: %q", e.Bytes(), rest)
+		}
+	})
+}
