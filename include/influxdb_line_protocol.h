@@ -177,7 +177,7 @@ typedef struct lp_block {
 typedef struct lp_rows_written {
     size_t row;  /* the row to begin with; then the one that was not written, or how many rows there are */
     size_t len;  /* so many bytes the lines take that were written */
-    size_t need; /* so many bytes the line of `row` takes, where there is no room for it; else 0 */
+    size_t need; /* so many bytes the line of `row` takes, if there is no room for it; else 0 */
 } lp_rows_written;
 
 /* How much was rebuilt. */
@@ -292,16 +292,16 @@ uint32_t lp_line_write(uint32_t dialect, const lp_line *line, const lp_part *par
 
 /* Writes many lines, each as lp_line_write does, one after another at the start of `out`: those of rows and parts as lp_offsets_block
  * fills them, or as you make them. Of a row it looks at `measurement`, `measurement_copied`, `parts_at`, `tags`, `fields`, `timestamp` and
- * `has_timestamp`; a span lies in `room`, of which nothing is written, where its text was copied, and else in `text`. No pointer is kept.
+ * `has_timestamp`. A span lies in `text`, or in `room` if its text was copied; both are only read. No pointer is kept.
  *
  * It begins with the row `written->row`, and stops at the first row that it does not write. Then `written` says which row that is, and how
  * many bytes of `out` are filled: just the lines of the rows before. The other bytes of `out` are as they were. To pass the row, add 1
- * to `written->row` and call again.
+ * to `written->row`, and call again.
  *
  * LP_WRITTEN: no row is left. LP_MORE_ROOM: the next line does not fit, and takes `need` bytes. LP_NOT_ADMITTED: it would not read back.
- * LP_NOT_A_LINE: the row holds no line: a span goes past the text or the room, parts are not there or are of another kind, a text is no
- * UTF-8, that of a float no literal, or there is no field, as in the row of a fault. LP_OUT_OF_MEMORY. LP_NOT_A_DIALECT: no dialect has
- * the number, and all is as it was. */
+ * LP_NOT_A_LINE: the row holds no line, as that of a fault: a span goes past the text or the room, a part is of another kind or not there,
+ * a text is no UTF-8, that of a float no literal, or there is no field. LP_OUT_OF_MEMORY: a request for memory was refused.
+ * LP_NOT_A_DIALECT: no dialect has the number, and all is as it was. */
 uint32_t lp_offsets_write(uint32_t dialect, const uint8_t *text, size_t len, const uint8_t *room, size_t room_len,
                           const lp_offset_row *rows, size_t rows_len, const lp_offset_part *parts, size_t parts_len, uint8_t *out,
                           size_t out_len, lp_rows_written *written);

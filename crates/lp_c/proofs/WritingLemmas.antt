@@ -1,9 +1,11 @@
 -- What was put out is read back.
 use Rattle.std.proofs.Common.{◌≡◌, ◌<◌, ℕ, List, [], ◌∷◌, length, drop, take, take_at, sym, subst, arith, ap, ◌∙◌, refl, true}
-use Rattle.influxdb_line_protocol.specs.format.Points.{Point, is_admitted_in}
-use Rattle.influxdb_line_protocol.specs.laws.AdmittedLines.{AddsPoints, AreClosedLines, EmptyTextIsClosed}
+use Rattle.std.specs.List.{AllByRecursion}
+use Rattle.influxdb_line_protocol.specs.format.Points.{IsPoint, Point, built_all, is_admitted_in}
+use Rattle.influxdb_line_protocol.specs.laws.AdmittedLines.{AddsPoints, AdmittedLinesAddPoints, AreClosedLines, EmptyTextIsClosed}
 use Rattle.lp_c.specs.Numbers.{answer_number}
 use Rattle.lp_c.specs.Writing.{PutsOut, ReadsAs}
+use Rattle.lp_c.specs.WritingRows.{ReadsAsAll}
 use Rattle.lp_c.specs.declared.views.Answer.TheVariants.{Written}
 
 -- a text that was put out is at the start of the buffer
@@ -20,3 +22,8 @@ reads_as lines text before after len answer p q puts written empty adds none sam
     let closed = subst (λ lines. AreClosedLines dialect lines []) (sym none) (empty dialect) in
     let is_admitted : is_admitted_in dialect q ≡ true = ap (is_admitted_in dialect) same ∙ admitted in
     rw (put_front text before after len answer puts written, ← same) (adds dialect [] (rw is_admitted refl) closed)
+
+-- the lines of points are read as these
+pub reads_as_all : (points : List Point) (lines : List ℕ) → EmptyTextIsClosed → AdmittedLinesAddPoints → AllByRecursion IsPoint points
+    → lines ≡ built_all points → ReadsAsAll points lines
+reads_as_all points lines empty adds are same dialect admitted = rw same (adds [] points are dialect [] admitted (empty dialect))

@@ -1,8 +1,9 @@
 -- What callers get written of rows by offsets.
-use Rattle.std.specs.Prelude.{◌≡◌, ◌+◌, ◌<◌, ◌≤◌, ℕ, List, [], ◌∷◌, ◌++◌, length, map, take, drop, true, false}
-use Rattle.std.specs.List.{AllByRecursion}
+use Rattle.std.specs.Prelude.{◌≡◌, ◌+◌, ◌<◌, ◌≤◌, ℕ, List, [], ◌∷◌, ◌++◌, length, map, take, drop, true, false, Ok}
+use Rattle.std.specs.List.{AllByRecursion, list_all}
 use Rattle.influxdb_line_protocol.specs.format.Dialects.{Dialect}
-use Rattle.influxdb_line_protocol.specs.format.Points.{built, built_all, is_admitted_in}
+use Rattle.influxdb_line_protocol.specs.format.Points.{Point, built, built_all, is_admitted_in}
+use Rattle.influxdb_line_protocol.specs.laws.AdmittedLines.{AreClosedLines}
 use Rattle.lp_c.specs.HandedRows.{IsRowIn, point_there}
 use Rattle.lp_c.specs.Numbers.{answer_number}
 use Rattle.lp_c.specs.declared.offsets.OffsetRow.{OffsetRow}
@@ -21,6 +22,11 @@ IsWrittenIn dialect text room parts row =
 abbrev pub AreLinesOf : Dialect → List ℕ → List ℕ → List OffsetPart → List OffsetRow → List ℕ → Type 0
 AreLinesOf dialect text room parts rows lines =
     AllByRecursion (IsWrittenIn dialect text room parts) rows × (lines ≡ built_all (map (point_there text room parts) rows))
+
+-- a text is read as these points and no others, in each dialect in which all are admitted and whatever text comes after it
+abbrev pub ReadsAsAll : List Point → List ℕ → Type 0
+ReadsAsAll points text =
+    (dialect : Dialect) → list_all (is_admitted_in dialect) points ≡ true → AreClosedLines dialect text (map Ok points)
 
 -- why a row is not written, after so many bytes of the most that there may be
 abbrev pub StopsFor : Dialect → List ℕ → List ℕ → List OffsetPart → ℕ → ℕ → Answer → ℕ → OffsetRow → Type 0
@@ -49,6 +55,7 @@ pub record WritesRows (dialect : Dialect) (text room : List ℕ) (parts : List O
   pub lines : List ℕ
   pub stop : Stop
   pub are : AreLinesOf dialect text room parts (take count (drop from rows)) lines
+  pub reads_back : ReadsAsAll (map (point_there text room parts) (take count (drop from rows))) lines
   pub put : after ≡ lines ++ drop (length lines) before
   pub fits : length lines ≤ length before
   pub stops : StopsAt dialect text room parts (length before) (length lines) stop (drop count (drop from rows))

@@ -1,8 +1,9 @@
 //! Many lines in one call that rows by offsets hold: each is written, if it reads back, into a buffer that the caller lends.
 
-ghost use Rattle.std.specs.Prelude.{◌≡◌, ◌≢◌, ◌↔◌, ◌≤◌, ◌++◌, [], length, min, take, drop, IfErr, OnOk};
+ghost use Rattle.std.specs.Prelude.{◌≡◌, ◌≢◌, ◌↔◌, ◌≤◌, ◌++◌, [], length, map, min, take, drop, IfErr, OnOk};
+ghost use Rattle.std.specs.List.{AllByRecursion};
 ghost use Rattle.influxdb_line_protocol.specs.code.Rules.{rules_of};
-ghost use Rattle.influxdb_line_protocol.specs.format.Points.{built};
+ghost use Rattle.influxdb_line_protocol.specs.format.Points.{IsPoint, built};
 ghost use Rattle.lp_c.specs.Crossing.{dialect_of};
 ghost use Rattle.lp_c.specs.HandedRows.{point_there};
 ghost use Rattle.lp_c.specs.Numbers.{IsNoDialect, answer_number};
@@ -17,7 +18,7 @@ use crate::views::{Answer, Dialect};
 use crate::writing::put_front;
 use influxdb_line_protocol::builder::Unwritten;
 use influxdb_line_protocol::{
-    Dialect as Rules, LineProtocolBuilder, ParsedLine, write_admitted_line_in,
+    Dialect as Rules, LineProtocolBuilder, ParsedLine, laws, write_admitted_line_in,
 };
 use std::alloc::Global;
 use std::mem;
@@ -62,6 +63,7 @@ fn write_row<'a>(
 ) -> Result<(), Stop>
     requires { length lines.old.items ≤ most }
     ensures is { OnOk result (IsWrittenIn (rules_of dialect) text.now room.now parts.now row.now) }
+    ensures point { OnOk result (IsPoint (point_there text.now room.now parts.now row.now)) }
     ensures put { OnOk result (lines.new.items ≡ lines.old.items ++ built (point_there text.now room.now parts.now row.now)) }
     ensures fits { length lines.new.items ≤ most }
     ensures stops { IfErr result (λ stop. StopsAtRow (rules_of dialect) text.now room.now parts.now most (length lines.old.items) stop row.now) }
@@ -112,6 +114,7 @@ fn write_rows(
     ensures count { result.0 ≤ length rows.now }
     ensures fits { length lines.new.items ≤ most }
     ensures lines { AreLinesOf (rules_of dialect) text.now room.now parts.now (take result.0 rows.now) lines.new.items }
+    ensures points { AllByRecursion IsPoint (map (point_there text.now room.now parts.now) (take result.0 rows.now)) }
     ensures stops { StopsAt (rules_of dialect) text.now room.now parts.now most (length lines.new.items) result.1 (drop result.0 rows.now) }
 {
     let mut taken = empty_line(alloc);
@@ -126,16 +129,16 @@ fn write_rows(
     (rows.len(), stop_for(Answer::Written))
 }
 
-/// Writes the lines of rows by offsets, in order, each with its newline, as [`lp_line_write`] writes it, as far as each reads back: as
-/// it is admitted in the [`Dialect`] of this number. The places of `rows` and `parts` lie in `text` and `room`, as `lp_offsets_block`
-/// fills them: so what was read can be written again.
+/// Writes the lines of rows by offsets, in order, each with its newline, as `lp_line_write` writes it if it reads back: if it is
+/// admitted in the [`Dialect`] of this number. The places of `rows` and `parts` lie in `text` and `room`, as `lp_offsets_block` fills
+/// them: so what was read can be written again. What is written is read as the points of these rows and as no others.
 ///
-/// `written` says with which row to begin; then which row was not written, and how many bytes of `out` are filled.
+/// `written` says with which row to begin; then which row was not written, and how many bytes of `out` are filled. What comes after
+/// them is as it was.
 ///
-/// Answers `Written`, if no row is left; `MoreRoom`, if `out` has no room for the next line: `need` says how much that takes;
-/// `NotAdmitted`, if it would not read back; `NotALine`, if the row holds no line: a place is past the end of what it lies in, a text is no UTF-8,
-/// a literal no float, a kind none, or it has no field; or `OutOfMemory`. Of a row that is not written no byte is put out, and bytes of `out` after
-/// those that are filled are as they were. `NotADialect`: then all is as it was.
+/// Answers `Written`, if no row is left; `MoreRoom`, if `out` has no room for the next line; or `NotAdmitted`, `NotALine` or
+/// `OutOfMemory`, if that line is not written for such a cause. A row holds no line if a place of it is past the end of what it lies in,
+/// a text is no UTF-8, a literal no float, a kind none, or if it has no field. `NotADialect`: then all is as it was.
 #[unsafe(no_mangle)]
 pub extern "C" fn lp_offsets_write(
     alloc: Global,
@@ -169,6 +172,7 @@ pub extern "C" fn lp_offsets_write(
         &mut lines,
     );
     put_front(lines.as_slice(), out);
+    laws::admitted_lines_read_back();
     *written = RowsWritten {
         row: from + count,
         len: lines.len(),

@@ -1,6 +1,7 @@
 use Rattle.std.proofs.Common.{◌≡◌, ◌∙◌, ap, arith, drop, length, min, refl, rules, sym}
 use Rattle.influxdb_line_protocol.specs.code.Rules.{rules_of}
 use Rattle.lp_c.specs.Crossing.{dialect_of}
+use Rattle.lp_c.proofs.WritingLemmas.{reads_as_all}
 use Rattle.lp_c.proofs.writing_rows.lp_offsets_write.Goals as goal
 
 pub returns-clause-writes : goal.returns-clause-writes
@@ -15,6 +16,8 @@ returns-clause-writes c = λ known.
       lines = wrote.new.lines.items;
       stop = wrote.result.1;
       are = rw (← dialect, ← begins, ← rest) wrote.ensures.lines;
+      reads_back = rw (← begins, ← rest) (reads_as_all _ wrote.new.lines.items c.admitted_lines_read_back.ensures.empty
+          c.admitted_lines_read_back.ensures.points wrote.ensures.points wrote.ensures.lines.1);
       put = rw (← c.as_slice.ensures.value) c.put_front.ensures;
       fits = wrote.ensures.fits;
       stops = rw (← dialect, ← begins, ← rest) wrote.ensures.stops;
