@@ -366,6 +366,21 @@ static void call_offsets(const uint8_t *text, size_t len) {
         answer = lp_offsets_block(text, len, LP_CRATE, true, &block, (uint8_t *)parts, 0, rows, 4, parts, 4);
 }
 
+/* Reads rows, and writes them again: as many lines as come back are counted. */
+static void call_offsets_write(const uint8_t *text, size_t len) {
+    lp_offset_row rows[4];
+    lp_offset_part parts[4];
+    uint8_t out[64];
+    lp_block block = { 1, 0, 0, 0, 0 };
+    uint32_t answer = LP_LINE;
+    for (items = 0; answer == LP_LINE;) {
+        lp_rows_written written = { 0, 0, 0 };
+        answer = lp_offsets_block(text, len, LP_CRATE, true, &block, (uint8_t *)parts, 0, rows, 4, parts, 4);
+        if (lp_offsets_write(LP_CRATE, text, len, text, 0, rows, block.rows, parts, block.parts, out, sizeof out, &written) == LP_WRITTEN)
+            items += written.len / 7;
+    }
+}
+
 static void call_piece(const uint8_t *text, size_t len) {
     lp_lines lines = LP_NO_LINES;
     lp_view piece;
@@ -380,11 +395,11 @@ static void call_cuts(const uint8_t *text, size_t len) {
     for (items = 0; lp_cuts_next(&cuts, text + at, len - at, &cut) == LP_PIECE; at += cut + 1) items++;
 }
 
-/* Whether a million short lines come of each call that reads or cuts, in time that grows as the text does. */
+/* Whether a million short lines come of each call that reads or cuts, or that writes many, in time that grows as the text does. */
 static bool reads_evenly(void) {
     static const struct { const char *name; growth_call *call; } calls[] = {
         { "lp_lines_next", call_next }, { "lp_lines_block", call_block }, { "lp_offsets_block", call_offsets },
-        { "lp_lines_piece", call_piece }, { "lp_cuts_next", call_cuts },
+        { "lp_offsets_write", call_offsets_write }, { "lp_lines_piece", call_piece }, { "lp_cuts_next", call_cuts },
     };
     static const struct growth lines = { "", "m a=1i\n", "" };
     for (size_t at = 0; at < sizeof calls / sizeof *calls; at++) {

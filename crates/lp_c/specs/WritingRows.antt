@@ -28,14 +28,14 @@ abbrev pub ReadsAsAll : List Point → List ℕ → Type 0
 ReadsAsAll points text =
     (dialect : Dialect) → list_all (is_admitted_in dialect) points ≡ true → AreClosedLines dialect text (map Ok points)
 
--- why a row is not written, after so many bytes of the most that there may be
+-- why a row is not written, after so many bytes of the most that there may be, and how many bytes it takes if it has no room
 abbrev pub StopsFor : Dialect → List ℕ → List ℕ → List OffsetPart → ℕ → ℕ → Answer → ℕ → OffsetRow → Type 0
-StopsFor dialect text room parts most used answer.NotALine need row = ¬ IsRowIn text room parts row
+StopsFor dialect text room parts most used answer.NotALine need row = (¬ IsRowIn text room parts row) × (need ≡ 0)
 StopsFor dialect text room parts most used answer.NotAdmitted need row =
-    IsRowIn text room parts row × (is_admitted_in dialect (point_there text room parts row) ≡ false)
+    IsRowIn text room parts row × (is_admitted_in dialect (point_there text room parts row) ≡ false) × (need ≡ 0)
 StopsFor dialect text room parts most used answer.MoreRoom need row =
     IsWrittenIn dialect text room parts row × (need ≡ length (built (point_there text room parts row))) × (most < used + need)
-StopsFor dialect text room parts most used answer.OutOfMemory need row = Unit {0}
+StopsFor dialect text room parts most used answer.OutOfMemory need row = need ≡ 0
 StopsFor dialect text room parts most used other need row = ⊥
 
 -- the same of a stop
@@ -44,7 +44,7 @@ StopsAtRow dialect text room parts most used stop row = StopsFor dialect text ro
 
 -- why no more rows are written: none is left, or the next one is not written
 abbrev pub StopsAt : Dialect → List ℕ → List ℕ → List OffsetPart → ℕ → ℕ → Stop → List OffsetRow → Type 0
-StopsAt dialect text room parts most used stop [] = stop.answer ≡ answer.Written
+StopsAt dialect text room parts most used stop [] = (stop.answer ≡ answer.Written) × (stop.need ≡ 0)
 StopsAt dialect text room parts most used stop (row ∷ rest) = StopsAtRow dialect text room parts most used stop row
 
 -- The lines of rows from one of them on are put out, one after another, up to the first row that is not written: what comes after them

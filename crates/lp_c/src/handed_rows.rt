@@ -1,10 +1,9 @@
 //! Lines that callers hand in by offsets: the places are tested, and what lies there becomes a line of the library.
 
-ghost use Rattle.std.specs.Prelude.{◌≡◌, ◌≤◌, ◌<◌, ◌+◌, [], ◌∷◌, ◌++◌, length, map, drop, IfOk, IfErr, OnOk};
+ghost use Rattle.std.specs.Prelude.{◌≡◌, ◌<◌, ◌+◌, [], ◌∷◌, ◌++◌, length, map, IfOk, IfErr, OnOk};
 ghost use Rattle.std.specs.List.{AllByRecursion};
 ghost use Rattle.influxdb_line_protocol.specs.code.Parsed.{field_of, parsed_point, tag_of};
 ghost use Rattle.influxdb_line_protocol.specs.code.ReadValues.{value_of};
-ghost use Rattle.influxdb_line_protocol.specs.code.Texts.{text_of};
 ghost use Rattle.influxdb_line_protocol.specs.format.Lines.{logical_field, logical_tag, logical_value};
 ghost use Rattle.lp_c.specs.Handed.{RefusesFor};
 ghost use Rattle.lp_c.specs.HandedRows.{IsFieldAt, IsRowIn, IsTagAt, IsTextAt, IsValueAt, field_there, point_there, tag_there, value_there};
@@ -13,18 +12,11 @@ ghost use Rattle.lp_c.specs.Offsets.{bytes_at};
 use crate::offsets::OffsetRow;
 use crate::placed::{OffsetPart, Span};
 use crate::views::{Answer, Kind};
-use influxdb_line_protocol::{
-    EscapedStr, FieldSet, FieldValue, FloatText, ParsedLine, TagSet,
-};
+use influxdb_line_protocol::{EscapedStr, FieldSet, FieldValue, FloatText, ParsedLine, TagSet};
 use std::alloc::Global;
 
 // The text at a place: in the room, if it was copied, or else in the text.
-fn text_at<'a>(
-    text: &'a [u8],
-    room: &'a [u8],
-    copied: u16,
-    span: Span,
-) -> Result<&'a str, Answer>
+fn text_at<'a>(text: &'a [u8], room: &'a [u8], copied: u16, span: Span) -> Result<&'a str, Answer>
     ensures ok { IfOk result (λ t. IsTextAt text.now room.now copied span × (t.now ≡ bytes_at text.now room.now copied span)) }
     ensures err { IfErr result (λ e. RefusesFor (IsTextAt text.now room.now copied span) e) }
 {
@@ -54,10 +46,7 @@ fn tag_at<'a>(
     }
     let key = text_at(text, room, part.key_copied, part.key)?;
     let value = text_at(text, room, part.text_copied, part.text)?;
-    Ok((
-        EscapedStr::SingleSlice(key),
-        EscapedStr::SingleSlice(value),
-    ))
+    Ok((EscapedStr::SingleSlice(key), EscapedStr::SingleSlice(value)))
 }
 
 // The literal of a part that is a float.
@@ -78,11 +67,7 @@ fn literal_at<'a>(
 }
 
 // The value of a part that is a field.
-fn value_at<'a>(
-    text: &'a [u8],
-    room: &'a [u8],
-    part: &OffsetPart,
-) -> Result<FieldValue<'a>, Answer>
+fn value_at<'a>(text: &'a [u8], room: &'a [u8], part: &OffsetPart) -> Result<FieldValue<'a>, Answer>
     ensures ok { IfOk result (λ v. IsValueAt text.now room.now part.now × (logical_value (value_of v) ≡ value_there text.now room.now part.now)) }
     ensures err { IfErr result (λ e. RefusesFor (IsValueAt text.now room.now part.now) e) }
 {
