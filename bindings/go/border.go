@@ -36,7 +36,7 @@ type block struct {
 
 // The memory of a new block: a line with more parts, or more to copy, makes it grow.
 func newBlock() block {
-	return block{rows: make([]C.lp_offset_row, 1024), parts: make([]C.lp_offset_part, 16384), room: make([]byte, 64<<10)}
+	return block{rows: make([]C.lp_offset_row, 512), parts: make([]C.lp_offset_part, 4096), room: make([]byte, 16<<10)}
 }
 
 // The greatest part of a text that one call is given. Offsets have 32 bits.

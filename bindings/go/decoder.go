@@ -6,7 +6,7 @@
 // is written only if it reads back as it was given, and then whole.
 //
 // All that a Decoder gives are views of the memory of Go, as long as the next call of Next: copy what is to stay. No call takes memory once
-// a decoder or an encoder has what its longest lines need. One call of the library serves up to 1,024 lines. Each is for one goroutine;
+// a decoder or an encoder has what its longest lines need. One call of the library serves up to 512 lines. Each is for one goroutine;
 // many may go side by side.
 package lineprotocol
 
@@ -87,19 +87,30 @@ type Decoder struct {
 
 // NewDecoder makes a decoder that reads r to its end, in blocks. Lines have MaxLine bytes at most.
 func NewDecoder(r io.Reader) *Decoder {
-	return &Decoder{reader: r, most: MaxLine, line: 1, buf: make([]byte, 128<<10), block: newBlock(), row: -1}
+	d := &Decoder{most: MaxLine, block: newBlock()}
+	d.Reset(r)
+	return d
+}
+
+// Reset begins anew with another reader, in the memory that the decoder has, by its dialect and its greatest length of a line.
+func (d *Decoder) Reset(r io.Reader) {
+	buf := d.buf
+	if d.reader == nil {
+		buf = make([]byte, 64<<10)
+	}
+	*d = Decoder{reader: r, dialect: d.dialect, most: d.most, line: 1, buf: buf, block: d.block, row: -1}
 }
 
 // NewDecoderWithBytes makes a decoder that reads buf in place. It must stay as it is until all was read. No line is too long.
 func NewDecoderWithBytes(buf []byte) *Decoder {
-	d := &Decoder{block: newBlock()}
+	d := &Decoder{most: math.MaxInt, block: newBlock()}
 	d.ResetBytes(buf)
 	return d
 }
 
-// ResetBytes begins anew with other bytes, in the memory that the decoder has, and by its dialect.
+// ResetBytes begins anew with other bytes, in the memory that the decoder has, by its dialect and its greatest length of a line.
 func (d *Decoder) ResetBytes(buf []byte) {
-	*d = Decoder{dialect: d.dialect, most: math.MaxInt, line: 1, buf: buf, end: len(buf), ended: true, block: d.block, row: -1}
+	*d = Decoder{dialect: d.dialect, most: d.most, line: 1, buf: buf, end: len(buf), ended: true, block: d.block, row: -1}
 }
 
 // SetDialect says by whose rules lines are read: Crate if it is not called. It comes before the first Next.

@@ -204,6 +204,33 @@ func TestReaderFails(t *testing.T) {
 	}
 }
 
+// A decoder begins anew with bytes and with readers in turns, also after a fault and a failure, by its dialect and its limit.
+func TestReset(t *testing.T) {
+	d := NewDecoder(iotest.ErrReader(io.ErrUnexpectedEOF))
+	d.SetDialect(NewlineDelimited)
+	d.SetMaxLine(9)
+	text, items := "m s=\"a\nn f=12345i\nn f=1i", []string{
+		`1 "m s=\"a" at line 1:5: No fields were provided`,
+		`2 "n f=12345" at line 2:1: the line is too long`,
+		`3 "n f=1i" "n" "f"=1i`,
+	}
+	if d.Next() || d.Err() == nil {
+		t.Error("a reader that fails gives a line")
+	}
+	for i := 0; i < 3; i++ {
+		d.Reset(iotest.OneByteReader(strings.NewReader(text)))
+		if got := told(d); !reflect.DeepEqual(got, items) || d.Err() != nil {
+			t.Errorf("%q, %v", got, d.Err())
+		}
+		d.ResetBytes([]byte(text))
+		if got := told(d); !reflect.DeepEqual(got, items) || d.Err() != nil {
+			t.Errorf("%q, %v", got, d.Err())
+		}
+		d.Reset(strings.NewReader(text))
+		d.Next()
+	}
+}
+
 // Before the first line, and after the last, there is none.
 func TestNoLine(t *testing.T) {
 	d := NewDecoder(strings.NewReader("m f=1i 5"))
