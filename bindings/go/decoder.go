@@ -116,7 +116,7 @@ func (d *Decoder) ResetBytes(buf []byte) {
 // SetDialect says by whose rules lines are read: Crate if it is not called. It comes before the first Next.
 func (d *Decoder) SetDialect(dialect Dialect) { d.dialect = dialect }
 
-// SetMaxLine says how many bytes a line may have, its newline left out. A longer one is a fault, told as soon as so many bytes have come.
+// SetMaxLine says how many bytes a line may have, its newline left out. A longer one is a fault, told as soon as more bytes have come.
 func (d *Decoder) SetMaxLine(most int) {
 	if most < 0 {
 		most = 0
