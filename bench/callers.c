@@ -11,6 +11,8 @@ static lp_part *parts;
 static uint8_t *bytes;
 static size_t parts_len, bytes_len;
 
+static size_t larger(size_t a, size_t b) { return a > b ? a : b; }
+
 static void *grown(void *old, size_t size) {
     void *new = realloc(old, size);
     if (!new) abort();
@@ -74,7 +76,38 @@ static uint64_t by_block(const uint8_t *text, size_t len) {
     return sum;
 }
 
-static size_t larger(size_t a, size_t b) { return a > b ? a : b; }
+/* Rows and parts by offsets, as many as were asked for so far. */
+static struct { lp_offset_row *rows; lp_offset_part *parts; size_t rows_len, parts_len; } offsets;
+
+static void lend_offsets(size_t rows_wanted, size_t parts_wanted) {
+    if (rows_wanted > offsets.rows_len) offsets.rows = grown(offsets.rows, (offsets.rows_len = rows_wanted) * sizeof *offsets.rows);
+    if (parts_wanted > offsets.parts_len) offsets.parts = grown(offsets.parts, (offsets.parts_len = parts_wanted) * sizeof *offsets.parts);
+}
+
+/* A number is 0 if a text counts, and the length of a text is 0 if a number does. */
+static uint64_t of_row(const lp_offset_row *row, const lp_offset_part *own) {
+    if (row->answer != LP_LINE) return 1;
+    uint64_t sum = row->measurement.len + (uint64_t)row->timestamp;
+    for (size_t at = 0; at < row->tags + row->fields; at++) sum += own[at].key.len + own[at].text.len + own[at].number;
+    return sum;
+}
+
+/* As many rows a call as `by_block` has. */
+static uint64_t by_offsets(const uint8_t *text, size_t len) {
+    lp_block block = { 1, 0, 0, 0, 0 };
+    uint64_t sum = 0;
+    uint32_t answer = LP_LINE;
+    lend(0, 256 * ROWS);
+    lend_offsets(ROWS, 16 * ROWS);
+    if (!is_utf8(text, len)) return 0;
+    while (answer != LP_END) {
+        answer = lp_offsets_block(text, len, LP_CRATE, true, &block, bytes, bytes_len, offsets.rows, ROWS, offsets.parts, offsets.parts_len);
+        for (size_t at = 0; at < block.rows; at++) sum += of_row(&offsets.rows[at], offsets.parts + offsets.rows[at].parts_at);
+        if (block.rows == 0 && answer == LP_MORE_PARTS) lend_offsets(0, offsets.rows[0].tags + offsets.rows[0].fields);
+        if (block.rows == 0 && answer == LP_MORE_ROOM) lend(0, offsets.rows[0].room_len);
+    }
+    return sum;
+}
 
 /* The room of the call before is lent again, so that only the first call for a text is made twice. */
 static uint64_t rebuilt(const uint8_t *text, size_t len) {
@@ -155,12 +188,48 @@ static uint64_t by_write(const uint8_t *text, size_t len) {
     return sum;
 }
 
+/* All rows of a text at once. One that is no line is passed as it is written. */
+static size_t rows_read;
+
+static void read_offsets(const uint8_t *text, size_t len) {
+    uint32_t answer = LP_MORE_PARTS;
+    kept.copies = grown(kept.copies, larger(len, 1));
+    lend_offsets(ROWS, 16 * ROWS);
+    while (answer != LP_END) {
+        lp_block block = { 1, 0, 0, 0, 0 };
+        answer = lp_offsets_block(text, len, LP_CRATE, true, &block, kept.copies, len, offsets.rows, offsets.rows_len, offsets.parts,
+                                  offsets.parts_len);
+        rows_read = block.rows;
+        if (answer == LP_MORE_PARTS) lend_offsets(0, 2 * offsets.parts_len);
+        else if (answer != LP_END) lend_offsets(2 * offsets.rows_len, 0);
+    }
+}
+
+/* Writes the lines that were read into a room of 64 KiB, which is written over. */
+static uint64_t by_offsets_write(const uint8_t *text, size_t len) {
+    lp_rows_written written = { 0, 0, 0 };
+    uint64_t sum = 0;
+    uint32_t answer = LP_MORE_ROOM;
+    lend(0, PART);
+    if (!is_utf8(text, len)) return 0;
+    while (answer != LP_WRITTEN) {
+        answer = lp_offsets_write(LP_CRATE, text, len, kept.copies, len, offsets.rows, rows_read, offsets.parts, offsets.parts_len, bytes,
+                                  bytes_len, &written);
+        sum += written.len;
+        if (answer == LP_MORE_ROOM && written.need > bytes_len) lend(0, written.need);
+        if (answer != LP_MORE_ROOM && answer != LP_WRITTEN) written.row++;
+    }
+    return sum;
+}
+
 const struct call calls[] = {
     { "lp_lines_next", by_next },
     { "lp_lines_block", by_block },
+    { "lp_offsets_block", by_offsets },
     { "lp_cuts_next", cuts },
     { "lp_rebuild", rebuilt },
     { "lp_line_write", by_write, read_lines },
+    { "lp_offsets_write", by_offsets_write, read_offsets },
     { NULL, NULL },
 };
 

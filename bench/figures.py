@@ -26,9 +26,11 @@ CALLS = {
 CALLERS = {
     "lp_lines_next": "C, `lp_lines_next`",
     "lp_lines_block": "C, `lp_lines_block`",
+    "lp_offsets_block": "C, `lp_offsets_block`",
     "lp_cuts_next": "C, `lp_cuts_next`",
     "lp_rebuild": "C, `lp_rebuild`",
     "lp_line_write": "C, `lp_line_write`",
+    "lp_offsets_write": "C, `lp_offsets_write`",
     "rust parse": "Rust, `parse_lines`",
     "rust rebuild": "Rust, read and built",
 }
@@ -61,6 +63,7 @@ BESIDE = {
     "pull": "parse",
     "lp_lines_next": "library parse",
     "lp_lines_block": "library parse",
+    "lp_offsets_block": "library parse",
     "lp_cuts_next": "library split",
     "lp_rebuild": "library rebuild",
     "stream": "library split",

@@ -18,7 +18,7 @@ from pathlib import Path
 from parts import LINES, MORE
 
 OF_LIBRARY = ("parse", "next_into", "events", "pull", "split", "rebuild")
-OF_CALLERS = ("lp_lines_next", "lp_lines_block")
+OF_CALLERS = ("lp_lines_next", "lp_lines_block", "lp_offsets_block")
 """The calls that are counted, by driver."""
 
 

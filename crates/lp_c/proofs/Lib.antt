@@ -3,6 +3,7 @@ pub mod CursorLemmas
 pub mod CutLemmas
 pub mod FillLemmas
 pub mod FloatLemmas
+pub mod PlacedLemmas
 pub mod PlacingLemmas
 pub mod RoomLemmas
 pub mod RowLemmas

@@ -21,7 +21,7 @@ use Rattle.lp_c.proofs.RoomLemmas.{grows_on, shows_on}
 
 -- a sink puts what it is told into the same memory, and keeps what is in use
 pub record SameMemory (old new : Placing) : Type 0 where
-  pub text : new.text.now ≡ old.text.now
+  pub text : new.line.text.now ≡ old.line.text.now
   pub parts : new.parts.ghost_name ≡ old.parts.ghost_name
   pub room : new.room.ghost_name ≡ old.room.ghost_name
   pub size : length new.parts.now ≡ length old.parts.now
@@ -50,7 +50,7 @@ record ToldParts {A B : Type 0} (shown : List ℕ → List ℕ → OffsetPart �
   pub puts : next_place old + length xs ≤ length old.parts.now
       → (parts : List OffsetPart)
       × (take (next_place old + length xs) new.parts.now ≡ take (next_place old) old.parts.now ++ parts)
-      × Shows (λ r. map (shown new.text.now r) parts) new.room.now new.used (map (λ x. Some (logical x)) xs)
+      × Shows (λ r. map (shown new.line.text.now r) parts) new.room.now new.used (map (λ x. Some (logical x)) xs)
 
 module _ {A B : Type 0} (event : A → Event) (shown : List ℕ → List ℕ → OffsetPart → Option B) (logical : A → B)
     (count others : Placing → ℕ) (placed : (s : Placing) → next_place s ≡ count s + others s)
@@ -86,7 +86,7 @@ module _ {A B : Type 0} (event : A → Event) (shown : List ℕ → List ℕ →
               λ enough r same.
                   ap₂ (λ (y : Option B) (ys : List (Option B)). y ∷ ys)
                   (ap (λ t. shown t r put.part) memory.text
-                  ∙ shows_on (λ r. shown mid.text.now r put.part) _ _ _ _ _ memory.grows put.shows enough r same)
+                  ∙ shows_on (λ r. shown mid.line.text.now r put.part) _ _ _ _ _ memory.grows put.shows enough r same)
                   (later.2 enough r same),
             );
       }
@@ -123,7 +123,7 @@ parted t f ps a b are len = (
 
 module _ (l : format.Line) (begun told_tags told_fields new : Placing)
     (first : (begun.tags ≡ 0) × (begun.fields ≡ 0)
-    × Shows (λ r. bytes_at begun.text.now r begun.name.copied begun.name.span) begun.room.now begun.used l.measurement.bytes)
+    × Shows (λ r. bytes_at begun.line.text.now r begun.name.copied begun.name.span) begun.room.now begun.used l.measurement.bytes)
     (tags_same : SameMemory begun told_tags) (fields_same : SameMemory told_tags told_fields) (end_same : SameMemory told_fields new)
     (tags : ToldParts tag_at logical_tag (λ s. s.tags) (λ s. s.fields) begun (some_tags l.tags) told_tags)
     (fields : ToldParts field_at logical_field (λ s. s.fields) (λ s. s.tags) told_tags l.fields told_fields)
@@ -137,7 +137,7 @@ module _ (l : format.Line) (begun told_tags told_fields new : Placing)
   fields_are = last.2 ∙ omega (arith, fields.counted, tags.kept, first.1)
 
   -- the line is shown, if there are places for its parts
-  shows_read : new.tags + new.fields ≤ length new.parts.now → ShowsRead l new.text.now new.parts.now new.room.now (told_of new)
+  shows_read : new.tags + new.fields ≤ length new.parts.now → ShowsRead l new.line.text.now new.parts.now new.room.now (told_of new)
   shows_read room =
       let t_len = length (some_tags l.tags) in
       let begins : next_place begun ≡ 0 = omega (arith, first.0, first.1) in
@@ -155,35 +155,35 @@ module _ (l : format.Line) (begun told_tags told_fields new : Placing)
       ∙ (f.1 ∙ ap (λ ps. ps ++ f.0) (ap (λ n. take n told_tags.parts.now) goes_on ∙ t_is))) in
       let both = parted new.tags new.fields new.parts.now t.0 f.0 own (t_size ∙ sym tags_are) in
       let later = grows_on _ _ _ _ _ _ fields_same.grows end_same.grows in
-      let texts : new.text.now ≡ told_tags.text.now = end_same.text ∙ fields_same.text in
+      let texts : new.line.text.now ≡ told_tags.line.text.now = end_same.text ∙ fields_same.text in
       let names : new.name ≡ begun.name = last.3 ∙ (fields.name ∙ tags.name) in
       record {
         measurement = λ enough r same.
             ap₂ (λ t name. bytes_at t r name.copied name.span) (texts ∙ tags_same.text) names
-            ∙ shows_on (λ r. bytes_at begun.text.now r begun.name.copied begun.name.span) _ _ _ _ _
+            ∙ shows_on (λ r. bytes_at begun.line.text.now r begun.name.copied begun.name.span) _ _ _ _ _
             (grows_on _ _ _ _ _ _ tags_same.grows later) first.2 enough r same;
         tags = λ enough r same.
             ap₂ (λ t ps. map (tag_at t r) ps) texts both.0
-            ∙ shows_on (λ r. map (tag_at told_tags.text.now r) t.0) _ _ _ _ _ later t.2 enough r same;
+            ∙ shows_on (λ r. map (tag_at told_tags.line.text.now r) t.0) _ _ _ _ _ later t.2 enough r same;
         fields = λ enough r same.
             ap₂ (λ t ps. map (field_at t r) ps) end_same.text both.1
-            ∙ shows_on (λ r. map (field_at told_fields.text.now r) f.0) _ _ _ _ _ end_same.grows f.2 enough r same;
+            ∙ shows_on (λ r. map (field_at told_fields.line.text.now r) f.0) _ _ _ _ _ end_same.grows f.2 enough r same;
         timestamp = last.0;
       }
 
   -- the line was told
-  told_line : ToldRead l new.text.now new.parts.now new.room.now (told_of new)
+  told_line : ToldRead l new.line.text.now new.parts.now new.room.now (told_of new)
   told_line = record { tags = tags_are; fields = fields_are; shows = shows_read }
 
 -- what is so of a line at a text is so of it at the same text
-told_in : (l : format.Line) (s : Placing) (text : List ℕ) → s.text.now ≡ text → ToldRead l s.text.now s.parts.now s.room.now (told_of s)
+told_in : (l : format.Line) (s : Placing) (text : List ℕ) → s.line.text.now ≡ text → ToldRead l s.line.text.now s.parts.now s.room.now (told_of s)
     → ToldRead l text s.parts.now s.room.now (told_of s)
 told_in l s text same told = rw (← same) told
 
 -- the events of a line tell it
 events_told : (dialect : Dialect) (text : List ℕ) (l : format.Line) (old new : Placing) → length text < 2 ^ 63 → answer dialect text ≡ Ok l
     → TakesAll Places old (events_of_line l) new
-    → (new.fault ≡ old.fault) × ToldRead l new.text.now new.parts.now new.room.now (told_of new)
+    → (new.fault ≡ old.fault) × ToldRead l new.line.text.now new.parts.now new.room.now (told_of new)
 events_told dialect text l old new short is (begun, first, told) =
     let few = line_room dialect text l is in
     let apart = takes_parted Places begun new (map tagged (some_tags l.tags) ++ map valued l.fields) (ended l.series l.timestamp ∷ []) told in
@@ -204,23 +204,23 @@ events_told dialect text l old new short is (begun, first, told) =
 -- what the format answers for a line was told
 pub answer_told : (dialect : Dialect) (text : List ℕ) (old new : Placing) (events : List Event) → length text < 2 ^ 63
     → old.fault ≡ None → AreEventsOf text events (answer dialect text) → TakesAll Places old events new
-    → ToldAnswer (answer dialect text) new.fault old.text.now new.parts.now new.room.now (told_of new)
+    → ToldAnswer (answer dialect text) new.fault old.line.text.now new.parts.now new.room.now (told_of new)
 answer_told dialect text old new events short none are told = go (answer dialect text) refl are
   where
     -- of a fault the last event is kept
     kept_fault : (kept : Option SpelledFault) (fault : Fault) → option_map spelled_fault kept ≡ Some fault
-        → ToldAnswer (Err fault) kept old.text.now new.parts.now new.room.now (told_of new)
+        → ToldAnswer (Err fault) kept old.line.text.now new.parts.now new.room.now (told_of new)
     kept_fault None fault is = absurd (cc)
     kept_fault (Some kept) fault is = cc
 
     -- by what is answered
     go : (read : Result format.Line Fault) → answer dialect text ≡ read → AreEventsOf text events read
-        → ToldAnswer read new.fault old.text.now new.parts.now new.room.now (told_of new)
+        → ToldAnswer read new.fault old.line.text.now new.parts.now new.room.now (told_of new)
     go (Ok l) is are =
         let line = events_told dialect text l old new short is (rw are at told) in
         let no_fault : new.fault ≡ None = line.0 ∙ none in
-        subst (λ kept. ToldAnswer (Ok l) kept old.text.now new.parts.now new.room.now (told_of new)) (sym no_fault)
-        (told_in l new old.text.now (same_memory old new events told).text line.1)
+        subst (λ kept. ToldAnswer (Ok l) kept old.line.text.now new.parts.now new.room.now (told_of new)) (sym no_fault)
+        (told_in l new old.line.text.now (same_memory old new events told).text line.1)
     go (Err fault) is (front, parts, are) =
         let apart = takes_parted Places old new front (failed fault ∷ []) (rw are at told) in
         let last : Places apart.0 (failed fault) new = rw apart.2.2 at apart.2.1 in

@@ -1,5 +1,5 @@
 -- What the offsets of a line and of its parts show: texts of the caller's text and of its room.
-use Rattle.std.specs.Prelude.{◌==◌, ℕ, List, Option, Some, None, take, drop, if◌then◌else◌}
+use Rattle.std.specs.Prelude.{◌≡◌, ◌≤◌, ◌<◌, ◌-◌, ◌^◌, ◌==◌, ℕ, length, List, Option, Some, None, take, drop, if◌then◌else◌}
 use Rattle.std.specs.Int.{cast_signed, w64}
 use Rattle.influxdb_line_protocol.specs.format.Points.{Pair}
 use Rattle.influxdb_line_protocol.specs.format.Values.{Value, integer, unsigned, float, string, boolean}
@@ -7,6 +7,13 @@ use Rattle.lp_c.specs.Numbers.{kind_number}
 use Rattle.lp_c.specs.declared.placed.OffsetPart.{OffsetPart}
 use Rattle.lp_c.specs.declared.placed.Span.{Span}
 use Rattle.lp_c.specs.declared.views.Kind.{Kind}
+
+-- a line lies in a text, and ends at this place of it, which 32 bits hold
+pub record IsLineIn (text line : List ℕ) (end : ℕ) : Type 0 where
+  pub small : end < 2 ^ 32
+  pub within : end ≤ length text
+  pub begins : length line ≤ end
+  pub is : take (length line) (drop (end - length line) text) ≡ line
 
 -- the bytes at a place: of the room, if they were copied, or else of the text
 abbrev pub bytes_at : List ℕ → List ℕ → ℕ → Span → List ℕ

@@ -22,7 +22,7 @@ pub record PutsPart {A B : Type 0} (shown : List ℕ → List ℕ → OffsetPart
     (new : Placing) : Type 0 where
   pub part : OffsetPart
   pub put : new.parts.now ≡ slice_set old.parts.now (next_place old) part
-  pub shows : Shows (λ r. shown new.text.now r part) new.room.now new.used (Some (logical x))
+  pub shows : Shows (λ r. shown new.line.text.now r part) new.room.now new.used (Some (logical x))
 
 -- a part more is counted; it is put, if there is a place for it
 pub record TellsPart {A B : Type 0} (shown : List ℕ → List ℕ → OffsetPart → Option B) (logical : A → B)
@@ -34,7 +34,7 @@ pub record TellsPart {A B : Type 0} (shown : List ℕ → List ℕ → OffsetPar
 
 -- the measurement that a sink shows is this
 abbrev pub ShowsName : Text → Placing → Type 0
-ShowsName name s = Shows (λ r. bytes_at s.text.now r s.name.copied s.name.span) s.room.now s.used name.bytes
+ShowsName name s = Shows (λ r. bytes_at s.line.text.now r s.name.copied s.name.span) s.room.now s.used name.bytes
 
 -- what the sink does with an event
 abbrev pub Does : Placing → Event → Placing → Type 0
@@ -48,7 +48,7 @@ Does old (failed fault) new = Unit {0}
 
 -- the sink takes an event: it puts it into the same memory, and keeps a fault
 pub record Places (old : Placing) (event : Event) (new : Placing) : Type 0 where
-  pub text : new.text.now ≡ old.text.now
+  pub text : new.line.text.now ≡ old.line.text.now
   pub parts : new.parts.ghost_name ≡ old.parts.ghost_name
   pub room : new.room.ghost_name ≡ old.room.ghost_name
   pub size : length new.parts.now ≡ length old.parts.now

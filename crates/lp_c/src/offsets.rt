@@ -14,7 +14,7 @@ ghost use Rattle.lp_c.specs.declared.views.Answer.TheVariants as Answer;
 
 use crate::lent::fault_seen;
 use crate::pieces::{Piece, Spot, next_item, pass};
-use crate::placed::{OffsetPart, Span};
+use crate::placed::{LineIn, OffsetPart, Span};
 use crate::placing::put_told;
 use crate::views::{Answer, Dialect};
 use influxdb_line_protocol::{Dialect as Rules, SpelledFault};
@@ -168,38 +168,35 @@ fn show_time(row: &mut OffsetRow, timestamp: Option<i64>)
 #[inline(never)]
 fn put_line(
     dialect: Rules,
-    text: &[u8],
     piece: Piece,
-    line: &str,
+    line: LineIn<'_, '_>,
     row: &mut OffsetRow,
     parts: &mut [OffsetPart],
     room: &mut [u8],
     used: usize,
 ) -> (Came, usize, usize)
-    requires line { length line.now < 2 ^ 63 }
-    requires piece { piece.at + piece.len < 2 ^ 32 }
+    requires line { length line.line.now < 2 ^ 63 }
+    requires piece { line.end ≡ piece.at + piece.len }
     requires parts { length parts.old < 2 ^ 32 }
     ensures size { length parts.new ≡ length parts.old }
     ensures grows { Grows room.old used room.new result.2 }
     ensures piece { (row.new.piece ≡ row.old.piece) × (row.new.line ≡ row.old.line) × (row.new.parts_at ≡ row.old.parts_at) }
     ensures kept { (row.new.key ≡ row.old.key) × (row.new.verdict ≡ row.old.verdict) }
-    ensures begins { row.new.line_at ≡ piece.at + piece.len - length line.now }
+    ensures begins { row.new.line_at ≡ piece.at + piece.len - length line.entry.line.now }
     ensures end { result.0 ≡ Came.Line → row.new.stop_at ≡ piece.at + piece.len }
     ensures line { result.0 ≡ Came.Line → HasNoFault row.old → HasNoFault row.new }
     ensures fault { result.0 ≡ Came.Fault → HasNoLine row.old → HasNoLine row.new }
-    ensures answers { AnswersRow (answer (rules_of dialect) line.now) result.0 text.now parts.new room.new used result.1 result.2 row.new }
+    ensures answers { AnswersRow (answer (rules_of dialect) line.entry.line.now) result.0 line.entry.text.now parts.new room.new used result.1 result.2 row.new }
     ensures fits { result.1 ≤ length parts.new }
     ensures stays { is_too_much result.0 ≡ true → (result.1 ≡ 0) × (result.2 ≡ used) }
     ensures room { used ≤ length room.old → result.2 ≤ length room.new }
     ensures stop { result.0 ≡ Came.Fault →
-        row.new.stop_at ≡ piece.at + piece.len - length (reading_stop (rules_of dialect) line.now).1 }
+        row.new.stop_at ≡ piece.at + piece.len - length (reading_stop (rules_of dialect) line.entry.line.now).1 }
 {
-    let end = piece.at + piece.len;
-    let line_at = end.saturating_sub(line.len());
-    row.line_at = in_32(line_at);
-    let told = put_told(dialect, text, line_at, line, parts, room, used);
+    row.line_at = in_32(line.end - line.line.len());
+    let told = put_told(dialect, line, parts, room, used);
     if let Some(fault) = told.fault {
-        show_fault(dialect, piece, line, fault, row);
+        show_fault(dialect, piece, line.line, fault, row);
         return (Came::Fault, 0, used);
     }
     row.tags = in_32(told.tags);
@@ -211,7 +208,7 @@ fn put_line(
     if room.len() < told.used {
         return (Came::MoreRoom, 0, used);
     }
-    row.stop_at = in_32(end);
+    row.stop_at = in_32(line.end);
     row.measurement = told.name.span;
     row.measurement_copied = told.name.copied;
     show_time(row, told.timestamp);
@@ -265,7 +262,8 @@ fn put_row(
     used: usize,
 ) -> (Came, usize, usize)
     requires item { IsItemIn text.now piece item }
-    requires piece { piece.at + piece.len < 2 ^ 32 }
+    requires text { length text.now < 2 ^ 32 }
+    requires piece { piece.at + piece.len ≤ length text.now }
     requires parts { before + length parts.old < 2 ^ 32 }
     ensures size { length parts.new ≡ length parts.old }
     ensures grows { Grows room.old used room.new result.2 }
@@ -280,7 +278,12 @@ fn put_row(
         row.answer = Came::NotUtf8.number();
         return (Came::NotUtf8, 0, used);
     };
-    let (came, own, used) = put_line(dialect, text, piece, line, row, parts, room, used);
+    let line = LineIn {
+        text,
+        line,
+        end: piece.at + piece.len,
+    };
+    let (came, own, used) = put_line(dialect, piece, line, row, parts, room, used);
     row.answer = came.number();
     (came, own, used)
 }

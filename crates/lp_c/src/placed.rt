@@ -1,20 +1,19 @@
 //! Texts, tags and fields by offsets.
 //!
-//! A slice has no place in the text that it is a part of. So a place is reckoned from the lengths of the parts before it, and taken
-//! only if the bytes there are those that were told: else they are put into the room.
+//! A slice has no place in the text that it is a part of. So the place of a text is reckoned from how many bytes of its line are left
+//! after it, which a reader tells: a subtraction, and no look at its bytes.
 
-ghost use Rattle.std.specs.Prelude.{◌≡◌, ◌<◌, ◌≤◌, ◌+◌, ◌^◌, drop, take, length, None, Some, IfSome};
+ghost use Rattle.std.specs.Prelude.{◌≡◌, ◌≤◌, ◌+◌, ◌-◌, ◌^◌, ◌<◌, drop, take, length, Some, IfSome};
 ghost use Rattle.influxdb_line_protocol.specs.code.Events.{spelled_field, spelled_tag};
-ghost use Rattle.influxdb_line_protocol.specs.code.SpelledParts.{spelled_text};
+ghost use Rattle.influxdb_line_protocol.specs.code.SpelledParts.{spelled_text, spelled_value};
 ghost use Rattle.influxdb_line_protocol.specs.format.Lines.{logical_field, logical_tag};
 ghost use Rattle.lp_c.specs.Numbers.{kind_number};
-ghost use Rattle.lp_c.specs.Offsets.{bytes_at, field_at, tag_at};
+ghost use Rattle.lp_c.specs.Offsets.{IsLineIn, bytes_at, field_at, tag_at};
 ghost use Rattle.lp_c.specs.Rooms.{Grows, Shows};
+ghost use Rattle.lp_events.specs.code.Places.{AreBefore, EndsBefore, ValueEndsBefore};
 
-use crate::lent::shared;
 use crate::views::Kind;
 use influxdb_line_protocol::{Spelled, SpelledValue};
-use std::simd::prelude::*;
 
 /// So many bytes from a place on.
 #[repr(C)]
@@ -68,17 +67,31 @@ fn span_of(at: usize, len: usize) -> Option<Span>
     Some(Span { at, len })
 }
 
-// Where these bytes lie in a text, if they are at this place of it.
+// A line in a text.
+#[derive(Clone, Copy)]
+pub(crate) struct LineIn<'l, 'a> {
+    pub(crate) text: &'l [u8],
+    pub(crate) line: &'a str,
+    // Where the line ends in the text.
+    pub(crate) end: usize,
+    ghost lies: { IsLineIn text.now line.now end },
+}
+
+// The place of so many bytes of a line, with so many left after them.
 #[inline(always)]
-fn found_at(text: &[u8], at: usize, bytes: &[u8]) -> Option<Placed>
-    ensures { IfSome result (λ p. (p.copied ≡ 0) × (take p.span.len (drop p.span.at text.now) ≡ bytes.now)) }
+fn place_before(line: LineIn<'_, '_>, left: usize, len: usize) -> Placed
+    requires { left + len ≤ length line.line.now }
+    ensures copied { result.copied ≡ 0 }
+    ensures at { result.span.at ≡ line.entry.end - (left + len) }
+    ensures len { result.span.len ≡ len }
 {
-    let span = span_of(at, bytes.len())?;
-    if text.len() < at {
-        return None;
+    Placed {
+        span: Span {
+            at: (line.end - (left + len)) as u32,
+            len: len as u32,
+        },
+        copied: 0,
     }
-    let _rest = text[at..].strip_prefix(bytes)?;
-    Some(Placed { span, copied: 0 })
 }
 
 // Puts the logical text of a spelling into the room after the bytes in use, if it fits, and says how many are in use with it.
@@ -101,44 +114,44 @@ pub(crate) fn place_copy(room: &mut [u8], used: usize, spelled: Spelled<'_>) -> 
     (Placed { span, copied: 1 }, all)
 }
 
-// Where a text lies: in the input, if it is a part of that and is there at this place, or else in the room, into which it is put.
+// Where a text lies after which so many bytes of the line are left: in the line, if it is a part of that, or else in the room, into which
+// it is put. One escape is put there too: its byte is a part of the line, but it is not worth a test.
 #[inline(always)]
 pub(crate) fn place_text(
-    text: &[u8],
-    at: usize,
+    line: LineIn<'_, '_>,
+    left: usize,
     room: &mut [u8],
     used: usize,
     spelled: Spelled<'_>,
 ) -> (Placed, usize)
+    requires { EndsBefore line.line.now (spelled_text spelled) left }
     ensures grows { Grows room.old used room.new result.1 }
-    ensures shows { Shows (λ r. bytes_at text.now r result.0.copied result.0.span) room.new result.1 (spelled_text spelled.entry).bytes }
+    ensures shows { Shows (λ r. bytes_at line.entry.text.now r result.0.copied result.0.span) room.new result.1 (spelled_text spelled.entry).bytes }
 {
-    if let Some(shared) = shared(spelled) {
-        // Of one escape the byte after the backslash is the text.
-        let escape = spelled.spelled().len().wrapping_sub(shared.len());
-        if let Some(placed) = found_at(text, at.wrapping_add(escape), shared) {
-            return (placed, used);
-        }
+    if spelled.is_plain() {
+        return (place_before(line, left, spelled.len()), used);
     }
     place_copy(room, used, spelled)
 }
 
-// Places the texts of a tag, which may lie at these places.
+// Places the texts of a tag, with so many bytes of the line left after its key and after its value.
 #[inline(always)]
 pub(crate) fn place_tag(
-    text: &[u8],
-    key_at: usize,
-    value_at: usize,
+    line: LineIn<'_, '_>,
+    key_left: usize,
+    left: usize,
     room: &mut [u8],
     used: usize,
     key: Spelled<'_>,
     value: Spelled<'_>,
 ) -> (OffsetPart, usize)
+    requires key { EndsBefore line.line.now (spelled_text key) key_left }
+    requires value { EndsBefore line.line.now (spelled_text value) left }
     ensures grows { Grows room.old used room.new result.1 }
-    ensures shows { Shows (λ r. tag_at text.now r result.0) room.new result.1 (Some (logical_tag (spelled_tag (key.entry, value.entry)))) }
+    ensures shows { Shows (λ r. tag_at line.entry.text.now r result.0) room.new result.1 (Some (logical_tag (spelled_tag (key.entry, value.entry)))) }
 {
-    let (key, used) = place_text(text, key_at, room, used, key);
-    let (value, used) = place_text(text, value_at, room, used, value);
+    let (key, used) = place_text(line, key_left, room, used, key);
+    let (value, used) = place_text(line, left, room, used, value);
     (part_of(key, value, Kind::Tag, 0), used)
 }
 
@@ -164,58 +177,33 @@ fn part_of(key: Placed, text: Placed, kind: Kind, number: u64) -> OffsetPart
     }
 }
 
-// Places the text of the literal of a float.
+// Places the literal of a float, with so many bytes of the line left after it.
 #[inline(always)]
-pub(crate) fn place_literal(
-    text: &[u8],
-    at: usize,
-    room: &mut [u8],
-    used: usize,
-    literal: &[u8],
-) -> (Placed, usize)
-    ensures grows { Grows room.old used room.new result.1 }
-    ensures shows { Shows (λ r. bytes_at text.now r result.0.copied result.0.span) room.new result.1 literal.now }
+fn place_literal(line: LineIn<'_, '_>, left: usize, literal: &str) -> Placed
+    requires { AreBefore line.line.now literal.now left }
+    ensures copied { result.copied ≡ 0 }
+    ensures bytes { take result.span.len (drop result.span.at line.entry.text.now) ≡ literal.now }
 {
-    match found_at(text, at, literal) {
-        Some(placed) => (placed, used),
-        None => copy_literal(room, used, literal),
-    }
+    place_before(line, left, literal.len())
 }
 
-// Puts a literal into the room in the same way as a text.
-#[cold]
-#[inline(never)]
-fn copy_literal(room: &mut [u8], used: usize, literal: &[u8]) -> (Placed, usize)
-    ensures grows { Grows room.old used room.new result.1 }
-    ensures shows { Shows (λ r. take result.0.span.len (drop result.0.span.at r)) room.new result.1 literal.now }
-    ensures copied { result.1 ≤ length room.new → result.0.copied ≡ 1 }
-{
-    let all = used.saturating_add(literal.len());
-    let Some(span) = span_of(used, literal.len()) else {
-        return (NOWHERE, all.max(room.len() + 1));
-    };
-    if room.len() < all {
-        return (NOWHERE, all);
-    }
-    room[used..all].copy_from_slice(literal);
-    (Placed { span, copied: 1 }, all)
-}
-
-// Places the texts of a field, which may lie at these places.
+// Places the texts of a field, with so many bytes of the line left after its key and after its value.
 #[inline(always)]
 pub(crate) fn place_field(
-    text: &[u8],
-    key_at: usize,
-    value_at: usize,
+    line: LineIn<'_, '_>,
+    key_left: usize,
+    left: usize,
     room: &mut [u8],
     used: usize,
     key: Spelled<'_>,
     value: SpelledValue<'_>,
 ) -> (OffsetPart, usize)
+    requires key { EndsBefore line.line.now (spelled_text key) key_left }
+    requires value { ValueEndsBefore line.line.now (spelled_value value) left }
     ensures grows { Grows room.old used room.new result.1 }
-    ensures shows { Shows (λ r. field_at text.now r result.0) room.new result.1 (Some (logical_field (spelled_field (key.entry, value.entry)))) }
+    ensures shows { Shows (λ r. field_at line.entry.text.now r result.0) room.new result.1 (Some (logical_field (spelled_field (key.entry, value.entry)))) }
 {
-    let (key, used) = place_text(text, key_at, room, used, key);
+    let (key, used) = place_text(line, key_left, room, used, key);
     match value {
         SpelledValue::I64(integer) => (
             part_of(key, NOWHERE, Kind::Integer, integer.cast_unsigned()),
@@ -223,17 +211,12 @@ pub(crate) fn place_field(
         ),
         SpelledValue::U64(unsigned) => (part_of(key, NOWHERE, Kind::Unsigned, unsigned), used),
         SpelledValue::F64(literal) => {
-            let (literal, used) = place_literal(
-                text,
-                value_at,
-                room,
-                used,
-                literal.as_str().as_bytes(),
-            );
+            let literal = place_literal(line, left, literal.as_str());
             (part_of(key, literal, Kind::Float, 0), used)
         }
         SpelledValue::String(string) => {
-            let (string, used) = place_text(text, value_at.wrapping_add(1), room, used, string);
+            // The quote is left too.
+            let (string, used) = place_text(line, left.wrapping_add(1), room, used, string);
             (part_of(key, string, Kind::String, 0), used)
         }
         SpelledValue::Boolean(boolean) => (
@@ -241,47 +224,4 @@ pub(crate) fn place_field(
             used,
         ),
     }
-}
-
-// The first place from this one on at which the byte is another than a space.
-pub(crate) fn past_spaces(text: &[u8], from: usize) -> usize {
-    let mut at = from;
-    while at < text.len() && text[at] == b' ' {
-        at += 1;
-    }
-    at
-}
-
-// How many bytes are looked at by one load.
-const WIDE: usize = 16;
-
-// The first place from this one on at which a comma or a space is, or where the text ends.
-#[inline(always)]
-pub(crate) fn value_end(text: &[u8], from: usize) -> usize {
-    let mut at = from.min(text.len());
-    while text.len() - at >= WIDE {
-        let v = u8x16::from_slice(&text[at..]);
-        let ends = v.simd_eq(u8x16::splat(b',')) | v.simd_eq(u8x16::splat(b' '));
-        let mask = ends.to_bitmask();
-        if mask != 0 {
-            return at.wrapping_add(mask.trailing_zeros() as usize);
-        }
-        at += WIDE;
-    }
-    value_end_near(text, at)
-}
-
-// The same, byte by byte.
-fn value_end_near(text: &[u8], from: usize) -> usize {
-    let mut at = from;
-    while at < text.len() && text[at] != b',' && text[at] != b' ' {
-        at += 1;
-    }
-    at
-}
-
-// Where a text ends that may begin at this place.
-#[inline(always)]
-pub(crate) fn end_from(at: usize, spelled: Spelled<'_>) -> usize {
-    at.wrapping_add(spelled.spelled().len())
 }

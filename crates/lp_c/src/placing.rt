@@ -6,13 +6,9 @@ ghost use Rattle.influxdb_line_protocol.specs.format.Lines.{answer};
 ghost use Rattle.lp_c.specs.Rooms.{Grows};
 ghost use Rattle.lp_c.specs.Placing.{ToldAnswer, told_of};
 
-use crate::placed::{
-    NOWHERE, OffsetPart, Placed, end_from, past_spaces, place_field, place_tag, place_text,
-    value_end,
-};
-use influxdb_line_protocol::{
-    Dialect, EventSink, Spelled, SpelledFault, SpelledValue, read_line_events,
-};
+use crate::placed::{LineIn, NOWHERE, OffsetPart, Placed, place_field, place_tag, place_text};
+use influxdb_line_protocol::{Dialect, Spelled, SpelledFault, SpelledValue};
+use lp_events::{PlacedSink, read_placed_events};
 
 // What was told of a line: how many tags and fields it has, how many bytes of the room are in use, its measurement and its timestamp;
 // or its fault.
@@ -26,12 +22,10 @@ pub(crate) struct Told<'a> {
     pub(crate) fault: Option<SpelledFault<'a>>,
 }
 
-// A line that is told: what its texts are looked for in, where the next part may begin, where it is put, what was counted of it,
-// and its fault, if it has one.
+// A line that is told: where it lies, where it is put, what was counted of it, and its fault, if it has one.
 #[derive(Drop)]
 pub(crate) struct Placing<'l, 'a> {
-    pub(crate) text: &'l [u8],
-    pub(crate) at: usize,
+    pub(crate) line: LineIn<'l, 'a>,
     pub(crate) parts: &'l mut [OffsetPart],
     pub(crate) room: &'l mut [u8],
     pub(crate) used: usize,
@@ -42,16 +36,16 @@ pub(crate) struct Placing<'l, 'a> {
     pub(crate) fault: Option<SpelledFault<'a>>,
 }
 
-impl<'l, 'a> EventSink<'a> for Placing<'l, 'a> {
+impl<'l, 'a> PlacedSink<'a> for Placing<'l, 'a> {
     ghost use Rattle.lp_c.specs.Placing.{Places};
+
+    ghost line = { λ placing. placing.line.line.now };
 
     ghost takes = { Places };
 
     #[inline(always)]
-    fn measurement(&mut self, name: Spelled<'a>) {
-        let at = self.at;
-        self.at = end_from(at, name);
-        let (name, used) = place_text(self.text, at, self.room, self.used, name);
+    fn measurement(&mut self, name: Spelled<'a>, left: usize) {
+        let (name, used) = place_text(self.line, left, self.room, self.used, name);
         self.tags = 0;
         self.fields = 0;
         self.name = name;
@@ -59,15 +53,10 @@ impl<'l, 'a> EventSink<'a> for Placing<'l, 'a> {
     }
 
     #[inline(always)]
-    fn tag(&mut self, key: Spelled<'a>, value: Spelled<'a>) {
+    fn tag(&mut self, key: Spelled<'a>, value: Spelled<'a>, key_left: usize, left: usize) {
         let place = self.tags.wrapping_add(self.fields);
         self.tags = self.tags.wrapping_add(1);
-        let key_at = self.at.wrapping_add(1);
-        let value_at = end_from(key_at, key).wrapping_add(1);
-        self.at = end_from(value_at, value);
-        let (part, used) = place_tag(
-            self.text, key_at, value_at, self.room, self.used, key, value,
-        );
+        let (part, used) = place_tag(self.line, key_left, left, self.room, self.used, key, value);
         self.used = used;
         if place < self.parts.len() {
             self.parts[place] = part;
@@ -75,23 +64,10 @@ impl<'l, 'a> EventSink<'a> for Placing<'l, 'a> {
     }
 
     #[inline(always)]
-    fn field(&mut self, key: Spelled<'a>, value: SpelledValue<'a>) {
+    fn field(&mut self, key: Spelled<'a>, value: SpelledValue<'a>, key_left: usize, left: usize) {
         let place = self.tags.wrapping_add(self.fields);
-        let key_at = if self.fields == 0 {
-            past_spaces(self.text, self.at)
-        } else {
-            self.at.wrapping_add(1)
-        };
         self.fields = self.fields.wrapping_add(1);
-        let value_at = end_from(key_at, key).wrapping_add(1);
-        self.at = match value {
-            SpelledValue::String(string) => end_from(value_at, string).wrapping_add(2),
-            SpelledValue::F64(literal) => value_at.wrapping_add(literal.as_str().len()),
-            _ => value_end(self.text, value_at),
-        };
-        let (part, used) = place_field(
-            self.text, key_at, value_at, self.room, self.used, key, value,
-        );
+        let (part, used) = place_field(self.line, key_left, left, self.room, self.used, key, value);
         self.used = used;
         if place < self.parts.len() {
             self.parts[place] = part;
@@ -109,19 +85,19 @@ impl<'l, 'a> EventSink<'a> for Placing<'l, 'a> {
     }
 }
 
-// Tells what the trimmed text `line` says.
+// Tells what the line says, which is a trimmed text.
 #[inline(always)]
-fn tell_line<'l, 'a>(dialect: Dialect, line: &'a str, placing: &mut Placing<'l, 'a>)
-    requires short { length line.now < 2 ^ 63 }
+fn tell_line<'l, 'a>(dialect: Dialect, placing: &mut Placing<'l, 'a>)
+    requires short { length placing.old.line.line.now < 2 ^ 63 }
     requires no_fault { placing.old.fault ≡ None }
     ensures parts { placing.new.parts.ghost_name ≡ placing.old.parts.ghost_name }
     ensures room { placing.new.room.ghost_name ≡ placing.old.room.ghost_name }
     ensures size { length placing.new.parts.now ≡ length placing.old.parts.now }
     ensures grows { Grows placing.old.room.now placing.old.used placing.new.room.now placing.new.used }
-    ensures told { ToldAnswer (answer (rules_of dialect) line.now) placing.new.fault placing.old.text.now placing.new.parts.now
-        placing.new.room.now (told_of placing.new) }
+    ensures told { ToldAnswer (answer (rules_of dialect) placing.old.line.line.now) placing.new.fault placing.old.line.text.now
+        placing.new.parts.now placing.new.room.now (told_of placing.new) }
 {
-    read_line_events(dialect, line, placing);
+    read_placed_events(dialect, placing.line.line, placing);
 }
 
 // Gives back what was lent. This changes nothing; it is where the loans end, so that the caller knows what they leave.
@@ -131,26 +107,22 @@ fn give_back(parts: &mut [OffsetPart], room: &mut [u8])
     ensures room { room.new ≡ room.old }
 {}
 
-// Puts down what the trimmed text `line` says, which may lie in the text from `at` on, as far as it fits: its parts from the first
-// place on, and what is put into the room after so many bytes.
+// Puts down what a line says, as far as it fits: its parts from the first place on, and what is put into the room after so many bytes.
 #[inline(always)]
 pub(crate) fn put_told<'a>(
     dialect: Dialect,
-    text: &[u8],
-    at: usize,
-    line: &'a str,
+    line: LineIn<'_, 'a>,
     parts: &mut [OffsetPart],
     room: &mut [u8],
     used: usize,
 ) -> Told<'a>
-    requires { length line.now < 2 ^ 63 }
+    requires { length line.line.now < 2 ^ 63 }
     ensures size { length parts.new ≡ length parts.old }
     ensures grows { Grows room.old used room.new result.used }
-    ensures told { ToldAnswer (answer (rules_of dialect) line.now) result.fault text.now parts.new room.new result }
+    ensures told { ToldAnswer (answer (rules_of dialect) line.entry.line.now) result.fault line.entry.text.now parts.new room.new result }
 {
     let mut placing = Placing {
-        text,
-        at,
+        line,
         parts,
         room,
         used,
@@ -160,7 +132,7 @@ pub(crate) fn put_told<'a>(
         timestamp: None,
         fault: None,
     };
-    tell_line(dialect, line, &mut placing);
+    tell_line(dialect, &mut placing);
     let Placing {
         parts,
         room,

@@ -3,9 +3,10 @@
 ghost use Rattle.std.specs.Prelude.{◌≡◌, ◌<◌, ◌++◌, ◌==◌, ℕ, List, length, slice_index, IfOk, IfSome};
 ghost use Rattle.lp_format.specs.format.{space, answer, field, front_before, tag, without_comma, Pair, Text, Value};
 ghost use Rattle.lp_split.specs.code.{rules_of};
-ghost use Rattle.lp_values.specs.code.SpelledParts.{GivesSpelled, spelled_fault, spelled_text};
+ghost use Rattle.lp_values.specs.code.SpelledParts.{GivesSpelled, spelled_fault, spelled_text, spelled_value};
 ghost use Rattle.lp_events.specs.code.Events.{AreCounted, AreEventsOf, AreEventsOfText, AreFields, AreTags, AreToldBefore, Event};
 ghost use Rattle.lp_events.specs.code.Events.{WasTold, WasToldParts, ended, failed, named, spelled_field, spelled_tag, tagged, valued};
+ghost use Rattle.lp_events.specs.code.Places.{EndsBefore, IsEndOf, LiesAt, ValueEndsBefore, placed_field, placed_tag};
 
 use crate::lines::next_line;
 use lp_scan::trim::{strip_byte, trim_start_spaces};
@@ -53,39 +54,110 @@ pub trait EventSink<'a> {
         ensures { takes self.old (failed (spelled_fault fault.entry)) self.new };
 }
 
-// A tag at the start of `text`, and the rest.
+/// What takes the parts of a line together with how many bytes of the line are left after each: so a sink knows where they lie.
+///
+/// It is told what an [`EventSink`] is told. A name that is a part of the line ends where so many bytes are left; so does the text of a
+/// float, and that of a string, with the quote after it.
+///
+/// For contracts it has two members: `line`, the line that the sink is told of, and `takes`, as an [`EventSink`] has it.
+///
+/// ```text
+/// m,t=x a=1i  calls  measurement(m, 9), tag(t, x, 7, 5), field(a, I64(1), 3, 0), end("m,t=x", None)
+/// ```
+pub trait PlacedSink<'a> {
+    // The line that the sink is told of.
+    ghost line: { Self → List ℕ };
+    // Holds of the sink before a call, what it is told by that, and the sink after.
+    ghost takes: { Self → Event → Self → Type 0 };
+
+    /// The line begins with this measurement, and `left` bytes are left after it.
+    fn measurement(&mut self, name: Spelled<'a>, left: usize)
+        requires { EndsBefore (line self.old) (spelled_text name) left }
+        ensures takes { takes self.old (named (spelled_text name.entry)) self.new }
+        ensures line { line self.new ≡ line self.old };
+
+    /// A tag of the line: `key_left` bytes are left after its key, and `left` after its value.
+    fn tag(&mut self, key: Spelled<'a>, value: Spelled<'a>, key_left: usize, left: usize)
+        requires key { EndsBefore (line self.old) (spelled_text key) key_left }
+        requires value { EndsBefore (line self.old) (spelled_text value) left }
+        ensures takes { takes self.old (tagged (spelled_tag (key.entry, value.entry))) self.new }
+        ensures line { line self.new ≡ line self.old };
+
+    /// A field of the line: `key_left` bytes are left after its key, and `left` after its value.
+    fn field(&mut self, key: Spelled<'a>, value: SpelledValue<'a>, key_left: usize, left: usize)
+        requires key { EndsBefore (line self.old) (spelled_text key) key_left }
+        requires value { ValueEndsBefore (line self.old) (spelled_value value) left }
+        ensures takes { takes self.old (valued (spelled_field (key.entry, value.entry))) self.new }
+        ensures line { line self.new ≡ line self.old };
+
+    /// The line ends: `series` is the front of it that was read as measurement and tags.
+    fn end(&mut self, series: &'a str, timestamp: Option<i64>)
+        ensures { takes self.old (ended series.now timestamp) self.new };
+
+    /// The line is at fault. What was told of it is no line.
+    fn fault(&mut self, fault: SpelledFault<'a>)
+        ensures { takes self.old (failed (spelled_fault fault.entry)) self.new };
+}
+
+// A tag at the start of `text` with how many bytes are left after its key, and the rest.
 #[tactic(auto, unfolding(lp_format::specs::format::Lines::tag))]
 #[inline(always)]
-pub(crate) fn tag<'a>(text: &'a str) -> Front<'a, (Spelled<'a>, Spelled<'a>)>
-    ensures value { GivesSpelled spelled_tag result (tag text.now) }
+fn placed_tag<'a>(text: &'a str) -> Front<'a, (Spelled<'a>, Spelled<'a>, usize)>
+    ensures value { GivesSpelled placed_tag result (tag text.now) }
     ensures less { IfOk result (λ o. IfSome o (λ p. length p.1.now < length text.now)) }
+    ensures places { IfOk result (λ o. IfSome o (λ p. LiesAt EndsBefore text.now (placed_tag p.0) p.0.2 p.1.now)) }
 {
-    let Some((key, rest)) = spelled_parts::name(NameKind::TagKey, text)? else {
+    let Some((key, after_key)) = spelled_parts::name(NameKind::TagKey, text)? else {
         return Ok(None);
     };
-    let Some(rest) = strip_byte(b'=', rest) else {
+    let Some(rest) = strip_byte(b'=', after_key) else {
         return Ok(None);
     };
     let Some((value, rest)) = spelled_parts::name(NameKind::TagValue, rest)? else {
         return Ok(None);
     };
+    Ok(Some(((key, value, after_key.len()), rest)))
+}
+
+// A tag at the start of `text`, and the rest.
+#[inline(always)]
+pub(crate) fn tag<'a>(text: &'a str) -> Front<'a, (Spelled<'a>, Spelled<'a>)>
+    ensures value { GivesSpelled spelled_tag result (tag text.now) }
+    ensures less { IfOk result (λ o. IfSome o (λ p. length p.1.now < length text.now)) }
+{
+    let Some(((key, value, _), rest)) = placed_tag(text)? else {
+        return Ok(None);
+    };
     Ok(Some(((key, value), rest)))
 }
 
-// A field at the start of `text`, and the rest.
+// A field at the start of `text` with how many bytes are left after its key, and the rest.
 #[tactic(auto, unfolding(lp_format::specs::format::Lines::field))]
+#[inline(always)]
+fn placed_field<'a>(text: &'a str) -> Front<'a, (Spelled<'a>, SpelledValue<'a>, usize)>
+    ensures value { GivesSpelled placed_field result (field text.now) }
+    ensures less { IfOk result (λ o. IfSome o (λ p. length p.1.now < length text.now)) }
+    ensures places { IfOk result (λ o. IfSome o (λ p. LiesAt ValueEndsBefore text.now (placed_field p.0) p.0.2 p.1.now)) }
+{
+    let Some((key, after_key)) = spelled_parts::name(NameKind::FieldKey, text)? else {
+        return Ok(None);
+    };
+    let Some(rest) = strip_byte(b'=', after_key) else {
+        return Ok(None);
+    };
+    let Some((value, rest)) = spelled_parts::value(rest)? else {
+        return Ok(None);
+    };
+    Ok(Some(((key, value, after_key.len()), rest)))
+}
+
+// A field at the start of `text`, and the rest.
 #[inline(always)]
 pub(crate) fn field<'a>(text: &'a str) -> Front<'a, (Spelled<'a>, SpelledValue<'a>)>
     ensures value { GivesSpelled spelled_field result (field text.now) }
     ensures less { IfOk result (λ o. IfSome o (λ p. length p.1.now < length text.now)) }
 {
-    let Some((key, rest)) = spelled_parts::name(NameKind::FieldKey, text)? else {
-        return Ok(None);
-    };
-    let Some(rest) = strip_byte(b'=', rest) else {
-        return Ok(None);
-    };
-    let Some((value, rest)) = spelled_parts::value(rest)? else {
+    let Some(((key, value, _), rest)) = placed_field(text)? else {
         return Ok(None);
     };
     Ok(Some(((key, value), rest)))
@@ -93,14 +165,16 @@ pub(crate) fn field<'a>(text: &'a str) -> Front<'a, (Spelled<'a>, SpelledValue<'
 
 // Tells the tags at the start of `text`, joined by commas, and gives their number and the rest.
 #[inline(always)]
-fn tags<'a, S: EventSink<'a>>(text: &'a str, sink: &mut S) -> Front<'a, usize>
-    ensures { WasToldParts S.takes tagged sink.old sink.new (AreCounted result tag text.now) }
+fn tags<'a, S: PlacedSink<'a>>(text: &'a str, sink: &mut S) -> Front<'a, usize>
+    requires { IsEndOf (S.line sink.old) text.now }
+    ensures told { WasToldParts S.takes tagged sink.old sink.new (AreCounted result tag text.now) }
+    ensures line { S.line sink.new ≡ S.line sink.old }
 {
     let mut count = 0;
     let mut rest = text;
     let mut place = text;
-    while let Some(((key, value), after)) = tag(place)? {
-        sink.tag(key, value);
+    while let Some(((key, value, key_left), after)) = placed_tag(place)? {
+        sink.tag(key, value, key_left, after.len());
         count += 1;
         rest = after;
         match strip_byte(b',', rest) {
@@ -116,14 +190,16 @@ fn tags<'a, S: EventSink<'a>>(text: &'a str, sink: &mut S) -> Front<'a, usize>
 
 // Tells the fields at the start of `text`, joined by commas, and gives their number and the rest.
 #[inline(always)]
-fn fields<'a, S: EventSink<'a>>(text: &'a str, sink: &mut S) -> Front<'a, usize>
-    ensures { WasToldParts S.takes valued sink.old sink.new (AreCounted result field text.now) }
+fn fields<'a, S: PlacedSink<'a>>(text: &'a str, sink: &mut S) -> Front<'a, usize>
+    requires { IsEndOf (S.line sink.old) text.now }
+    ensures told { WasToldParts S.takes valued sink.old sink.new (AreCounted result field text.now) }
+    ensures line { S.line sink.new ≡ S.line sink.old }
 {
     let mut count = 0;
     let mut rest = text;
     let mut place = text;
-    while let Some(((key, value), after)) = field(place)? {
-        sink.field(key, value);
+    while let Some(((key, value, key_left), after)) = placed_field(place)? {
+        sink.field(key, value, key_left, after.len());
         count += 1;
         rest = after;
         match strip_byte(b',', rest) {
@@ -139,8 +215,10 @@ fn fields<'a, S: EventSink<'a>>(text: &'a str, sink: &mut S) -> Front<'a, usize>
 
 // Tells the tags after the comma at the start of `text`, and gives the rest. If no comma is there, there are none.
 #[inline(always)]
-fn tag_set<'a, S: EventSink<'a>>(text: &'a str, sink: &mut S) -> Result<&'a str, SpelledFault<'a>>
-    ensures { WasToldParts S.takes tagged sink.old sink.new (AreTags result text.now) }
+fn tag_set<'a, S: PlacedSink<'a>>(text: &'a str, sink: &mut S) -> Result<&'a str, SpelledFault<'a>>
+    requires { IsEndOf (S.line sink.old) text.now }
+    ensures told { WasToldParts S.takes tagged sink.old sink.new (AreTags result text.now) }
+    ensures line { S.line sink.new ≡ S.line sink.old }
 {
     let Some(rest) = strip_byte(b',', text) else {
         return Ok(text);
@@ -165,11 +243,12 @@ pub(crate) fn rest_after(dialect: Dialect, is_first: bool, rest: &str) -> &str
 
 // Tells the fields at the start of `text`, joined by commas, and gives the rest after them. `None` if no field is there.
 #[inline(always)]
-fn field_set<'a, S: EventSink<'a>>(
+fn field_set<'a, S: PlacedSink<'a>>(
     dialect: Dialect,
     text: &'a str,
     sink: &mut S,
 ) -> Result<Option<&'a str>, SpelledFault<'a>>
+    requires { IsEndOf (S.line sink.old) text.now }
     ensures { WasToldParts S.takes valued sink.old sink.new (AreFields result (rules_of dialect) text.now) }
 {
     let Some((count, rest)) = fields(text, sink)? else {
@@ -191,17 +270,18 @@ pub(crate) fn front_before<'a>(line: &'a str, rest: &str) -> &'a str
 // Tells what the trimmed text `line` says, but for its fault: of a line at fault the parts that read.
 #[tactic(auto, unfolding(lp_format::specs::format::Lines::answer))]
 #[inline(always)]
-fn parts<'a, S: EventSink<'a>>(
+fn parts<'a, S: PlacedSink<'a>>(
     dialect: Dialect,
     line: &'a str,
     sink: &mut S,
 ) -> Result<(), SpelledFault<'a>>
+    requires { S.line sink.old ≡ line.now }
     ensures { WasTold S.takes sink.old sink.new (AreToldBefore result line.now (answer (rules_of dialect) line.now)) }
 {
     let Some((measurement, rest)) = spelled_parts::name(NameKind::Measurement, line)? else {
         return Err(SpelledFault::MeasurementValueInvalid);
     };
-    sink.measurement(measurement);
+    sink.measurement(measurement, rest.len());
     let rest = tag_set(rest, sink)?;
     let Some(_after_space) = strip_byte(b' ', rest) else {
         return Err(SpelledFault::GenericParsingError {
@@ -222,6 +302,82 @@ fn parts<'a, S: EventSink<'a>>(
     Ok(())
 }
 
+/// Tells what the trimmed text `line` says, as [`read_line_events`] does, to a sink that knows where the parts lie. It takes no memory.
+///
+/// ```text
+/// m,t=x a=1i 7  tells  measurement m and 12 bytes left, tag t x and 10 and 8, field a 1i and 5 and 2, end m,t=x 7
+/// ```
+#[inline(always)]
+pub fn read_placed_events<'a, S: PlacedSink<'a>>(dialect: Dialect, line: &'a str, sink: &mut S)
+    requires { S.line sink.old ≡ line.now }
+    ensures { WasTold S.takes sink.old sink.new (λ events. AreEventsOf line.now events (answer (rules_of dialect) line.now)) }
+{
+    if let Err(fault) = parts(dialect, line, sink) {
+        sink.fault(fault);
+    }
+}
+
+// A sink of a line that does not ask where the parts lie.
+#[derive(Drop)]
+struct Unplaced<'s, 'a, S> {
+    line: &'a str,
+    sink: &'s mut S,
+}
+
+impl<'s, 'a, S: EventSink<'a>> PlacedSink<'a> for Unplaced<'s, 'a, S> {
+    ghost use Rattle.lp_events.specs.code.Places.{TakesUnplaced};
+
+    ghost line = { λ unplaced. unplaced.line.now };
+
+    ghost takes = { TakesUnplaced S.takes };
+
+    #[inline(always)]
+    fn measurement(&mut self, name: Spelled<'a>, left: usize) {
+        self.sink.measurement(name);
+    }
+
+    #[inline(always)]
+    fn tag(&mut self, key: Spelled<'a>, value: Spelled<'a>, key_left: usize, left: usize) {
+        self.sink.tag(key, value);
+    }
+
+    #[inline(always)]
+    fn field(&mut self, key: Spelled<'a>, value: SpelledValue<'a>, key_left: usize, left: usize) {
+        self.sink.field(key, value);
+    }
+
+    #[inline(always)]
+    fn end(&mut self, series: &'a str, timestamp: Option<i64>) {
+        self.sink.end(series, timestamp);
+    }
+
+    #[inline(always)]
+    fn fault(&mut self, fault: SpelledFault<'a>) {
+        self.sink.fault(fault);
+    }
+}
+
+// Tells what the trimmed text `line` says.
+#[inline(always)]
+fn tell_unplaced<'s, 'a, S: EventSink<'a>>(
+    dialect: Dialect,
+    line: &'a str,
+    unplaced: &mut Unplaced<'s, 'a, S>,
+)
+    requires { unplaced.old.line.now ≡ line.now }
+    ensures sink { unplaced.new.sink.ghost_name ≡ unplaced.old.sink.ghost_name }
+    ensures told { WasTold S.takes unplaced.old.sink.now unplaced.new.sink.now
+        (λ events. AreEventsOf line.now events (answer (rules_of dialect) line.now)) }
+{
+    read_placed_events(dialect, line, unplaced);
+}
+
+// Gives back what was lent. This changes nothing; it is where the loan ends, so that the caller knows what it leaves.
+#[inline(always)]
+fn give_back<S>(sink: &mut S)
+    ensures { sink.new ≡ sink.old }
+{}
+
 /// Tells what the trimmed text `line` says: its measurement, tags, fields and end; or, if it is at fault, the parts that read, as
 /// [`EventSink`] says of such a line, and then the fault. It takes no memory.
 ///
@@ -233,9 +389,10 @@ fn parts<'a, S: EventSink<'a>>(
 pub fn read_line_events<'a, S: EventSink<'a>>(dialect: Dialect, line: &'a str, sink: &mut S)
     ensures { WasTold S.takes sink.old sink.new (λ events. AreEventsOf line.now events (answer (rules_of dialect) line.now)) }
 {
-    if let Err(fault) = parts(dialect, line, sink) {
-        sink.fault(fault);
-    }
+    let mut unplaced = Unplaced { line, sink };
+    tell_unplaced(dialect, line, &mut unplaced);
+    let Unplaced { sink, .. } = unplaced;
+    give_back(sink);
 }
 
 /// Tells what all lines of a text say, by the rules of a dialect, one line after another, also after a fault.

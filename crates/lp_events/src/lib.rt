@@ -10,6 +10,6 @@ mod place;
 pub mod pull;
 pub mod stops;
 
-pub use events::{EventSink, read_events_in, read_line_events};
+pub use events::{EventSink, PlacedSink, read_events_in, read_line_events, read_placed_events};
 pub use pull::{Event, ParseEvents, parse_events, parse_events_in};
 pub use stops::{LinePart, Stop, reading_stop};

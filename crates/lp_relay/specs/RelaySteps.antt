@@ -83,8 +83,8 @@ made so_far = record {
   line = so_far.line;
 }
 
--- what was made so far, the refused pieces that are not written yet, how many bytes come before the next piece, how many items
--- were refused for each kind of fault, if that is counted, and whether the fault of the next piece was told ahead of its end
+-- what was made so far and is not written yet; and of the next piece, how many bytes come before it, and whether its fault was told
+-- ahead of its end. `kinds` has how many items were refused for each kind of fault, if that is counted
 pub record Unwritten : Type 0 where
   pub made : Made
   pub pieces : List ℕ

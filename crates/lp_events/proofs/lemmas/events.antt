@@ -1,1 +1,2 @@
 pub mod LineEvents
+pub mod PlacedParts

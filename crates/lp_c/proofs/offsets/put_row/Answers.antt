@@ -2,6 +2,7 @@ use Rattle.std.proofs.Common.{◌+◌, ◌-◌, ◌∙◌, ap, length, sym}
 use Rattle.influxdb_line_protocol.specs.code.Rules.{rules_of}
 use Rattle.influxdb_line_protocol.specs.format.Lines.{answer}
 use Rattle.lp_events.specs.code.Stops.{reading_stop}
+use Rattle.lp_c.proofs.PlacedLemmas.{line_in_text}
 use Rattle.lp_c.proofs.RowLemmas.{line_puts}
 use Rattle.lp_c.proofs.offsets.put_row.Goals as goal
 
@@ -16,3 +17,8 @@ returns-clause-puts c =
     (λ is. put.ensures.stop is ∙ ap (λ line. piece.at + piece.len - length (reading_stop dialect line).1) item.1) c.number-row-2.ensures
     (λ is. put.ensures.line is c.begun_row.ensures.shows.0) (λ is. put.ensures.fault is c.begun_row.ensures.shows.1)
     (put.ensures.begins ∙ ap (λ line. piece.at + piece.len - length line) item.1) put.ensures.end
+
+pub invariant_of-line : goal.invariant_of-line
+invariant_of-line c =
+    let item = rw c.in-Some.is at c.requires.item in
+    record { lies = line_in_text c.args.text.now c.in-Some.line.now c.args.piece c.requires.piece c.requires.text item.1 }

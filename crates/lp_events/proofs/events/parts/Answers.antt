@@ -1,31 +1,53 @@
-use Rattle.std.proofs.{Common.Ok, Common.Err, Common.arith, lemmas.Grind.common_steps, lemmas.Result.err_from_is_err_and}
-use Rattle.lp_format.specs.format.{answer}
+use Rattle.std.proofs.{Common.[], Common.refl, Common.◌∙◌, Common.Ok, Common.Err, Common.arith, lemmas.Grind.common_steps, lemmas.Result.err_from_is_err_and}
+use Rattle.lp_format.specs.format.{a_measurement, answer, spaces}
+use Rattle.lp_values.proofs.lemmas.fields.ReadingLemmas.{name_ends}
 use Rattle.lp_split.specs.code.{rules_of}
 use Rattle.lp_values.specs.declared.error.ErrorKind.TheVariants.{TakeWhile1}
 use Rattle.lp_values.specs.declared.spelled.SpelledFault.TheVariants.{CannotParseEntireLine, FieldSetMissing, GenericParsingError}
 use Rattle.lp_events.proofs.lemmas.events.LineEvents.{complete_none, complete_some, fields_fault, line_told, tags_fault}
 use Rattle.lp_events.proofs.lemmas.fields.ManyLemmas.{series_ends}
+use Rattle.lp_events.proofs.lemmas.events.PlacedParts.{drop_end, ends_within, name_before, same_end}
 use Rattle.lp_events.proofs.events.parts.Goals as goal
+
+pub measurement-requires : goal.measurement-requires
+measurement-requires g c κs =
+    let name = rw c.in-Some.is at c.in_ok-measurement.ensures.value in
+    let line = c.args.line.now in
+    ((refl, tt), ends_within _ line _ _ ([], c.requires) (name_before a_measurement line _ c.in-Some.rest.now name))
+
+pub tag_set-requires : goal.tag_set-requires
+tag_set-requires g c κs =
+    let name = rw c.in-Some.is at c.in_ok-measurement.ensures.value in
+    let end = name_ends a_measurement c.args.line.now _ c.in-Some.rest.now name in
+    ((refl, tt), same_end _ _ c.in-Some.rest.now (c.measurement.ensures.line ∙ c.requires) (end.front, end.is))
+
+pub field_set-requires : goal.field_set-requires
+field_set-requires g c κs =
+    let name = rw c.in-Some.is at c.in_ok-measurement.ensures.value in
+    let rest = c.in_ok-rest.rest.now in
+    let end = series_ends c.args.line.now _ _ _ name c.in_ok-rest.ensures.told.are.1 in
+    let dropped = drop_end (spaces rest) c.args.line.now rest _ (end.front, end.is) c.trim_start_spaces.ensures in
+    ((refl, tt), same_end _ _ _ (c.tag_set.ensures.line ∙ (c.measurement.ensures.line ∙ c.requires)) dropped)
 
 pub returns-in_err-rest : goal.returns-in_err-rest
 unfolding answer
 returns-in_err-rest g c =
     let p = err_from_is_err_and c.from_residual-in_err-rest.result c.from_residual-in_err-rest.ensures.1 in
     let name = rw c.in-Some.is at c.in_ok-measurement.ensures.value in
-    let are = c.in_err-rest.ensures.are in
-    rw (p.1, p.2) (tags_fault g.S.EventSink.takes c.args.line.now name c.measurement.ensures c.in_err-rest.ensures _ (grind arith) are.2 are.3)
+    let are = c.in_err-rest.ensures.told.are in
+    rw (p.1, p.2) (tags_fault g.S.PlacedSink.takes c.args.line.now name c.measurement.ensures.takes c.in_err-rest.ensures.told _ (grind arith) are.2 are.3)
 
 pub returns-in_default-strip_byte : goal.returns-in_default-strip_byte
 unfolding answer
 returns-in_default-strip_byte g c =
     let name = rw c.in-Some.is at c.in_ok-measurement.ensures.value in
-    tags_fault g.S.EventSink.takes c.args.line.now name c.measurement.ensures c.in_ok-rest.ensures (GenericParsingError TakeWhile1) (grind arith)
-    c.in_ok-rest.ensures.are.3 (grind arith)
+    tags_fault g.S.PlacedSink.takes c.args.line.now name c.measurement.ensures.takes c.in_ok-rest.ensures.told (GenericParsingError TakeWhile1) (grind arith)
+    c.in_ok-rest.ensures.told.are.3 (grind arith)
 
 pub front_before-series-requires-clause-ends : goal.front_before-series-requires-clause-ends
 front_before-series-requires-clause-ends g c =
     let name = rw c.in-Some.is at c.in_ok-measurement.ensures.value in
-    let ends = series_ends c.args.line.now _ _ _ name c.in_ok-rest.ensures.are.1 in
+    let ends = series_ends c.args.line.now _ _ _ name c.in_ok-rest.ensures.told.are.1 in
     (ends.front, ends.is)
 
 pub returns-in_err-rest-2 : goal.returns-in_err-rest-2
@@ -34,7 +56,7 @@ returns-in_err-rest-2 g c =
     let p = err_from_is_err_and c.from_residual-in_err-rest-2.result c.from_residual-in_err-rest-2.ensures.1 in
     let name = rw c.in-Some.is at c.in_ok-measurement.ensures.value in
     let fault = c.in_err-rest-2.ensures.are.given in
-    rw (p.1, p.2) (fields_fault g.S.EventSink.takes c.args.line.now name c.measurement.ensures c.in_ok-rest.rest c.in_ok-rest.ensures
+    rw (p.1, p.2) (fields_fault g.S.PlacedSink.takes c.args.line.now name c.measurement.ensures.takes c.in_ok-rest.rest c.in_ok-rest.ensures.told
     c.in-Some-strip_byte.ensures.value c.trim_start_spaces.ensures (rules_of c.args.dialect) (Err c.in_err-rest-2.field-0.0)
     c.in_err-rest-2.ensures _ (grind arith))
 
@@ -42,7 +64,7 @@ pub returns-in_default-2 : goal.returns-in_default-2
 unfolding answer
 returns-in_default-2 g c =
     let name = rw c.in-Some.is at c.in_ok-measurement.ensures.value in
-    fields_fault g.S.EventSink.takes c.args.line.now name c.measurement.ensures c.in_ok-rest.rest c.in_ok-rest.ensures c.in-Some-strip_byte.ensures.value
+    fields_fault g.S.PlacedSink.takes c.args.line.now name c.measurement.ensures.takes c.in_ok-rest.rest c.in_ok-rest.ensures.told c.in-Some-strip_byte.ensures.value
     c.trim_start_spaces.ensures (rules_of c.args.dialect) (Ok c.in_ok-rest-2.field-0) c.in_ok-rest-2.ensures FieldSetMissing (grind arith)
 
 pub returns-in_err-timestamp : goal.returns-in_err-timestamp
@@ -50,7 +72,7 @@ unfolding answer
 returns-in_err-timestamp g c =
     let p = err_from_is_err_and c.from_residual-in_err-timestamp.result c.from_residual-in_err-timestamp.ensures.1 in
     let name = rw c.in-Some.is at c.in_ok-measurement.ensures.value in
-    rw (p.1, p.2) (fields_fault g.S.EventSink.takes c.args.line.now name c.measurement.ensures c.in_ok-rest.rest c.in_ok-rest.ensures
+    rw (p.1, p.2) (fields_fault g.S.PlacedSink.takes c.args.line.now name c.measurement.ensures.takes c.in_ok-rest.rest c.in_ok-rest.ensures.told
     c.in-Some-strip_byte.ensures.value c.trim_start_spaces.ensures (rules_of c.args.dialect) (Ok c.in_ok-rest-2.field-0)
     c.in_ok-rest-2.ensures _ (grind arith))
 
@@ -58,7 +80,7 @@ pub returns-then-not-is_empty : goal.returns-then-not-is_empty
 unfolding answer
 returns-then-not-is_empty g c =
     let name = rw c.in-Some.is at c.in_ok-measurement.ensures.value in
-    fields_fault g.S.EventSink.takes c.args.line.now name c.measurement.ensures c.in_ok-rest.rest c.in_ok-rest.ensures c.in-Some-strip_byte.ensures.value
+    fields_fault g.S.PlacedSink.takes c.args.line.now name c.measurement.ensures.takes c.in_ok-rest.rest c.in_ok-rest.ensures.told c.in-Some-strip_byte.ensures.value
     c.trim_start_spaces.ensures (rules_of c.args.dialect) (Ok c.in_ok-rest-2.field-0) c.in_ok-rest-2.ensures
     (CannotParseEntireLine c.in_ok-timestamp.rest) (grind (arith, common_steps, complete_some))
 
@@ -66,6 +88,6 @@ pub returns : goal.returns
 unfolding answer
 returns g c =
     let name = rw c.in-Some.is at c.in_ok-measurement.ensures.value in
-    line_told g.S.EventSink.takes c.args.line.now name c.measurement.ensures c.in_ok-rest.rest c.in_ok-rest.ensures c.in-Some-strip_byte.ensures.value
+    line_told g.S.PlacedSink.takes c.args.line.now name c.measurement.ensures.takes c.in_ok-rest.rest c.in_ok-rest.ensures.told c.in-Some-strip_byte.ensures.value
     c.trim_start_spaces.ensures (rules_of c.args.dialect) (Ok c.in_ok-rest-2.field-0) c.in_ok-rest-2.ensures _ _ _ c.end.ensures
     (grind (arith, common_steps, complete_none))

@@ -1,9 +1,9 @@
 use Rattle.std.proofs.Common.{arith, refl, rules, ap}
 use Rattle.std.specs.Prelude.{slice_set}
-use Rattle.lp_c.proofs.placing.PlacingEventSink.tag.Goals as goal
+use Rattle.lp_c.proofs.placing.PlacingPlacedSink.tag.Goals as goal
 
-pub returns-then-place-self : goal.returns-then-place-self
-returns-then-place-self c =
+pub returns-then-place-self-clause-takes : goal.returns-then-place-self-clause-takes
+returns-then-place-self-clause-takes c =
     let put = c.place_tag-used in
     record {
       text = refl;
