@@ -131,7 +131,19 @@ pub(crate) fn place_text(
     if spelled.is_plain() {
         return (place_before(line, left, spelled.len()), used);
     }
-    place_copy(room, used, spelled)
+    // Number by number: what a call fills as a whole would be kept in memory, and each place that is told would go there first.
+    let (copy, used) = place_copy(room, used, spelled);
+    let span = Span {
+        at: copy.span.at,
+        len: copy.span.len,
+    };
+    (
+        Placed {
+            span,
+            copied: copy.copied,
+        },
+        used,
+    )
 }
 
 // Places the texts of a tag, with so many bytes of the line left after its key and after its value.
