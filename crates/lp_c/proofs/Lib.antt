@@ -4,6 +4,7 @@ pub mod CutLemmas
 pub mod FillLemmas
 pub mod FloatLemmas
 pub mod PlacingLemmas
+pub mod PortionLemmas
 pub mod RoomLemmas
 pub mod RowLemmas
 pub mod RowsLemmas
