@@ -1,10 +1,10 @@
 //! Lines that callers hand in by offsets: the places are tested, and what lies there becomes a line of the library.
 
-ghost use Rattle.std.specs.Prelude.{◌≡◌, ◌<◌, ◌+◌, [], ◌∷◌, ◌++◌, drop, length, map, take, IfOk, IfErr, OnOk};
+ghost use Rattle.std.specs.Prelude.{◌≡◌, ◌<◌, ◌+◌, [], ◌∷◌, ◌++◌, drop, length, map, option_map, take, IfOk, IfErr, OnOk};
 ghost use Rattle.std.specs.List.{AllByRecursion};
-ghost use Rattle.influxdb_line_protocol.specs.code.Parsed.{field_of, parsed_point, tag_of};
+ghost use Rattle.influxdb_line_protocol.specs.code.Parsed.{field_of, parsed_point, tag_of, tags_of};
 ghost use Rattle.influxdb_line_protocol.specs.code.ReadValues.{value_of};
-ghost use Rattle.influxdb_line_protocol.specs.format.Lines.{logical_field, logical_tag, logical_value};
+ghost use Rattle.influxdb_line_protocol.specs.format.Lines.{logical_field, logical_tag, logical_value, some_tags};
 ghost use Rattle.lp_c.specs.Handed.{RefusesFor};
 ghost use Rattle.lp_c.specs.HandedRows.{IsFieldAt, IsRowIn, IsTagAt, IsTextAt, IsValueAt, field_there, point_there, tag_there, value_there};
 ghost use Rattle.lp_c.specs.Offsets.{bytes_at};
@@ -174,6 +174,28 @@ fn take_tags<'a>(
     Ok(())
 }
 
+// Takes the tags of parts into a set of a line that has none: apart from the code for the lines after it, which then makes no room for a set.
+#[cold]
+#[inline(never)]
+fn take_first_tags<'a>(
+    alloc: Global,
+    text: &'a [u8],
+    room: &'a [u8],
+    portion: &Portion<'a>,
+    parts: &[OffsetPart],
+    set: &mut Option<TagSet<'a>>,
+) -> Result<(), Answer>
+    requires { IsPortionOf text.now portion.now }
+    ensures are { OnOk result (AllByRecursion (IsTagAt text.now room.now) parts.now) }
+    ensures taken { OnOk result (map logical_tag (some_tags (option_map tags_of set.new)) ≡ map (tag_there text.now room.now) parts.now) }
+    ensures err { IfErr result (λ e. RefusesFor (AllByRecursion (IsTagAt text.now room.now) parts.now) e) }
+{
+    let mut tags = TagSet::new(alloc);
+    take_tags(text, room, portion, parts, &mut tags)?;
+    *set = Some(tags);
+    Ok(())
+}
+
 // Appends the field of a part.
 fn push_field<'a>(
     text: &'a [u8],
@@ -250,8 +272,14 @@ pub(crate) fn take_row<'a>(
         tags.clear();
         take_tags(text, room, portion, &parts[at..fields_at], tags)?;
     } else {
-        let tags = taken.series.tag_set.insert(TagSet::new(alloc));
-        take_tags(text, room, portion, &parts[at..fields_at], tags)?;
+        take_first_tags(
+            alloc,
+            text,
+            room,
+            portion,
+            &parts[at..fields_at],
+            &mut taken.series.tag_set,
+        )?;
     }
     taken.field_set.clear();
     take_fields(
