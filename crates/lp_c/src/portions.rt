@@ -10,6 +10,9 @@ ghost use Rattle.lp_c.specs.Portions.{IsPortionOf, IsTextOf};
 /// How many bytes are tested at once, if there are as many.
 const PORTION: usize = 4096;
 
+// Of a text with fewer bytes std's test is the fastest.
+const SHORT: usize = 64;
+
 /// A portion of bytes that was tested.
 #[derive(Clone, Copy)]
 pub(crate) struct Portion<'a> {
@@ -32,13 +35,15 @@ pub(crate) fn no_portion<'a>(at: usize) -> Portion<'a>
     }
 }
 
-/// The text that bytes are, if they are UTF-8.
-pub(crate) fn text_of(bytes: &[u8]) -> Option<&str>
+// The text that bytes are, if they are UTF-8. Std's test of a short text is made without a call of the other one.
+#[inline(always)]
+fn text_of(bytes: &[u8]) -> Option<&str>
     ensures { IsTextOf bytes.now result }
 {
-    match simdutf8::basic::from_utf8(bytes) {
-        Ok(text) => Some(text),
-        Err(_) => None,
+    if bytes.len() < SHORT {
+        str::from_utf8(bytes).ok()
+    } else {
+        simdutf8::basic::from_utf8(bytes).ok()
     }
 }
 
