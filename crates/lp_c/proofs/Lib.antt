@@ -5,6 +5,7 @@ pub mod FillLemmas
 pub mod FloatLemmas
 pub mod PlacedLemmas
 pub mod PlacingLemmas
+pub mod PortionLemmas
 pub mod RoomLemmas
 pub mod RowLemmas
 pub mod RowsLemmas

@@ -8,6 +8,7 @@ pub mod Numbers
 pub mod OffsetBlocks
 pub mod Offsets
 pub mod Placing
+pub mod Portions
 pub mod Rebuilding
 pub mod Rooms
 pub mod Telling

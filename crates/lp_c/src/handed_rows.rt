@@ -1,34 +1,57 @@
 //! Lines that callers hand in by offsets: the places are tested, and what lies there becomes a line of the library.
 
-ghost use Rattle.std.specs.Prelude.{◌≡◌, ◌<◌, ◌+◌, [], ◌∷◌, ◌++◌, length, map, IfOk, IfErr, OnOk};
+ghost use Rattle.std.specs.Prelude.{◌≡◌, ◌<◌, ◌+◌, [], ◌∷◌, ◌++◌, drop, length, map, option_map, take, IfOk, IfErr, OnOk};
 ghost use Rattle.std.specs.List.{AllByRecursion};
-ghost use Rattle.influxdb_line_protocol.specs.code.Parsed.{field_of, parsed_point, tag_of};
+ghost use Rattle.influxdb_line_protocol.specs.code.Parsed.{field_of, parsed_point, tag_of, tags_of};
 ghost use Rattle.influxdb_line_protocol.specs.code.ReadValues.{value_of};
-ghost use Rattle.influxdb_line_protocol.specs.format.Lines.{logical_field, logical_tag, logical_value};
+ghost use Rattle.influxdb_line_protocol.specs.format.Lines.{logical_field, logical_tag, logical_value, some_tags};
 ghost use Rattle.lp_c.specs.Handed.{RefusesFor};
 ghost use Rattle.lp_c.specs.HandedRows.{IsFieldAt, IsRowIn, IsTagAt, IsTextAt, IsValueAt, field_there, point_there, tag_there, value_there};
 ghost use Rattle.lp_c.specs.Offsets.{bytes_at};
+ghost use Rattle.lp_c.specs.Portions.{IsPortionOf, IsSpanIn};
 
 use crate::offsets::OffsetRow;
 use crate::placed::{OffsetPart, Span};
+use crate::portions::{Portion, no_portion};
 use crate::views::{Answer, Kind};
 use influxdb_line_protocol::{EscapedStr, FieldSet, FieldValue, FloatText, ParsedLine, TagSet};
 use std::alloc::Global;
 
-// The text at a place: in the room, if it was copied, or else in the text.
-fn text_at<'a>(text: &'a [u8], room: &'a [u8], copied: u16, span: Span) -> Result<&'a str, Answer>
+// The text at a place of bytes, of which a portion was tested.
+#[inline(always)]
+fn text_in<'a>(bytes: &'a [u8], portion: &Portion<'a>, span: Span) -> Result<&'a str, Answer>
+    requires { IsPortionOf bytes.now portion.now }
+    ensures ok { IfOk result (λ t. IsSpanIn bytes.now span × (t.now ≡ take span.len (drop span.at bytes.now))) }
+    ensures err { IfErr result (λ e. RefusesFor (IsSpanIn bytes.now span) e) }
+{
+    let at = span.at as usize;
+    let len = span.len as usize;
+    if bytes.len() < at + len {
+        return Err(Answer::NotALine);
+    }
+    match portion.text_at(bytes, at, len) {
+        Some(found) => Ok(found),
+        None => Err(Answer::NotALine),
+    }
+}
+
+// The text at a place: in the room, if it was copied, or else in the text, of which a portion was tested.
+#[inline(always)]
+fn text_at<'a>(
+    text: &'a [u8],
+    room: &'a [u8],
+    portion: &Portion<'a>,
+    copied: u16,
+    span: Span,
+) -> Result<&'a str, Answer>
+    requires { IsPortionOf text.now portion.now }
     ensures ok { IfOk result (λ t. IsTextAt text.now room.now copied span × (t.now ≡ bytes_at text.now room.now copied span)) }
     ensures err { IfErr result (λ e. RefusesFor (IsTextAt text.now room.now copied span) e) }
 {
-    let lent = if copied == 0 { text } else { room };
-    let at = span.at as usize;
-    let len = span.len as usize;
-    if lent.len() < at + len {
-        return Err(Answer::NotALine);
-    }
-    match str::from_utf8(&lent[at..at + len]) {
-        Ok(found) => Ok(found),
-        Err(_) => Err(Answer::NotALine),
+    if copied == 0 {
+        text_in(text, portion, span)
+    } else {
+        text_in(room, &no_portion(0), span)
     }
 }
 
@@ -36,16 +59,18 @@ fn text_at<'a>(text: &'a [u8], room: &'a [u8], copied: u16, span: Span) -> Resul
 fn tag_at<'a>(
     text: &'a [u8],
     room: &'a [u8],
+    portion: &Portion<'a>,
     part: &OffsetPart,
 ) -> Result<(EscapedStr<'a>, EscapedStr<'a>), Answer>
+    requires { IsPortionOf text.now portion.now }
     ensures ok { IfOk result (λ t. IsTagAt text.now room.now part.now × (logical_tag (tag_of t) ≡ tag_there text.now room.now part.now)) }
     ensures err { IfErr result (λ e. RefusesFor (IsTagAt text.now room.now part.now) e) }
 {
     if part.kind != Kind::Tag.number() {
         return Err(Answer::NotALine);
     }
-    let key = text_at(text, room, part.key_copied, part.key)?;
-    let value = text_at(text, room, part.text_copied, part.text)?;
+    let key = text_at(text, room, portion, part.key_copied, part.key)?;
+    let value = text_at(text, room, portion, part.text_copied, part.text)?;
     Ok((EscapedStr::SingleSlice(key), EscapedStr::SingleSlice(value)))
 }
 
@@ -53,13 +78,15 @@ fn tag_at<'a>(
 fn literal_at<'a>(
     text: &'a [u8],
     room: &'a [u8],
+    portion: &Portion<'a>,
     part: &OffsetPart,
 ) -> Result<FieldValue<'a>, Answer>
-    requires { part.now.kind ≡ 3 }
+    requires kind { part.now.kind ≡ 3 }
+    requires portion { IsPortionOf text.now portion.now }
     ensures ok { IfOk result (λ v. IsValueAt text.now room.now part.now × (logical_value (value_of v) ≡ value_there text.now room.now part.now)) }
     ensures err { IfErr result (λ e. RefusesFor (IsValueAt text.now room.now part.now) e) }
 {
-    let spelling = text_at(text, room, part.text_copied, part.text)?;
+    let spelling = text_at(text, room, portion, part.text_copied, part.text)?;
     match FloatText::new(spelling) {
         Some(literal) => Ok(FieldValue::F64(literal)),
         None => Err(Answer::NotALine),
@@ -67,16 +94,22 @@ fn literal_at<'a>(
 }
 
 // The value of a part that is a field.
-fn value_at<'a>(text: &'a [u8], room: &'a [u8], part: &OffsetPart) -> Result<FieldValue<'a>, Answer>
+fn value_at<'a>(
+    text: &'a [u8],
+    room: &'a [u8],
+    portion: &Portion<'a>,
+    part: &OffsetPart,
+) -> Result<FieldValue<'a>, Answer>
+    requires { IsPortionOf text.now portion.now }
     ensures ok { IfOk result (λ v. IsValueAt text.now room.now part.now × (logical_value (value_of v) ≡ value_there text.now room.now part.now)) }
     ensures err { IfErr result (λ e. RefusesFor (IsValueAt text.now room.now part.now) e) }
 {
     match part.kind {
         1 => Ok(FieldValue::I64(part.number.cast_signed())),
         2 => Ok(FieldValue::U64(part.number)),
-        3 => literal_at(text, room, part),
+        3 => literal_at(text, room, portion, part),
         4 => {
-            let string = text_at(text, room, part.text_copied, part.text)?;
+            let string = text_at(text, room, portion, part.text_copied, part.text)?;
             Ok(FieldValue::String(EscapedStr::SingleSlice(string)))
         }
         5 => Ok(FieldValue::Boolean(part.number == 1)),
@@ -88,13 +121,15 @@ fn value_at<'a>(text: &'a [u8], room: &'a [u8], part: &OffsetPart) -> Result<Fie
 fn field_at<'a>(
     text: &'a [u8],
     room: &'a [u8],
+    portion: &Portion<'a>,
     part: &OffsetPart,
 ) -> Result<(EscapedStr<'a>, FieldValue<'a>), Answer>
+    requires { IsPortionOf text.now portion.now }
     ensures ok { IfOk result (λ f. IsFieldAt text.now room.now part.now × (logical_field (field_of f) ≡ field_there text.now room.now part.now)) }
     ensures err { IfErr result (λ e. RefusesFor (IsFieldAt text.now room.now part.now) e) }
 {
-    let key = text_at(text, room, part.key_copied, part.key)?;
-    let value = value_at(text, room, part)?;
+    let key = text_at(text, room, portion, part.key_copied, part.key)?;
+    let value = value_at(text, room, portion, part)?;
     Ok((EscapedStr::SingleSlice(key), value))
 }
 
@@ -102,15 +137,17 @@ fn field_at<'a>(
 fn push_tag<'a>(
     text: &'a [u8],
     room: &'a [u8],
+    portion: &Portion<'a>,
     part: &OffsetPart,
     tags: &mut TagSet<'a>,
 ) -> Result<(), Answer>
+    requires { IsPortionOf text.now portion.now }
     ensures is { OnOk result (IsTagAt text.now room.now part.now) }
     ensures pushed { OnOk result (map logical_tag (map tag_of tags.new.items)
         ≡ map logical_tag (map tag_of tags.old.items) ++ tag_there text.now room.now part.now ∷ []) }
     ensures err { IfErr result (λ e. RefusesFor (IsTagAt text.now room.now part.now) e) }
 {
-    let tag = tag_at(text, room, part)?;
+    let tag = tag_at(text, room, portion, part)?;
     match tags.push(tag) {
         Ok(()) => Ok(()),
         Err(_) => Err(Answer::OutOfMemory),
@@ -121,17 +158,41 @@ fn push_tag<'a>(
 fn take_tags<'a>(
     text: &'a [u8],
     room: &'a [u8],
+    portion: &Portion<'a>,
     parts: &[OffsetPart],
     tags: &mut TagSet<'a>,
 ) -> Result<(), Answer>
+    requires portion { IsPortionOf text.now portion.now }
     requires none { tags.old.items ≡ [] }
     ensures are { OnOk result (AllByRecursion (IsTagAt text.now room.now) parts.now) }
     ensures taken { OnOk result (map logical_tag (map tag_of tags.new.items) ≡ map (tag_there text.now room.now) parts.now) }
     ensures err { IfErr result (λ e. RefusesFor (AllByRecursion (IsTagAt text.now room.now) parts.now) e) }
 {
     for part in parts {
-        push_tag(text, room, part, tags)?;
+        push_tag(text, room, portion, part, tags)?;
     }
+    Ok(())
+}
+
+// Takes the tags of parts into a set of a line that has none: apart from the code for the lines after it, which then makes no room for a set.
+#[cold]
+#[inline(never)]
+fn take_first_tags<'a>(
+    alloc: Global,
+    text: &'a [u8],
+    room: &'a [u8],
+    portion: &Portion<'a>,
+    parts: &[OffsetPart],
+    set: &mut Option<TagSet<'a>>,
+) -> Result<(), Answer>
+    requires { IsPortionOf text.now portion.now }
+    ensures are { OnOk result (AllByRecursion (IsTagAt text.now room.now) parts.now) }
+    ensures taken { OnOk result (map logical_tag (some_tags (option_map tags_of set.new)) ≡ map (tag_there text.now room.now) parts.now) }
+    ensures err { IfErr result (λ e. RefusesFor (AllByRecursion (IsTagAt text.now room.now) parts.now) e) }
+{
+    let mut tags = TagSet::new(alloc);
+    take_tags(text, room, portion, parts, &mut tags)?;
+    *set = Some(tags);
     Ok(())
 }
 
@@ -139,16 +200,18 @@ fn take_tags<'a>(
 fn push_field<'a>(
     text: &'a [u8],
     room: &'a [u8],
+    portion: &Portion<'a>,
     part: &OffsetPart,
     fields: &mut FieldSet<'a>,
 ) -> Result<(), Answer>
+    requires { IsPortionOf text.now portion.now }
     ensures is { OnOk result (IsFieldAt text.now room.now part.now) }
     ensures pushed { OnOk result (map logical_field (map field_of fields.new.items)
         ≡ map logical_field (map field_of fields.old.items) ++ field_there text.now room.now part.now ∷ []) }
     ensures len { OnOk result (length fields.new.items ≡ length fields.old.items + 1) }
     ensures err { IfErr result (λ e. RefusesFor (IsFieldAt text.now room.now part.now) e) }
 {
-    let field = field_at(text, room, part)?;
+    let field = field_at(text, room, portion, part)?;
     match fields.push(field) {
         Ok(()) => Ok(()),
         Err(_) => Err(Answer::OutOfMemory),
@@ -159,9 +222,11 @@ fn push_field<'a>(
 fn take_fields<'a>(
     text: &'a [u8],
     room: &'a [u8],
+    portion: &Portion<'a>,
     parts: &[OffsetPart],
     fields: &mut FieldSet<'a>,
 ) -> Result<(), Answer>
+    requires portion { IsPortionOf text.now portion.now }
     requires none { fields.old.items ≡ [] }
     ensures are { OnOk result (AllByRecursion (IsFieldAt text.now room.now) parts.now) }
     ensures taken { OnOk result (map logical_field (map field_of fields.new.items) ≡ map (field_there text.now room.now) parts.now) }
@@ -169,7 +234,7 @@ fn take_fields<'a>(
     ensures err { IfErr result (λ e. RefusesFor (AllByRecursion (IsFieldAt text.now room.now) parts.now) e) }
 {
     for part in parts {
-        push_field(text, room, part, fields)?;
+        push_field(text, room, portion, part, fields)?;
     }
     Ok(())
 }
@@ -179,16 +244,18 @@ pub(crate) fn take_row<'a>(
     alloc: Global,
     text: &'a [u8],
     room: &'a [u8],
+    portion: &Portion<'a>,
     row: &OffsetRow,
     parts: &[OffsetPart],
     taken: &mut ParsedLine<'a>,
 ) -> Result<(), Answer>
+    requires { IsPortionOf text.now portion.now }
     ensures ok { OnOk result (IsRowIn text.now room.now parts.now row.now
         × (parsed_point taken.new ≡ point_there text.now room.now parts.now row.now)) }
     ensures some { OnOk result (0 < length taken.new.field_set.items) }
     ensures err { IfErr result (λ e. RefusesFor (IsRowIn text.now room.now parts.now row.now) e) }
 {
-    let measurement = text_at(text, room, row.measurement_copied, row.measurement)?;
+    let measurement = text_at(text, room, portion, row.measurement_copied, row.measurement)?;
     taken.series.measurement = EscapedStr::SingleSlice(measurement);
     let at = row.parts_at as usize;
     let fields_at = at + row.tags as usize;
@@ -203,11 +270,23 @@ pub(crate) fn take_row<'a>(
     };
     if let Some(tags) = &mut taken.series.tag_set {
         tags.clear();
-        take_tags(text, room, &parts[at..fields_at], tags)?;
+        take_tags(text, room, portion, &parts[at..fields_at], tags)?;
     } else {
-        let tags = taken.series.tag_set.insert(TagSet::new(alloc));
-        take_tags(text, room, &parts[at..fields_at], tags)?;
+        take_first_tags(
+            alloc,
+            text,
+            room,
+            portion,
+            &parts[at..fields_at],
+            &mut taken.series.tag_set,
+        )?;
     }
     taken.field_set.clear();
-    take_fields(text, room, &parts[fields_at..end], &mut taken.field_set)
+    take_fields(
+        text,
+        room,
+        portion,
+        &parts[fields_at..end],
+        &mut taken.field_set,
+    )
 }

@@ -15,6 +15,7 @@ mod offsets;
 mod pieces;
 mod placed;
 mod placing;
+mod portions;
 mod reading;
 mod rebuilding;
 mod telling;

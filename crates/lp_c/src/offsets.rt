@@ -8,6 +8,7 @@ ghost use Rattle.lp_events.specs.code.Stops.{reading_stop};
 ghost use Rattle.lp_c.specs.Crossing.{dialect_of, fault_seen};
 ghost use Rattle.lp_c.specs.Numbers.{IsNoDialect, answer_number, fault_number, side_number};
 ghost use Rattle.lp_c.specs.OffsetBlocks.{AnswersRow, HasNoFault, HasNoLine, IsItemIn, IsPlaced, PutsRow, ReadsOffsets, ReadsRow, ReadsRows, block_answer, came_number, has_row, in_32, is_too_much, timestamp_in};
+ghost use Rattle.lp_c.specs.Portions.{IsPortionOf};
 ghost use Rattle.lp_c.specs.Rooms.{Grows};
 ghost use Rattle.lp_c.specs.declared.offsets.Came.TheVariants as Came;
 ghost use Rattle.lp_c.specs.declared.views.Answer.TheVariants as Answer;
@@ -16,6 +17,7 @@ use crate::lent::fault_seen;
 use crate::pieces::{Piece, Spot, next_item, pass};
 use crate::placed::{LineIn, OffsetPart, Span};
 use crate::placing::put_told;
+use crate::portions::{Portion, no_portion};
 use crate::views::{Answer, Dialect};
 use influxdb_line_protocol::{Dialect as Rules, SpelledFault};
 use lp_events::stops::reading_stop;
@@ -299,10 +301,11 @@ pub(crate) struct Filled {
 // Puts the next item that is not blank down in a row, with its parts after those that are filled, and says what came of it. `None`: no
 // piece is left.
 #[inline(always)]
-fn read_row(
+fn read_row<'a>(
     dialect: Rules,
     last: bool,
-    text: &[u8],
+    text: &'a [u8],
+    portion: &mut Portion<'a>,
     row: &mut OffsetRow,
     parts: &mut [OffsetPart],
     room: &mut [u8],
@@ -311,13 +314,15 @@ fn read_row(
     requires text { (length text.now < 2 ^ 32) × (filled.old.spot.at ≤ length text.now) }
     requires parts { (length parts.old < 2 ^ 32) × (filled.old.parts ≤ length parts.old) }
     requires room { filled.old.room ≤ length room.old }
+    requires portion { IsPortionOf text.now portion.old }
+    ensures portion { IsPortionOf text.now portion.new }
     ensures size { length parts.new ≡ length parts.old }
     ensures grows { Grows room.old filled.old.room room.new filled.new.room }
     ensures kept { take filled.old.parts parts.new ≡ take filled.old.parts parts.old }
     ensures fits { (filled.new.spot.at ≤ length text.now) × (filled.new.parts ≤ length parts.new) × (filled.new.room ≤ length room.new) }
     ensures reads { ReadsRow (rules_of dialect) last text.now filled.old result row.new parts.new room.new filled.new }
 {
-    let (piece, item) = next_item(dialect, last, text, &mut filled.spot)?;
+    let (piece, item) = next_item(dialect, last, text, portion, &mut filled.spot)?;
     let own_parts = &mut parts[filled.parts..];
     let (came, own, used) = put_row(
         dialect,
@@ -372,8 +377,18 @@ fn read_rows(
     ensures size { length rows.new ≡ length rows.old }
     ensures reads { ReadsRows (rules_of dialect) last text.now filled.old.spot rows.new parts.new room.new filled.new result.0 result.1 }
 {
+    let mut portion = no_portion(filled.spot.at);
     for at in 0..rows.len() {
-        let came = read_row(dialect, last, text, &mut rows[at], parts, room, filled);
+        let came = read_row(
+            dialect,
+            last,
+            text,
+            &mut portion,
+            &mut rows[at],
+            parts,
+            room,
+            filled,
+        );
         if !has_row(came) {
             return (at, came);
         }

@@ -4,7 +4,9 @@ ghost use Rattle.std.specs.Prelude.{◌≡◌, ◌≤◌, ◌<◌, ◌+◌, ◌-
 ghost use Rattle.influxdb_line_protocol.specs.code.Rules.{rules_of};
 ghost use Rattle.lp_format.specs.format.Bytes.{newlines_in};
 ghost use Rattle.lp_c.specs.OffsetBlocks.{IsItemIn, IsNoPieceAt, IsPieceIn, PassesBlanks};
+ghost use Rattle.lp_c.specs.Portions.{IsPortionOf};
 
+use crate::portions::Portion;
 use influxdb_line_protocol::Dialect;
 use lp_scan::newlines::newlines_in;
 use lp_scan::trim::trimmed;
@@ -71,24 +73,26 @@ pub(crate) fn next_item<'a>(
     dialect: Dialect,
     last: bool,
     text: &'a [u8],
+    portion: &mut Portion<'a>,
     spot: &mut Spot,
 ) -> Option<(Piece, Option<&'a str>)>
-    requires { spot.old.at ≤ length text.now }
+    requires at { spot.old.at ≤ length text.now }
+    requires portion { IsPortionOf text.now portion.old }
+    ensures portion { IsPortionOf text.now portion.new }
     ensures within { spot.new.at ≤ length text.now }
     ensures passes { PassesBlanks (rules_of dialect) last text.now spot.old spot.new }
     ensures gives { MatchOption result (IsNoPieceAt (rules_of dialect) last text.now spot.new.at)
         (λ p. (p.0.at ≡ spot.new.at) × IsPieceIn (rules_of dialect) last text.now p.0 × IsItemIn text.now p.0 p.1) }
 {
     while let Some(piece) = piece_at(dialect, last, text, spot.at) {
-        let bytes = &text[piece.at..piece.at + piece.len];
-        let Ok(piece_text) = simdutf8::basic::from_utf8(bytes) else {
+        let Some(piece_text) = portion.next_text(text, piece.at, piece.len) else {
             return Some((piece, None));
         };
         let line = trimmed(piece_text);
         if !line.is_empty() {
             return Some((piece, Some(line)));
         }
-        pass(spot, piece, bytes);
+        pass(spot, piece, piece_text.as_bytes());
     }
     None
 }

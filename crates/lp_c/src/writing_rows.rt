@@ -7,6 +7,7 @@ ghost use Rattle.influxdb_line_protocol.specs.format.Points.{IsPoint, built};
 ghost use Rattle.lp_c.specs.Crossing.{dialect_of};
 ghost use Rattle.lp_c.specs.HandedRows.{point_there};
 ghost use Rattle.lp_c.specs.Numbers.{IsNoDialect, answer_number};
+ghost use Rattle.lp_c.specs.Portions.{IsPortionOf};
 ghost use Rattle.lp_c.specs.WritingRows.{AreLinesOf, IsWrittenIn, StopsAt, StopsAtRow, WritesRows};
 ghost use Rattle.lp_c.specs.declared.views.Answer.TheVariants as Answer;
 
@@ -14,6 +15,7 @@ use crate::handed::empty_line;
 use crate::handed_rows::take_row;
 use crate::offsets::OffsetRow;
 use crate::placed::OffsetPart;
+use crate::portions::{Portion, no_portion};
 use crate::views::{Answer, Dialect};
 use crate::writing::put_front;
 use influxdb_line_protocol::builder::Unwritten;
@@ -22,6 +24,9 @@ use influxdb_line_protocol::{
 };
 use std::alloc::Global;
 use std::mem;
+
+/// How far after the one before a row may begin whose texts are tested with those of the rows after it.
+const NEAR: u32 = 1024;
 
 /// Where writing rows begins, and how far it came.
 #[repr(C)]
@@ -55,13 +60,15 @@ fn write_row<'a>(
     dialect: Rules,
     text: &'a [u8],
     room: &'a [u8],
+    portion: &Portion<'a>,
     row: &OffsetRow,
     parts: &[OffsetPart],
     most: usize,
     taken: &mut ParsedLine<'a>,
     lines: &mut Vec<u8>,
 ) -> Result<(), Stop>
-    requires { length lines.old.items ≤ most }
+    requires portion { IsPortionOf text.now portion.now }
+    requires fits { length lines.old.items ≤ most }
     ensures is { OnOk result (IsWrittenIn (rules_of dialect) text.now room.now parts.now row.now) }
     ensures point { OnOk result (IsPoint (point_there text.now room.now parts.now row.now)) }
     ensures put { OnOk result (lines.new.items ≡ lines.old.items ++ built (point_there text.now room.now parts.now row.now)) }
@@ -69,7 +76,7 @@ fn write_row<'a>(
     ensures stops { IfErr result (λ stop. StopsAtRow (rules_of dialect) text.now room.now parts.now most (length lines.old.items) stop row.now) }
     ensures kept { IfErr result (λ stop. lines.new.items ≡ lines.old.items) }
 {
-    if let Err(answer) = take_row(alloc, text, room, row, parts, taken) {
+    if let Err(answer) = take_row(alloc, text, room, portion, row, parts, taken) {
         return Err(stop_for(answer));
     }
     let used = lines.len();
@@ -98,6 +105,12 @@ fn write_row<'a>(
     }
 }
 
+// Whether a row begins in the text a little after another one.
+fn is_next(before: &OffsetRow, row: &OffsetRow) -> bool {
+    let (at, next) = (before.measurement.at, row.measurement.at);
+    before.measurement_copied == 0 && row.measurement_copied == 0 && at <= next && next - at < NEAR
+}
+
 // Writes the lines of rows, as far as each reads back and they take no more than so many bytes. Gives how many rows it wrote, and why
 // no more.
 fn write_rows(
@@ -118,10 +131,14 @@ fn write_rows(
     ensures stops { StopsAt (rules_of dialect) text.now room.now parts.now most (length lines.new.items) result.1 (drop result.0 rows.now) }
 {
     let mut taken = empty_line(alloc);
+    let mut portion = no_portion(0);
     for at in 0..rows.len() {
         let row = &rows[at];
+        if at > 0 && is_next(&rows[at - 1], row) {
+            portion.move_to(text, row.measurement.at as usize);
+        }
         if let Err(stop) = write_row(
-            alloc, dialect, text, room, row, parts, most, &mut taken, lines,
+            alloc, dialect, text, room, &portion, row, parts, most, &mut taken, lines,
         ) {
             return (at, stop);
         }

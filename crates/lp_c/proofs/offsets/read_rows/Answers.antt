@@ -9,6 +9,7 @@ loop-at-init c = record {
   within = c.requires.text.1;
   parts = omega (arith, c.requires.none.0);
   room = omega (arith, c.requires.none.1);
+  portion = c.no_portion-portion.ensures c.args.text.now;
   reads = rw (c.requires.none.0, c.requires.none.1) none;
 }
 
@@ -31,6 +32,7 @@ loop-at-preserved c =
       within = next.ensures.fits.0;
       parts = next.ensures.fits.1;
       room = next.ensures.fits.2;
+      portion = next.ensures.portion;
       reads = row_more (rules_of c.args.dialect) c.args.last c.args.text.now c.args.filled.now.spot was.room next.new.room was.rows was.parts
           next.new.parts was.filled next.new.filled was.at next.new.row next.result here next.ensures.grows next.ensures.kept
           (omega (arith, was.invariant.parts, next.ensures.size)) was.invariant.parts was.invariant.reads next.ensures.reads

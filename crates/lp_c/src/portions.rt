@@ -1,0 +1,123 @@
+//! Texts that lie in bytes, tested for UTF-8 many at a time.
+//!
+//! A test of a short text takes about as long as one of a hundred bytes. So a portion of the bytes is tested at once, and a text that lies
+//! in it is one if it begins and ends between two characters. It costs a test of bytes of which no text is taken: fewer than 4 KiB
+//! after the last one. If a portion is not UTF-8, each text in it is tested again, alone.
+
+ghost use Rattle.std.specs.Prelude.{◌≡◌, ◌+◌, ◌≤◌, List, ℕ, drop, length, take};
+ghost use Rattle.lp_c.specs.Portions.{IsPortionOf, IsTextOf};
+
+/// How many bytes are tested at once, if there are as many.
+const PORTION: usize = 4096;
+
+// Of a text with fewer bytes std's test is the fastest.
+const SHORT: usize = 64;
+
+/// A portion of bytes that was tested.
+#[derive(Clone, Copy)]
+pub(crate) struct Portion<'a> {
+    /// Where it begins.
+    pub(crate) from: usize,
+    /// Where it ends.
+    pub(crate) until: usize,
+    /// What it says.
+    pub(crate) text: &'a str,
+}
+
+/// A portion of no bytes, at this place.
+pub(crate) fn no_portion<'a>(at: usize) -> Portion<'a>
+    ensures { (bytes : List ℕ) → IsPortionOf bytes result }
+{
+    Portion {
+        from: at,
+        until: at,
+        text: "",
+    }
+}
+
+// The text that bytes are, if they are UTF-8. Std's test of a short text is made without a call of the other one.
+#[inline(always)]
+fn text_of(bytes: &[u8]) -> Option<&str>
+    ensures { IsTextOf bytes.now result }
+{
+    if bytes.len() < SHORT {
+        str::from_utf8(bytes).ok()
+    } else {
+        simdutf8::basic::from_utf8(bytes).ok()
+    }
+}
+
+// Whether a character goes on with this byte.
+fn goes_on(byte: u8) -> bool {
+    matches!(byte, 0x80..=0xBF)
+}
+
+// Where a portion ends that could end here: up to three bytes before, so that no character is cut, but not before the least end.
+fn end_before(bytes: &[u8], least: usize, most: usize) -> usize
+    requires { (least ≤ most) × (most ≤ length bytes.now) }
+    ensures { (least ≤ result) × (result ≤ most) }
+{
+    let mut end = most;
+    while least < end && most - end < 3 && end < bytes.len() && goes_on(bytes[end]) {
+        end -= 1;
+    }
+    end
+}
+
+// The portion from a place on, as far as the least end and some bytes further. If it is not UTF-8, it is none, at its end.
+#[inline(never)]
+fn portion_from(bytes: &[u8], from: usize, least: usize) -> Portion<'_>
+    requires { (from ≤ least) × (least ≤ length bytes.now) }
+    ensures { IsPortionOf bytes.now result }
+{
+    let most = from.saturating_add(PORTION).max(least).min(bytes.len());
+    let until = end_before(bytes, least, most);
+    let Some(text) = text_of(&bytes[from..until]) else {
+        return no_portion(until);
+    };
+    Portion { from, until, text }
+}
+
+impl<'a> Portion<'a> {
+    /// The text of so many bytes at a place, if they are UTF-8.
+    #[inline(always)]
+    pub(crate) fn text_at(&self, bytes: &'a [u8], at: usize, len: usize) -> Option<&'a str>
+        requires portion { IsPortionOf bytes.now self.now }
+        requires within { at + len ≤ length bytes.now }
+        ensures { IsTextOf (take len (drop at bytes.now)) result }
+    {
+        if self.from <= at {
+            let start = at - self.from;
+            if let Some(text) = self.text.get(start..start + len) {
+                // The proof takes from this call that a text is UTF-8.
+                let _bytes = text.as_bytes();
+                return Some(text);
+            }
+        }
+        text_of(&bytes[at..at + len])
+    }
+
+    /// The same. If it ends after this portion, the next one begins with it.
+    #[inline(always)]
+    pub(crate) fn next_text(&mut self, bytes: &'a [u8], at: usize, len: usize) -> Option<&'a str>
+        requires portion { IsPortionOf bytes.now self.old }
+        requires within { at + len ≤ length bytes.now }
+        ensures portion { IsPortionOf bytes.now self.new }
+        ensures text { IsTextOf (take len (drop at bytes.now)) result }
+    {
+        if self.until < at + len {
+            *self = portion_from(bytes, at, at + len);
+        }
+        self.text_at(bytes, at, len)
+    }
+
+    /// Begins the next portion at a place that this one does not reach.
+    pub(crate) fn move_to(&mut self, bytes: &'a [u8], at: usize)
+        requires { IsPortionOf bytes.now self.old }
+        ensures { IsPortionOf bytes.now self.new }
+    {
+        if self.until <= at && at <= bytes.len() {
+            *self = portion_from(bytes, at, at);
+        }
+    }
+}
