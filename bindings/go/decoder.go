@@ -2,8 +2,8 @@
 // github.com/influxdata/line-protocol/v2/lineprotocol, so a program over that package changes its import.
 //
 // What it does otherwise: a line is read as a whole, so a line with a fault gives none of its tags and fields, but the fault; each line
-// after it is read as ever. Raw gives a line as it came, Fault its fault. A line that is too long costs no memory beyond MaxLine. A line
-// is written only if it reads back as it was given, and then whole.
+// after it is read as ever. The parts of a line may be asked for in any order. Raw gives a line as it came, Fault its fault. A line that is
+// too long costs no memory beyond MaxLine. A line is written only if it reads back as it was given, and then whole.
 //
 // All that a Decoder gives are views of the memory of Go, as long as the next call of Next: copy what is to stay. No call takes memory once
 // a decoder or an encoder has what its longest lines need. One call of the library serves up to 512 lines. Each is for one goroutine;
@@ -421,6 +421,17 @@ func (d *Decoder) Timestamp() (number int64, ok bool) {
 		return 0, false
 	}
 	return int64(row.timestamp), row.has_timestamp != 0
+}
+
+// TimeBytes gives the number of the time as the line spells it, or nil if the line has none. Else it gives the fault of the line.
+func (d *Decoder) TimeBytes() ([]byte, error) {
+	row, err := d.current()
+	if err != nil || row.has_timestamp == 0 {
+		return nil, err
+	}
+	// Between the number and the end of such a line are spaces alone, and a space is before it.
+	line := bytes.TrimRight(d.view(row.piece, 0), " ")
+	return line[bytes.LastIndexByte(line, ' ')+1 : len(line) : len(line)], nil
 }
 
 // Time gives the time of the line, whose number is of this precision, or defaultTime if it has none. Else it gives the fault of the line,

@@ -7,6 +7,7 @@ import (
 	"io"
 	"math"
 	"reflect"
+	"strconv"
 	"strings"
 	"testing"
 	"testing/iotest"
@@ -242,8 +243,9 @@ func TestNoLine(t *testing.T) {
 		_, _, b := d.NextTag()
 		_, _, c := d.NextField()
 		_, e := d.Time(Second, time.Time{})
+		_, f := d.TimeBytes()
 		_, ok := d.Timestamp()
-		if a == nil || b == nil || c == nil || e == nil || ok || d.Raw() != nil || d.Line() != 0 || d.Fault() != nil {
+		if a == nil || b == nil || c == nil || e == nil || f == nil || ok || d.Raw() != nil || d.Line() != 0 || d.Fault() != nil {
 			t.Error("there is a line")
 		}
 	}
@@ -280,6 +282,34 @@ func TestTime(t *testing.T) {
 		at, err := d.Time(row.prec, now)
 		if err != row.err || err == nil && at.UnixNano() != row.nanos {
 			t.Errorf("%q: %v, %v", row.stamp, at, err)
+		}
+	}
+}
+
+// The number is given as it is spelled, and nothing beside it, whatever is before and after it.
+func TestTimeBytes(t *testing.T) {
+	for _, row := range []struct {
+		text, number string
+		dialect      Dialect
+	}{
+		{"m f=1i 5", "5", Crate}, {"m f=1i  -007  ", "-007", Crate}, {"m f=1i -0", "-0", Strict}, {"m s=\" 5\" 6 ", "6", NewlineDelimited},
+		{"m f=1i, 7", "7", Crate}, {"# c a=\"\nm f=1i 8", "8", Crate}, {"m s=\"\n 5\"  9", "9", Strict},
+		{"m f=1i 9223372036854775807", "9223372036854775807", Crate},
+	} {
+		d := NewDecoderWithBytes([]byte(row.text))
+		d.SetDialect(row.dialect)
+		d.Next()
+		number, err := d.TimeBytes()
+		at, _ := d.Time(Nanosecond, time.Time{})
+		read, _ := strconv.ParseInt(row.number, 10, 64)
+		if err != nil || string(number) != row.number || cap(number) != len(number) || at.UnixNano() != read {
+			t.Errorf("%q: %q, %v, %v", row.text, number, at, err)
+		}
+	}
+	d := NewDecoderWithBytes([]byte("m f=1i\nm f=1i 99999999999999999999\nm s=\" 5\""))
+	for row := 0; d.Next(); row++ {
+		if number, err := d.TimeBytes(); number != nil || (err != nil) != (row == 1) {
+			t.Errorf("row %d: %q, %v", row, number, err)
 		}
 	}
 }
@@ -324,6 +354,9 @@ func TestAllocations(t *testing.T) {
 			}
 			if item != 5 {
 				t.Fatal(item)
+			}
+			if number, _ := d.TimeBytes(); len(number) != 19 {
+				t.Fatalf("%q", number)
 			}
 		}
 	}
