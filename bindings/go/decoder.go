@@ -16,6 +16,7 @@ import "C"
 import (
 	"bytes"
 	"errors"
+	"fmt"
 	"io"
 	"math"
 	"strconv"
@@ -50,8 +51,8 @@ var units = [...]time.Duration{time.Nanosecond, time.Microsecond, time.Milliseco
 // Duration gives the unit as a duration.
 func (p Precision) Duration() time.Duration { return units[p] }
 
-// ErrTimeRange is of a time that no int64 of nanoseconds holds.
-var ErrTimeRange = errors.New("lineprotocol: the time is out of range")
+// ErrTimeRange is of a time that no int64 of nanoseconds holds. It is an ErrValueOutOfRange.
+var ErrTimeRange = fmt.Errorf("lineprotocol: the time is out of range: %w", ErrValueOutOfRange)
 
 // MaxLine is how many bytes a line may have that NewDecoder reads, if SetMaxLine says nothing else.
 const MaxLine = 16 << 20
@@ -79,6 +80,8 @@ type Decoder struct {
 	// The next tag and the next field of the row, and its fault.
 	tag, field int
 	fault      *DecodeError
+	// What NextFieldBytes has spelled of the line.
+	spelled []byte
 	// A piece that is too long is told, and passed over.
 	front   []byte
 	passing bool
@@ -98,7 +101,7 @@ func (d *Decoder) Reset(r io.Reader) {
 	if d.reader == nil {
 		buf = make([]byte, 64<<10)
 	}
-	*d = Decoder{reader: r, dialect: d.dialect, most: d.most, line: 1, buf: buf, block: d.block, row: -1}
+	*d = Decoder{reader: r, dialect: d.dialect, most: d.most, line: 1, buf: buf, block: d.block, row: -1, spelled: d.spelled}
 }
 
 // NewDecoderWithBytes makes a decoder that reads buf in place. It must stay as it is until all was read. No line is too long.
@@ -110,7 +113,7 @@ func NewDecoderWithBytes(buf []byte) *Decoder {
 
 // ResetBytes begins anew with other bytes, in the memory that the decoder has, by its dialect and its greatest length of a line.
 func (d *Decoder) ResetBytes(buf []byte) {
-	*d = Decoder{dialect: d.dialect, most: d.most, line: 1, buf: buf, end: len(buf), ended: true, block: d.block, row: -1}
+	*d = Decoder{dialect: d.dialect, most: d.most, line: 1, buf: buf, end: len(buf), ended: true, block: d.block, row: -1, spelled: d.spelled}
 }
 
 // SetDialect says by whose rules lines are read: Crate if it is not called. It comes before the first Next.
@@ -129,7 +132,7 @@ func (d *Decoder) Err() error { return d.err }
 
 // Next goes to the next line, also to one that has a fault. False: there is none, or the reader failed, as Err says.
 func (d *Decoder) Next() bool {
-	d.tag, d.field, d.fault, d.front = 0, 0, nil, nil
+	d.tag, d.field, d.fault, d.front, d.spelled = 0, 0, nil, nil, d.spelled[:0]
 	for {
 		row, end := d.row+1, d.taken
 		if row < d.rows {
@@ -397,6 +400,27 @@ func (d *Decoder) NextField() (key []byte, value Value, err error) {
 	part := &d.block.parts[int(row.parts_at)+int(row.tags)+d.field]
 	d.field++
 	return d.view(part.key, part.key_copied), d.value(part), nil
+}
+
+// NextFieldBytes gives the next field as NextField does, but its value in bytes, as NewValueFromBytes takes them: a string without quotes
+// and escapes, a float as it is spelled, and any other value as it is written, without the letter of an integer.
+func (d *Decoder) NextFieldBytes() (key []byte, kind ValueKind, value []byte, err error) {
+	row, err := d.current()
+	if err != nil || d.field == int(row.fields) {
+		return nil, Unknown, nil, err
+	}
+	part := &d.block.parts[int(row.parts_at)+int(row.tags)+d.field]
+	d.field++
+	key = d.view(part.key, part.key_copied)
+	switch part.kind {
+	case C.LP_FLOAT:
+		return key, Float, d.view(part.text, part.text_copied), nil
+	case C.LP_STRING:
+		return key, String, d.view(part.text, part.text_copied), nil
+	}
+	number, at := d.value(part), len(d.spelled)
+	d.spelled = number.appendNumber(d.spelled)
+	return key, number.kind, d.spelled[at:len(d.spelled):len(d.spelled)], nil
 }
 
 func (d *Decoder) value(part *C.lp_offset_part) Value {

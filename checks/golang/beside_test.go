@@ -239,7 +239,8 @@ func init() {
 			return d.cuts && d.dialect != lineprotocol.Crate && hasComment(d.raw) || !d.cuts && d.theirs == nil && d.words == "" && hasComment(d.raw)
 		}},
 		{"newline_in_string", func(d *difference) bool {
-			return d.cuts && d.dialect == lineprotocol.NewlineDelimited && !reflect.DeepEqual(pieces(d.raw, lineprotocol.Strict), pieces(d.raw, d.dialect))
+			return d.cuts && d.dialect == lineprotocol.NewlineDelimited &&
+				!reflect.DeepEqual(pieces(d.raw, lineprotocol.Strict), pieces(d.raw, d.dialect))
 		}},
 		// Lines that ParsePoints refuses.
 		{"hundred_tags", refused("panic", func(p *point) bool { return len(p.tags)%100 == 0 })},
