@@ -7,7 +7,8 @@
 #   checks/go_beside.sh --fuzz SECONDS [ARCHIVE]      then, for so long, also what Go's fuzzer makes of them, on GOMAXPROCS processors
 #
 # ARCHIVE: the library, by default crates/lp_c/out/liblp_c.a. The parser is built by Go without modules, without a network, from Debian's
-# golang-github-influxdb-influxdb-dev. If it or Go is missing, that is named, and the status is 0.
+# golang-github-influxdb-influxdb-dev, installed, or unpacked as checks/setup.sh does. If it or Go is missing, that is named, and the status
+# is 0.
 set -eu
 here=$(cd "$(dirname "$0")" && pwd)
 top=$(dirname "$here")
@@ -18,11 +19,12 @@ if [ "${1-}" = --fuzz ]; then
     shift 2
 fi
 archive=${1:-$top/crates/lp_c/out/liblp_c.a}
-sources=/usr/share/gocode
+sources=/usr/share/gocode:/usr/local/share/gocode
 if ! command -v go >/dev/null; then
     left_out checks/go_beside.sh "there is no go"
     exit 0
-elif [ ! -d "$sources/src/github.com/influxdata/influxdb/models" ]; then
+elif [ ! -d /usr/share/gocode/src/github.com/influxdata/influxdb/models ] &&
+    [ ! -d /usr/local/share/gocode/src/github.com/influxdata/influxdb/models ]; then
     left_out checks/go_beside.sh "there is no golang-github-influxdb-influxdb-dev"
     exit 0
 fi
