@@ -6,7 +6,7 @@
 #   checks/go_beside.sh [ARCHIVE]                     these texts
 #   checks/go_beside.sh --fuzz SECONDS [ARCHIVE]      then, for so long, also what Go's fuzzer makes of them, on GOMAXPROCS processors
 #
-# ARCHIVE: the library, by default crates/lp_c/out/liblp_c.a. The parser is built by Go without modules, without a network, from Debian's
+# ARCHIVE: the library; if none is named, it is made first. The parser is built by Go without modules, without a network, from Debian's
 # golang-github-influxdb-influxdb-dev, installed, or unpacked as checks/setup.sh does. If it or Go is missing, that is named, and the status
 # is 0.
 set -eu
@@ -18,7 +18,6 @@ if [ "${1-}" = --fuzz ]; then
     seconds=$2
     shift 2
 fi
-archive=${1:-$top/crates/lp_c/out/liblp_c.a}
 sources=/usr/share/gocode:/usr/local/share/gocode
 if ! command -v go >/dev/null; then
     left_out checks/go_beside.sh "there is no go"
@@ -28,6 +27,8 @@ elif [ ! -d /usr/share/gocode/src/github.com/influxdata/influxdb/models ] &&
     left_out checks/go_beside.sh "there is no golang-github-influxdb-influxdb-dev"
     exit 0
 fi
+[ $# != 0 ] || "$top/bindings/build.sh" >/dev/null
+archive=${1:-$top/crates/lp_c/out/liblp_c.a}
 built=$(mktemp -d)
 trap 'chmod -R u+w "$built"; rm -rf "$built"' EXIT
 cp "$archive" "$built/liblp_c.a"

@@ -432,6 +432,9 @@ func TestAllocations(t *testing.T) {
 			for key, _, _ := d.NextTag(); key != nil; key, _, _ = d.NextTag() {
 				item++
 			}
+			for kind := Unknown; kind != Int; item++ {
+				_, kind, _, _ = d.NextFieldBytes()
+			}
 			for key, _, _ := d.NextField(); key != nil; key, _, _ = d.NextField() {
 				item++
 			}
