@@ -48,7 +48,7 @@ cd "$built/path/src/beside"
 # Runs a test, and shows what it says only if it fails.
 try() {
     if ! go "$@" >"$built/log" 2>&1; then
-        grep -v -e '--- PASS' -e '=== RUN' "$built/log" | tail -n 40 | cut -c 1-2000 >&2
+        grep -a -v -e '--- PASS' -e '=== RUN' "$built/log" | head -n 40 | cut -c 1-2000 >&2
         echo "go_beside: go $* failed" >&2
         exit 1
     fi

@@ -172,7 +172,7 @@ func (d *difference) String() string {
 	if d.cuts {
 		return fmt.Sprintf("dialect %d: ParsePoints reads %q otherwise than line by line", d.dialect, d.raw)
 	}
-	return fmt.Sprintf("dialect %d: %q is %v, %v; by ParsePoints %v, %s", d.dialect, d.raw, d.ours, d.fault, d.theirs, d.words)
+	return fmt.Sprintf("dialect %d: %q is %q, %q; by ParsePoints %q, %q", d.dialect, d.raw, d.ours, d.fault, d.theirs, d.words)
 }
 
 // differences compares what both make of a text.
