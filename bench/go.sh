@@ -19,7 +19,7 @@ cp "$archive" "$built/liblp_c.a"
 mkdir -p "$built/path/src/influxdb_line_protocol" "$built/path/src/golang"
 cp -r "$top/bindings/go" "$built/path/src/influxdb_line_protocol/lineprotocol"
 cp "$here/golang/main.go" "$built/path/src/golang/"
-export GO111MODULE=off GOPATH=$built/path:/usr/share/gocode GOCACHE=$built/cache GOMAXPROCS=1
+export GO111MODULE=off GOPATH=$built/path:/usr/share/gocode:/usr/local/share/gocode GOCACHE=$built/cache GOMAXPROCS=1
 export CGO_CFLAGS="-O2 -I$top/include -I$top/bindings/c" CGO_LDFLAGS="-L$built"
 go build -tags lp_lib_dir -o "$built/times" golang
 "$built/times" "$@"

@@ -3,8 +3,9 @@
 #
 #   checks/long.sh [SECONDS]    what is installed; a relay of more than 2^32 bytes; the tables and the shell lines of docs/INTEROP.md;
 #                               relays by Slurm and by ssh; columns by Dask; the tests of the Python package under the address
-#                               sanitizer; the fuzzer for so many seconds, 600 if none are given; a million generated texts, compared
-#                               with the Rust crate; and the wrong bodies of checks/bodies/
+#                               sanitizer; the fuzzer for so many seconds, 600 if none are given; the Go module beside ParsePoints, by
+#                               Go's fuzzer for a minute; a million generated texts, compared with the Rust crate; and the wrong bodies
+#                               of checks/bodies/
 set -eu
 here=$(cd "$(dirname "$0")" && pwd)
 "$here/dist.sh"
@@ -17,5 +18,6 @@ relay=$here/../crates/lp_relay_program/out/lp_relay_program
 "$here/dask.sh"
 WATCHED=1 "$here/../bindings/python/test.sh"
 "$here/fuzz.sh" "${1:-600}"
+"$here/go_beside.sh" --fuzz 60
 "$here/differential.sh" 1000000
 "$here/bodies.sh"

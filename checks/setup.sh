@@ -6,15 +6,20 @@
 #
 # --engines: also what checks/engines.sh and checks/dask.sh use, which the test command does not run.
 # It takes root and apt-get to install. The crates, of packages librust-*, are for bindings/rust/test.sh where crates.io is out of
-# reach.
+# reach. Of golang-github-influxdb-influxdb-dev the sources alone are unpacked, for checks/go_beside.sh: they take 8 MB, and what the
+# package depends on, and their parser does not use, takes 450.
 set -eu
 PATH=$PATH:/usr/sbin
 packages=(gcc g++ git valgrind strace bsdutils dash python3 python3-dev python3-venv python3-numpy python3-pandas mypy cargo librust-bytes-dev
-    librust-nom-dev librust-smallvec-dev golang-go shellcheck man-db groff mandoc)
+    librust-nom-dev librust-smallvec-dev golang-go golang-github-influxdb-influxdb-dev shellcheck man-db groff
+    mandoc)
 if [ "${1-}" = --engines ]; then
     packages+=(slurm-wlm munge parallel openssh-client openssh-server python3-distributed)
     shift
 fi
+
+# Where the parser of InfluxDB 1.x is, within /usr/share or /usr/local/share.
+parser=gocode/src/github.com/influxdata/influxdb/models
 
 # Tells whether a Python that bindings/python/test.sh runs can import a module.
 can_import() {
@@ -32,6 +37,7 @@ is_here() {
     gcc) command -v cc ;;
     bsdutils) command -v script ;;
     golang-go) command -v go ;;
+    golang-github-influxdb-influxdb-dev) compgen -G "/usr/share/$parser" || compgen -G "/usr/local/share/$parser" ;;
     man-db) command -v man ;;
     slurm-wlm) command -v slurmctld && command -v slurmd && command -v sbatch ;;
     munge) command -v munged ;;
@@ -68,12 +74,29 @@ get() {
     }
 }
 
+# Unpacks the Go sources of a package into /usr/local/share/gocode.
+unpack() {
+    local folder
+    folder=$(mktemp -d)
+    (cd "$folder" && get download "$1" && dpkg -x ./*.deb . && mkdir -p /usr/local/share/gocode &&
+        cp -a usr/share/gocode/src /usr/local/share/gocode) ||
+        echo "setup: $1 was not unpacked"
+    rm -rf "$folder"
+}
+
 # Installs what is lacking: in one run of apt-get, and where that fails, each package in a run of its own.
 install() {
-    local package
+    local package rest=()
     get update || true
-    get install --no-install-recommends "${lacking[@]}" && return
     for package in "${lacking[@]}"; do
+        case $package in
+        golang-github-influxdb-influxdb-dev) unpack "$package" ;;
+        *) rest+=("$package") ;;
+        esac
+    done
+    [ ${#rest[@]} != 0 ] || return 0
+    get install --no-install-recommends "${rest[@]}" && return
+    for package in "${rest[@]}"; do
         get install --no-install-recommends "$package" || true
     done
 }

@@ -2,8 +2,8 @@
 // github.com/influxdata/line-protocol/v2/lineprotocol, so a program over that package changes its import.
 //
 // What it does otherwise: a line is read as a whole, so a line with a fault gives none of its tags and fields, but the fault; each line
-// after it is read as ever. Raw gives a line as it came, Fault its fault. A line that is too long costs no memory beyond MaxLine. A line
-// is written only if it reads back as it was given, and then whole.
+// after it is read as ever. The parts of a line may be asked for in any order. Raw gives a line as it came, Fault its fault. A line that is
+// too long costs no memory beyond MaxLine. A line is written only if it reads back as it was given, and then whole.
 //
 // All that a Decoder gives are views of the memory of Go, as long as the next call of Next: copy what is to stay. No call takes memory once
 // a decoder or an encoder has what its longest lines need. One call of the library serves up to 512 lines. Each is for one goroutine;
@@ -16,6 +16,7 @@ import "C"
 import (
 	"bytes"
 	"errors"
+	"fmt"
 	"io"
 	"math"
 	"strconv"
@@ -50,8 +51,8 @@ var units = [...]time.Duration{time.Nanosecond, time.Microsecond, time.Milliseco
 // Duration gives the unit as a duration.
 func (p Precision) Duration() time.Duration { return units[p] }
 
-// ErrTimeRange is of a time that no int64 of nanoseconds holds.
-var ErrTimeRange = errors.New("lineprotocol: the time is out of range")
+// ErrTimeRange is of a time that no int64 of nanoseconds holds. It is an ErrValueOutOfRange.
+var ErrTimeRange = fmt.Errorf("lineprotocol: the time is out of range: %w", ErrValueOutOfRange)
 
 // MaxLine is how many bytes a line may have that NewDecoder reads, if SetMaxLine says nothing else.
 const MaxLine = 16 << 20
@@ -79,6 +80,8 @@ type Decoder struct {
 	// The next tag and the next field of the row, and its fault.
 	tag, field int
 	fault      *DecodeError
+	// What NextFieldBytes has spelled of the line.
+	spelled []byte
 	// A piece that is too long is told, and passed over.
 	front   []byte
 	passing bool
@@ -98,7 +101,7 @@ func (d *Decoder) Reset(r io.Reader) {
 	if d.reader == nil {
 		buf = make([]byte, 64<<10)
 	}
-	*d = Decoder{reader: r, dialect: d.dialect, most: d.most, line: 1, buf: buf, block: d.block, row: -1}
+	*d = Decoder{reader: r, dialect: d.dialect, most: d.most, line: 1, buf: buf, block: d.block, row: -1, spelled: d.spelled}
 }
 
 // NewDecoderWithBytes makes a decoder that reads buf in place. It must stay as it is until all was read. No line is too long.
@@ -110,7 +113,7 @@ func NewDecoderWithBytes(buf []byte) *Decoder {
 
 // ResetBytes begins anew with other bytes, in the memory that the decoder has, by its dialect and its greatest length of a line.
 func (d *Decoder) ResetBytes(buf []byte) {
-	*d = Decoder{dialect: d.dialect, most: d.most, line: 1, buf: buf, end: len(buf), ended: true, block: d.block, row: -1}
+	*d = Decoder{dialect: d.dialect, most: d.most, line: 1, buf: buf, end: len(buf), ended: true, block: d.block, row: -1, spelled: d.spelled}
 }
 
 // SetDialect says by whose rules lines are read: Crate if it is not called. It comes before the first Next.
@@ -129,7 +132,7 @@ func (d *Decoder) Err() error { return d.err }
 
 // Next goes to the next line, also to one that has a fault. False: there is none, or the reader failed, as Err says.
 func (d *Decoder) Next() bool {
-	d.tag, d.field, d.fault, d.front = 0, 0, nil, nil
+	d.tag, d.field, d.fault, d.front, d.spelled = 0, 0, nil, nil, d.spelled[:0]
 	for {
 		row, end := d.row+1, d.taken
 		if row < d.rows {
@@ -399,6 +402,27 @@ func (d *Decoder) NextField() (key []byte, value Value, err error) {
 	return d.view(part.key, part.key_copied), d.value(part), nil
 }
 
+// NextFieldBytes gives the next field as NextField does, but its value in bytes, as NewValueFromBytes takes them: a string without quotes
+// and escapes, a float as it is spelled, and any other value as it is written, without the letter of an integer.
+func (d *Decoder) NextFieldBytes() (key []byte, kind ValueKind, value []byte, err error) {
+	row, err := d.current()
+	if err != nil || d.field == int(row.fields) {
+		return nil, Unknown, nil, err
+	}
+	part := &d.block.parts[int(row.parts_at)+int(row.tags)+d.field]
+	d.field++
+	key = d.view(part.key, part.key_copied)
+	switch part.kind {
+	case C.LP_FLOAT:
+		return key, Float, d.view(part.text, part.text_copied), nil
+	case C.LP_STRING:
+		return key, String, d.view(part.text, part.text_copied), nil
+	}
+	number, at := d.value(part), len(d.spelled)
+	d.spelled = number.appendNumber(d.spelled)
+	return key, number.kind, d.spelled[at:len(d.spelled):len(d.spelled)], nil
+}
+
 func (d *Decoder) value(part *C.lp_offset_part) Value {
 	switch part.kind {
 	case C.LP_INTEGER:
@@ -421,6 +445,17 @@ func (d *Decoder) Timestamp() (number int64, ok bool) {
 		return 0, false
 	}
 	return int64(row.timestamp), row.has_timestamp != 0
+}
+
+// TimeBytes gives the number of the time as the line spells it, or nil if the line has none. Else it gives the fault of the line.
+func (d *Decoder) TimeBytes() ([]byte, error) {
+	row, err := d.current()
+	if err != nil || row.has_timestamp == 0 {
+		return nil, err
+	}
+	// Between the number and the end of such a line are spaces alone, and a space is before it.
+	line := bytes.TrimRight(d.view(row.piece, 0), " ")
+	return line[bytes.LastIndexByte(line, ' ')+1 : len(line) : len(line)], nil
 }
 
 // Time gives the time of the line, whose number is of this precision, or defaultTime if it has none. Else it gives the fault of the line,

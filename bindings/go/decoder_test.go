@@ -7,6 +7,7 @@ import (
 	"io"
 	"math"
 	"reflect"
+	"strconv"
 	"strings"
 	"testing"
 	"testing/iotest"
@@ -69,7 +70,7 @@ var texts = []struct {
 	}},
 	// A newline within a string: one line in two dialects.
 	{"m s=\"a\nb\"\nn f=1i", [3][]string{
-		0: {`1 "m s=\"a\nb\"" "m" "s"="a\nb"`, `3 "n f=1i" "n" "f"=1i`},
+		0: {`1 "m s=\"a\nb\"" "m" "s"="a` + "\n" + `b"`, `3 "n f=1i" "n" "f"=1i`},
 		2: {
 			`1 "m s=\"a" at line 1:5: No fields were provided`,
 			`2 "b\"" at line 2:3: A generic parsing error occurred: TakeWhile1`,
@@ -242,8 +243,9 @@ func TestNoLine(t *testing.T) {
 		_, _, b := d.NextTag()
 		_, _, c := d.NextField()
 		_, e := d.Time(Second, time.Time{})
+		_, f := d.TimeBytes()
 		_, ok := d.Timestamp()
-		if a == nil || b == nil || c == nil || e == nil || ok || d.Raw() != nil || d.Line() != 0 || d.Fault() != nil {
+		if a == nil || b == nil || c == nil || e == nil || f == nil || ok || d.Raw() != nil || d.Line() != 0 || d.Fault() != nil {
 			t.Error("there is a line")
 		}
 	}
@@ -284,6 +286,34 @@ func TestTime(t *testing.T) {
 	}
 }
 
+// The number is given as it is spelled, and nothing beside it, whatever is before and after it.
+func TestTimeBytes(t *testing.T) {
+	for _, row := range []struct {
+		text, number string
+		dialect      Dialect
+	}{
+		{"m f=1i 5", "5", Crate}, {"m f=1i  -007  ", "-007", Crate}, {"m f=1i -0", "-0", Strict}, {"m s=\" 5\" 6 ", "6", NewlineDelimited},
+		{"m f=1i, 7", "7", Crate}, {"# c a=\"\nm f=1i 8", "8", Crate}, {"m s=\"\n 5\"  9", "9", Strict},
+		{"m f=1i 9223372036854775807", "9223372036854775807", Crate},
+	} {
+		d := NewDecoderWithBytes([]byte(row.text))
+		d.SetDialect(row.dialect)
+		d.Next()
+		number, err := d.TimeBytes()
+		at, _ := d.Time(Nanosecond, time.Time{})
+		read, _ := strconv.ParseInt(row.number, 10, 64)
+		if err != nil || string(number) != row.number || cap(number) != len(number) || at.UnixNano() != read {
+			t.Errorf("%q: %q, %v, %v", row.text, number, at, err)
+		}
+	}
+	d := NewDecoderWithBytes([]byte("m f=1i\nm f=1i 99999999999999999999\nm s=\" 5\""))
+	for row := 0; d.Next(); row++ {
+		if number, err := d.TimeBytes(); number != nil || (err != nil) != (row == 1) {
+			t.Errorf("row %d: %q, %v", row, number, err)
+		}
+	}
+}
+
 func TestValues(t *testing.T) {
 	for _, x := range []interface{}{int64(math.MinInt64), uint64(math.MaxUint64), 1.5, true, false, "a\"b", ""} {
 		v, ok := NewValue(x)
@@ -299,13 +329,96 @@ func TestValues(t *testing.T) {
 	if v, _ := NewValue([]byte("ab")); v.Kind() != String || string(v.BytesV()) != "ab" || v.Equal(IntValue(1)) || v.Kind().String() != "string" {
 		t.Error(v)
 	}
+	for _, x := range []interface{}{"\xff", []byte("\xff")} {
+		if v, ok := NewValue(x); ok {
+			t.Errorf("%q is %v", x, v)
+		}
+	}
+	mustPanic(t, func() { MustNewValue(5) })
+	if v := MustNewValue(int64(5)); !v.Equal(IntValue(5)) {
+		t.Error(v)
+	}
+	mustPanic(t, func() { MustNewValue("1").IntV() })
+}
+
+func mustPanic(t *testing.T, call func()) {
+	t.Helper()
 	defer func() {
 		if recover() == nil {
-			t.Error("a string is an integer")
+			t.Error("it does not panic")
 		}
 	}()
-	v, _ := StringValue("1")
-	v.IntV()
+	call()
+}
+
+// A field in bytes is the same value, and is written as it was; the bytes of a line are there until the next one.
+func TestFieldBytes(t *testing.T) {
+	text := []byte("m a=007i,b=-0,c=1.50e3,d=T,e=\"x \\\"y\\\\\",f=18446744073709551615u,g=\"\"\nx\nm a=1i")
+	d, values := NewDecoderWithBytes(text), NewDecoderWithBytes(text)
+	wanted := [][]string{{"7", "-0", "1.50e3", "true", `x "y\`, "18446744073709551615", ""}, nil, {"1"}}
+	written := [][]string{{"7i", "-0", "1500", "true", `"x \"y\\"`, "18446744073709551615u", `""`}, nil, {"1i"}}
+	for line := 0; d.Next() && values.Next(); line++ {
+		var all [][]byte
+		for {
+			key, kind, data, err := d.NextFieldBytes()
+			_, value, _ := values.NextField()
+			if (err != nil) != (line == 1) {
+				t.Errorf("line %d: %v", line, err)
+			}
+			if key == nil {
+				break
+			}
+			made, err := NewValueFromBytes(kind, data)
+			if err != nil || !made.Equal(value) || made.String() != written[line][len(all)] {
+				t.Errorf("%s %s %q: %v, %v", key, kind, data, made, err)
+			}
+			all = append(all, data)
+		}
+		for i, data := range all {
+			if string(data) != wanted[line][i] || len(all) != len(wanted[line]) {
+				t.Errorf("line %d: %q", line, all)
+			}
+		}
+	}
+}
+
+// Bytes of no value, and numbers out of range, also as faults of a line and as its time.
+func TestValueErrors(t *testing.T) {
+	for _, row := range []struct {
+		kind ValueKind
+		data string
+		err  error
+	}{
+		{Int, "9223372036854775808", ErrValueOutOfRange}, {Uint, "18446744073709551616", ErrValueOutOfRange},
+		{Float, "1e999", ErrValueOutOfRange}, {Int, "1i", errNotAValue}, {Uint, "-1", errNotAValue}, {Float, "nan", errNotAValue},
+		{Float, "", errNotAValue}, {Bool, "yes", errNotAValue}, {String, "\xff", errNotAValue}, {Unknown, "1", errKind},
+	} {
+		if v, err := NewValueFromBytes(row.kind, []byte(row.data)); err != row.err || v.Kind() != Unknown {
+			t.Errorf("%s %q: %v, %v", row.kind, row.data, v, err)
+		}
+	}
+	text := "m f=9223372036854775808i\nm f=18446744073709551616u\nm f=1 9223372036854775808\nm f=\nm f=1 9223372036854775807"
+	d := NewDecoderWithBytes([]byte(text))
+	for line := 1; d.Next(); line++ {
+		_, err := d.Time(Second, time.Time{})
+		if errors.Is(err, ErrValueOutOfRange) != (line != 4) || err == nil {
+			t.Errorf("line %d: %v", line, err)
+		}
+	}
+}
+
+func TestKindNames(t *testing.T) {
+	for kind := String; kind <= Bool; kind++ {
+		var read ValueKind
+		name, err := kind.MarshalText()
+		if err != nil || string(name) != kind.String() || read.UnmarshalText(name) != nil || read != kind {
+			t.Errorf("%v: %q, %v, %v", kind, name, err, read)
+		}
+	}
+	read := Int
+	if _, err := Unknown.MarshalText(); err == nil || read.UnmarshalText([]byte("unknown")) == nil || read != Int {
+		t.Error("an unknown kind has a name")
+	}
 }
 
 // No memory is taken for a line, once the decoder has what the longest ones need.
@@ -319,11 +432,17 @@ func TestAllocations(t *testing.T) {
 			for key, _, _ := d.NextTag(); key != nil; key, _, _ = d.NextTag() {
 				item++
 			}
+			for kind := Unknown; kind != Int; item++ {
+				_, kind, _, _ = d.NextFieldBytes()
+			}
 			for key, _, _ := d.NextField(); key != nil; key, _, _ = d.NextField() {
 				item++
 			}
 			if item != 5 {
 				t.Fatal(item)
+			}
+			if number, _ := d.TimeBytes(); len(number) != 19 {
+				t.Fatalf("%q", number)
 			}
 		}
 	}

@@ -45,6 +45,15 @@ func (e *DecodeError) Error() string {
 // Unwrap gives the words alone.
 func (e *DecodeError) Unwrap() error { return e.Err }
 
+// Is tells whether the fault is this error: ErrValueOutOfRange, if a number is out of its range.
+func (e *DecodeError) Is(target error) bool {
+	switch e.Kind {
+	case IntegerValueInvalid, UintegerValueInvalid, TimestampValueInvalid:
+		return target == ErrValueOutOfRange
+	}
+	return false
+}
+
 // The words of a fault, which the library is asked for once they are read.
 type faultText struct {
 	piece   []byte

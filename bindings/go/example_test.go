@@ -58,6 +58,17 @@ func ExampleDecoder() {
 	//  at line 2:4: No fields were provided
 }
 
+func ExampleDecoder_TimeBytes() {
+	d := lineprotocol.NewDecoder(strings.NewReader("cpu usage=64i 0005\ncpu usage=65i\n"))
+	for d.Next() {
+		number, err := d.TimeBytes()
+		fmt.Printf("%q %v\n", number, err)
+	}
+	// Output:
+	// "0005" <nil>
+	// "" <nil>
+}
+
 func ExampleEncoder() {
 	var e lineprotocol.Encoder
 	e.SetPrecision(lineprotocol.Second)

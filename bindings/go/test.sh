@@ -1,6 +1,7 @@
 #!/usr/bin/env bash
 # Tests the Go package of this folder over the static library of crates/lp_c: its own tests, the table of answers and its examples, as they
-# are, beside the race detector, and with each pointer watched that goes to C; and looks at it by gofmt and vet.
+# are, beside the race detector, and with each pointer watched that goes to C; looks at it by gofmt and vet; and compares it with ParsePoints
+# by checks/go_beside.sh.
 #
 #     bindings/go/test.sh             makes the archive first
 #     bindings/go/test.sh ARCHIVE     takes one that was made before
@@ -28,7 +29,7 @@ try() {
         exit 1
     fi
 }
-unformatted=$(gofmt -l .)
+unformatted=$(gofmt -l . "$top/checks/golang" "$top/bench/golang")
 if [ -n "$unformatted" ]; then
     echo "go: gofmt lays these files out otherwise: $unformatted" >&2
     exit 1
@@ -48,3 +49,4 @@ else
 fi
 echo "go: $answers"
 echo "go: $tests tests and examples passed, also watched by $watched, with $(go version | cut -d ' ' -f 3)"
+"$top/checks/go_beside.sh" "$built/liblp_c.a"

@@ -2,9 +2,11 @@ package lineprotocol
 
 import (
 	"bytes"
+	"errors"
 	"fmt"
 	"math"
 	"strconv"
+	"unicode/utf8"
 )
 
 // ValueKind is what a value is.
@@ -29,6 +31,27 @@ func (k ValueKind) String() string {
 	return kindNames[Unknown]
 }
 
+// MarshalText gives the name of the kind. An unknown kind is an error.
+func (k ValueKind) MarshalText() ([]byte, error) {
+	if k == Unknown || int(k) >= len(kindNames) {
+		return nil, errKind
+	}
+	return []byte(kindNames[k]), nil
+}
+
+// UnmarshalText takes the kind of this name.
+func (k *ValueKind) UnmarshalText(name []byte) error {
+	for kind := String; kind <= Bool; kind++ {
+		if kindNames[kind] == string(name) {
+			*k = kind
+			return nil
+		}
+	}
+	return errKind
+}
+
+var errKind = errors.New("lineprotocol: an unknown kind of value")
+
 // Value is the value of a field. A string that was read is a view of the decoder's memory, until Next is called.
 type Value struct {
 	number uint64
@@ -36,8 +59,8 @@ type Value struct {
 	kind   ValueKind
 }
 
-// NewValue makes a value of a Go value: int64, uint64, float64, bool, string or []byte. False: it is of another type, or a float that line
-// protocol has no text for.
+// NewValue makes a value of a Go value: int64, uint64, float64, bool, string or []byte, which is copied. False: it is of another type, a
+// float that line protocol has no text for, or a string that is not UTF-8.
 func NewValue(x interface{}) (Value, bool) {
 	switch x := x.(type) {
 	case int64:
@@ -51,9 +74,72 @@ func NewValue(x interface{}) (Value, bool) {
 	case string:
 		return StringValue(x)
 	case []byte:
-		return Value{kind: String, bytes: x}, true
+		return StringValue(string(x))
 	}
 	return Value{}, false
+}
+
+// MustNewValue makes the same, and panics where NewValue gives false.
+func MustNewValue(x interface{}) Value {
+	v, ok := NewValue(x)
+	if !ok {
+		panic(fmt.Sprintf("lineprotocol: no value is made of %#v", x))
+	}
+	return v
+}
+
+// ErrValueOutOfRange is of a number that is out of the range of its kind. A DecodeError is it too where such a number is its fault.
+var ErrValueOutOfRange = errors.New("lineprotocol: the number is out of range")
+
+var errNotAValue = errors.New("lineprotocol: the bytes are no value of this kind")
+
+// NewValueFromBytes makes a value of this kind from bytes as NextFieldBytes gives them: a number without the letter after it, or a string
+// without quotes and escapes, which is not copied. It gives ErrValueOutOfRange where the number is too great or too small.
+func NewValueFromBytes(kind ValueKind, data []byte) (v Value, err error) {
+	v.kind = kind
+	switch kind {
+	case Int:
+		var number int64
+		number, err = strconv.ParseInt(string(data), 10, 64)
+		v.number = uint64(number)
+	case Uint:
+		v.number, err = strconv.ParseUint(string(data), 10, 64)
+	case Float:
+		var number float64
+		number, err = strconv.ParseFloat(string(data), 64)
+		v.number = math.Float64bits(number)
+		if err == nil && (math.IsNaN(number) || math.IsInf(number, 0)) {
+			err = errNotAValue
+		}
+	case Bool:
+		v.number, err = boolOf(data)
+	case String:
+		v.bytes = data
+		if !utf8.Valid(data) {
+			err = errNotAValue
+		}
+	default:
+		err = errKind
+	}
+	if errors.Is(err, strconv.ErrRange) {
+		err = ErrValueOutOfRange
+	} else if err != nil && err != errKind {
+		err = errNotAValue
+	}
+	if err != nil {
+		v = Value{}
+	}
+	return v, err
+}
+
+func boolOf(data []byte) (uint64, error) {
+	switch string(data) {
+	case "t", "T", "true", "True", "TRUE":
+		return 1, nil
+	case "f", "F", "false", "False", "FALSE":
+		return 0, nil
+	}
+	return 0, errNotAValue
 }
 
 // IntValue makes a signed integer.
@@ -75,8 +161,10 @@ func BoolValue(x bool) Value {
 	return Value{kind: Bool}
 }
 
-// StringValue makes a string.
-func StringValue(x string) (Value, bool) { return Value{kind: String, bytes: []byte(x)}, true }
+// StringValue makes a string. False: it is not UTF-8.
+func StringValue(x string) (Value, bool) {
+	return Value{kind: String, bytes: []byte(x)}, utf8.ValidString(x)
+}
 
 // Kind tells what the value is.
 func (v Value) Kind() ValueKind { return v.kind }
@@ -127,19 +215,40 @@ func (v Value) Equal(other Value) bool {
 	return v.kind == other.kind && v.number == other.number && bytes.Equal(v.bytes, other.bytes)
 }
 
-// String shows the value: a string within quotes, and a number as line protocol has it.
-func (v Value) String() string {
+// String gives the value as line protocol has it.
+func (v Value) String() string { return string(v.AppendBytes(nil)) }
+
+// AppendBytes appends the value as line protocol has it: a string within quotes and with escapes, an integer with its letter.
+func (v Value) AppendBytes(dst []byte) []byte {
 	switch v.kind {
 	case Int:
-		return strconv.FormatInt(v.IntV(), 10) + "i"
+		return append(v.appendNumber(dst), 'i')
 	case Uint:
-		return strconv.FormatUint(v.UintV(), 10) + "u"
-	case Float:
-		return strconv.FormatFloat(v.FloatV(), 'g', -1, 64)
-	case Bool:
-		return strconv.FormatBool(v.BoolV())
+		return append(v.appendNumber(dst), 'u')
 	case String:
-		return strconv.Quote(v.StringV())
+		dst = append(dst, '"')
+		for _, char := range v.bytes {
+			if char == '"' || char == '\\' {
+				dst = append(dst, '\\')
+			}
+			dst = append(dst, char)
+		}
+		return append(dst, '"')
 	}
-	return kindNames[Unknown]
+	return v.appendNumber(dst)
+}
+
+// appendNumber appends a value that is no string, without the letter of an integer.
+func (v Value) appendNumber(dst []byte) []byte {
+	switch v.kind {
+	case Int:
+		return strconv.AppendInt(dst, v.IntV(), 10)
+	case Uint:
+		return strconv.AppendUint(dst, v.UintV(), 10)
+	case Float:
+		return strconv.AppendFloat(dst, v.FloatV(), 'g', -1, 64)
+	case Bool:
+		return strconv.AppendBool(dst, v.BoolV())
+	}
+	return append(dst, kindNames[Unknown]...)
 }
