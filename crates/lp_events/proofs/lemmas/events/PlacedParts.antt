@@ -130,6 +130,7 @@ unfolding string_at
 string_placed [] = none_placed []
 string_placed (b ∷ after) = go (b == quote && nat_lt n (length after)) refl
   where
+    -- how many bytes come before the quote that closes it
     n : ℕ
     n = body_len after
 
