@@ -181,6 +181,7 @@ fn put_line(
     requires line { length line.now < 2 ^ 63 }
     requires piece { piece.at + piece.len < 2 ^ 32 }
     requires parts { length parts.old < 2 ^ 32 }
+    requires small { length room.old < 2 ^ 32 }
     ensures size { length parts.new ≡ length parts.old }
     ensures grows { Grows room.old used room.new result.2 }
     ensures piece { (row.new.piece ≡ row.old.piece) × (row.new.line ≡ row.old.line) × (row.new.parts_at ≡ row.old.parts_at) }
@@ -269,6 +270,7 @@ fn put_row(
     requires item { IsItemIn text.now piece item }
     requires piece { piece.at + piece.len < 2 ^ 32 }
     requires parts { before + length parts.old < 2 ^ 32 }
+    requires small { length room.old < 2 ^ 32 }
     ensures size { length parts.new ≡ length parts.old }
     ensures grows { Grows room.old used room.new result.2 }
     ensures placed { IsPlaced piece number before row.new }
@@ -311,6 +313,7 @@ fn read_row<'a>(
     requires text { (length text.now < 2 ^ 32) × (filled.old.spot.at ≤ length text.now) }
     requires parts { (length parts.old < 2 ^ 32) × (filled.old.parts ≤ length parts.old) }
     requires room { filled.old.room ≤ length room.old }
+    requires small { length room.old < 2 ^ 32 }
     requires portion { IsPortionOf text.now portion.old }
     ensures portion { IsPortionOf text.now portion.new }
     ensures size { length parts.new ≡ length parts.old }
@@ -369,6 +372,7 @@ fn read_rows(
     requires text { (length text.now < 2 ^ 32) × (filled.old.spot.at ≤ length text.now) }
     requires none { (filled.old.parts ≡ 0) × (filled.old.room ≡ 0) }
     requires parts { length parts.old < 2 ^ 32 }
+    requires small { length room.old < 2 ^ 32 }
     ensures fits { (filled.new.spot.at ≤ length text.now) × (filled.new.parts ≤ length parts.new) × (filled.new.room ≤ length room.new) }
     ensures count { result.0 ≤ length rows.new }
     ensures size { length rows.new ≡ length rows.old }

@@ -3,12 +3,12 @@
 //! A slice has no place in the text that it is a part of. So a place is reckoned from the lengths of the parts before it, and taken
 //! only if the bytes there are those that were told: else they are put into the room.
 
-ghost use Rattle.std.specs.Prelude.{◌≡◌, ◌<◌, ◌≤◌, ◌+◌, ◌^◌, drop, take, length, None, Some, IfSome};
+ghost use Rattle.std.specs.Prelude.{◌≡◌, ◌<◌, ◌≤◌, ◌+◌, ◌^◌, drop, take, length, None, Some, IfNone, IfSome};
 ghost use Rattle.influxdb_line_protocol.specs.code.Events.{spelled_field, spelled_tag};
 ghost use Rattle.influxdb_line_protocol.specs.code.SpelledParts.{spelled_text};
 ghost use Rattle.influxdb_line_protocol.specs.format.Lines.{logical_field, logical_tag};
 ghost use Rattle.lp_c.specs.Numbers.{kind_number};
-ghost use Rattle.lp_c.specs.Offsets.{bytes_at, field_at, tag_at};
+ghost use Rattle.lp_c.specs.Offsets.{bytes_at, field_at, field_len, tag_at, tag_len};
 ghost use Rattle.lp_c.specs.Rooms.{Grows, Shows};
 
 use crate::lent::shared;
@@ -60,7 +60,8 @@ pub(crate) const NOWHERE: Placed = Placed {
 // So many bytes from a place on, if 32 bits hold both numbers.
 #[inline(always)]
 fn span_of(at: usize, len: usize) -> Option<Span>
-    ensures { IfSome result (λ span. (span.at ≡ at) × (span.len ≡ len) × (at + len < 2 ^ 33)) }
+    ensures some { IfSome result (λ span. (span.at ≡ at) × (span.len ≡ len) × (at + len < 2 ^ 33)) }
+    ensures none { IfNone result (2 ^ 32 ≤ at + len) }
 {
     let (Ok(at), Ok(len)) = (u32::try_from(at), u32::try_from(len)) else {
         return None;
@@ -86,6 +87,7 @@ fn found_at(text: &[u8], at: usize, bytes: &[u8]) -> Option<Placed>
 #[inline(never)]
 pub(crate) fn place_copy(room: &mut [u8], used: usize, spelled: Spelled<'_>) -> (Placed, usize)
     ensures grows { Grows room.old used room.new result.1 }
+    ensures bound { length room.old < 2 ^ 32 → result.1 ≤ used + length (spelled_text spelled.entry).bytes }
     ensures shows { Shows (λ r. take result.0.span.len (drop result.0.span.at r)) room.new result.1 (spelled_text spelled.entry).bytes }
     ensures copied { result.1 ≤ length room.new → result.0.copied ≡ 1 }
 {
@@ -111,6 +113,7 @@ pub(crate) fn place_text(
     spelled: Spelled<'_>,
 ) -> (Placed, usize)
     ensures grows { Grows room.old used room.new result.1 }
+    ensures bound { length room.old < 2 ^ 32 → result.1 ≤ used + length (spelled_text spelled.entry).bytes }
     ensures shows { Shows (λ r. bytes_at text.now r result.0.copied result.0.span) room.new result.1 (spelled_text spelled.entry).bytes }
 {
     if let Some(shared) = shared(spelled) {
@@ -135,6 +138,7 @@ pub(crate) fn place_tag(
     value: Spelled<'_>,
 ) -> (OffsetPart, usize)
     ensures grows { Grows room.old used room.new result.1 }
+    ensures bound { length room.old < 2 ^ 32 → result.1 ≤ used + tag_len (spelled_tag (key.entry, value.entry)) }
     ensures shows { Shows (λ r. tag_at text.now r result.0) room.new result.1 (Some (logical_tag (spelled_tag (key.entry, value.entry)))) }
 {
     let (key, used) = place_text(text, key_at, room, used, key);
@@ -174,6 +178,7 @@ pub(crate) fn place_literal(
     literal: &[u8],
 ) -> (Placed, usize)
     ensures grows { Grows room.old used room.new result.1 }
+    ensures bound { length room.old < 2 ^ 32 → result.1 ≤ used + length literal.now }
     ensures shows { Shows (λ r. bytes_at text.now r result.0.copied result.0.span) room.new result.1 literal.now }
 {
     match found_at(text, at, literal) {
@@ -187,6 +192,7 @@ pub(crate) fn place_literal(
 #[inline(never)]
 fn copy_literal(room: &mut [u8], used: usize, literal: &[u8]) -> (Placed, usize)
     ensures grows { Grows room.old used room.new result.1 }
+    ensures bound { length room.old < 2 ^ 32 → result.1 ≤ used + length literal.now }
     ensures shows { Shows (λ r. take result.0.span.len (drop result.0.span.at r)) room.new result.1 literal.now }
     ensures copied { result.1 ≤ length room.new → result.0.copied ≡ 1 }
 {
@@ -213,6 +219,7 @@ pub(crate) fn place_field(
     value: SpelledValue<'_>,
 ) -> (OffsetPart, usize)
     ensures grows { Grows room.old used room.new result.1 }
+    ensures bound { length room.old < 2 ^ 32 → result.1 ≤ used + field_len (spelled_field (key.entry, value.entry)) }
     ensures shows { Shows (λ r. field_at text.now r result.0) room.new result.1 (Some (logical_field (spelled_field (key.entry, value.entry)))) }
 {
     let (key, used) = place_text(text, key_at, room, used, key);

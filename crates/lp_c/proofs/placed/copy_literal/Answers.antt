@@ -4,7 +4,7 @@ use Rattle.lp_c.proofs.placed.copy_literal.Goals as goal
 
 pub returns-clause-shows : goal.returns-clause-shows
 returns-clause-shows c = λ enough r same.
-    let span = c.in-Some.ensures in
+    let span = c.in-Some.ensures.some in
     let all = c.saturating_add-all.result in
     copy_shown _ _ c.args.used (length c.args.literal.now) all (all - c.args.used) c.args.room.now c.copy_from_slice.new.self c.args.literal.now
     [] r span.0 span.1 refl (omega (arith, c.saturating_add-all.ensures, span.2))
