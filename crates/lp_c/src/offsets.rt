@@ -22,6 +22,9 @@ use crate::views::{Answer, Dialect};
 use influxdb_line_protocol::{Dialect as Rules, SpelledFault};
 use lp_events::stops::reading_stop;
 
+// How many bytes are tested for UTF-8 at once for each row: a short line has fewer, and a longer one is tested as it is.
+const EACH: usize = 64;
+
 /// An item by offsets.
 #[repr(C)]
 #[derive(Clone, Copy)]
@@ -378,7 +381,7 @@ fn read_rows(
     ensures size { length rows.new ≡ length rows.old }
     ensures reads { ReadsRows (rules_of dialect) last text.now filled.old.spot rows.new parts.new room.new filled.new result.0 result.1 }
 {
-    let mut portion = no_portion(filled.spot.at);
+    let mut portion = no_portion(filled.spot.at, rows.len(), EACH);
     for at in 0..rows.len() {
         let came = read_row(
             dialect,
