@@ -2,8 +2,10 @@
 use Rattle.std.proofs.Common.{◌≡◌, ◌∙◌, ℕ, ◌+◌, ◌^◌, ◌<◌, ◌≤◌, List, [], ◌∷◌, ◌++◌, length, map, take, drop}
 use Rattle.std.proofs.Common.{Option, Some, None, Result, Ok, Err, refl, sym, ap, ap₂, arith, append_assoc, append-nil, option_map, subst}
 use Rattle.std.specs.Prelude.{slice_set}
+use Rattle.std.specs.List.{sum_by}
 use Rattle.std.proofs.lemmas.List.{drop-take, drop_at, length-take-le, take-take, take_at, take_more_set}
-use Rattle.influxdb_line_protocol.specs.code.Events.{AreEventsOf, Event, TakesAll, ended, events_of_line, failed, tagged, valued}
+use Rattle.std.proofs.lemmas.List.Sums.{sum_by-append, sum_by-cons}
+use Rattle.influxdb_line_protocol.specs.code.Events.{AreEventsOf, Event, TakesAll, ended, events_of_line, failed, named, tagged, valued}
 use Rattle.influxdb_line_protocol.specs.code.SpelledParts.{spelled_fault}
 use Rattle.influxdb_line_protocol.specs.format.Dialects.{Dialect}
 use Rattle.influxdb_line_protocol.specs.format.Lines as format
@@ -12,9 +14,9 @@ use Rattle.influxdb_line_protocol.specs.format.Readings.{Fault}
 use Rattle.influxdb_line_protocol.specs.types.SpelledFault.{SpelledFault}
 use Rattle.lp_lines.proofs.lemmas.line.AnsweredLines.{line_room}
 use Rattle.lp_lines.proofs.lemmas.line.Filled.{takes_parted}
-use Rattle.lp_c.specs.Offsets.{bytes_at, field_at, tag_at}
+use Rattle.lp_c.specs.Offsets.{bytes_at, field_at, field_len, tag_at, tag_len, texts_len}
 use Rattle.lp_c.specs.Rooms.{Grows, Shows}
-use Rattle.lp_c.specs.Placing.{Does, Places, ShowsRead, TellsPart, ToldAnswer, ToldRead, next_place, told_of}
+use Rattle.lp_c.specs.Placing.{Does, Places, ShowsRead, TellsPart, ToldAnswer, ToldRead, event_len, next_place, told_of}
 use Rattle.lp_c.specs.declared.placed.OffsetPart.{OffsetPart}
 use Rattle.lp_c.specs.declared.placing.Placing.{Placing}
 use Rattle.lp_c.proofs.RoomLemmas.{grows_on, shows_on}
@@ -225,3 +227,46 @@ answer_told dialect text old new events short none are told = go (answer dialect
         let apart = takes_parted Places old new front (failed fault ∷ []) (rw are at told) in
         let last : Places apart.0 (failed fault) new = rw apart.2.2 at apart.2.1 in
         kept_fault new.fault fault last.fault
+
+-- what is in use is no more than before with the texts that were told
+used_all : (old new : Placing) (events : List Event) → length old.room.now < 2 ^ 32 → TakesAll Places old events new
+    → new.used ≤ old.used + sum_by event_len events
+used_all old new [] small same = rw same (omega arith)
+used_all old new (event ∷ events) small (mid, first, more) =
+    let later = used_all mid new events (omega (arith, first.grows.size, small)) more in
+    omega (arith, first.bound small, later, sum_by-cons event_len event events)
+
+-- the events of parts of one kind have the bytes of these parts
+parts_len : {A : Type 0} (event : A → Event) (len : A → ℕ) → ((x : A) → event_len (event x) ≡ len x) → (xs : List A)
+    → sum_by event_len (map event xs) ≡ sum_by len xs
+parts_len event len same [] = refl
+parts_len event len same (x ∷ xs) = omega (
+  arith,
+  sum_by-cons event_len (event x) (map event xs),
+  sum_by-cons len x xs,
+  same x,
+  parts_len event len same xs,
+)
+
+-- the events of a line have the bytes of its texts
+line_len : (l : format.Line) → sum_by event_len (events_of_line l) ≡ texts_len l
+line_len l =
+    let tags = map tagged (some_tags l.tags) in
+    let fields = map valued l.fields in
+    let last = ended l.series l.timestamp ∷ [] in
+    omega (
+      arith,
+      sum_by-cons event_len (named l.measurement) ((tags ++ fields) ++ last),
+      sum_by-append event_len (tags ++ fields) last,
+      sum_by-append event_len tags fields,
+      parts_len tagged tag_len (λ x. refl) (some_tags l.tags),
+      parts_len valued field_len (λ x. refl) l.fields,
+    )
+
+-- a line that was told takes no more room than its texts have bytes
+pub room_bound : (dialect : Dialect) (text : List ℕ) (old new : Placing) (events : List Event) → length old.room.now < 2 ^ 32
+    → AreEventsOf text events (answer dialect text) → TakesAll Places old events new → (l : format.Line)
+    → answer dialect text ≡ Ok l → new.used ≤ old.used + texts_len l
+room_bound dialect text old new events small are told l is =
+    let same : AreEventsOf text events (Ok l) = subst (AreEventsOf text events) is are in
+    omega (arith, used_all old new events small told, ap (sum_by event_len) same, line_len l)

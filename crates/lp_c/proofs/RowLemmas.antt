@@ -62,6 +62,7 @@ tells_numbered l came number row parts room used tells = record {
   fields = tells.fields;
   needed = tells.needed;
   room_len = tells.room_len;
+  bound = tells.bound;
   parts_lack = tells.parts_lack;
   room_lacks = tells.room_lacks;
 }

@@ -12,7 +12,7 @@ use Rattle.lp_format.specs.format.Trimming.{trimmed}
 use Rattle.lp_events.specs.code.Stops.{reading_stop}
 use Rattle.lp_c.specs.Crossing.{fault_seen}
 use Rattle.lp_c.specs.Numbers.{answer_number, fault_number, side_number}
-use Rattle.lp_c.specs.Offsets.{bytes_at, field_at, tag_at}
+use Rattle.lp_c.specs.Offsets.{bytes_at, field_at, tag_at, texts_len}
 use Rattle.lp_c.specs.Rooms.{Shows}
 use Rattle.lp_c.specs.declared.offsets.Block.{Block}
 use Rattle.lp_c.specs.declared.offsets.Came.{Came}
@@ -79,12 +79,14 @@ pub record ShowsRow (read : format.Line) (text : List ℕ) (own : List OffsetPar
   pub timestamp : timestamp_in row ≡ read.timestamp
   pub all : length own ≡ row.tags + row.fields
 
--- what a row tells of a line that takes more parts, or more room, than are left: how many of either
+-- what a row tells of a line that takes more parts, or more room, than are left: how many of either, and of room no more bytes than the
+-- texts of the line have
 pub record IsTooMuch (read : format.Line) (came : Came) (row : OffsetRow) (parts room used : ℕ) : Type 0 where
   pub tags : row.tags ≡ in_32 (length (some_tags read.tags))
   pub fields : row.fields ≡ in_32 (length read.fields)
   pub needed : ℕ
   pub room_len : row.room_len ≡ in_32 needed
+  pub bound : needed ≤ texts_len read
   pub parts_lack : came ≡ Came.MoreParts → parts < length (some_tags read.tags) + length read.fields
   pub room_lacks : came ≡ Came.MoreRoom → room < used + needed
 

@@ -1,7 +1,11 @@
--- What the offsets of a line and of its parts show: texts of the caller's text and of its room.
-use Rattle.std.specs.Prelude.{◌≡◌, ◌≤◌, ◌<◌, ◌-◌, ◌^◌, ◌==◌, ℕ, length, List, Option, Some, None, take, drop, if◌then◌else◌}
+-- What the offsets of a line and of its parts show: texts of the caller's text and of its room; and how long these are.
+use Rattle.std.specs.Prelude.{◌≡◌, ◌≤◌, ◌<◌, ◌-◌, ◌^◌, ◌==◌, ◌+◌, ℕ, length, List, Option, Some, None, take, drop, if◌then◌else◌}
 use Rattle.std.specs.Int.{cast_signed, w64}
+use Rattle.std.specs.List.{sum_by}
+use Rattle.influxdb_line_protocol.specs.format.Lines as format
+use Rattle.influxdb_line_protocol.specs.format.Lines.{some_tags}
 use Rattle.influxdb_line_protocol.specs.format.Points.{Pair}
+use Rattle.influxdb_line_protocol.specs.format.Readings.{Text}
 use Rattle.influxdb_line_protocol.specs.format.Values.{Value, integer, unsigned, float, string, boolean}
 use Rattle.lp_c.specs.Numbers.{kind_number}
 use Rattle.lp_c.specs.declared.placed.OffsetPart.{OffsetPart}
@@ -50,3 +54,23 @@ with_key key (Some value) = Some (record { key = key; value = value })
 -- the field that a part shows, if it is one
 abbrev pub field_at : List ℕ → List ℕ → OffsetPart → Option (Pair (List ℕ) (Value (List ℕ)))
 field_at text room part = with_key (key_at text room part) (value_at text room part)
+
+-- how many bytes the text of a value has, if it is one
+abbrev pub value_len : Value Text → ℕ
+value_len (integer z) = 0
+value_len (unsigned n) = 0
+value_len (float literal) = length literal
+value_len (string text) = length text.bytes
+value_len (boolean b) = 0
+
+-- how many bytes the texts of a tag have
+abbrev pub tag_len : Pair Text Text → ℕ
+tag_len tag = length tag.key.bytes + length tag.value.bytes
+
+-- how many bytes the texts of a field have
+abbrev pub field_len : Pair Text (Value Text) → ℕ
+field_len field = length field.key.bytes + value_len field.value
+
+-- how many bytes the texts of a line have
+abbrev pub texts_len : format.Line → ℕ
+texts_len read = length read.measurement.bytes + (sum_by tag_len (some_tags read.tags) + sum_by field_len read.fields)

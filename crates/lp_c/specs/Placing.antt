@@ -7,7 +7,7 @@ use Rattle.influxdb_line_protocol.specs.format.Lines.{logical_field, logical_tag
 use Rattle.influxdb_line_protocol.specs.format.Readings.{Fault, Text}
 use Rattle.influxdb_line_protocol.specs.types.SpelledFault.{SpelledFault}
 use Rattle.lp_lines.specs.code.Filling.{KeepsFault}
-use Rattle.lp_c.specs.Offsets.{bytes_at, field_at, tag_at}
+use Rattle.lp_c.specs.Offsets.{bytes_at, field_at, field_len, tag_at, tag_len}
 use Rattle.lp_c.specs.Rooms.{Grows, Shows}
 use Rattle.lp_c.specs.declared.placed.OffsetPart.{OffsetPart}
 use Rattle.lp_c.specs.declared.placing.Placing.{Placing}
@@ -36,6 +36,14 @@ pub record TellsPart {A B : Type 0} (shown : List ℕ → List ℕ → OffsetPar
 abbrev pub ShowsName : Text → Placing → Type 0
 ShowsName name s = Shows (λ r. bytes_at s.line.text.now r s.name.copied s.name.span) s.room.now s.used name.bytes
 
+-- how many bytes the texts have that an event tells
+abbrev pub event_len : Event → ℕ
+event_len (named name) = length name.bytes
+event_len (tagged tag) = tag_len tag
+event_len (valued field) = field_len field
+event_len (ended series timestamp) = 0
+event_len (failed fault) = 0
+
 -- what the sink does with an event
 abbrev pub Does : Placing → Event → Placing → Type 0
 Does old (named name) new = (new.tags ≡ 0) × (new.fields ≡ 0) × ShowsName name new
@@ -53,6 +61,7 @@ pub record Places (old : Placing) (event : Event) (new : Placing) : Type 0 where
   pub room : new.room.ghost_name ≡ old.room.ghost_name
   pub size : length new.parts.now ≡ length old.parts.now
   pub grows : Grows old.room.now old.used new.room.now new.used
+  pub bound : length old.room.now < 2 ^ 32 → new.used ≤ old.used + event_len event
   pub fault : KeepsFault old.fault event new.fault
   pub does : Does old event new
 

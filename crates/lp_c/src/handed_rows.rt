@@ -51,7 +51,7 @@ fn text_at<'a>(
     if copied == 0 {
         text_in(text, portion, span)
     } else {
-        text_in(room, &no_portion(0), span)
+        text_in(room, &no_portion(0, 0, 0), span)
     }
 }
 

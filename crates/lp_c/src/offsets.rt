@@ -22,6 +22,9 @@ use crate::views::{Answer, Dialect};
 use influxdb_line_protocol::{Dialect as Rules, SpelledFault};
 use lp_events::stops::reading_stop;
 
+// How many bytes are tested for UTF-8 at once for each row: a short line has fewer, and a longer one is tested as it is.
+const EACH: usize = 64;
+
 /// An item by offsets.
 #[repr(C)]
 #[derive(Clone, Copy)]
@@ -180,6 +183,7 @@ fn put_line(
     requires line { length line.line.now < 2 ^ 63 }
     requires piece { line.end ≡ piece.at + piece.len }
     requires parts { length parts.old < 2 ^ 32 }
+    requires small { length room.old < 2 ^ 32 }
     ensures size { length parts.new ≡ length parts.old }
     ensures grows { Grows room.old used room.new result.2 }
     ensures piece { (row.new.piece ≡ row.old.piece) × (row.new.line ≡ row.old.line) × (row.new.parts_at ≡ row.old.parts_at) }
@@ -267,6 +271,7 @@ fn put_row(
     requires text { length text.now < 2 ^ 32 }
     requires piece { piece.at + piece.len ≤ length text.now }
     requires parts { before + length parts.old < 2 ^ 32 }
+    requires small { length room.old < 2 ^ 32 }
     ensures size { length parts.new ≡ length parts.old }
     ensures grows { Grows room.old used room.new result.2 }
     ensures placed { IsPlaced piece number before row.new }
@@ -314,6 +319,7 @@ fn read_row<'a>(
     requires text { (length text.now < 2 ^ 32) × (filled.old.spot.at ≤ length text.now) }
     requires parts { (length parts.old < 2 ^ 32) × (filled.old.parts ≤ length parts.old) }
     requires room { filled.old.room ≤ length room.old }
+    requires small { length room.old < 2 ^ 32 }
     requires portion { IsPortionOf text.now portion.old }
     ensures portion { IsPortionOf text.now portion.new }
     ensures size { length parts.new ≡ length parts.old }
@@ -372,12 +378,13 @@ fn read_rows(
     requires text { (length text.now < 2 ^ 32) × (filled.old.spot.at ≤ length text.now) }
     requires none { (filled.old.parts ≡ 0) × (filled.old.room ≡ 0) }
     requires parts { length parts.old < 2 ^ 32 }
+    requires small { length room.old < 2 ^ 32 }
     ensures fits { (filled.new.spot.at ≤ length text.now) × (filled.new.parts ≤ length parts.new) × (filled.new.room ≤ length room.new) }
     ensures count { result.0 ≤ length rows.new }
     ensures size { length rows.new ≡ length rows.old }
     ensures reads { ReadsRows (rules_of dialect) last text.now filled.old.spot rows.new parts.new room.new filled.new result.0 result.1 }
 {
-    let mut portion = no_portion(filled.spot.at);
+    let mut portion = no_portion(filled.spot.at, rows.len(), EACH);
     for at in 0..rows.len() {
         let came = read_row(
             dialect,

@@ -3,12 +3,12 @@
 //! A slice has no place in the text that it is a part of. So the place of a text is reckoned from how many bytes of its line are left
 //! after it, which a reader tells: a subtraction, and no look at its bytes.
 
-ghost use Rattle.std.specs.Prelude.{◌≡◌, ◌≤◌, ◌+◌, ◌-◌, ◌^◌, ◌<◌, drop, take, length, Some, IfSome};
+ghost use Rattle.std.specs.Prelude.{◌≡◌, ◌≤◌, ◌+◌, ◌-◌, ◌^◌, ◌<◌, drop, take, length, Some, IfNone, IfSome};
 ghost use Rattle.influxdb_line_protocol.specs.code.Events.{spelled_field, spelled_tag};
 ghost use Rattle.influxdb_line_protocol.specs.code.SpelledParts.{spelled_text, spelled_value};
 ghost use Rattle.influxdb_line_protocol.specs.format.Lines.{logical_field, logical_tag};
 ghost use Rattle.lp_c.specs.Numbers.{kind_number};
-ghost use Rattle.lp_c.specs.Offsets.{IsLineIn, bytes_at, field_at, tag_at};
+ghost use Rattle.lp_c.specs.Offsets.{IsLineIn, bytes_at, field_at, field_len, tag_at, tag_len};
 ghost use Rattle.lp_c.specs.Rooms.{Grows, Shows};
 ghost use Rattle.lp_events.specs.code.Places.{AreBefore, EndsBefore, ValueEndsBefore};
 
@@ -59,7 +59,8 @@ pub(crate) const NOWHERE: Placed = Placed {
 // So many bytes from a place on, if 32 bits hold both numbers.
 #[inline(always)]
 fn span_of(at: usize, len: usize) -> Option<Span>
-    ensures { IfSome result (λ span. (span.at ≡ at) × (span.len ≡ len) × (at + len < 2 ^ 33)) }
+    ensures some { IfSome result (λ span. (span.at ≡ at) × (span.len ≡ len) × (at + len < 2 ^ 33)) }
+    ensures none { IfNone result (2 ^ 32 ≤ at + len) }
 {
     let (Ok(at), Ok(len)) = (u32::try_from(at), u32::try_from(len)) else {
         return None;
@@ -99,6 +100,7 @@ fn place_before(line: LineIn<'_, '_>, left: usize, len: usize) -> Placed
 #[inline(never)]
 pub(crate) fn place_copy(room: &mut [u8], used: usize, spelled: Spelled<'_>) -> (Placed, usize)
     ensures grows { Grows room.old used room.new result.1 }
+    ensures bound { length room.old < 2 ^ 32 → result.1 ≤ used + length (spelled_text spelled.entry).bytes }
     ensures shows { Shows (λ r. take result.0.span.len (drop result.0.span.at r)) room.new result.1 (spelled_text spelled.entry).bytes }
     ensures copied { result.1 ≤ length room.new → result.0.copied ≡ 1 }
 {
@@ -126,6 +128,7 @@ pub(crate) fn place_text(
 ) -> (Placed, usize)
     requires { EndsBefore line.line.now (spelled_text spelled) left }
     ensures grows { Grows room.old used room.new result.1 }
+    ensures bound { length room.old < 2 ^ 32 → result.1 ≤ used + length (spelled_text spelled.entry).bytes }
     ensures shows { Shows (λ r. bytes_at line.entry.text.now r result.0.copied result.0.span) room.new result.1 (spelled_text spelled.entry).bytes }
 {
     if spelled.is_plain() {
@@ -160,6 +163,7 @@ pub(crate) fn place_tag(
     requires key { EndsBefore line.line.now (spelled_text key) key_left }
     requires value { EndsBefore line.line.now (spelled_text value) left }
     ensures grows { Grows room.old used room.new result.1 }
+    ensures bound { length room.old < 2 ^ 32 → result.1 ≤ used + tag_len (spelled_tag (key.entry, value.entry)) }
     ensures shows { Shows (λ r. tag_at line.entry.text.now r result.0) room.new result.1 (Some (logical_tag (spelled_tag (key.entry, value.entry)))) }
 {
     let (key, used) = place_text(line, key_left, room, used, key);
@@ -213,6 +217,7 @@ pub(crate) fn place_field(
     requires key { EndsBefore line.line.now (spelled_text key) key_left }
     requires value { ValueEndsBefore line.line.now (spelled_value value) left }
     ensures grows { Grows room.old used room.new result.1 }
+    ensures bound { length room.old < 2 ^ 32 → result.1 ≤ used + field_len (spelled_field (key.entry, value.entry)) }
     ensures shows { Shows (λ r. field_at line.entry.text.now r result.0) room.new result.1 (Some (logical_field (spelled_field (key.entry, value.entry)))) }
 {
     let (key, used) = place_text(line, key_left, room, used, key);

@@ -1,8 +1,9 @@
 //! A sink that puts a line down by offsets, part by part, as it is told.
 
-ghost use Rattle.std.specs.Prelude.{◌≡◌, ◌<◌, ◌^◌, None, length};
+ghost use Rattle.std.specs.Prelude.{◌≡◌, ◌<◌, ◌≤◌, ◌+◌, ◌^◌, None, Ok, length};
 ghost use Rattle.influxdb_line_protocol.specs.code.Rules.{rules_of};
-ghost use Rattle.influxdb_line_protocol.specs.format.Lines.{answer};
+ghost use Rattle.influxdb_line_protocol.specs.format.Lines.{Line, answer};
+ghost use Rattle.lp_c.specs.Offsets.{texts_len};
 ghost use Rattle.lp_c.specs.Rooms.{Grows};
 ghost use Rattle.lp_c.specs.Placing.{ToldAnswer, told_of};
 
@@ -94,6 +95,8 @@ fn tell_line<'l, 'a>(dialect: Dialect, placing: &mut Placing<'l, 'a>)
     ensures room { placing.new.room.ghost_name ≡ placing.old.room.ghost_name }
     ensures size { length placing.new.parts.now ≡ length placing.old.parts.now }
     ensures grows { Grows placing.old.room.now placing.old.used placing.new.room.now placing.new.used }
+    ensures bound { length placing.old.room.now < 2 ^ 32 → (read : Line) → answer (rules_of dialect) placing.old.line.line.now ≡ Ok read
+        → placing.new.used ≤ placing.old.used + texts_len read }
     ensures told { ToldAnswer (answer (rules_of dialect) placing.old.line.line.now) placing.new.fault placing.old.line.text.now
         placing.new.parts.now placing.new.room.now (told_of placing.new) }
 {
@@ -119,6 +122,8 @@ pub(crate) fn put_told<'a>(
     requires { length line.line.now < 2 ^ 63 }
     ensures size { length parts.new ≡ length parts.old }
     ensures grows { Grows room.old used room.new result.used }
+    ensures bound { length room.old < 2 ^ 32 → (read : Line) → answer (rules_of dialect) line.entry.line.now ≡ Ok read
+        → result.used ≤ used + texts_len read }
     ensures told { ToldAnswer (answer (rules_of dialect) line.entry.line.now) result.fault line.entry.text.now parts.new room.new result }
 {
     let mut placing = Placing {

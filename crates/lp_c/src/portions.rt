@@ -2,13 +2,13 @@
 //!
 //! A test of a short text takes about as long as one of a hundred bytes. So a portion of the bytes is tested at once, and a text that lies
 //! in it is one if it begins and ends between two characters. It costs a test of bytes of which no text is taken: fewer than 4 KiB
-//! after the last one. If a portion is not UTF-8, each text in it is tested again, alone.
+//! after the last one, and few if a call is for few rows. If a portion is not UTF-8, each text in it is tested again, alone.
 
 ghost use Rattle.std.specs.Prelude.{◌≡◌, ◌+◌, ◌≤◌, List, ℕ, drop, length, take};
 ghost use Rattle.lp_c.specs.Portions.{IsPortionOf, IsTextOf};
 
-/// How many bytes are tested at once, if there are as many.
-const PORTION: usize = 4096;
+/// How many bytes are tested at once, at most, but for a text that is longer.
+const MOST: usize = 4096;
 
 // Of a text with fewer bytes std's test is the fastest.
 const SHORT: usize = 64;
@@ -22,16 +22,19 @@ pub(crate) struct Portion<'a> {
     pub(crate) until: usize,
     /// What it says.
     pub(crate) text: &'a str,
+    /// How many bytes the next one has.
+    pub(crate) size: usize,
 }
 
-/// A portion of no bytes, at this place.
-pub(crate) fn no_portion<'a>(at: usize) -> Portion<'a>
+/// A portion of no bytes, at this place. If the next one is for so many rows, it has so many bytes for each.
+pub(crate) fn no_portion<'a>(at: usize, rows: usize, each: usize) -> Portion<'a>
     ensures { (bytes : List ℕ) → IsPortionOf bytes result }
 {
     Portion {
         from: at,
         until: at,
         text: "",
+        size: rows.saturating_mul(each).min(MOST),
     }
 }
 
@@ -66,16 +69,21 @@ fn end_before(bytes: &[u8], least: usize, most: usize) -> usize
 
 // The portion from a place on, as far as the least end and some bytes further. If it is not UTF-8, it is none, at its end.
 #[inline(never)]
-fn portion_from(bytes: &[u8], from: usize, least: usize) -> Portion<'_>
+fn portion_from(bytes: &[u8], from: usize, least: usize, size: usize) -> Portion<'_>
     requires { (from ≤ least) × (least ≤ length bytes.now) }
     ensures { IsPortionOf bytes.now result }
 {
-    let most = from.saturating_add(PORTION).max(least).min(bytes.len());
+    let most = from.saturating_add(size).max(least).min(bytes.len());
     let until = end_before(bytes, least, most);
     let Some(text) = text_of(&bytes[from..until]) else {
-        return no_portion(until);
+        return no_portion(until, size, 1);
     };
-    Portion { from, until, text }
+    Portion {
+        from,
+        until,
+        text,
+        size,
+    }
 }
 
 impl<'a> Portion<'a> {
@@ -106,7 +114,7 @@ impl<'a> Portion<'a> {
         ensures text { IsTextOf (take len (drop at bytes.now)) result }
     {
         if self.until < at + len {
-            *self = portion_from(bytes, at, at + len);
+            *self = portion_from(bytes, at, at + len, self.size);
         }
         self.text_at(bytes, at, len)
     }
@@ -117,7 +125,7 @@ impl<'a> Portion<'a> {
         ensures { IsPortionOf bytes.now self.new }
     {
         if self.until <= at && at <= bytes.len() {
-            *self = portion_from(bytes, at, at);
+            *self = portion_from(bytes, at, at, self.size);
         }
     }
 }

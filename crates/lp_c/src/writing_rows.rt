@@ -28,6 +28,9 @@ use std::mem;
 /// How far after the one before a row may begin whose texts are tested with those of the rows after it.
 const NEAR: u32 = 1024;
 
+// How many bytes are tested for UTF-8 at once for each row.
+const EACH: usize = 256;
+
 /// Where writing rows begins, and how far it came.
 #[repr(C)]
 #[derive(Clone, Copy)]
@@ -131,7 +134,7 @@ fn write_rows(
     ensures stops { StopsAt (rules_of dialect) text.now room.now parts.now most (length lines.new.items) result.1 (drop result.0 rows.now) }
 {
     let mut taken = empty_line(alloc);
-    let mut portion = no_portion(0);
+    let mut portion = no_portion(0, rows.len(), EACH);
     for at in 0..rows.len() {
         let row = &rows[at];
         if at > 0 && is_next(&rows[at - 1], row) {

@@ -1,5 +1,5 @@
 use Rattle.influxdb_line_protocol.specs.code.Rules.{rules_of}
-use Rattle.lp_c.proofs.PlacingLemmas.{answer_told, same_memory}
+use Rattle.lp_c.proofs.PlacingLemmas.{answer_told, room_bound, same_memory}
 use Rattle.lp_c.proofs.placing.tell_line.Goals as goal
 
 pub returns-clause-parts : goal.returns-clause-parts
@@ -18,3 +18,8 @@ pub returns-clause-told : goal.returns-clause-told
 returns-clause-told c =
     let was = c.read_placed_events.ensures in
     answer_told (rules_of c.args.dialect) _ _ _ was.events c.requires.short c.requires.no_fault was.are was.told
+
+pub returns-clause-bound : goal.returns-clause-bound
+returns-clause-bound c = λ small read is.
+    let was = c.read_placed_events.ensures in
+    room_bound (rules_of c.args.dialect) _ _ _ was.events small was.are was.told read is

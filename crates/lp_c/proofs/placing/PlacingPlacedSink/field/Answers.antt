@@ -11,6 +11,7 @@ returns-then-place-self-clause-takes c =
       room = refl;
       size = search rules;
       grows = put.ensures.grows;
+      bound = put.ensures.bound;
       fault = refl;
       does = record {
         counted = λ fits. grind arith;
