@@ -13,6 +13,9 @@ const MOST: usize = 4096;
 // Of a text with fewer bytes std's test is the fastest.
 const SHORT: usize = 64;
 
+// A text with as many bytes gains nothing by a portion.
+const LONG: usize = 192;
+
 /// A portion of bytes that was tested.
 #[derive(Clone, Copy)]
 pub(crate) struct Portion<'a> {
@@ -48,6 +51,15 @@ fn text_of(bytes: &[u8]) -> Option<&str>
     } else {
         simdutf8::basic::from_utf8(bytes).ok()
     }
+}
+
+// The same of so many bytes at a place.
+#[inline(always)]
+fn text_alone(bytes: &[u8], at: usize, len: usize) -> Option<&str>
+    requires { at + len ≤ length bytes.now }
+    ensures { IsTextOf (take len (drop at bytes.now)) result }
+{
+    text_of(&bytes[at..at + len])
 }
 
 // Whether a character goes on with this byte.
@@ -102,10 +114,10 @@ impl<'a> Portion<'a> {
                 return Some(text);
             }
         }
-        text_of(&bytes[at..at + len])
+        text_alone(bytes, at, len)
     }
 
-    /// The same. If it ends after this portion, the next one begins with it.
+    /// The same. If it ends after this portion, the next one begins with it, unless it is long.
     #[inline(always)]
     pub(crate) fn next_text(&mut self, bytes: &'a [u8], at: usize, len: usize) -> Option<&'a str>
         requires portion { IsPortionOf bytes.now self.old }
@@ -114,6 +126,9 @@ impl<'a> Portion<'a> {
         ensures text { IsTextOf (take len (drop at bytes.now)) result }
     {
         if self.until < at + len {
+            if LONG <= len {
+                return text_alone(bytes, at, len);
+            }
             *self = portion_from(bytes, at, at + len, self.size);
         }
         self.text_at(bytes, at, len)
