@@ -21,8 +21,6 @@ const LONG: usize = 192;
 pub(crate) struct Portion<'a> {
     /// Where it begins.
     pub(crate) from: usize,
-    /// Where it ends.
-    pub(crate) until: usize,
     /// What it says.
     pub(crate) text: &'a str,
     /// How many bytes the next one has.
@@ -35,7 +33,6 @@ pub(crate) fn no_portion<'a>(at: usize, rows: usize, each: usize) -> Portion<'a>
 {
     Portion {
         from: at,
-        until: at,
         text: "",
         size: rows.saturating_mul(each).min(MOST),
     }
@@ -90,15 +87,16 @@ fn portion_from(bytes: &[u8], from: usize, least: usize, size: usize) -> Portion
     let Some(text) = text_of(&bytes[from..until]) else {
         return no_portion(until, size, 1);
     };
-    Portion {
-        from,
-        until,
-        text,
-        size,
-    }
+    Portion { from, text, size }
 }
 
 impl<'a> Portion<'a> {
+    // Where it ends.
+    #[inline(always)]
+    fn end(&self) -> usize {
+        self.from.wrapping_add(self.text.len())
+    }
+
     /// The text of so many bytes at a place, if they are UTF-8.
     #[inline(always)]
     pub(crate) fn text_at(&self, bytes: &'a [u8], at: usize, len: usize) -> Option<&'a str>
@@ -125,7 +123,7 @@ impl<'a> Portion<'a> {
         ensures portion { IsPortionOf bytes.now self.new }
         ensures text { IsTextOf (take len (drop at bytes.now)) result }
     {
-        if self.until < at + len {
+        if self.end() < at + len {
             if LONG <= len {
                 return text_alone(bytes, at, len);
             }
@@ -139,7 +137,7 @@ impl<'a> Portion<'a> {
         requires { IsPortionOf bytes.now self.old }
         ensures { IsPortionOf bytes.now self.new }
     {
-        if self.until <= at && at <= bytes.len() {
+        if self.end() <= at && at <= bytes.len() {
             *self = portion_from(bytes, at, at, self.size);
         }
     }
