@@ -13,13 +13,14 @@ const MOST: usize = 4096;
 // Of a text with fewer bytes std's test is the fastest.
 const SHORT: usize = 64;
 
+// A text with as many bytes gains nothing by a portion.
+const LONG: usize = 192;
+
 /// A portion of bytes that was tested.
 #[derive(Clone, Copy)]
 pub(crate) struct Portion<'a> {
     /// Where it begins.
     pub(crate) from: usize,
-    /// Where it ends.
-    pub(crate) until: usize,
     /// What it says.
     pub(crate) text: &'a str,
     /// How many bytes the next one has.
@@ -32,7 +33,6 @@ pub(crate) fn no_portion<'a>(at: usize, rows: usize, each: usize) -> Portion<'a>
 {
     Portion {
         from: at,
-        until: at,
         text: "",
         size: rows.saturating_mul(each).min(MOST),
     }
@@ -48,6 +48,15 @@ fn text_of(bytes: &[u8]) -> Option<&str>
     } else {
         simdutf8::basic::from_utf8(bytes).ok()
     }
+}
+
+// The same of so many bytes at a place.
+#[inline(always)]
+fn text_alone(bytes: &[u8], at: usize, len: usize) -> Option<&str>
+    requires { at + len ≤ length bytes.now }
+    ensures { IsTextOf (take len (drop at bytes.now)) result }
+{
+    text_of(&bytes[at..at + len])
 }
 
 // Whether a character goes on with this byte.
@@ -78,15 +87,16 @@ fn portion_from(bytes: &[u8], from: usize, least: usize, size: usize) -> Portion
     let Some(text) = text_of(&bytes[from..until]) else {
         return no_portion(until, size, 1);
     };
-    Portion {
-        from,
-        until,
-        text,
-        size,
-    }
+    Portion { from, text, size }
 }
 
 impl<'a> Portion<'a> {
+    // Where it ends.
+    #[inline(always)]
+    fn end(&self) -> usize {
+        self.from.wrapping_add(self.text.len())
+    }
+
     /// The text of so many bytes at a place, if they are UTF-8.
     #[inline(always)]
     pub(crate) fn text_at(&self, bytes: &'a [u8], at: usize, len: usize) -> Option<&'a str>
@@ -102,10 +112,10 @@ impl<'a> Portion<'a> {
                 return Some(text);
             }
         }
-        text_of(&bytes[at..at + len])
+        text_alone(bytes, at, len)
     }
 
-    /// The same. If it ends after this portion, the next one begins with it.
+    /// The same. If it ends after this portion, the next one begins with it, unless it is long.
     #[inline(always)]
     pub(crate) fn next_text(&mut self, bytes: &'a [u8], at: usize, len: usize) -> Option<&'a str>
         requires portion { IsPortionOf bytes.now self.old }
@@ -113,7 +123,10 @@ impl<'a> Portion<'a> {
         ensures portion { IsPortionOf bytes.now self.new }
         ensures text { IsTextOf (take len (drop at bytes.now)) result }
     {
-        if self.until < at + len {
+        if self.end() < at + len {
+            if LONG <= len {
+                return text_alone(bytes, at, len);
+            }
             *self = portion_from(bytes, at, at + len, self.size);
         }
         self.text_at(bytes, at, len)
@@ -124,7 +137,7 @@ impl<'a> Portion<'a> {
         requires { IsPortionOf bytes.now self.old }
         ensures { IsPortionOf bytes.now self.new }
     {
-        if self.until <= at && at <= bytes.len() {
+        if self.end() <= at && at <= bytes.len() {
             *self = portion_from(bytes, at, at, self.size);
         }
     }

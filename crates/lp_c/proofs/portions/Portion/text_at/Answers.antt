@@ -1,5 +1,4 @@
 use Rattle.std.proofs.Common.{◌≡◌, ◌-◌, ◌∙◌, IsUtf8, ap, arith, drop, subst, take}
-use Rattle.lp_c.specs.Portions.{IsTextOf}
 use Rattle.lp_c.proofs.PortionLemmas.{cut_out}
 use Rattle.lp_c.proofs.portions.Portion.text_at.Goals as goal
 
@@ -14,7 +13,3 @@ returns-in-Some c =
     found.0 ∙ (ap (λ n. take n (drop (at - portion.from) portion.text.now)) (omega arith)
     ∙ cut_out bytes portion.text.now portion.from _ (at - portion.from) len at c.requires.portion (omega arith) (omega (arith, found.2))) in
     (subst IsUtf8 (c.as_bytes-bytes.ensures.value ∙ is) c.as_bytes-bytes.ensures.utf8, is)
-
-pub returns : goal.returns
-returns c =
-    subst (λ n. IsTextOf (take n (drop c.args.at c.args.bytes.now)) c.text_of.result) (omega arith) c.text_of.ensures
