@@ -92,14 +92,13 @@ static uint64_t of_row(const lp_offset_row *row, const lp_offset_part *own) {
     return sum;
 }
 
-/* As many rows a call as `by_block` has. */
+/* As many rows a call as `by_block` has. It tests itself whether the text is UTF-8. */
 static uint64_t by_offsets(const uint8_t *text, size_t len) {
     lp_block block = { 1, 0, 0, 0, 0 };
     uint64_t sum = 0;
     uint32_t answer = LP_LINE;
     lend(0, 256 * ROWS);
     lend_offsets(ROWS, 16 * ROWS);
-    if (!is_utf8(text, len)) return 0;
     while (answer != LP_END) {
         answer = lp_offsets_block(text, len, LP_CRATE, true, &block, bytes, bytes_len, offsets.rows, ROWS, offsets.parts, offsets.parts_len);
         for (size_t at = 0; at < block.rows; at++) sum += of_row(&offsets.rows[at], offsets.parts + offsets.rows[at].parts_at);
@@ -188,7 +187,7 @@ static uint64_t by_write(const uint8_t *text, size_t len) {
     return sum;
 }
 
-/* All rows of a text at once. One that is no line is passed as it is written. */
+/* All lines of a text at once, without its faults. */
 static size_t rows_read;
 
 static void read_offsets(const uint8_t *text, size_t len) {
@@ -203,6 +202,10 @@ static void read_offsets(const uint8_t *text, size_t len) {
         if (answer == LP_MORE_PARTS) lend_offsets(0, 2 * offsets.parts_len);
         else if (answer != LP_END) lend_offsets(2 * offsets.rows_len, 0);
     }
+    size_t read = rows_read;
+    rows_read = 0;
+    for (size_t at = 0; at < read; at++)
+        if (offsets.rows[at].answer == LP_LINE) offsets.rows[rows_read++] = offsets.rows[at];
 }
 
 /* Writes the lines that were read into a room of 64 KiB, which is written over. */
@@ -217,7 +220,8 @@ static uint64_t by_offsets_write(const uint8_t *text, size_t len) {
                                   bytes_len, &written);
         sum += written.len;
         if (answer == LP_MORE_ROOM && written.need > bytes_len) lend(0, written.need);
-        if (answer != LP_MORE_ROOM && answer != LP_WRITTEN) written.row++;
+        if (answer == LP_NOT_ADMITTED) written.row++;
+        else if (answer != LP_MORE_ROOM && answer != LP_WRITTEN) return 0;
     }
     return sum;
 }
