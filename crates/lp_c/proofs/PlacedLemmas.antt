@@ -1,10 +1,6 @@
 -- The bytes of a line after which so many are left, by their place in the text.
-use Rattle.std.proofs.Common.{◌≡◌, ◌∙◌, ◌+◌, ◌-◌, ◌≤◌, ◌<◌, ◌^◌, ℕ, List, ◌++◌, length, length-append, length-drop, take, drop, true, refl, sym, ap, arith, inl, inr}
-use Rattle.std.specs.Prelude.{not}
-use Rattle.std.proofs.lemmas.Bool.{cases_Bool}
+use Rattle.std.proofs.Common.{◌≡◌, ◌∙◌, ◌+◌, ◌-◌, ◌≤◌, ◌<◌, ◌^◌, ℕ, List, ◌++◌, length, length-append, length-drop, take, drop, refl, sym, ap, arith}
 use Rattle.std.proofs.lemmas.List.{drop-drop, drop-take, drop_at, length-take-le, take-take, take_at}
-use Rattle.lp_format.specs.format.Bytes.{backslash, is_one_of}
-use Rattle.lp_format.specs.format.Names.{is_one_escape, is_shared}
 use Rattle.lp_format.specs.format.Trimming.{trimmed}
 use Rattle.lp_format.proofs.lemmas.line.TrimLemmas.{trimmed_is_after}
 use Rattle.lp_format.specs.format.Readings.{Text}
@@ -12,11 +8,6 @@ use Rattle.lp_events.specs.code.Places.{AreBefore, EndsBefore}
 use Rattle.lp_c.specs.OffsetBlocks.{piece_in}
 use Rattle.lp_c.specs.Offsets.{IsLineIn}
 use Rattle.lp_c.specs.declared.pieces.Piece.{Piece}
-
--- what holds no backslash is read as a part of the input
-pub plain_shared : (known spelling : List ℕ) → not (is_one_of spelling backslash) ≡ true → is_shared known spelling ≡ true
-plain_shared known spelling plain =
-    elim (cases_Bool (is_one_escape known spelling)) [ inl is ↦ rw is refl | inr other ↦ rw (other, plain) refl ]
 
 -- the bytes and those that are left are no more than the line has
 pub before_fits : (line bytes : List ℕ) (left : ℕ) → AreBefore line bytes left → left + length bytes ≤ length line

@@ -12,6 +12,7 @@ ghost use Rattle.lp_c.specs.Offsets.{IsLineIn, bytes_at, field_at, field_len, ta
 ghost use Rattle.lp_c.specs.Rooms.{Grows, Shows};
 ghost use Rattle.lp_events.specs.code.Places.{AreBefore, EndsBefore, ValueEndsBefore};
 
+use crate::lent::shared;
 use crate::views::Kind;
 use influxdb_line_protocol::{Spelled, SpelledValue};
 
@@ -117,7 +118,7 @@ pub(crate) fn place_copy(room: &mut [u8], used: usize, spelled: Spelled<'_>) -> 
 }
 
 // Where a text lies after which so many bytes of the line are left: in the line, if it is a part of that, or else in the room, into which
-// it is put. One escape is put there too: its byte is a part of the line, but it is not worth a test.
+// it is put. Of one escape the byte after the backslash is the text.
 #[inline(always)]
 pub(crate) fn place_text(
     line: LineIn<'_, '_>,
@@ -131,8 +132,8 @@ pub(crate) fn place_text(
     ensures bound { length room.old < 2 ^ 32 → result.1 ≤ used + length (spelled_text spelled.entry).bytes }
     ensures shows { Shows (λ r. bytes_at line.entry.text.now r result.0.copied result.0.span) room.new result.1 (spelled_text spelled.entry).bytes }
 {
-    if spelled.is_plain() {
-        return (place_before(line, left, spelled.len()), used);
+    if let Some(text) = shared(spelled) {
+        return (place_before(line, left, text.len()), used);
     }
     // Number by number: what a call fills as a whole would be kept in memory, and each place that is told would go there first.
     let (copy, used) = place_copy(room, used, spelled);
