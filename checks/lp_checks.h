@@ -21,6 +21,7 @@ uint64_t lp_checks_events(uint32_t dialect, const uint8_t *text, size_t len, uin
 uint64_t lp_checks_pulled(uint32_t dialect, const uint8_t *text, size_t len, uint8_t *out, size_t room, uint64_t *ends,
                           size_t entries);
 uint64_t lp_checks_bases(const uint8_t *text, size_t len, uint8_t *out, size_t room, uint64_t *ends, size_t entries);
+uint64_t lp_checks_keys(const uint8_t *text, size_t len, uint8_t *out, size_t room, uint64_t *ends, size_t entries);
 uint64_t lp_checks_shown(const uint8_t *text, size_t len, uint8_t *out, size_t room, uint64_t *ends, size_t entries);
 uint64_t lp_checks_copies(const uint8_t *text, size_t len, uint8_t *out, size_t room, uint64_t *ends, size_t entries);
 uint64_t lp_checks_written(const uint8_t *text, size_t len, const uint8_t *start, size_t start_len, bool again,

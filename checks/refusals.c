@@ -116,7 +116,7 @@ static void must_be_untouched(const uint8_t *bytes, const char *what) {
 enum { SOME = -1, ANY = -2 };
 struct entry { const char *wanted; long requests; };
 
-enum call { PIECES, ITEMS, STRICT_ITEMS, REUSED, BASES, SHOWN, COPIES };
+enum call { PIECES, ITEMS, STRICT_ITEMS, REUSED, BASES, KEYS, SHOWN, COPIES };
 
 static void call(enum call what, const char *text, unsigned long n) {
     const uint8_t *bytes = (const uint8_t *)text;
@@ -128,6 +128,7 @@ static void call(enum call what, const char *text, unsigned long n) {
     case STRICT_ITEMS: count = lp_checks_items(true, bytes, len, out, ROOM, ends, ENTRIES); break;
     case REUSED: count = lp_checks_reused(bytes, len, out, ROOM, ends, ENTRIES); break;
     case BASES: count = lp_checks_bases(bytes, len, out, ROOM, ends, ENTRIES); break;
+    case KEYS: count = lp_checks_keys(bytes, len, out, ROOM, ends, ENTRIES); break;
     case SHOWN: count = lp_checks_shown(bytes, len, out, ROOM, ends, ENTRIES); break;
     case COPIES: count = lp_checks_copies(bytes, len, out, ROOM, ends, ENTRIES); break;
     }
@@ -297,6 +298,12 @@ static void bases(void) {
     EACH(BASES, "foo,c=1,b=1,b=2,c=3 f=1i\nm,B=1,a=2 f=1i\nm,a=1,B=2 f=1i\nm,b,a=1,a=2 f=1i\na\\ b,k\\,1=v f=1i\nm 5",
          {"DuplicateTag 1:b", SOME}, {"borrowed 9:m,B=1,a=2", 0}, {"owned 9:m,B=2,a=1", SOME},
          {"owned 11:m,a=2,b,a=1", SOME}, {"owned 9:a b,k,1=v", SOME}, {"FieldSetMissing", 0});
+}
+
+/* A key takes one request, and its hash none. */
+static void keys(void) {
+    EACH(KEYS, "foo,tag2=2,tag1=1 f=1i", {"17:foo,tag1=1,tag2=2", 1}, {"16838679506343377537", 0});
+    EACH(KEYS, "m,,=v f=1i\nm 5", {"6:m,\\,=v", 1}, {"6965606012667703543", 0}, {"FieldSetMissing", 0});
 }
 
 /* Copies of a measurement and of a string, both with an escape; the line's own two requests are left alone. */
@@ -585,11 +592,12 @@ static void largest_is(enum call what, const char *text, size_t wanted) {
     if (most != wanted) fail("the largest request is for %zu bytes and should be for %zu", most, wanted);
 }
 
-/* A copy, and a base that is no part of the text, take just their length. */
+/* A copy, a base that is no part of the text, and a key take just their length. */
 static void just_their_length(void) {
     largest_is(ITEMS, "m\\ n a=1i", 3);
     largest_is(ITEMS, "m a=\"0123456789abcdef\\\"0123456789abcdef\"", 33);
     largest_is(BASES, "m,a=x\\ y f=1i", 7);
+    largest_is(KEYS, "m,b=x\\ y,a=1 f=1i", 12);
 }
 
 /* Lines, with two spaces where the builder writes one, so that they are read into a line that is used again. They are rebuilt with
@@ -736,6 +744,7 @@ int main(void) {
     used_again();
     long_name();
     bases();
+    keys();
     copies();
     builder();
     written();

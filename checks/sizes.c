@@ -286,6 +286,7 @@ static void call_reused(const uint8_t *text, size_t len) { count = lp_checks_reu
 static void call_events(const uint8_t *text, size_t len) { count = lp_checks_events(false, text, len, out, ROOM, ends, ENTRIES); }
 static void call_pulled(const uint8_t *text, size_t len) { count = lp_checks_pulled(false, text, len, out, ROOM, ends, ENTRIES); }
 static void call_bases(const uint8_t *text, size_t len) { count = lp_checks_bases(text, len, out, ROOM, ends, ENTRIES); }
+static void call_keys(const uint8_t *text, size_t len) { count = lp_checks_keys(text, len, out, ROOM, ends, ENTRIES); }
 static void call_shown(const uint8_t *text, size_t len) { count = lp_checks_shown(text, len, out, ROOM, ends, ENTRIES); }
 static void call_rebuild(const uint8_t *text, size_t len) { count = lp_checks_rebuild(false, text, len, out, ROOM, ends, ENTRIES); }
 
@@ -303,7 +304,7 @@ static void call_relay(const uint8_t *text, size_t len) {
 static const struct { const char *name; growth_call *call; } CALLS[] = {
     {"pieces", call_pieces}, {"pieces of parts", call_streamed}, {"items", call_items}, {"events", call_events},
     {"pulled events", call_pulled}, {"bases", call_bases}, {"shown lines", call_shown}, {"a rebuild", call_rebuild}, {"a run", call_run},
-    {"a relay", call_relay}, {"items by one line", call_reused},
+    {"a relay", call_relay}, {"items by one line", call_reused}, {"keys", call_keys},
 };
 
 static const struct { const char *name; struct growth growth; } TEXTS[] = {

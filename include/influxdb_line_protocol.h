@@ -314,6 +314,12 @@ uint32_t lp_line_show(const lp_line *line, const lp_part *parts, size_t parts_le
  * both: `m,a=1\,b\=2` and `m,a=1,b=2` are two series with one base, `m,\,=v` and `m,,=v` are one series with two. */
 uint32_t lp_line_base(const lp_line *line, const lp_part *parts, size_t parts_len, uint8_t *out, size_t room, size_t *len);
 
+/* The key of the series of the line, which the series has alone, whatever its names hold: measurement and tags as lp_line_write writes
+ * them, in the order of the tag keys, by bytes. Tags of equal keys stay in their order; fields are not looked at. Two series have the
+ * same key exactly where they have the same measurement and, for each tag key, the same values in the same order. So `m,a=1\,b\=2` and
+ * `m,a=1,b=2` have two keys, and `m,\,=v` and `m,,=v` have one. Where all names are admitted, the key reads back as the series. */
+uint32_t lp_line_key(const lp_line *line, const lp_part *parts, size_t parts_len, uint8_t *out, size_t room, size_t *len);
+
 /* Whether the base of the line is safe to group by. LP_WRITTEN: `safe` says so: no measurement and no tag value holds a comma, no
  * tag key an `=`, and no name is a comma, a space or, in a tag, an `=` alone. Where two lines that were read are safe and have
  * bases, their bases are the same exactly where measurement and tags are. With at most eight tags it takes no memory. */

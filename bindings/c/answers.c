@@ -241,6 +241,11 @@ static void give_base(FILE *out, lp_text text, uint32_t dialect) {
     }
 }
 
+static void give_key(FILE *out, lp_text text, uint32_t dialect) {
+    lp_text key;
+    if (write_first(lp_line_key, text, dialect, &key) == LP_WRITTEN) put_text(out, key);
+}
+
 static void give_shown(FILE *out, lp_text text, uint32_t dialect) {
     lp_text shown;
     if (write_first(lp_line_show, text, dialect, &shown) == LP_WRITTEN) put_text(out, shown);
@@ -290,6 +295,7 @@ static struct kind { const char *word; giver *give, *again; size_t rows; giver *
     { "rests_of_items", give_rests_of_items, NULL, 0, NULL },
     { "series", give_series, NULL, 0, NULL },
     { "base", give_base, NULL, 0, NULL },
+    { "key", give_key, NULL, 0, NULL },
     { "shown", give_shown, NULL, 0, NULL },
     { "rebuilt", give_rebuilt, NULL, 0, NULL },
     { "run", give_run, NULL, 0, NULL },

@@ -66,16 +66,26 @@ static size_t tag_number(const struct shape *shape, size_t at) {
     return shape->order == REPEATED && at == shape->tags - 1 ? 0 : at;
 }
 
-/* Puts measurement and tags: as they are spelled, or without escapes and in the order of their keys. */
-static void put_series(struct text *text, const struct shape *shape, bool spelled) {
+/* The number of the tag at this place in the order of the keys, in which equal keys stay in their order. */
+static size_t sorted_number(const struct shape *shape, size_t at) {
+    return shape->order == REPEATED ? (at == 0 ? 0 : at - 1) : at;
+}
+
+/* Puts measurement and tags, with their escapes or without, the tags as they come or in the order of their keys. */
+static void put_tags(struct text *text, const struct shape *shape, bool spelled, size_t (*number_of)(const struct shape *, size_t)) {
     put_name(text, shape, 'm', 0, spelled);
     for (size_t at = 0; at < shape->tags; at++) {
-        size_t number = spelled ? tag_number(shape, at) : at;
+        const size_t number = number_of(shape, at);
         put(text, ",", 1);
         put_name(text, shape, 'k', number, spelled);
         put(text, "=", 1);
         put_name(text, shape, 'v', number, spelled);
     }
+}
+
+/* Puts measurement and tags: as they are spelled, or without escapes and in the order of their keys. */
+static void put_series(struct text *text, const struct shape *shape, bool spelled) {
+    put_tags(text, shape, spelled, spelled ? tag_number : sorted_number);
 }
 
 /* Puts a line: its series; its fields, by turns a string, in these quotes, and an integer; and a timestamp, if it has one. */
@@ -239,6 +249,15 @@ static bool puts_base(const struct shape *shape, struct lent *lent) {
     return good;
 }
 
+/* The key: with its escapes, in the order of the keys, of which the repeated one has its two tags. */
+static bool puts_key(const struct shape *shape, const struct lent *lent) {
+    struct text key = { NULL, 0, 0 };
+    put_tags(&key, shape, true, sorted_number);
+    bool good = puts_out(lp_line_key, lent, LP_WRITTEN, &key, "lp_line_key", shape);
+    free(key.at);
+    return good;
+}
+
 /* Whether a line is told not to be admitted, and is not written. */
 static bool is_refused(const lp_line *line, const lp_part *parts, size_t parts_len) {
     bool admitted = true;
@@ -300,7 +319,7 @@ static bool is_right(const struct shape *shape) {
     bool good = reads_fault(shape) & reads_next(&once, shape, &lent);
     if (good) good = reads_block(&twice, shape, &lent);
     if (good) good = puts_line(&written, shape, &lent) & puts_base(shape, &lent) & is_tested(shape, &lent);
-    if (good) good = is_told_safe(shape, &lent);
+    if (good) good = is_told_safe(shape, &lent) & puts_key(shape, &lent);
     free(twice.at);
     free(lent.parts);
     free(lent.bytes);

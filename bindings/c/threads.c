@@ -10,7 +10,7 @@ enum { THREADS = 4, ROUNDS = 100, OUT = 1024 };
 static const char TEXT[] = "c\\ pu,h\\=ost=A\\ B,zone=w msg=\"a\\\"b\",up=t,n=-7i,u=7u,load=1.5e3 5\nm 5\n# a comment\n"
                            "m f=99999999999999999999i\nm,t=v,s=w f=1\nm f=1 rest\n\xc3\xa9,\xc3\xbc=\xc3\xb6 f=\"\xe2\x82\xac\"\n";
 
-/* What comes of the text: each line written, shown and its base, one after another; and all rebuilt. */
+/* What comes of the text: each line written and shown, and its base and its key, one after another; and all rebuilt. */
 struct outcome {
     uint8_t texts[OUT], batch[OUT], faults[OUT];
     size_t texts_len;
@@ -23,11 +23,11 @@ static uint32_t write_line(const lp_line *line, const lp_part *parts, size_t par
 }
 
 typedef uint32_t writer(const lp_line *, const lp_part *, size_t, uint8_t *, size_t, size_t *);
-static writer *const WRITERS[] = { write_line, lp_line_show, lp_line_base };
+static writer *const WRITERS[] = { write_line, lp_line_show, lp_line_base, lp_line_key };
 
 static bool put_line(struct outcome *out, const lp_line *line, const lp_part *parts) {
     bool good = true;
-    for (size_t at = 0; at < 3; at++) {
+    for (size_t at = 0; at < sizeof WRITERS / sizeof *WRITERS; at++) {
         size_t len = 0;
         uint8_t *place = out->texts + out->texts_len;
         good &= WRITERS[at](line, parts, line->tags + line->fields, place, OUT - out->texts_len, &len) == LP_WRITTEN;

@@ -13,6 +13,8 @@ extern long lp_refused, lp_requests;
 static const char WRITTEN[] = "a\\ b\\,c,h\\,o=x\\ y\\=z,k=v i=-5i,u=7u,fl=1.5e3,s=\"a\\\"b\\\\\",t=true 99\n";
 static const char SHOWN[] = "a\\ b\\,c,h\\,o=x\\ y\\=z,k=v i=-5i,u=7u,fl=1.5e3,s=a\\\"b\\,t=true 99";
 static const char BASE[] = "a b,c,h,o=x y=z,k=v";
+static const char REPEATED_KEY[] = "a\\ b\\,c,k=x\\ y\\=z,k=v";
+static const char KEY[] = "a\\ b\\,c,h\\,o=x\\ y\\=z,k=v";
 
 static const lp_part PARTS[] = {
     { VIEW("h,o"), VIEW("x y=z"), 0, 0, LP_TAG, false },    { VIEW("k"), VIEW("v"), 0, 0, LP_TAG, false },
@@ -47,21 +49,23 @@ static bool writes(writer *write, const lp_line *line, const lp_part *parts, uin
 }
 
 /* Refuses each request in turn: nothing is written, and the length is as it was. How many there are. */
-static long refused(writer *write, size_t len, bool *good) {
+static long refused_of(writer *write, const lp_line *line, const lp_part *parts, size_t parts_len, size_t len, bool *good) {
     uint8_t out[128];
     size_t told = 0;
     lp_requests = 0, lp_refused = -1;
-    *good &= write(&LINE, PARTS, 7, out, sizeof out, &told) == LP_WRITTEN && told == len;
+    *good &= write(line, parts, parts_len, out, sizeof out, &told) == LP_WRITTEN && told == len;
     long requests = lp_requests;
     for (long at = 0; at < requests; at++) {
         memset(out, '~', sizeof out);
         lp_requests = 0, lp_refused = at, told = 77;
-        *good &= write(&LINE, PARTS, 7, out, sizeof out, &told) == LP_OUT_OF_MEMORY && told == 77;
+        *good &= write(line, parts, parts_len, out, sizeof out, &told) == LP_OUT_OF_MEMORY && told == 77;
         for (size_t byte = 0; byte < sizeof out; byte++) *good &= out[byte] == '~';
     }
     lp_refused = -1;
     return requests;
 }
+
+static long refused(writer *write, size_t len, bool *good) { return refused_of(write, &LINE, PARTS, 7, len, good); }
 
 /* What is no line is refused, and what holds a name that would not read back is not admitted. */
 static bool is_tested(void) {
@@ -77,9 +81,16 @@ static bool is_tested(void) {
     line = LINE;
     line.has_tag_set = false;
     good &= lp_line_base(&line, PARTS, 7, out, sizeof out, &told) == LP_NOT_A_LINE;
+    good &= lp_line_key(&line, PARTS, 7, out, sizeof out, &told) == LP_NOT_A_LINE && told == 5;
+    line = LINE;
+    line.tags = 3;
+    good &= lp_line_key(&line, PARTS, 7, out, sizeof out, &told) == LP_NOT_A_LINE && told == 5;
+    line.tags = 8;
+    good &= lp_line_key(&line, PARTS, 7, out, sizeof out, &told) == LP_NOT_A_LINE && told == 5;
     line = LINE;
     line.measurement.text = (lp_text){ (const uint8_t *)"\xff", 1 };
     good &= lp_line_write(LP_CRATE, &line, PARTS, 7, out, sizeof out, &told) == LP_NOT_A_LINE;
+    good &= lp_line_key(&line, PARTS, 7, out, sizeof out, &told) == LP_NOT_A_LINE && told == 5;
     line.measurement.text = (lp_text){ (const uint8_t *)"a\\", 2 };
     return good && lp_line_is_admitted(LP_CRATE, &line, PARTS, 7, &admitted) == LP_WRITTEN && !admitted;
 }
@@ -241,6 +252,62 @@ static bool are_bases_safe(void) {
            has_base("m,k\\,l=\\=\\  f=t", true, "m,k,l== ") && has_base("\\  f=t", false, "\\ ");
 }
 
+/* Reads the one line of a text: the key of its series is as wanted. */
+static bool has_key(const char *text, const char *key) {
+    lp_lines lines = LP_NO_LINES;
+    lp_line line = LP_EMPTY_LINE;
+    lp_part parts[10];
+    uint8_t bytes[32], out[32];
+    lp_room room = { bytes, sizeof bytes };
+    size_t len = 0;
+    lp_empty_parts(parts, 10);
+    bool good = lp_lines_begin((const uint8_t *)text, strlen(text), LP_CRATE, &lines);
+    good = good && lp_lines_next(&lines, &room, &line, parts, 10) == LP_LINE;
+    return good && lp_line_key(&line, parts, 10, out, sizeof out, &len) == LP_WRITTEN && len == strlen(key) && memcmp(out, key, len) == 0;
+}
+
+/* The first two are two series with one base, and have two keys; the two after these are one series, with one key. Tags come in the
+ * order of their keys by bytes, and those of equal keys stay in their order. */
+static bool are_keys(void) {
+    return has_key("m,b=2,a=1 f=t", "m,a=1,b=2") && has_key("m,a=1\\,b\\=2 f=t", "m,a=1\\,b\\=2") &&
+           has_key("m,\\,=v f=t", "m,\\,=v") && has_key("m,,=v f=t", "m,\\,=v") && has_key("m f=t", "m") &&
+           has_key("m,a=c\\d f=t", "m,a=c\\\\d") && has_key("m,a=c\\\\d f=t", "m,a=c\\\\d") &&
+           has_key("foo,tag=2,tag=1 f=t", "foo,tag=2,tag=1") && has_key("foo,tag=1,tag=2 f=t", "foo,tag=1,tag=2") &&
+           has_key("m,b=1,a=2,b=0,a=1 f=t", "m,a=2,a=1,b=1,b=0") && has_key("m,aa=1,a=1,\xc3\xa9=1,B=1 f=t", "m,B=1,a=1,aa=1,\xc3\xa9=1") &&
+           has_key("m,i=9,h=8,g=7,f=6,e=5,d=4,c=3 f=t", "m,c=3,d=4,e=5,f=6,g=7,h=8,i=9") && has_key("\\  f=t", "\\ ");
+}
+
+/* The tags of a key that are many and fall are sorted with memory, which is refused in turn too. How many requests there are. */
+static long are_sorted(bool *good) {
+    static const char keys[] = "xwvutsrqponmlkjihgfedcba";
+    enum { MANY = sizeof keys - 1 };
+    const lp_line line = { LP_NO_TEXT, VIEW("m"), LP_NO_TEXT, MANY, 0, 0, 0, 0, 0, true, false };
+    lp_part parts[MANY];
+    uint8_t out[128];
+    char wanted[1 + 4 * MANY + 1] = "m";
+    size_t len = 0;
+    for (size_t at = 0; at < MANY; at++) {
+        parts[at] = PARTS[1];
+        parts[at].key.text = (lp_text){ (const uint8_t *)&keys[at], 1 };
+        snprintf(wanted + 1 + 4 * at, 5, ",%c=v", keys[MANY - 1 - at]);
+    }
+    *good &= lp_line_key(&line, parts, MANY, out, sizeof out, &len) == LP_WRITTEN;
+    *good &= len == sizeof wanted - 1 && memcmp(out, wanted, len) == 0;
+    return refused_of(lp_line_key, &line, parts, MANY, len, good);
+}
+
+/* Names that no line can hold have a key too, in which they are written as others are. */
+static bool is_key_of_any_name(void) {
+    static const char wanted[] = "#\n\\\\,=\t\\\\";
+    const lp_part tag = { LP_NO_VIEW, VIEW("\t\\"), 0, 0, LP_TAG, false };
+    lp_line line = LP_EMPTY_LINE;
+    uint8_t out[32];
+    size_t len = 0;
+    line.measurement = (lp_view)VIEW("#\n\\");
+    line.has_tag_set = true, line.tags = 1;
+    return lp_line_key(&line, &tag, 1, out, sizeof out, &len) == LP_WRITTEN && len == sizeof wanted - 1 && memcmp(out, wanted, len) == 0;
+}
+
 /* With four fields a line that is not admitted is refused without memory. */
 static bool is_refused_at_once(void) {
     uint8_t out[96];
@@ -358,10 +425,13 @@ int main(void) {
     good &= writes(lp_line_show, &LINE, PARTS, LP_WRITTEN, SHOWN, sizeof SHOWN - 1);
     good &= writes(lp_line_base, &LINE, PARTS, LP_WRITTEN, BASE, sizeof BASE - 1);
     good &= writes(lp_line_base, &LINE, repeated, LP_FAULT, "k", 1);
+    good &= writes(lp_line_key, &LINE, PARTS, LP_WRITTEN, KEY, sizeof KEY - 1);
+    good &= writes(lp_line_key, &LINE, repeated, LP_WRITTEN, REPEATED_KEY, sizeof REPEATED_KEY - 1);
     good &= is_tested() && are_as_told() && are_logins() && are_no_dialects() && are_bases_safe() && is_refused_at_once() && is_nothing_told() && is_rebuilt();
+    good &= are_keys() && is_key_of_any_name();
     good &= are_messages() && are_no_messages() && are_empty();
     long requests = refused(write_line, sizeof WRITTEN - 1, &good) + refused(lp_line_show, sizeof SHOWN - 1, &good);
-    requests += refused(lp_line_base, sizeof BASE - 1, &good);
-    printf("lines, bases, messages and rebuilt texts written, each of %ld requests refused in turn\n", requests);
+    requests += refused(lp_line_base, sizeof BASE - 1, &good) + refused(lp_line_key, sizeof KEY - 1, &good) + are_sorted(&good);
+    printf("lines, bases, keys, messages and rebuilt texts written, each of %ld requests refused in turn\n", requests);
     return !good;
 }

@@ -174,6 +174,7 @@ PyObject *fast_write(PyObject *module, PyObject *args);
 PyObject *fast_write_many(PyObject *module, PyObject *args);
 PyObject *fast_show(PyObject *module, PyObject *line);
 PyObject *fast_base(PyObject *module, PyObject *line);
+PyObject *fast_key(PyObject *module, PyObject *line);
 PyObject *fast_is_base_safe(PyObject *module, PyObject *line);
 PyObject *fast_is_admitted(PyObject *module, PyObject *args);
 PyObject *fast_rebuild(PyObject *module, PyObject *args);

@@ -130,7 +130,7 @@ static PyMethodDef functions[] = {
     { "columns", fast_columns, METH_VARARGS, NULL }, { "write_columns", fast_write_columns, METH_VARARGS, NULL },
     { "part_ends", fast_part_ends, METH_VARARGS, NULL },
     { "write", fast_write, METH_VARARGS, NULL }, { "write_many", fast_write_many, METH_VARARGS, NULL }, { "show", fast_show, METH_O, NULL },
-    { "base", fast_base, METH_O, NULL }, { "is_base_safe", fast_is_base_safe, METH_O, NULL },
+    { "base", fast_base, METH_O, NULL }, { "key", fast_key, METH_O, NULL }, { "is_base_safe", fast_is_base_safe, METH_O, NULL },
     { "is_admitted", fast_is_admitted, METH_VARARGS, NULL }, { "rebuild", fast_rebuild, METH_VARARGS, NULL },
     { "version", fast_version, METH_NOARGS, NULL }, { "setup", fast_setup, METH_VARARGS, NULL }, { NULL, NULL, 0, NULL } };
 static struct PyModuleDef definition = {

@@ -322,12 +322,18 @@ static uint32_t put_base(uint32_t dialect, const lp_line *line, const lp_part *p
     (void)dialect;
     return lp_line_base(line, parts, parts_len, out, room, len);
 }
+static uint32_t put_key(uint32_t dialect, const lp_line *line, const lp_part *parts, size_t parts_len, uint8_t *out, size_t room,
+                        size_t *len) {
+    (void)dialect;
+    return lp_line_key(line, parts, parts_len, out, room, len);
+}
 
 /* What a call puts out for one line. */
 static PyObject *put_out_one(PutsOut *call, uint32_t dialect, PyObject *line) {
     Handed handed = { 0 };
     Out out = { NULL, 0, 0 };
-    const uint32_t answer = put_line(&handed, line, call == put_base) ? put_out(call, dialect, &handed, &out) : 0;
+    const bool is_series = call == put_base || call == put_key;
+    const uint32_t answer = put_line(&handed, line, is_series) ? put_out(call, dialect, &handed, &out) : 0;
     free_handed(&handed);
     PyObject *text = str_of_out(&out, answer != 0);
     if (!text || answer == LP_WRITTEN) return text;
@@ -345,6 +351,7 @@ PyObject *fast_write(PyObject *module, PyObject *args) {
 }
 PyObject *fast_show(PyObject *module, PyObject *line) { (void)module; return put_out_one(put_shown, LP_CRATE, line); }
 PyObject *fast_base(PyObject *module, PyObject *line) { (void)module; return put_out_one(put_base, LP_CRATE, line); }
+PyObject *fast_key(PyObject *module, PyObject *line) { (void)module; return put_out_one(put_key, LP_CRATE, line); }
 
 /* write_many(lines, dialect): all lines of an iterable, one after another. */
 PyObject *fast_write_many(PyObject *module, PyObject *args) {

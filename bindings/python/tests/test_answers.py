@@ -7,7 +7,7 @@ from collections import Counter
 from pathlib import Path
 from typing import get_args
 
-from line_protocol import Dialect, DuplicateTag, FaultKind, FloatText, Line, Side, Unsigned, base, parse, rebuild, show, split
+from line_protocol import Dialect, DuplicateTag, FaultKind, FloatText, Line, Side, Unsigned, base, key, parse, rebuild, show, split
 
 TABLE = Path(__file__).parents[3] / "crates" / "lp_answers" / "data" / "answers.tsv"
 ESCAPES = {"n": "\n", "t": "\t", "r": "\r", "0": "\0", "\\": "\\"}
@@ -59,6 +59,10 @@ def base_of_first(text, dialect):
         return f'Must not contain duplicate tags, but "{repeated}" was repeated'
 
 
+def key_of_first(text, dialect):
+    return key(next(parse(text, dialect=dialect)))
+
+
 def shown(text, dialect):
     return show(next(parse(text, dialect=dialect)))
 
@@ -86,7 +90,7 @@ def as_str_and_float(answer):
 
 
 CALLS = {
-    "items": items, "pieces": pieces, "base": base_of_first, "shown": shown, "rebuilt": rebuilt, "run": run, "float": is_float}
+    "items": items, "pieces": pieces, "base": base_of_first, "key": key_of_first, "shown": shown, "rebuilt": rebuilt, "run": run, "float": is_float}
 PASSED_OVER = ["rests_of_pieces", "rests_of_items", "series", "columns", "fault", "as_written"]
 """Kinds of rows that no call answers."""
 

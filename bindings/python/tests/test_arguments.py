@@ -9,7 +9,7 @@ from decimal import Decimal
 from fractions import Fraction
 
 from line_protocol import (
-    Builder, FloatText, Line, Unsigned, base, columns, is_admitted, is_base_safe, parse, part_ends, rebuild, show, split, write,
+    Builder, FloatText, Line, Unsigned, base, columns, is_admitted, is_base_safe, key, parse, part_ends, rebuild, show, split, write,
     write_columns, write_many)
 
 from typed import typed
@@ -117,7 +117,7 @@ class Names(unittest.TestCase):
     def test_names_that_are_no_str(self):
         for place, make in self.PLACES.items():
             for name in (None, b"n", bytearray(b"n"), 5, 0, True, 1.5, ["n"], ("n",), Level.HIGH):
-                for call in (write, show, is_admitted, build, base, is_base_safe)[: 4 if "field" in place else 6]:
+                for call in (write, show, is_admitted, build, base, key, is_base_safe)[: 4 if "field" in place else 7]:
                     with self.subTest(place=place, name=name, call=call.__name__):
                         with self.assertRaisesRegex(TypeError, f"{place} is a str, not {type(name).__name__}"):
                             call(make(name))

@@ -12,8 +12,8 @@ from fractions import Fraction
 from pathlib import Path
 
 from line_protocol import (
-    Builder, Column, DuplicateTag, FloatText, Line, Table, Unsigned, base, columns, is_admitted, is_base_safe, parse, part_ends, rebuild,
-    show, split, write, write_columns, write_many)
+    Builder, Column, DuplicateTag, FloatText, Line, Table, Unsigned, base, columns, is_admitted, is_base_safe, key, parse, part_ends,
+    rebuild, show, split, write, write_columns, write_many)
 from line_protocol.items import short
 
 
@@ -61,7 +61,7 @@ TOO_LARGE = [2**63, -(2**63) - 1, 2**64, 10**30, 10**5000]
 NO_LINE = [None, 5, True, 1.5, "m f=1i", b"m f=1i", ["m"], ("m", [], [("f", 1)], None), {"measurement": "m"}, Strange(), Silent()]
 
 LINE_CALLS = [write, show, is_admitted, lambda line: write_many([line])]
-SERIES_CALLS = [base, is_base_safe]
+SERIES_CALLS = [base, key, is_base_safe]
 FIELDS = [("f", 1)]
 
 
@@ -227,7 +227,8 @@ class Refused(unittest.TestCase):
             (parse, (), {}), (parse, ("m", True), {}), (parse, ("m",), {"loose": True}), (split, (), {}), (split, ("m", True), {}),
             (rebuild, (), {}), (rebuild, ("m", True), {}), (write, (), {}), (write, (Line("m"), 5), {}), (write_many, (), {}),
             (write_many, ([], True), {}), (write_many, ([],), {"loose": True}), (Builder, (True,), {}), (Builder, (), {"loose": True}),
-            (show, (), {}), (base, (), {}), (is_base_safe, (), {}), (is_admitted, (), {}), (columns, (), {}), (columns, ("m", True), {}),
+            (show, (), {}), (base, (), {}), (key, (), {}), (key, (Line("m"), 5), {}), (is_base_safe, (), {}), (is_admitted, (), {}),
+            (columns, (), {}), (columns, ("m", True), {}),
             (write_columns, (), {}), (write_columns, ({}, 5), {}), (Table, (), {}), (Column, (), {}),
             (part_ends, (), {}), (part_ends, ("m",), {}), (part_ends, ("m", 2, True), {}), (part_ends, ("m", 2), {"loose": True}),
             (Line, (), {}), (Line, ("m", [], [], None, 5), {}), (Unsigned, (1, 2), {}), (FloatText, (), {}),

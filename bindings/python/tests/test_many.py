@@ -14,7 +14,7 @@ import unittest
 from decimal import Decimal
 from unittest import mock
 
-from line_protocol import Builder, FloatText, Line, Unsigned, base, is_admitted, is_base_safe, parse, show, write, write_many
+from line_protocol import Builder, FloatText, Line, Unsigned, base, is_admitted, is_base_safe, key, parse, show, write, write_many
 
 try:
     import numpy
@@ -166,10 +166,10 @@ class Many(unittest.TestCase):
 
         def once():
             for line in lines:
-                write(line), show(line), base(line), is_base_safe(line), is_admitted(line)
+                write(line), show(line), base(line), key(line), is_base_safe(line), is_admitted(line)
             write_many(lines)
             for wrong in (Line("m"), Line("m", [("a", "b")], [("f", None)]), Line("m", [("a", 5)]), Line("#", [], [("f", 1)]), None):
-                for call in (write, show, is_admitted, base, lambda line: write_many([lines[0], line])):
+                for call in (write, show, is_admitted, base, key, lambda line: write_many([lines[0], line])):
                     with contextlib.suppress(TypeError, ValueError):
                         call(wrong)
 

@@ -49,6 +49,7 @@ CALLS = {
     "refused rows": lambda: refused_by(lambda: write_columns({"m": TABLES.tables["n"], "n": REFUSED_ROWS})),
     "show": lambda: len(show(FIELDS)),
     "base": lambda: len(base(FIELDS)),
+    "key": lambda: len(key(FIELDS)),
     "is_admitted": lambda: is_admitted(FIELDS),
     "rebuild": lambda: rebuild(TEXT).carried,
 }
@@ -100,7 +101,7 @@ print("refused", refused)
 class Refusals(unittest.TestCase):
     def test_each_request_refused_in_turn(self):
         calls = ["parse", "parse parts", "parse bad", "columns", "part_ends", "split", "write", "write_many", "write_columns",
-                 "refused names", "refused rows", "show", "base", "is_admitted", "rebuild", "each item"]
+                 "refused names", "refused rows", "show", "base", "key", "is_admitted", "rebuild", "each item"]
         for name in calls:
             with self.subTest(call=name):
                 said = subprocess.run(

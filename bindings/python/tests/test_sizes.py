@@ -5,7 +5,7 @@ import random
 import unittest
 
 from line_protocol import (
-    Builder, DuplicateTag, Fault, FaultKind, Line, Rebuilt, Side, Unsigned, base, is_admitted, parse, rebuild, show, split, write)
+    Builder, DuplicateTag, Fault, FaultKind, Line, Rebuilt, Side, Unsigned, base, is_admitted, key, parse, rebuild, show, split, write)
 
 from typed import typed
 
@@ -71,8 +71,9 @@ class Sizes(Calls):
                         texts = dict(zip(WRITTEN, ("m", "t", "v", "f", "s")))
                         texts[place] = text_of(size, kind)
                         self.each_call(*line_of(texts))
-                        name, key, value, *_ = texts.values()
-                        self.same(base(Line(name, [(key, value)])), f"{name},{key}={value}")
+                        name, tag, value, *_ = texts.values()
+                        self.same(base(Line(name, [(tag, value)])), f"{name},{tag}={value}")
+                        self.same(key(Line(name, [(tag, value)])), "{},{}={}".format(*marked(texts, WRITTEN)))
 
     def test_a_repeated_key(self):
         for kind in (PLAIN, ESCAPED, BEYOND_ASCII):
@@ -129,12 +130,14 @@ class Counts(Calls):
                     f"{series} " + ",".join(f"{key}={text}" for key, (_, text, _) in zip(keys, values)) + " 5\n",
                     f"{series} " + ",".join(f"{key}={text}" for key, (_, _, text) in zip(keys, values)) + " 5")
 
-    def test_bases(self):
+    def test_bases_and_keys(self):
         for count in COUNTS:
             for order, keys in in_orders(count):
                 with self.subTest(count=count, order=order):
-                    tags = [(key, f"v {i}") for i, key in enumerate(keys)]
-                    self.same(base(Line("m", tags)), "m," + ",".join(f"{key}={value}" for key, value in sorted(tags)))
+                    tags = [(name, f"v {i}") for i, name in enumerate(keys)]
+                    text = "m," + ",".join(f"{name}={value}" for name, value in sorted(tags))
+                    self.same(base(Line("m", tags)), text)
+                    self.same(key(Line("m", tags)), text.replace(" ", "\\ "))
 
     def test_a_repeated_key(self):
         for count in COUNTS:

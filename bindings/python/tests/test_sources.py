@@ -467,7 +467,8 @@ class Collection(unittest.TestCase):
             lines = [item for item in items if isinstance(item, Line)]
             line_protocol.write_many(lines)
             for line in lines:
-                line_protocol.show(line), line_protocol.base(line), line_protocol.is_admitted(line), line_protocol.is_base_safe(line)
+                line_protocol.show(line), line_protocol.base(line), line_protocol.key(line)
+                line_protocol.is_admitted(line), line_protocol.is_base_safe(line)
             for wrong in (None, Line("m"), Line("m", 5), Line("m", [], [("f", None)]), Line(5), Line("m", [(1, 2)])):
                 with contextlib.suppress(ValueError, TypeError):
                     line_protocol.write(wrong)

@@ -6,7 +6,7 @@ import tracemalloc
 import unittest
 from concurrent.futures import ThreadPoolExecutor
 
-from line_protocol import DuplicateTag, Line, Rebuilt, Unsigned, base, is_admitted, is_base_safe, parse, rebuild, show, write
+from line_protocol import DuplicateTag, Line, Rebuilt, Unsigned, base, is_admitted, is_base_safe, key, parse, rebuild, show, write
 
 LINE = Line(
     "c pu", [("z", "a,b"), ("h=", "é")],
@@ -30,10 +30,11 @@ class Writing(unittest.TestCase):
         with self.assertRaisesRegex(DuplicateTag, "^a$"):
             base(Line("m", [("a", "1"), ("a", "2")], [("f", 1)]))
 
-    def test_the_base_does_not_look_at_fields(self):
+    def test_bases_and_keys_do_not_look_at_fields(self):
         for fields in ([], [("f", math.nan)], [("f", None)], [(None, 1)]):
             with self.subTest(fields=fields):
                 self.assertEqual(base(Line("m", [("a", "2")], fields)), "m,a=2")
+                self.assertEqual(key(Line("m", [("a", "2")], fields)), "m,a=2")
                 self.assertTrue(is_base_safe(Line("m", [("a", "2")], fields)))
 
     def test_bases_are_safe_where_no_name_divides_them_or_is_one_escape_alone(self):
@@ -53,6 +54,28 @@ class Writing(unittest.TestCase):
             with self.subTest(series=series):
                 [line] = parse(series + " f=1i")
                 self.assertEqual((base(line), is_base_safe(line)), (text, safe))
+
+    def test_keys_tell_series_whatever_their_names_hold(self):
+        tags = [f",k{number:02}=v" for number in range(99)]
+        for series, text in (
+                ("m", "m"),
+                ("m,b=2,a=1", "m,a=1,b=2"),
+                ("m,a=1\\,b\\=2", "m,a=1\\,b\\=2"),
+                ("m,\\,=v", "m,\\,=v"),
+                ("m,,=v", "m,\\,=v"),
+                ("m,a=c\\d", "m,a=c\\\\d"),
+                ("m,a=c\\\\d", "m,a=c\\\\d"),
+                ("m,b=1,a=2,b=0,a=1", "m,a=2,a=1,b=1,b=0"),
+                ("m,\U00010000=1,\uffff=1,aa=1,a=1,B=1", "m,B=1,a=1,aa=1,\uffff=1,\U00010000=1"),
+                ("m" + "".join(reversed(tags)), "m" + "".join(tags))):
+            with self.subTest(series=series):
+                [line] = parse(series + " f=1i")
+                self.assertEqual(key(line), text)
+                [again] = parse(text + " f=1i")
+                self.assertEqual(key(again), text)
+
+    def test_names_that_do_not_read_back_have_keys(self):
+        self.assertEqual(key(Line("#\n", [("b\\", ""), ("", "\t")])), "#\n,=\t,b\\\\=")
 
     def test_names_that_do_not_read_back(self):
         self.assertTrue(is_admitted(LINE))

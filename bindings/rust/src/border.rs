@@ -255,6 +255,14 @@ extern "C" {
         room: usize,
         len: *mut usize,
     ) -> u32;
+    pub(crate) fn lp_line_key(
+        line: *const Line<'_>,
+        parts: *const Part<'_>,
+        parts_len: usize,
+        out: *mut u8,
+        room: usize,
+        len: *mut usize,
+    ) -> u32;
     fn lp_line_write(
         dialect: u32,
         line: *const Line<'_>,

@@ -159,6 +159,26 @@ impl<'a> Series<'a> {
         })
     }
 
+    /// The key of this series: a text that it has alone, whatever its names hold.
+    ///
+    /// It is the measurement and the tags as a [`LineWriter`](crate::LineWriter) writes them, in the order of the tag keys, by bytes.
+    /// Tags of equal keys stay in their order, so every series has a key. Two series have the same key exactly where they have the
+    /// same measurement and, for each tag key, the same values in the same order.
+    ///
+    /// ```
+    /// let key = |text| influxdb_line_protocol::parse_lines(text).next().unwrap().unwrap().series.key();
+    /// assert_eq!(key("m,b=2,a=1 f=1i"), "m,a=1,b=2");
+    /// assert_eq!(key("m,a=1\\,b\\=2 f=1i"), "m,a=1\\,b\\=2");
+    /// assert_eq!(key("m,,=v f=1i"), key("m,\\,=v f=1i"));
+    /// ```
+    pub fn key(&self) -> String {
+        let (line, tags) = self.handed();
+        border::put_out(border::lp_line_key, &line, &tags, |answer, bytes| match answer {
+            answer::WRITTEN => border::text_of(bytes).to_owned(),
+            _ => unreachable!("a series was refused"),
+        })
+    }
+
     /// Whether the base of this series is safe to group by: no measurement and no tag value holds a comma, no tag key an `=`,
     /// and no name is a comma, a space or, in a tag, an `=` alone.
     ///

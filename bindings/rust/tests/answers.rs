@@ -141,6 +141,7 @@ fn answer(kind: &str, text: &str) -> Option<String> {
         "columns" => first(text).column_count().to_string(),
         "fault" => parse_lines(text).next().expect("there is an item").expect_err("it is a fault").to_string(),
         "base" => base(text),
+        "key" => first(text).series.key(),
         "shown" => first(text).to_string(),
         "rebuilt" => rebuilt(text),
         "rests_of_pieces" | "rests_of_items" | "series" | "run" | "float" | "as_written" => return None,

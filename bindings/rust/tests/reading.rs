@@ -125,6 +125,41 @@ fn bases_are_safe_where_no_name_divides_them_or_is_one_escape_alone() {
 }
 
 #[test]
+fn keys_tell_series_whatever_their_names_hold() {
+    let tags: Vec<_> = (10..99).map(|tag| format!(",k{tag}=v{tag}")).collect();
+    let rising = format!("m{}", tags.concat());
+    let falling = format!("m{}", tags.iter().rev().cloned().collect::<String>());
+    let rows = [
+        ("m", "m"),
+        ("m,b=2,a=1", "m,a=1,b=2"),
+        ("m,a=1\\,b\\=2", "m,a=1\\,b\\=2"),
+        ("m,\\,=v", "m,\\,=v"),
+        ("m,,=v", "m,\\,=v"),
+        ("m\\,n", "m\\,n"),
+        ("m,a=c\\d", "m,a=c\\\\d"),
+        ("m,a=c\\\\d", "m,a=c\\\\d"),
+        ("m,b=1,a=2,b=0,a=1", "m,a=2,a=1,b=1,b=0"),
+        ("m,aa=1,a=1,\u{e9}=1,B=1", "m,B=1,a=1,aa=1,\u{e9}=1"),
+        (&falling[..], &rising[..]),
+    ];
+    for (series, key) in rows {
+        assert_eq!(line(&format!("{series} f=1i")).series.key(), key, "{series}");
+        // A key reads back as the series, which has it still.
+        assert_eq!(line(&format!("{key} f=1i")).series.key(), key, "{series}");
+    }
+}
+
+#[test]
+fn keys_are_of_what_a_series_holds_now() {
+    let mut read = line("m,b=2,a=1 f=1i");
+    read.series.measurement = "n\n\\".into();
+    read.series.tag_set.as_mut().unwrap()[0].1 = "x y".into();
+    assert_eq!(read.series.key(), "n\n\\\\,a=1,b=x\\ y");
+    read.series.tag_set = None;
+    assert_eq!(read.series.key(), "n\n\\\\");
+}
+
+#[test]
 fn lines_that_are_no_line_protocol_are_shown() {
     let mut read = line("m\\ n,k=a\\,b f=1e999,g=\"q\\\"\" 5");
     assert_eq!(read.to_string(), "m\\ n,k=a\\,b f=inf,g=q\\\" 5");

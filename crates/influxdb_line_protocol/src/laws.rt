@@ -11,6 +11,7 @@ ghost use Rattle.influxdb_line_protocol.specs.laws.GivenEvents.{AllEventsCome, E
 ghost use Rattle.influxdb_line_protocol.specs.laws.GivenItems.{ItemsAreOfPieces, ItemsAreAnswers, ItemsSoFar, GivenLinesWereRead};
 ghost use Rattle.lp_lines.specs.laws.BaseLaws.{ClearSeriesHaveBases, SameSeriesHaveOneBase, TagsByKeyAreSorted, OneBaseIsOneSeries};
 ghost use Rattle.lp_lines.specs.laws.BaseLaws.{PlainSeriesAreClear, ReadSeriesAreParsed, SafeBasesTellSeries, SameSeriesAreSafeAlike};
+ghost use Rattle.lp_lines.specs.laws.KeyLaws.{KeysReadBack, KeysTellSeries};
 ghost use Rattle.lp_format.specs.laws.Meanings.{LogicalIsWithoutEscapes, TheMostIsRead, TheNextHasTheFault, TheFirstMisses};
 ghost use Rattle.lp_format.specs.laws.Meanings.{CountIsOfTheMost, FloatFrontIsFloat, FloatFrontIsLongest, WordFrontIsWord};
 ghost use Rattle.lp_format.specs.laws.Meanings.{WordFrontIsLongest, TrimmedIsAfterBlanks, TrimmedFrontIsLongest};
@@ -235,4 +236,12 @@ pub fn bases_tell_series()
     ensures read { ReadSeriesAreParsed }
     ensures safe { SafeBasesTellSeries }
     ensures alike { SameSeriesAreSafeAlike }
+{}
+
+/// Two series have the same key, as [`Series::key`](crate::Series::key) gives it, exactly if they have the same measurement and,
+/// for each tag key, the same values in the same order. It is so whatever the names hold, also for those that no line has. If
+/// all names are admitted, the key reads back as that series.
+pub fn keys_tell_series()
+    ensures tell { KeysTellSeries }
+    ensures read { KeysReadBack }
 {}

@@ -18,7 +18,9 @@ pub use builder::{
 pub use lp_events::{
     Event, EventSink, ParseEvents, parse_events, parse_events_in, read_events_in, read_line_events,
 };
-pub use lp_lines::{FieldSet, ParseLines, ParsedLine, Series, TagSet, parse_lines, parse_lines_in};
+pub use lp_lines::{
+    FieldSet, ParseLines, ParsedLine, Series, TagSet, hash_series, parse_lines, parse_lines_in,
+};
 pub use lp_split::{
     BoundedLineStream, Dialect, LineStream, PieceTooLong, SplitLines, split_lines, split_lines_in,
 };

@@ -15,6 +15,7 @@ pub const KINDS: &[&str] = &[
     "columns",
     "fault",
     "base",
+    "key",
     "shown",
     "rebuilt",
     "run",
@@ -38,6 +39,7 @@ pub fn answer(
         "columns" => of_first_line(alloc, dialect, text, Part::Columns),
         "fault" => fault(alloc, dialect, text),
         "base" => of_first_line(alloc, dialect, text, Part::Base),
+        "key" => of_first_line(alloc, dialect, text, Part::Key),
         "shown" => of_first_line(alloc, dialect, text, Part::Shown),
         "rebuilt" => rebuilt(alloc, dialect, text),
         "run" => run(alloc, dialect, text),
@@ -75,6 +77,7 @@ fn fault(alloc: Global, dialect: Dialect, text: &str) -> Result<String, AllocErr
 enum Part {
     Columns,
     Base,
+    Key,
     Shown,
 }
 
@@ -91,6 +94,7 @@ fn of_first_line(
     match part {
         Part::Columns => columns(alloc, &line),
         Part::Base => render::shown_base(alloc, line.series),
+        Part::Key => line.series.key(alloc),
         Part::Shown => format!(in alloc; "{line}"),
     }
 }

@@ -10,9 +10,11 @@ use Rattle.influxdb_line_protocol.specs.format.Readings.{Fault}
 use Rattle.lp_format.specs.format.Bytes.{newlines_in}
 use Rattle.lp_format.specs.format.Trimming.{trimmed}
 use Rattle.lp_events.specs.code.Stops.{reading_stop}
+use Rattle.lp_split.specs.code.{AreSeen}
 use Rattle.lp_c.specs.Crossing.{fault_seen}
 use Rattle.lp_c.specs.Numbers.{answer_number, fault_number, side_number}
 use Rattle.lp_c.specs.Offsets.{bytes_at, field_at, tag_at, texts_len}
+use Rattle.lp_c.specs.Portions.{IsPortionOf}
 use Rattle.lp_c.specs.Rooms.{Shows}
 use Rattle.lp_c.specs.declared.offsets.Block.{Block}
 use Rattle.lp_c.specs.declared.offsets.Came.{Came}
@@ -20,12 +22,21 @@ use Rattle.lp_c.specs.declared.offsets.Filled.{Filled}
 use Rattle.lp_c.specs.declared.offsets.OffsetRow.{OffsetRow}
 use Rattle.lp_c.specs.declared.placed.OffsetPart.{OffsetPart}
 use Rattle.lp_c.specs.declared.pieces.Piece.{Piece}
+use Rattle.lp_c.specs.declared.pieces.Seen.{Seen}
 use Rattle.lp_c.specs.declared.pieces.Spot.{Spot}
 use Rattle.lp_c.specs.declared.views.Answer.{Answer}
 
 -- the bytes of a piece
 abbrev pub piece_in : List ℕ → Piece → List ℕ
 piece_in text piece = take piece.len (drop piece.at text)
+
+-- a piece tells how many newlines it holds
+abbrev pub HasNewlines : List ℕ → Piece → Type 0
+HasNewlines text piece = piece.newlines ≡ newlines_in (piece_in text piece)
+
+-- what was seen of a text is so: the portion, and, at a place, the bytes that tell of a cut
+abbrev pub IsSeenOf : Dialect → List ℕ → Seen → Type 0
+IsSeenOf dialect text seen = IsPortionOf text seen.portion × AreSeen dialect (drop seen.at text) seen.marks
 
 -- a piece of the text: a newline ends it, and the next one comes after that; or it is the last one, with which the text ends
 abbrev pub IsPieceIn : Dialect → Bool → List ℕ → Piece → Type 0

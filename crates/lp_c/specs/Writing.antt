@@ -1,11 +1,12 @@
 -- What callers in C get written.
-use Rattle.std.specs.Prelude.{◌≡◌, ◌≢◌, ◌↔◌, ℕ, ◌<◌, ◌≤◌, List, [], ◌∷◌, ◌++◌, length, drop, true, false, Ok}
+use Rattle.std.specs.Prelude.{◌≡◌, ◌≢◌, ◌↔◌, ℕ, ◌<◌, ◌≤◌, List, [], ◌∷◌, ◌++◌, length, drop, map, true, false, Ok}
 use Rattle.influxdb_line_protocol.specs.format.Dialects.{Dialect}
-use Rattle.influxdb_line_protocol.specs.format.Lines.{point_of, some_tags}
+use Rattle.influxdb_line_protocol.specs.format.Lines.{logical_tag, point_of, some_tags}
 use Rattle.influxdb_line_protocol.specs.format.Points.{Point, built, is_admitted_in}
 use Rattle.influxdb_line_protocol.specs.code.Bases.{Base, borrowed, owned, duplicate_key, base_of}
 use Rattle.influxdb_line_protocol.specs.code.Shown.{shown_line}
 use Rattle.influxdb_line_protocol.specs.laws.AdmittedLines.{AreClosedLines}
+use Rattle.lp_lines.specs.code.Keys.{series_key}
 use Rattle.lp_c.specs.declared.views.Answer.{Answer}
 use Rattle.lp_c.specs.declared.views.Answer.TheVariants.{Fault, MoreRoom, NotADialect, NotALine, NotAdmitted, OutOfMemory, Written}
 use Rattle.lp_c.specs.declared.views.Line.{Line}
@@ -60,6 +61,10 @@ shown_in l parts = shown_line (line_in false l parts)
 -- the base of the series that views hold
 abbrev pub base_in : Line → List Part → Base
 base_in l parts = base_of l.series.now (text_in true l.measurement) (some_tags (tag_set_in true l parts))
+
+-- the key of the series that views hold
+abbrev pub key_in : Line → List Part → List ℕ
+key_in l parts = series_key (text_in false l.measurement).bytes (map logical_tag (some_tags (tag_set_in false l parts)))
 
 -- the text of a base, or the key that is repeated
 abbrev pub text_of_base : Base → List ℕ

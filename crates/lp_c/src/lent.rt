@@ -32,7 +32,7 @@ fn put<'a>(room: &mut Room<'a>, text: &[u8]) -> &'a [u8]
 
 // Whether a text reads as it is spelled: it holds no backslash.
 #[inline(always)]
-fn reads_as_spelled(text: Spelled<'_>) -> bool
+pub(crate) fn reads_as_spelled(text: Spelled<'_>) -> bool
     ensures { result ≡ true → spelled_text text.entry ≡ record { bytes = spelling_of text.entry; is_single = true } }
 {
     text.is_plain()

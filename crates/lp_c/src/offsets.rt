@@ -7,17 +7,17 @@ ghost use Rattle.influxdb_line_protocol.specs.format.Lines.{answer};
 ghost use Rattle.lp_events.specs.code.Stops.{reading_stop};
 ghost use Rattle.lp_c.specs.Crossing.{dialect_of, fault_seen};
 ghost use Rattle.lp_c.specs.Numbers.{IsNoDialect, answer_number, fault_number, side_number};
-ghost use Rattle.lp_c.specs.OffsetBlocks.{AnswersRow, HasNoFault, HasNoLine, IsItemIn, IsPlaced, PutsRow, ReadsOffsets, ReadsRow, ReadsRows, block_answer, came_number, has_row, in_32, is_too_much, timestamp_in};
-ghost use Rattle.lp_c.specs.Portions.{IsPortionOf};
+ghost use Rattle.lp_c.specs.Offsets.{IsLineIn};
+ghost use Rattle.lp_c.specs.OffsetBlocks.{AnswersRow, HasNoFault, HasNoLine, IsItemIn, IsPlaced, IsSeenOf, PutsRow, ReadsOffsets, ReadsRow, ReadsRows, block_answer, came_number, has_row, in_32, is_too_much, timestamp_in};
 ghost use Rattle.lp_c.specs.Rooms.{Grows};
 ghost use Rattle.lp_c.specs.declared.offsets.Came.TheVariants as Came;
 ghost use Rattle.lp_c.specs.declared.views.Answer.TheVariants as Answer;
 
 use crate::lent::fault_seen;
-use crate::pieces::{Piece, Spot, next_item, pass};
+use crate::pieces::{Piece, Seen, Spot, next_item, pass};
 use crate::placed::{LineIn, OffsetPart, Span};
 use crate::placing::put_told;
-use crate::portions::{Portion, no_portion};
+use crate::portions::no_portion;
 use crate::views::{Answer, Dialect};
 use influxdb_line_protocol::{Dialect as Rules, SpelledFault};
 use lp_events::stops::reading_stop;
@@ -127,28 +127,33 @@ fn in_32(number: usize) -> u32
     number.min(u32::MAX as usize) as u32
 }
 
-// Shows the fault of the line of a piece, and where reading the line stopped.
+// Shows the fault of a line that ends at this place, and where reading it stopped.
 #[cold]
 #[inline(never)]
-fn show_fault(
-    dialect: Rules,
-    piece: Piece,
-    line: &str,
-    fault: SpelledFault<'_>,
-    row: &mut OffsetRow,
-)
-    requires { piece.at + piece.len < 2 ^ 32 }
+fn show_fault(dialect: Rules, line: &str, end: usize, fault: SpelledFault<'_>, row: &mut OffsetRow)
+    requires { end < 2 ^ 32 }
     ensures { row.new ≡ record row.old {
       fault = fault_number (fault_seen (spelled_fault fault.entry)).kind;
       side = side_number (fault_seen (spelled_fault fault.entry)).side;
-      stop_at = piece.at + piece.len - length (reading_stop (rules_of dialect) line.now).1;
+      stop_at = end - length (reading_stop (rules_of dialect) line.now).1;
     } }
 {
     let (kind, side, _) = fault_seen(fault);
     row.fault = kind.number();
     row.side = side.number();
     let rest = reading_stop(dialect, line).rest;
-    row.stop_at = in_32((piece.at + piece.len).saturating_sub(rest.len()));
+    row.stop_at = in_32(end.saturating_sub(rest.len()));
+}
+
+// Shows how much a line takes that takes more than is left.
+#[cold]
+#[inline(never)]
+fn show_need(row: &mut OffsetRow, tags: usize, fields: usize, room_len: usize)
+    ensures { row.new ≡ record row.old { tags = in_32 tags; fields = in_32 fields; room_len = in_32 room_len } }
+{
+    row.tags = in_32(tags);
+    row.fields = in_32(fields);
+    row.room_len = in_32(room_len);
 }
 
 // Shows a timestamp, or that there is none.
@@ -169,52 +174,57 @@ fn show_time(row: &mut OffsetRow, timestamp: Option<i64>)
     }
 }
 
-// Puts down the line of a piece, and gives what came of it, how many parts it has, and how many bytes of the room are in use with it.
+// Puts down a line that ends at this place, and gives what came of it, how many parts it has, and how many bytes of the room are in use
+// with it.
 #[inline(never)]
 fn put_line(
     dialect: Rules,
-    piece: Piece,
-    line: LineIn<'_, '_>,
+    text: &[u8],
+    line: &str,
+    end: usize,
     row: &mut OffsetRow,
     parts: &mut [OffsetPart],
     room: &mut [u8],
     used: usize,
 ) -> (Came, usize, usize)
-    requires line { length line.line.now < 2 ^ 63 }
-    requires piece { line.end ≡ piece.at + piece.len }
+    requires lies { IsLineIn text.now line.now end }
     requires parts { length parts.old < 2 ^ 32 }
     requires small { length room.old < 2 ^ 32 }
     ensures size { length parts.new ≡ length parts.old }
     ensures grows { Grows room.old used room.new result.2 }
     ensures piece { (row.new.piece ≡ row.old.piece) × (row.new.line ≡ row.old.line) × (row.new.parts_at ≡ row.old.parts_at) }
     ensures kept { (row.new.key ≡ row.old.key) × (row.new.verdict ≡ row.old.verdict) }
-    ensures begins { row.new.line_at ≡ piece.at + piece.len - length line.entry.line.now }
-    ensures end { result.0 ≡ Came.Line → row.new.stop_at ≡ piece.at + piece.len }
+    ensures begins { row.new.line_at ≡ end - length line.now }
+    ensures end { result.0 ≡ Came.Line → row.new.stop_at ≡ end }
     ensures line { result.0 ≡ Came.Line → HasNoFault row.old → HasNoFault row.new }
     ensures fault { result.0 ≡ Came.Fault → HasNoLine row.old → HasNoLine row.new }
-    ensures answers { AnswersRow (answer (rules_of dialect) line.entry.line.now) result.0 line.entry.text.now parts.new room.new used result.1 result.2 row.new }
+    ensures answers { AnswersRow (answer (rules_of dialect) line.now) result.0 text.now parts.new room.new used result.1 result.2 row.new }
     ensures fits { result.1 ≤ length parts.new }
     ensures stays { is_too_much result.0 ≡ true → (result.1 ≡ 0) × (result.2 ≡ used) }
     ensures room { used ≤ length room.old → result.2 ≤ length room.new }
     ensures stop { result.0 ≡ Came.Fault →
-        row.new.stop_at ≡ piece.at + piece.len - length (reading_stop (rules_of dialect) line.entry.line.now).1 }
+        row.new.stop_at ≡ end - length (reading_stop (rules_of dialect) line.now).1 }
 {
-    row.line_at = in_32(line.end - line.line.len());
-    let told = put_told(dialect, line, parts, room, used);
+    row.line_at = (end - line.len()) as u32;
+    let line_in = LineIn { text, line, end };
+    let told = put_told(dialect, line_in, parts, room, used);
     if let Some(fault) = told.fault {
-        show_fault(dialect, piece, line.line, fault, row);
+        show_fault(dialect, line, end, fault, row);
         return (Came::Fault, 0, used);
     }
-    row.tags = in_32(told.tags);
-    row.fields = in_32(told.fields);
-    row.room_len = in_32(told.used - used);
+    let needed = told.used - used;
     if parts.len() < told.tags || parts.len() - told.tags < told.fields {
+        show_need(row, told.tags, told.fields, needed);
         return (Came::MoreParts, 0, used);
     }
     if room.len() < told.used {
+        show_need(row, told.tags, told.fields, needed);
         return (Came::MoreRoom, 0, used);
     }
-    row.stop_at = in_32(line.end);
+    row.tags = told.tags as u32;
+    row.fields = told.fields as u32;
+    row.room_len = needed as u32;
+    row.stop_at = end as u32;
     row.measurement = told.name.span;
     row.measurement_copied = told.name.copied;
     show_time(row, told.timestamp);
@@ -285,12 +295,8 @@ fn put_row(
         row.answer = Came::NotUtf8.number();
         return (Came::NotUtf8, 0, used);
     };
-    let line = LineIn {
-        text,
-        line,
-        end: piece.at + piece.len,
-    };
-    let (came, own, used) = put_line(dialect, piece, line, row, parts, room, used);
+    let end = piece.at + piece.len;
+    let (came, own, used) = put_line(dialect, text, line, end, row, parts, room, used);
     row.answer = came.number();
     (came, own, used)
 }
@@ -310,7 +316,7 @@ fn read_row<'a>(
     dialect: Rules,
     last: bool,
     text: &'a [u8],
-    portion: &mut Portion<'a>,
+    seen: &mut Seen<'a>,
     row: &mut OffsetRow,
     parts: &mut [OffsetPart],
     room: &mut [u8],
@@ -320,15 +326,15 @@ fn read_row<'a>(
     requires parts { (length parts.old < 2 ^ 32) × (filled.old.parts ≤ length parts.old) }
     requires room { filled.old.room ≤ length room.old }
     requires small { length room.old < 2 ^ 32 }
-    requires portion { IsPortionOf text.now portion.old }
-    ensures portion { IsPortionOf text.now portion.new }
+    requires seen { IsSeenOf (rules_of dialect) text.now seen.old }
+    ensures seen { IsSeenOf (rules_of dialect) text.now seen.new }
     ensures size { length parts.new ≡ length parts.old }
     ensures grows { Grows room.old filled.old.room room.new filled.new.room }
     ensures kept { take filled.old.parts parts.new ≡ take filled.old.parts parts.old }
     ensures fits { (filled.new.spot.at ≤ length text.now) × (filled.new.parts ≤ length parts.new) × (filled.new.room ≤ length room.new) }
     ensures reads { ReadsRow (rules_of dialect) last text.now filled.old result row.new parts.new room.new filled.new }
 {
-    let (piece, item) = next_item(dialect, last, text, portion, &mut filled.spot)?;
+    let (piece, item) = next_item(dialect, last, text, seen, &mut filled.spot)?;
     let own_parts = &mut parts[filled.parts..];
     let (came, own, used) = put_row(
         dialect,
@@ -343,11 +349,7 @@ fn read_row<'a>(
         filled.room,
     );
     if !came.is_too_much() {
-        pass(
-            &mut filled.spot,
-            piece,
-            &text[piece.at..piece.at + piece.len],
-        );
+        pass(&mut filled.spot, piece);
         filled.parts += own;
         filled.room = used;
     }
@@ -384,13 +386,17 @@ fn read_rows(
     ensures size { length rows.new ≡ length rows.old }
     ensures reads { ReadsRows (rules_of dialect) last text.now filled.old.spot rows.new parts.new room.new filled.new result.0 result.1 }
 {
-    let mut portion = no_portion(filled.spot.at, rows.len(), EACH);
+    let mut seen = Seen {
+        portion: no_portion(filled.spot.at, rows.len(), EACH),
+        at: 0,
+        marks: 0,
+    };
     for at in 0..rows.len() {
         let came = read_row(
             dialect,
             last,
             text,
-            &mut portion,
+            &mut seen,
             &mut rows[at],
             parts,
             room,

@@ -12,7 +12,7 @@ ghost use Rattle.lp_c.specs.Offsets.{IsLineIn, bytes_at, field_at, field_len, ta
 ghost use Rattle.lp_c.specs.Rooms.{Grows, Shows};
 ghost use Rattle.lp_events.specs.code.Places.{AreBefore, EndsBefore, ValueEndsBefore};
 
-use crate::lent::shared;
+use crate::lent::{reads_as_spelled, shared};
 use crate::views::Kind;
 use influxdb_line_protocol::{Spelled, SpelledValue};
 
@@ -97,8 +97,6 @@ fn place_before(line: LineIn<'_, '_>, left: usize, len: usize) -> Placed
 }
 
 // Puts the logical text of a spelling into the room after the bytes in use, if it fits, and says how many are in use with it.
-#[cold]
-#[inline(never)]
 pub(crate) fn place_copy(room: &mut [u8], used: usize, spelled: Spelled<'_>) -> (Placed, usize)
     ensures grows { Grows room.old used room.new result.1 }
     ensures bound { length room.old < 2 ^ 32 → result.1 ≤ used + length (spelled_text spelled.entry).bytes }
@@ -117,8 +115,36 @@ pub(crate) fn place_copy(room: &mut [u8], used: usize, spelled: Spelled<'_>) -> 
     (Placed { span, copied: 1 }, all)
 }
 
+// Where a text with a backslash lies, after which so many bytes are left of a line that ends at this place: in the line, if it is one escape,
+// of which the byte after the backslash is the text, or else in the room, into which it is put.
+#[cold]
+#[inline(never)]
+fn place_escaped(
+    text: &[u8],
+    line: &str,
+    end: usize,
+    left: usize,
+    room: &mut [u8],
+    used: usize,
+    spelled: Spelled<'_>,
+) -> (Placed, usize)
+    requires lies { IsLineIn text.now line.now end }
+    requires ends { EndsBefore line.now (spelled_text spelled) left }
+    ensures grows { Grows room.old used room.new result.1 }
+    ensures bound { length room.old < 2 ^ 32 → result.1 ≤ used + length (spelled_text spelled.entry).bytes }
+    ensures shows { Shows (λ r. bytes_at text.now r result.0.copied result.0.span) room.new result.1 (spelled_text spelled.entry).bytes }
+{
+    let Some(shown) = shared(spelled) else {
+        return place_copy(room, used, spelled);
+    };
+    (
+        place_before(LineIn { text, line, end }, left, shown.len()),
+        used,
+    )
+}
+
 // Where a text lies after which so many bytes of the line are left: in the line, if it is a part of that, or else in the room, into which
-// it is put. Of one escape the byte after the backslash is the text.
+// it is put. If it reads as it is spelled, it begins where as many bytes were left as before it was read, so its place is a subtraction.
 #[inline(always)]
 pub(crate) fn place_text(
     line: LineIn<'_, '_>,
@@ -132,19 +158,19 @@ pub(crate) fn place_text(
     ensures bound { length room.old < 2 ^ 32 → result.1 ≤ used + length (spelled_text spelled.entry).bytes }
     ensures shows { Shows (λ r. bytes_at line.entry.text.now r result.0.copied result.0.span) room.new result.1 (spelled_text spelled.entry).bytes }
 {
-    if let Some(text) = shared(spelled) {
-        return (place_before(line, left, text.len()), used);
+    if reads_as_spelled(spelled) {
+        return (place_before(line, left, spelled.spelled().len()), used);
     }
     // Number by number: what a call fills as a whole would be kept in memory, and each place that is told would go there first.
-    let (copy, used) = place_copy(room, used, spelled);
+    let (escaped, used) = place_escaped(line.text, line.line, line.end, left, room, used, spelled);
     let span = Span {
-        at: copy.span.at,
-        len: copy.span.len,
+        at: escaped.span.at,
+        len: escaped.span.len,
     };
     (
         Placed {
             span,
-            copied: copy.copied,
+            copied: escaped.copied,
         },
         used,
     )

@@ -1,4 +1,4 @@
-//! Lines that are written, shown or tested, and bases of series: each into a buffer that the caller lends.
+//! Lines that are written, shown or tested, and bases and keys of series: each into a buffer that the caller lends.
 
 ghost use Rattle.std.specs.Prelude.{◌≡◌, ◌≢◌, ◌↔◌, ◌≤◌, ◌++◌, length, take, drop, false};
 ghost use Rattle.influxdb_line_protocol.specs.code.Bases.{is_base_safe};
@@ -8,7 +8,7 @@ ghost use Rattle.lp_c.specs.declared.views.Answer.TheVariants.{MoreRoom, NotADia
 ghost use Rattle.lp_c.specs.Crossing.{dialect_of};
 ghost use Rattle.lp_c.specs.Handed.{IsLineIn, IsSeriesIn, tag_set_in, text_in};
 ghost use Rattle.lp_c.specs.Numbers.{IsNoDialect, answer_number};
-ghost use Rattle.lp_c.specs.Writing.{PutsOut, ReadsAs, Writes, WritesAdmittedLine, answer_for_base, base_in, point_in, shown_in, text_of_base};
+ghost use Rattle.lp_c.specs.Writing.{PutsOut, ReadsAs, Writes, WritesAdmittedLine, answer_for_base, base_in, key_in, point_in, shown_in, text_of_base};
 
 use crate::handed::{empty_line, take_line, take_series};
 use crate::views::{Answer, Dialect, Line, Part};
@@ -159,6 +159,30 @@ pub extern "C" fn lp_line_base(
             out,
             len,
         ),
+        Err(_) => Answer::OutOfMemory.number(),
+    }
+}
+
+/// The key of the series of a line: a text that the series has alone, whatever its names hold.
+///
+/// Answers as [`lp_line_show`] does. The fields are not looked at. Two series have the same key exactly if they have the same
+/// measurement and, for each tag key, the same values in the same order, as `laws::keys_tell_series` says.
+#[unsafe(no_mangle)]
+pub extern "C" fn lp_line_key(
+    alloc: Global,
+    line: &Line<'_>,
+    parts: &[Part<'_>],
+    out: &mut [u8],
+    len: &mut usize,
+) -> u32
+    ensures { Writes (IsSeriesIn line.now parts.now) Written (key_in line.now parts.now) out.old out.new len.old len.new result }
+{
+    let mut taken = empty_line(alloc);
+    if let Err(answer) = take_series(alloc, false, line, parts, &mut taken.series) {
+        return answer.number();
+    }
+    match taken.series.key(alloc) {
+        Ok(key) => put_out(Answer::Written, key.as_str().as_bytes(), out, len),
         Err(_) => Answer::OutOfMemory.number(),
     }
 }

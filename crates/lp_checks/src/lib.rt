@@ -23,8 +23,8 @@ use events::Items;
 use influxdb_line_protocol::builder::BeforeMeasurement;
 use influxdb_line_protocol::{
     BoundedLineStream, Dialect, EscapedStr, LineProtocolBuilder, LineStream, ParsedLine,
-    PieceTooLong, parse_events_in, parse_lines, parse_lines_in, read_events_in, split_lines_in,
-    write_line,
+    PieceTooLong, hash_series, parse_events_in, parse_lines, parse_lines_in, read_events_in,
+    split_lines_in, write_line,
 };
 use lp_rebuild::{Reading, RunFault, Writing, rebuild_in, run_in};
 use lp_relay::{KINDS, Nowhere, Outputs, relay};
@@ -273,6 +273,40 @@ pub extern "C" fn lp_checks_bases(
     for item in parse_lines(alloc, text) {
         match item {
             Ok(line) => report_base(alloc, &mut report, line),
+            Err(fault) => render::render_fault(&mut report, &fault),
+        }
+        report.end();
+    }
+    report.count()
+}
+
+// The key of a line's series, and the hash of the key: an entry each.
+fn report_key(alloc: Global, report: &mut Report<'_>, line: &ParsedLine<'_>) {
+    render::render_copy(report, &line.series.key(alloc));
+    report.end();
+    match hash_series(alloc, &line.series) {
+        Ok(hash) => {
+            let _ = write!(report, "{hash}");
+        }
+        Err(_) => report.push(b"OutOfMemory"),
+    }
+}
+
+/// The key of the series of each line, and then the hash of that key, and the fault of each other item.
+#[unsafe(no_mangle)]
+pub extern "C" fn lp_checks_keys(
+    alloc: Global,
+    text: &[u8],
+    out: &mut [u8],
+    ends: &mut [u64],
+) -> u64
+    requires { IsUtf8 text.now }
+{
+    let text = unsafe { str::from_utf8_unchecked(text) };
+    let mut report = Report::new(out, ends);
+    for item in parse_lines(alloc, text) {
+        match item {
+            Ok(line) => report_key(alloc, &mut report, &line),
             Err(fault) => render::render_fault(&mut report, &fault),
         }
         report.end();

@@ -120,12 +120,19 @@ fn placed_tag<'a>(text: &'a str) -> Front<'a, (Spelled<'a>, Spelled<'a>, usize)>
 }
 
 // A tag at the start of `text`, and the rest.
+#[tactic(auto, unfolding(lp_format::specs::format::Lines::tag))]
 #[inline(always)]
 pub(crate) fn tag<'a>(text: &'a str) -> Front<'a, (Spelled<'a>, Spelled<'a>)>
     ensures value { GivesSpelled spelled_tag result (tag text.now) }
     ensures less { IfOk result (λ o. IfSome o (λ p. length p.1.now < length text.now)) }
 {
-    let Some(((key, value, _), rest)) = placed_tag(text)? else {
+    let Some((key, rest)) = spelled_parts::name(NameKind::TagKey, text)? else {
+        return Ok(None);
+    };
+    let Some(rest) = strip_byte(b'=', rest) else {
+        return Ok(None);
+    };
+    let Some((value, rest)) = spelled_parts::name(NameKind::TagValue, rest)? else {
         return Ok(None);
     };
     Ok(Some(((key, value), rest)))
@@ -152,12 +159,19 @@ fn placed_field<'a>(text: &'a str) -> Front<'a, (Spelled<'a>, SpelledValue<'a>, 
 }
 
 // A field at the start of `text`, and the rest.
+#[tactic(auto, unfolding(lp_format::specs::format::Lines::field))]
 #[inline(always)]
 pub(crate) fn field<'a>(text: &'a str) -> Front<'a, (Spelled<'a>, SpelledValue<'a>)>
     ensures value { GivesSpelled spelled_field result (field text.now) }
     ensures less { IfOk result (λ o. IfSome o (λ p. length p.1.now < length text.now)) }
 {
-    let Some(((key, value, _), rest)) = placed_field(text)? else {
+    let Some((key, rest)) = spelled_parts::name(NameKind::FieldKey, text)? else {
+        return Ok(None);
+    };
+    let Some(rest) = strip_byte(b'=', rest) else {
+        return Ok(None);
+    };
+    let Some((value, rest)) = spelled_parts::value(rest)? else {
         return Ok(None);
     };
     Ok(Some(((key, value), rest)))

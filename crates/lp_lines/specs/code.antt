@@ -3,6 +3,7 @@ pub mod Lookups
 pub mod ParseSteps
 pub mod ReadInto
 pub mod Bases
+pub mod Keys
 pub mod Freeing
 pub mod Filling
 pub mod Unreads

@@ -7,11 +7,13 @@
 mod base;
 mod filling;
 pub mod freeing;
+mod key;
 mod line;
 pub mod parsed;
 mod shown;
 mod unread;
 
+pub use key::hash_series;
 pub use line::{
     ParseLines, parse_lines, parse_lines_in, read_into, read_spelled_into, refill_line,
 };

@@ -4,7 +4,7 @@ ghost use Rattle.std.specs.Prelude.{◌≡◌, ◌≢◌, ◌+◌, ◌/◌, ◌^
 ghost use Rattle.std.specs.Prelude.{MatchOption, true, false, All};
 ghost use Rattle.std.specs.Iterator.{at_most};
 ghost use Rattle.lp_format.specs.format.{backslash, newline, quote, IsBareAfter, begins_comment, IsFirstCut, GivesPiece, most_pieces};
-ghost use Rattle.lp_format.specs.format.{Crate};
+ghost use Rattle.lp_format.specs.format.{Crate, newlines_in};
 ghost use Rattle.memchr.specs.Find.{IsFirstByte, is_byte, is_byte3};
 ghost use Rattle.lp_scan.specs.code.{mask_of, IsBarePassed};
 ghost use Rattle.lp_split.specs.code.{IsAhead, AreSeen, is_mark, is_stop, EndsIn, Quoted, FindsCut, rules_of};
@@ -252,12 +252,15 @@ fn cut_by_stretches(text: &[u8]) -> Option<usize>
     }
 }
 
-// A byte that tells of a cut, and the mask of those that were seen after it: newlines, and, unless each of these ends a line,
-// quotes and backslashes.
+/// A byte that tells of a cut: a newline, and, unless each newline ends a line, a quote or a backslash.
 #[derive(Clone, Copy)]
-pub(crate) struct Mark {
-    pub(crate) at: usize,
-    pub(crate) later: u64,
+pub struct Mark {
+    /// Where it is.
+    pub at: usize,
+    /// The mask of such bytes that were seen after it, of at most 64 bytes.
+    pub later: u64,
+    /// Whether none comes before it.
+    pub is_first: bool,
 }
 
 // The mask of the newlines among the 64 bytes from `at` on.
@@ -318,6 +321,7 @@ fn first_mark(dialect: Dialect, text: &[u8], seen: u64) -> Option<Mark>
         return Some(Mark {
             at: at as usize,
             later: (seen >> at) >> 1,
+            is_first: true,
         });
     }
     let mut at = 0;
@@ -328,6 +332,7 @@ fn first_mark(dialect: Dialect, text: &[u8], seen: u64) -> Option<Mark>
             return Some(Mark {
                 at: at + run as usize,
                 later: (marks >> run) >> 1,
+                is_first: true,
             });
         }
         at += WIDE;
@@ -336,6 +341,7 @@ fn first_mark(dialect: Dialect, text: &[u8], seen: u64) -> Option<Mark>
     Some(Mark {
         at: at + last,
         later: 0,
+        is_first: true,
     })
 }
 
@@ -375,12 +381,16 @@ fn late_cut(dialect: Dialect, text: &[u8]) -> Option<usize>
     }
 }
 
-/// The same, with what was seen at the start of the text, and then of what comes after that newline.
-#[tactic(auto, using(crate::proofs::lemmas::split::FirstMarks::no_cut, crate::proofs::lemmas::split::FirstMarks::cut_at_newline))]
+/// The newline that ends the first piece, or `None` if the text is one piece; `seen` are the bytes that tell of a cut that were seen at
+/// the start of the text, as a search of the text before it gave them, or 0.
+///
+/// No memory is taken.
+#[tactic(auto, using(crate::proofs::lemmas::split::FirstMarks::no_cut, crate::proofs::lemmas::split::FirstMarks::cut_at_newline, crate::proofs::lemmas::split::FirstMarks::no_newlines))]
 #[inline(always)]
-pub(crate) fn first_cut(dialect: Dialect, text: &[u8], seen: u64) -> Option<Mark>
+pub fn first_cut(dialect: Dialect, text: &[u8], seen: u64) -> Option<Mark>
     requires { AreSeen (rules_of dialect) text.now seen }
-    ensures { FindsCut (rules_of dialect) text.now result }
+    ensures cut { FindsCut (rules_of dialect) text.now result }
+    ensures first { IfSome result (λ cut. cut.is_first ≡ true → newlines_in (take cut.at text.now) ≡ 0) }
 {
     let found = first_mark(dialect, text, seen)?;
     // Nothing before it is escaped or quoted, and it is the first newline: it ends a comment too.
@@ -388,7 +398,11 @@ pub(crate) fn first_cut(dialect: Dialect, text: &[u8], seen: u64) -> Option<Mark
         return Some(found);
     }
     let at = late_cut(dialect, text)?;
-    Some(Mark { at, later: 0 })
+    Some(Mark {
+        at,
+        later: 0,
+        is_first: false,
+    })
 }
 
 /// The pieces of a text, in order: what [`split_lines`] gives.

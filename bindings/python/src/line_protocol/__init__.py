@@ -26,12 +26,12 @@ from .reading import Source, parse, split
 from .rebuilding import Rebuilt, rebuild
 from .rows import write_columns
 from .tables import Column, Columns, Table, columns
-from .writing import Builder, DuplicateTag, base, is_admitted, is_base_safe, show, write, write_many
+from .writing import Builder, DuplicateTag, base, is_admitted, is_base_safe, key, show, write, write_many
 
 __all__ = [
     "Builder", "Column", "Columns", "Dialect", "DuplicateTag", "Fault", "FaultKind", "FloatText", "Frames", "Line", "NotAdmitted",
     "Rebuilt", "Side", "Source", "Table", "Unsigned", "Value", "__version__", "base", "columns", "from_frame", "is_admitted",
-    "is_base_safe", "parse", "part_ends", "rebuild", "show", "split", "to_frame", "write", "write_columns", "write_many",
+    "is_base_safe", "key", "parse", "part_ends", "rebuild", "show", "split", "to_frame", "write", "write_columns", "write_many",
 ]
 
 __version__ = "{}.{}.{}".format(_fast.version() // 10_000, _fast.version() // 100 % 100, _fast.version() % 100)

@@ -100,6 +100,22 @@ def base(line: Line) -> str:
     return _fast.base(line)
 
 
+def key(line: Line) -> str:
+    """The key of the series of a line: a text that the series has alone, whatever its names hold. Fields and timestamp are not looked
+    at.
+
+    It is the measurement and the tags as `write` writes them, in the order of the tag keys, by the bytes of UTF-8. Tags of equal keys
+    stay in their order. Two lines have the same key exactly where they have the same measurement and, for each tag key, the same values
+    in the same order. Names that are not admitted have a key too.
+
+    >>> key(Line("m", [("z", "1"), ("a", "2")]))
+    'm,a=2,z=1'
+    >>> key(Line("m", [("a", "1,b=2")])) == key(Line("m", [("a", "1"), ("b", "2")]))
+    False
+    """
+    return _fast.key(line)
+
+
 def is_base_safe(line: Line) -> bool:
     """Whether the base of a line is safe to group by: no measurement and no tag value holds a comma, no tag key an `=`, and no
     name is a comma, a space or, in a tag, an `=` alone. Fields and timestamp are not looked at.

@@ -3,6 +3,7 @@ pub mod BasesApart
 pub mod BatchesReadBack
 pub mod FatalLines
 pub mod GivenItems
+pub mod KeysApart
 pub mod NamesInLines
 pub mod OnOneLine
 pub mod StopEnds

@@ -1,3 +1,5 @@
 pub mod BaseLemmas
 pub mod BasesTellSeries
+pub mod KeyTexts
+pub mod SortedByKey
 pub mod SortedTags

@@ -45,6 +45,7 @@ fn cut_from(text: &[u8], at: usize, track: Track) -> Result<Mark, Search>
         Ok(found) => Ok(Mark {
             at: at + found,
             later: 0,
+            is_first: false,
         }),
         Err(track) => Err(Search::Within {
             at: text.len(),
@@ -100,7 +101,11 @@ pub(crate) fn search_on(dialect: Dialect, text: &[u8], known: Search) -> Result<
         },
         Search::Quiet(n) if first_newline(&text[n..]).is_none() => Err(Search::Quiet(text.len())),
         Search::Quiet(_) => match late_cut(dialect, text) {
-            Some(at) => Ok(Mark { at, later: 0 }),
+            Some(at) => Ok(Mark {
+                at,
+                later: 0,
+                is_first: false,
+            }),
             None => cut_from(text, 0, Track::new(dialect)),
         },
     }

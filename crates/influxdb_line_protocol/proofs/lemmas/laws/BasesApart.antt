@@ -17,7 +17,7 @@ use Rattle.lp_lines.proofs.lemmas.series.SortedTags.{by_key_placed}
 use Rattle.lp_lines.proofs.lemmas.series.BasesTellSeries.{base_is, tag_parts, tags_separated, value_part, same_series_have_one_base}
 
 -- nothing, or a text that begins with this byte
-abbrev Begins : ℕ → List ℕ → Type 0
+abbrev pub Begins : ℕ → List ℕ → Type 0
 Begins c [] = Unit {0}
 Begins c (b ∷ text) = b ≡ c
 

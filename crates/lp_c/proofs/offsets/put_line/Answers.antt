@@ -1,4 +1,4 @@
-use Rattle.std.proofs.Common.{◌∙◌, ap, arith}
+use Rattle.std.proofs.Common.{ap, arith}
 use Rattle.influxdb_line_protocol.specs.code.Rules.{rules_of}
 use Rattle.influxdb_line_protocol.specs.format.Lines.{answer}
 use Rattle.lp_c.proofs.RowLemmas.{line_answers}
@@ -8,9 +8,8 @@ use Rattle.lp_c.proofs.offsets.put_line.Goals as goal
 pub returns-clause-answers : goal.returns-clause-answers
 returns-clause-answers c =
     let told = c.put_told-told in
-    line_answers (answer (rules_of c.args.dialect) c.args.line.line.now) told.result.fault c.args.line.text.now told.new.parts told.new.room told.result
+    line_answers (answer (rules_of c.args.dialect) c.args.line.now) told.result.fault c.args.text.now told.new.parts told.new.room told.result
     c.args.used _ told.ensures.told c.in_default.is (omega (arith, c.if-parts-told.false, c.if-parts-told-2.false))
-    (ap (λ (r : OffsetRow). r.tags) c.show_time.ensures.others ∙ omega (arith, c.in_32-row-2.ensures, c.if-parts-told.false, c.requires.parts, told.ensures.size))
-    (ap (λ (r : OffsetRow). r.fields) c.show_time.ensures.others ∙ omega (arith, c.in_32-row-3.ensures, c.if-parts-told.false, c.if-parts-told-2.false, c.requires.parts, told.ensures.size))
+    (ap (λ (r : OffsetRow). r.tags) c.show_time.ensures.others) (ap (λ (r : OffsetRow). r.fields) c.show_time.ensures.others)
     (ap (λ (r : OffsetRow). r.measurement) c.show_time.ensures.others) (ap (λ (r : OffsetRow). r.measurement_copied) c.show_time.ensures.others)
     c.show_time.ensures.time

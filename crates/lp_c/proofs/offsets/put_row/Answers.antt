@@ -18,7 +18,7 @@ returns-clause-puts c =
     (λ is. put.ensures.line is c.begun_row.ensures.shows.0) (λ is. put.ensures.fault is c.begun_row.ensures.shows.1)
     (put.ensures.begins ∙ ap (λ line. piece.at + piece.len - length line) item.1) put.ensures.end
 
-pub invariant_of-line : goal.invariant_of-line
-invariant_of-line c =
+pub put_line-came-requires-clause-lies : goal.put_line-came-requires-clause-lies
+put_line-came-requires-clause-lies c =
     let item = rw c.in-Some.is at c.requires.item in
-    record { lies = line_in_text c.args.text.now c.in-Some.line.now c.args.piece c.requires.piece c.requires.text item.1 }
+    line_in_text c.args.text.now c.in-Some.line.now c.args.piece c.requires.piece c.requires.text item.1

@@ -17,10 +17,6 @@ returns-then-not-is_too_much-clause-reads c =
     let gives = c.in_ok-piece.ensures.gives in
     let fits : is_too_much put.result.0 ≡ false =
     sym c.is_too_much.ensures ∙ c.if-not-is_too_much.true in
-    let bytes_are : take (piece.at + piece.len - piece.at) (drop piece.at text) ≡ piece_in text piece =
-    ap (λ n. take n (drop piece.at text)) (omega arith) in
-    let make : List ℕ → Spot =
-    λ b. record { at = piece.next; line = min (spot.line + newlines_in b + 1) (2 ^ 64 - 1) } in
     record {
       takes = λ has. record {
         spot = spot;
@@ -32,7 +28,7 @@ returns-then-not-is_too_much-clause-reads c =
         own = take put.result.1 put.new.parts;
         parts_are = own_after c.args.filled.now.parts put.result.1 _ c.args.parts.now put.new.parts c.requires.parts.1 put.ensures.fits;
         shows = puts_shows (rules_of c.args.dialect) text piece put.result.0 _ _ put.new.room c.args.filled.now.room put.result.2 put.new.row put.ensures.puts fits;
-        after = c.pass.ensures ∙ ap make bytes_are;
+        after = c.pass.ensures ∙ ap (λ n. record { at = piece.next; line = min (spot.line + n + 1) (2 ^ 64 - 1) }) gives.2;
       };
       passes = λ no. absurd (false≢true (sym no ∙ ap not fits));
     }

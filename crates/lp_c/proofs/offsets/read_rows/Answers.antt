@@ -1,5 +1,6 @@
 use Rattle.std.proofs.Common.{◌∙◌, ◌<◌, ◌≤◌, arith, length, sym}
 use Rattle.influxdb_line_protocol.specs.code.Rules.{rules_of}
+use Rattle.lp_split.proofs.lemmas.split.FirstMarks.{none_are_seen}
 use Rattle.lp_c.specs.OffsetBlocks.{none}
 use Rattle.lp_c.proofs.RowsLemmas.{all_filled, row_more, row_none}
 use Rattle.lp_c.proofs.offsets.read_rows.Goals as goal
@@ -9,7 +10,7 @@ loop-at-init c = record {
   within = c.requires.text.1;
   parts = omega (arith, c.requires.none.0);
   room = omega (arith, c.requires.none.1);
-  portion = c.no_portion-portion.ensures c.args.text.now;
+  seen = (c.no_portion.ensures c.args.text.now, none_are_seen _ _);
   reads = rw (c.requires.none.0, c.requires.none.1) none;
 }
 
@@ -32,7 +33,7 @@ loop-at-preserved c =
       within = next.ensures.fits.0;
       parts = next.ensures.fits.1;
       room = next.ensures.fits.2;
-      portion = next.ensures.portion;
+      seen = next.ensures.seen;
       reads = row_more (rules_of c.args.dialect) c.args.last c.args.text.now c.args.filled.now.spot was.room next.new.room was.rows was.parts
           next.new.parts was.filled next.new.filled was.at next.new.row next.result here next.ensures.grows next.ensures.kept
           (omega (arith, was.invariant.parts, next.ensures.size)) was.invariant.parts was.invariant.reads next.ensures.reads

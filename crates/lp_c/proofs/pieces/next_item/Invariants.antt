@@ -1,14 +1,13 @@
 use Rattle.std.proofs.Common.{◌-◌, ◌≤◌, length}
 use Rattle.influxdb_line_protocol.specs.code.Rules.{rules_of}
-use Rattle.lp_c.specs.OffsetBlocks.{PassesBlanks}
-use Rattle.lp_c.specs.Portions.{IsPortionOf}
+use Rattle.lp_c.specs.OffsetBlocks.{IsSeenOf, PassesBlanks}
 use Rattle.lp_c.proofs.pieces.next_item.Given as goal
 
 -- blank pieces alone were passed so far
 abbrev pub invariant-loop-piece : goal.invariant-loop-piece
 invariant-loop-piece l = record {
   within : l.spot.at ≤ length l.text;
-  portion : IsPortionOf l.text l.portion;
+  seen : IsSeenOf (rules_of l.dialect) l.text l.seen;
   passes : PassesBlanks (rules_of l.dialect) l.last l.text l.fn.spot l.spot;
 }
 

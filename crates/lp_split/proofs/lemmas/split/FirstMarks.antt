@@ -10,7 +10,9 @@ use Rattle.lp_scan.specs.code.{AllPassBetween, IsRunIn, first_set, mask_of}
 use Rattle.lp_split.specs.code.{AreSeen, is_mark}
 use Rattle.lp_scan.proofs.lemmas.scan.MaskLemmas.{run_is, shifted, tz_below}
 use Rattle.lp_format.specs.format.{backslash, quote, Dialect, Crate, Strict, NewlineDelimited, HasNoNewline, IsFirstCut, IsLastPiece, IsBareAfter, EndsQuoted}
-use Rattle.lp_format.specs.format.{Piece.EndsQuoted.opened, Bytes.newline}
+use Rattle.lp_format.specs.format.{Piece.EndsQuoted.opened, Bytes.newline, Bytes.newlines_in}
+use Rattle.std.proofs.lemmas.List.Sums.{count_by_more_no}
+use Rattle.std.proofs.Common.{◌==◌}
 use Rattle.lp_format.proofs.lemmas.{split.SplitBare.is_escaped-nil, split.SplitPieces.IsLastPiece-extend, split.SplitPieces.IsLastPiece-nil}
 use Rattle.lp_split.proofs.lemmas.split.SplitStretches.{bare_past}
 use Rattle.std.proofs.Math.Seq.{get_or-append_seam}
@@ -162,3 +164,20 @@ no_cut Crate text none = none_of_others Crate text none
 no_cut Strict text none = none_of_others Strict text none
 no_cut NewlineDelimited text none =
     subst HasNoNewline (take_all (length text) text (omega arith)) (none_before_newline text (length text) (omega arith) none)
+
+module _ (test : ℕ → Bool) (newline_passes : test newline ≡ true) (text : List ℕ) where
+  -- a front of bytes that pass no test that newlines pass has no newline
+  counts_none : (n : ℕ) → n ≤ length text → Nowhere (Passes test text) 0 n → newlines_in (take n text) ≡ 0
+  counts_none zero h none = refl
+  counts_none (suc n) h none =
+      let other : slice_index text n ≢ newline = λ e. none n (omega arith) (omega arith) (rw e newline_passes) in
+      let next : n + 1 ≡ suc n = omega arith in
+      subst (λ (k : ℕ). newlines_in (take k text) ≡ 0) next
+      (count_by_more_no (λ b. b == newline) text n 0 (omega arith) (ne_eqb _ _ other)
+      ∙ counts_none n (omega arith) (λ k from to. none k from (omega (arith, to))))
+
+-- no newline comes before the first mark
+pub no_newlines : (dialect : Dialect) (text : List ℕ) (n : ℕ) → IsFirstByte (is_mark dialect) text (Some n) → newlines_in (take n text) ≡ 0
+no_newlines Crate text n found = counts_none (is_mark Crate) refl text n (omega (arith, found.0.high)) found.0.before
+no_newlines Strict text n found = counts_none (is_mark Strict) refl text n (omega (arith, found.0.high)) found.0.before
+no_newlines NewlineDelimited text n found = counts_none (is_mark NewlineDelimited) refl text n (omega (arith, found.0.high)) found.0.before

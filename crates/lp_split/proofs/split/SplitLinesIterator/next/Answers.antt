@@ -15,5 +15,5 @@ returns-in-None-clause-steps c = (
   cc,
   λ others none.
       rw (← c.self.view_is, c.in_ok-text.was, none)
-      (last c.in_ok-text.text.now (subst (IsLastPiece (rules_of c.self.inside.dialect)) c.as_bytes.ensures.value c.in-None.ensures)),
+      (last c.in_ok-text.text.now (subst (IsLastPiece (rules_of c.self.inside.dialect)) c.as_bytes.ensures.value c.in-None.ensures.cut)),
 )

@@ -1,0 +1,143 @@
+#!/usr/bin/env python3
+"""Whether keys tell series: of pairs of hostile series, the keys must be the same exactly if the series are, by Python's own count of them:
+one measurement, and for each tag key the same values in the same order. Each key must be what Python writes of the names that the
+library reads, and its hash what Python reckons from that.
+
+    checks/keys.py LIBRARY [PAIRS [SEED]]
+
+LIBRARY: the calls of crates/lp_checks as a shared library; checks/events.sh makes it. So many pairs are compared, 500,000 if their number is
+not given, of series that are made from SEED, 1 if it is not given. Those of a group differ in little: in the order of their tags, in how a
+name is spelled, in a byte, or in where one name ends and the next begins.
+"""
+
+import ctypes
+import functools
+import itertools
+import random
+import re
+import sys
+
+# What a name may hold: bytes that a backslash escapes somewhere, others, and pairs that are no escape.
+PARTS = [b"a", b"b", b"A", b"0", b"\\,", b"\\=", b"\\ ", b"=", b",", b"\\\\", b"\\n", b"\"", b"#", b"\t", b"\\\t", b"\\\n", "é".encode()]
+ESCAPED = {"measurement": b", \\", "tag": b",= \\"}
+OF_A_GROUP = 12
+
+ROOM, ENTRIES = 1 << 22, 1 << 14
+OUT, ENDS = ctypes.create_string_buffer(ROOM), (ctypes.c_uint64 * ENTRIES)()
+
+
+def load(library):
+    """The calls that report lines, and keys with their hashes."""
+    calls, size, room = ctypes.CDLL(library), ctypes.c_size_t, ctypes.c_void_p
+    calls.lp_checks_items.argtypes = [ctypes.c_uint32, ctypes.c_char_p, size, room, size, room, size]
+    calls.lp_checks_keys.argtypes = [ctypes.c_char_p, size, room, size, room, size]
+    calls.lp_checks_items.restype = calls.lp_checks_keys.restype = ctypes.c_uint64
+    return calls
+
+
+CALLS = load(sys.argv[1])
+
+
+def reported(call, *words):
+    """The entries that a call reports."""
+    count = call(*words, OUT, ROOM, ENDS, ENTRIES)
+    ends = ENDS[:count]
+    given = ctypes.string_at(OUT, ends[-1] if ends else 0)
+    return [given[start:end] for start, end in zip([0, *ends], ends)]
+
+
+def sized(text):
+    """What is reported as its length, a colon and itself, and what comes after it."""
+    size, _, rest = text.partition(b":")
+    return rest[:int(size)], rest[int(size):]
+
+
+def read(entry):
+    """The measurement and the tags of a line that is reported, or `None` of a fault."""
+    if not entry.startswith(b"line "):
+        return None
+    rest = sized(entry[5:])[1][1:]
+    measurement, rest = sized(rest[1:])
+    tags = []
+    while rest.startswith(b","):
+        key, rest = sized(rest[2:])
+        value, rest = sized(rest[2:])
+        tags.append((key, value))
+    return measurement, tags
+
+
+def written(measurement, tags):
+    """The key of a series, by its definition."""
+    def escaped(name, kind):
+        return re.sub(b"([" + re.escape(ESCAPED[kind]) + b"])", rb"\\\1", name)
+
+    tags = sorted(tags, key=lambda tag: tag[0])
+    return escaped(measurement, "measurement") + b"".join(b"," + escaped(key, "tag") + b"=" + escaped(value, "tag") for key, value in tags)
+
+
+def as_told(measurement, tags):
+    """A value that two series share exactly if they are the same."""
+    values = {}
+    for key, value in tags:
+        values.setdefault(key, []).append(value)
+    return measurement, frozenset((key, tuple(told)) for key, told in values.items())
+
+
+def hash_of(text):
+    """FNV-1a of 64 bits."""
+    return functools.reduce(lambda so_far, byte: (so_far ^ byte) * 1099511628211 % 2**64, text, 14695981039346656037)
+
+
+def name(rng):
+    return b"".join(rng.choices(PARTS, k=rng.randrange(1, 4)))
+
+
+def spelled(measurement, tags):
+    return measurement + b"".join(b"," + key + b"=" + value for key, value in tags)
+
+
+def group(rng):
+    """Series that differ in little, as they are spelled."""
+    names = [name(rng) for _ in range(4)]
+    measurement, tags = rng.choice(names), [(rng.choice(names), rng.choice(names)) for _ in range(rng.randrange(rng.choice([5, 5, 5, 26])))]
+    yield spelled(measurement, tags)
+    for _ in range(OF_A_GROUP - 1):
+        others = rng.sample(tags, len(tags)) if rng.random() < 0.6 else list(tags)
+        text = spelled(measurement, others)
+        if rng.random() < 0.5:
+            at = rng.randrange(len(text) + 1)
+            text = text[:at] + rng.choice([b"", b"\\", b",", b"=", b"a"]) + text[at + rng.randrange(2):]
+        yield text
+
+
+def compare(texts):
+    """Compares the keys of some series with each other, and gives how many pairs there are and how many have one key."""
+    lines = [text + b" f=1i" for text in texts]
+    items = [read(item[0]) if len(item) == 1 else None for item in (reported(CALLS.lp_checks_items, 0, line, len(line)) for line in lines)]
+    told = []
+    for line, item in zip(lines, items):
+        if item:
+            key, hashed = reported(CALLS.lp_checks_keys, line, len(line))
+            wanted = written(*item)
+            if sized(key)[0] != wanted or int(hashed) != hash_of(wanted):
+                sys.exit(f"keys: of {line!r} the key is {key!r} with the hash {hashed!r}, and not {wanted!r} with {hash_of(wanted)}")
+            told.append((sized(key)[0], as_told(*item), line))
+    pairs = same = 0
+    for (key, series, line), (other_key, other_series, other) in itertools.combinations(told, 2):
+        if (key == other_key) != (series == other_series):
+            sys.exit(f"keys: {line!r} and {other!r} have the keys {key!r} and {other_key!r}")
+        pairs, same = pairs + 1, same + (key == other_key)
+    return pairs, same
+
+
+def main():
+    wanted = int(sys.argv[2]) if len(sys.argv) > 2 else 500000
+    rng = random.Random(int(sys.argv[3]) if len(sys.argv) > 3 else 1)
+    pairs = same = 0
+    while pairs < wanted:
+        more, more_same = compare(list(group(rng)))
+        pairs, same = pairs + more, same + more_same
+    print(f"keys: {pairs} pairs of series, of which {same} are the same: each has one key exactly if it is one series")
+
+
+main()
