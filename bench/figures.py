@@ -18,6 +18,7 @@ CALLS = {
     "events": "events, to a sink",
     "pull": "events, one by one",
     "numbers": "parse, in numbers",
+    "bases": "parse, and bases",
     "split": "split",
     "rebuild": "rebuild",
 }
@@ -32,6 +33,7 @@ CALLERS = {
     "lp_line_write": "C, `lp_line_write`",
     "lp_offsets_write": "C, `lp_offsets_write`",
     "rust parse": "Rust, `parse_lines`",
+    "rust bases": "Rust, `parse_lines`, and bases",
     "rust rebuild": "Rust, read and built",
 }
 """The calls from C and Rust, in the same way."""
@@ -72,6 +74,7 @@ BESIDE = {
     "relay bytes": "library rebuild",
     "relay newline-delimited": "library rebuild newline-delimited",
     "rust parse": "crate parse",
+    "rust bases": "crate bases",
     "rust split": "crate split",
     "rust rebuild": "crate rebuild",
     "rust build": "crate build",
@@ -80,7 +83,7 @@ BESIDE = {
 }
 """The call that a call is compared with, where its name is another."""
 
-SAME_ANSWERS = ("numbers", "split", "build", *(call for call in BESIDE if BESIDE[call].startswith(("library ", "crate "))))
+SAME_ANSWERS = ("numbers", "bases", "split", "build", *(call for call in BESIDE if BESIDE[call].startswith(("library ", "crate "))))
 """The calls whose answer is also that of the call that they are compared with."""
 
 SAME_AS_PARSE = ("next_into", "events", "pull")

@@ -3,6 +3,7 @@
 
 bool lp_bench_is_utf8(const uint8_t *text, size_t len);
 uint64_t lp_bench_parse(const uint8_t *text, size_t len);
+uint64_t lp_bench_bases(const uint8_t *text, size_t len);
 uint64_t lp_bench_next_into(const uint8_t *text, size_t len);
 uint64_t lp_bench_events(const uint8_t *text, size_t len);
 uint64_t lp_bench_pull(const uint8_t *text, size_t len);
@@ -15,6 +16,7 @@ uint64_t lp_bench_build(uint64_t count);
 
 const struct call calls[] = {
     { "parse", lp_bench_parse },
+    { "bases", lp_bench_bases },
     { "next_into", lp_bench_next_into },
     { "events", lp_bench_events },
     { "pull", lp_bench_pull },

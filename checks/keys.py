@@ -1,7 +1,7 @@
 #!/usr/bin/env python3
 """Whether keys tell series: of pairs of hostile series, the keys must be the same exactly if the series are, by Python's own count of them:
 one measurement, and for each tag key the same values in the same order. Each key must be what Python writes of the names that the
-library reads, and its hash what Python reckons from that.
+library reads, and its hash what Python reckons from that; and it must stand in the text of its series exactly if it is that text.
 
     checks/keys.py LIBRARY [PAIRS [SEED]]
 
@@ -53,17 +53,17 @@ def sized(text):
 
 
 def read(entry):
-    """The measurement and the tags of a line that is reported, or `None` of a fault."""
+    """The text of the series, the measurement and the tags of a line that is reported, or `None` of a fault."""
     if not entry.startswith(b"line "):
         return None
-    rest = sized(entry[5:])[1][1:]
-    measurement, rest = sized(rest[1:])
+    text, rest = sized(entry[5:])
+    measurement, rest = sized(rest[2:])
     tags = []
     while rest.startswith(b","):
         key, rest = sized(rest[2:])
         value, rest = sized(rest[2:])
         tags.append((key, value))
-    return measurement, tags
+    return text, measurement, tags
 
 
 def written(measurement, tags):
@@ -117,11 +117,13 @@ def compare(texts):
     told = []
     for line, item in zip(lines, items):
         if item:
-            key, hashed = reported(CALLS.lp_checks_keys, line, len(line))
-            wanted = written(*item)
-            if sized(key)[0] != wanted or int(hashed) != hash_of(wanted):
-                sys.exit(f"keys: of {line!r} the key is {key!r} with the hash {hashed!r}, and not {wanted!r} with {hash_of(wanted)}")
-            told.append((sized(key)[0], as_told(*item), line))
+            key, *others = reported(CALLS.lp_checks_keys, line, len(line))
+            text, *names = item
+            wanted = written(*names)
+            stands = wanted if text == wanted else b"None"
+            if sized(key)[0] != wanted or others != [b"%d" % hash_of(wanted), b"true", stands]:
+                sys.exit(f"keys: of {line!r} are told {key!r} and {others}, and not {wanted!r} with {hash_of(wanted)}, true, {stands!r}")
+            told.append((sized(key)[0], as_told(*names), line))
     pairs = same = 0
     for (key, series, line), (other_key, other_series, other) in itertools.combinations(told, 2):
         if (key == other_key) != (series == other_series):

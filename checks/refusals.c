@@ -300,10 +300,14 @@ static void bases(void) {
          {"owned 11:m,a=2,b,a=1", SOME}, {"owned 9:a b,k,1=v", SOME}, {"FieldSetMissing", 0});
 }
 
-/* A key takes one request, and its hash none. */
+/* A key takes one request, and its hash and a comparison none; of more than 8 tags each also takes one for each series. The first request
+ * of the last line is its own. */
 static void keys(void) {
-    EACH(KEYS, "foo,tag2=2,tag1=1 f=1i", {"17:foo,tag1=1,tag2=2", 1}, {"16838679506343377537", 0});
-    EACH(KEYS, "m,,=v f=1i\nm 5", {"6:m,\\,=v", 1}, {"6965606012667703543", 0}, {"FieldSetMissing", 0});
+    EACH(KEYS, "foo,tag2=2,tag1=1 f=1i", {"17:foo,tag1=1,tag2=2", 1}, {"16838679506343377537", 0}, {"true", 0}, {"None", 0});
+    EACH(KEYS, "m,,=v f=1i\nm 5", {"6:m,\\,=v", 1}, {"6965606012667703543", 0}, {"true", 0}, {"None", 0}, {"FieldSetMissing", 0});
+    const struct entry wanted[] = {{"37:m,a=0,b=1,c=2,d=3,e=4,f=5,g=6,h=7,i=8", 2}, {"15007026820635020882", 1}, {"true", 2},
+                                   {"m,a=0,b=1,c=2,d=3,e=4,f=5,g=6,h=7,i=8", 0}};
+    each_refused(KEYS, "m,a=0,b=1,c=2,d=3,e=4,f=5,g=6,h=7,i=8 f=1i", wanted, COUNT(wanted), 1);
 }
 
 /* Copies of a measurement and of a string, both with an escape; the line's own two requests are left alone. */

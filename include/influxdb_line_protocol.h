@@ -107,6 +107,7 @@ typedef struct lp_line {
     uint32_t side;        /* of enum lp_side, where the fault is that of a number */
     bool has_tag_set;
     bool has_timestamp;
+    bool series_is_base;  /* of a line that was read, whether lp_line_base would put out `series` as it stands; false at a fault */
 } lp_line;
 
 /* An item of a block: `answer` is LP_LINE or LP_FAULT, and the parts of a line begin at `parts_at`. */
@@ -191,7 +192,7 @@ typedef struct lp_counts {
 #define LP_NO_TEXT { (const uint8_t *)"", 0 }
 #define LP_NO_VIEW { LP_NO_TEXT, false }
 #define LP_EMPTY_PART { LP_NO_VIEW, LP_NO_VIEW, 0, 0, LP_TAG, false }
-#define LP_EMPTY_LINE { LP_NO_TEXT, LP_NO_VIEW, LP_NO_TEXT, 0, 0, 0, 0, 0, 0, false, false }
+#define LP_EMPTY_LINE { LP_NO_TEXT, LP_NO_VIEW, LP_NO_TEXT, 0, 0, 0, 0, 0, 0, false, false, false }
 #define LP_EMPTY_ROW { LP_EMPTY_LINE, 0, 0 }
 #define LP_NO_LINES { LP_NO_TEXT, LP_CRATE, true }
 #define LP_NO_CUTS { SIZE_MAX, 0, 0, 0, 0, 0, LP_CRATE, false }

@@ -15,6 +15,7 @@ static void print_line(const lp_line *line, const lp_part *part) {
         else printf("%.*s%s", TEXT(part->text.text), part->text.copied ? " (a copy)" : "");
     }
     if (line->has_timestamp) printf(" at %lld", (long long)line->timestamp);
+    if (line->series_is_base) printf(" of %.*s", TEXT(line->series)); /* else lp_line_base puts out its base */
     printf("\n");
 }
 
@@ -41,6 +42,6 @@ static bool print_lines(const uint8_t *text, size_t len) {
 }
 
 int main(void) {
-    const char *text = "cpu,host=A\\ B,zone=w usage=64i,load=1.5e3,up=t,n=7u 5\nm 5\n# a comment\nm f=9223372036854775808i\n";
+    const char *text = "cpu,host=A\\ B,zone=w usage=64i,load=1.5e3,up=t,n=7u 5\nm 5\n# a comment\nm f=9223372036854775808i\ndisk,host=A f=1i\n";
     return !print_lines((const uint8_t *)text, strlen(text));
 }

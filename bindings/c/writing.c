@@ -23,7 +23,7 @@ static const lp_part PARTS[] = {
     { VIEW("t"), VIEW(""), 0, 0, LP_BOOLEAN, true },
 };
 /* It has no series text, so its measurement is said to be a copy: no base is a part of an input then. */
-static const lp_line LINE = { LP_NO_TEXT, { TEXT("a b,c"), true }, LP_NO_TEXT, 2, 5, 0, 99, 0, 0, true, true };
+static const lp_line LINE = { LP_NO_TEXT, { TEXT("a b,c"), true }, LP_NO_TEXT, 2, 5, 0, 99, 0, 0, true, true, false };
 
 typedef uint32_t writer(const lp_line *, const lp_part *, size_t, uint8_t *, size_t, size_t *);
 
@@ -244,6 +244,46 @@ static bool has_base(const char *text, bool wanted, const char *base) {
            memcmp(out, base, len) == 0;
 }
 
+/* Reads the one line of a text: its series is its base, as it stands, or not, as wanted. Where it is, the base is its text. */
+static bool is_own(const char *text, bool wanted) {
+    lp_lines lines = LP_NO_LINES;
+    lp_line line = LP_EMPTY_LINE;
+    lp_part parts[10];
+    uint8_t bytes[32], out[32];
+    lp_room room = { bytes, sizeof bytes };
+    size_t len = 0;
+    lp_empty_parts(parts, 10);
+    bool good = lp_lines_begin((const uint8_t *)text, strlen(text), LP_CRATE, &lines);
+    good = good && lp_lines_next(&lines, &room, &line, parts, 10) == LP_LINE && line.series_is_base == wanted;
+    if (!wanted) return good;
+    return good && lp_line_base(&line, parts, 10, out, sizeof out, &len) == LP_WRITTEN && len == line.series.len &&
+           memcmp(out, line.series.at, len) == 0;
+}
+
+/* A fault says so of no series. */
+static bool is_no_base(void) {
+    const char *text = "m,a=1 f=t\nm,a=1";
+    lp_lines lines = LP_NO_LINES;
+    lp_line line = LP_EMPTY_LINE;
+    lp_part parts[2];
+    uint8_t bytes[32];
+    lp_room room = { bytes, sizeof bytes };
+    lp_empty_parts(parts, 2);
+    bool good = lp_lines_begin((const uint8_t *)text, strlen(text), LP_CRATE, &lines);
+    good = good && lp_lines_next(&lines, &room, &line, parts, 2) == LP_LINE && line.series_is_base;
+    return good && lp_lines_next(&lines, &room, &line, parts, 2) == LP_FAULT && !line.series_is_base;
+}
+
+/* Keys that rise, also where one begins as the one before it; a name that is one escape alone; then keys that are equal, or fall, by
+ * bytes; and a copy in the measurement, a key and a value. */
+static bool are_bases_told(void) {
+    return is_own("m f=t", true) && is_own("m,a=1,ab=2,b=3 f=t", true) && is_own("m,\\,=v,e=\\= f=t", true) &&
+           is_own("\\ ,a=1 f=t", true) && is_own("m,z=1,\xc3\xa9=2 f=t", true) && is_own("m,a=1,a=2 f=t", false) &&
+           is_own("m,a=1,b=2,b=3 f=t", false) && is_own("m,ab=1,a=2 f=t", false) && is_own("m,b=1,a=2,c=3 f=t", false) &&
+           is_own("m,-=1,\\,=2 f=t", false) && is_own("m\\ n,a=1 f=t", false) && is_own("m,a\\ b=1,c=2 f=t", false) &&
+           is_own("m,a=1\\ 2,b=3 f=t", false) && is_own("m,a=x\\y f=t", false) && is_no_base();
+}
+
 /* The second series is none of the first's, and has its base; the two after it are one series, with two bases. */
 static bool are_bases_safe(void) {
     return has_base("m,b=2,a=1 f=t", true, "m,a=1,b=2") && has_base("m,a=1\\,b\\=2 f=t", false, "m,a=1,b=2") &&
@@ -281,7 +321,7 @@ static bool are_keys(void) {
 static long are_sorted(bool *good) {
     static const char keys[] = "xwvutsrqponmlkjihgfedcba";
     enum { MANY = sizeof keys - 1 };
-    const lp_line line = { LP_NO_TEXT, VIEW("m"), LP_NO_TEXT, MANY, 0, 0, 0, 0, 0, true, false };
+    const lp_line line = { LP_NO_TEXT, VIEW("m"), LP_NO_TEXT, MANY, 0, 0, 0, 0, 0, true, false, false };
     lp_part parts[MANY];
     uint8_t out[128];
     char wanted[1 + 4 * MANY + 1] = "m";
@@ -427,7 +467,7 @@ int main(void) {
     good &= writes(lp_line_base, &LINE, repeated, LP_FAULT, "k", 1);
     good &= writes(lp_line_key, &LINE, PARTS, LP_WRITTEN, KEY, sizeof KEY - 1);
     good &= writes(lp_line_key, &LINE, repeated, LP_WRITTEN, REPEATED_KEY, sizeof REPEATED_KEY - 1);
-    good &= is_tested() && are_as_told() && are_logins() && are_no_dialects() && are_bases_safe() && is_refused_at_once() && is_nothing_told() && is_rebuilt();
+    good &= is_tested() && are_as_told() && are_logins() && are_no_dialects() && are_bases_told() && are_bases_safe() && is_refused_at_once() && is_nothing_told() && is_rebuilt();
     good &= are_keys() && is_key_of_any_name();
     good &= are_messages() && are_no_messages() && are_empty();
     long requests = refused(write_line, sizeof WRITTEN - 1, &good) + refused(lp_line_show, sizeof SHOWN - 1, &good);

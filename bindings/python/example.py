@@ -10,3 +10,21 @@ for item in line_protocol.parse(text):
     else:
         print("a fault:", item.kind.name, item.text)
 # [end]
+
+# [sums_in_python]
+from collections import Counter
+
+import line_protocol
+
+
+def sums(text, field):
+    """The sum of a field over the lines of each series, by the key of the series."""
+    totals = Counter()
+    for item in line_protocol.parse(text):
+        if isinstance(item, line_protocol.Line):
+            totals[line_protocol.key(item)] += dict(item.fields).get(field, 0)
+    return totals
+
+
+print(sums("cpu,host=a,az=b n=1i\ncpu,az=b,host=a n=2i\ncpu n=4i\n", "n"))
+# [end]

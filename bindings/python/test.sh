@@ -100,7 +100,8 @@ if ! "$python" -c 'import ensurepip, venv' 2>/dev/null; then
 fi
 "$python" -m venv "$built/new"
 if ! "$built/new/bin/python" -m pip install --quiet --no-index --disable-pip-version-check "$here" >"$built/said" 2>&1 ||
-    ! "$built/new/bin/python" "$here/example.py" >"$built/printed" 2>&1 || ! grep -q '^disk usage ' "$built/printed"; then
+    ! "$built/new/bin/python" "$here/example.py" >"$built/printed" 2>&1 || ! grep -q '^disk usage ' "$built/printed" ||
+    ! grep -qF "Counter({'cpu': 4, 'cpu,az=b,host=a': 3})" "$built/printed"; then
     cat "$built/said" "$built/printed" >&2
     exit 1
 fi

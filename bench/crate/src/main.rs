@@ -71,6 +71,16 @@ fn parse(text: &str) -> u64 {
         .fold(0, u64::wrapping_add)
 }
 
+fn base_len(line: ParsedLine<'_>) -> u64 {
+    line.series.generate_base().map_or(1, |base| base.len() as u64)
+}
+
+fn bases(text: &str) -> u64 {
+    parse_lines(text)
+        .map(|item| item.map_or(1, base_len))
+        .fold(0, u64::wrapping_add)
+}
+
 fn is_admitted(name: &EscapedStr<'_>) -> bool {
     let name = name.as_str();
     !name.is_empty() && !name.contains(['\t', '\n']) && !name.ends_with('\\')
@@ -165,6 +175,7 @@ fn main() {
         let text = std::fs::read_to_string(&path).expect("a file of UTF-8");
         let file = path.rsplit('/').next().unwrap_or(&path);
         run("parse", file, text.len(), || parse(black_box(&text)));
+        run("bases", file, text.len(), || bases(black_box(&text)));
         run("split", file, text.len(), || split_lines(black_box(&text)).count() as u64);
         run("rebuild", file, text.len(), || rebuild(black_box(&text)));
     }

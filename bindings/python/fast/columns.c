@@ -23,6 +23,7 @@ typedef struct {
     PyObject *places[2]; /* by whether it is a tag: a dict from keys to the numbers of columns */
     Column *columns;
     size_t columns_len, columns_room, rows;
+    Column series; /* the numbers of the series of the rows, if they are asked for */
 } Table;
 
 /* All of them, in the order in which their measurements came. */
@@ -31,6 +32,9 @@ typedef struct {
     PyObject *faults;
     Table *tables;
     size_t len, room;
+    PyObject *keys;     /* the key of each series, by its number; NULL if the numbers are not asked for */
+    PyObject *by_key;   /* a dict from keys to numbers */
+    PyObject *by_text;  /* a dict from the texts of series to the numbers: a line whose series came in the same text needs no key */
 } Tables;
 
 /* Memory for `len` + 1 elements of this size. */
@@ -73,6 +77,7 @@ static void free_tables(Tables *tables) {
     for (size_t i = 0; i < tables->len; i++) {
         Table *table = &tables->tables[i];
         for (size_t k = 0; k < table->columns_len; k++) free_column(&table->columns[k]);
+        free_column(&table->series);
         Py_XDECREF(table->measurement);
         Py_XDECREF(table->places[0]);
         Py_XDECREF(table->places[1]);
@@ -81,6 +86,9 @@ static void free_tables(Tables *tables) {
     PyMem_Free(tables->tables);
     Py_XDECREF(tables->places);
     Py_XDECREF(tables->faults);
+    Py_XDECREF(tables->keys);
+    Py_XDECREF(tables->by_key);
+    Py_XDECREF(tables->by_text);
 }
 
 /* Appends a column of this kind; `key` is NULL for the times. */
@@ -115,6 +123,7 @@ static Table *table_of(Tables *tables, PyObject *measurement) {
     table->measurement = measurement;
     table->places[0] = PyDict_New();
     table->places[1] = PyDict_New();
+    table->series.kind = LP_INTEGER;
     if (!table->places[0] || !table->places[1] || !add_column(table, NULL, nothing, LP_INTEGER)) return NULL;
     return put_number(tables->places, measurement, tables->len - 1) ? table : NULL;
 }
@@ -231,6 +240,33 @@ static bool put_row(Reader *reader, Table *table, const lp_line *line, const lp_
     return true;
 }
 
+/* The number of a series by its key, which is perhaps new. -1 after an error. */
+static Py_ssize_t number_of_key(Tables *tables, PyObject *key) {
+    const Py_ssize_t found = number_in(tables->by_key, key), fresh = PyList_Size(tables->keys);
+    if (found >= 0 || PyErr_Occurred()) return found;
+    return PyList_Append(tables->keys, key) == 0 && put_number(tables->by_key, key, (size_t)fresh) ? fresh : -1;
+}
+
+/* The number of a line's series: lines have one number exactly if their series have one key. -1 after an error. */
+static Py_ssize_t number_of_series(Tables *tables, const lp_line *line, const lp_part *parts) {
+    PyObject *text = bytes_of(line->series), *key = NULL;
+    Py_ssize_t number = text ? number_in(tables->by_text, text) : -1;
+    if (text && number < 0 && !PyErr_Occurred() && (key = key_of_row(line, parts))) {
+        number = number_of_key(tables, key);
+        if (number >= 0 && !put_number(tables->by_text, text, (size_t)number)) number = -1;
+    }
+    Py_XDECREF(key);
+    Py_XDECREF(text);
+    return number;
+}
+
+/* Puts the number of a line's series into its table. */
+static bool put_series(Reader *reader, Tables *tables, Table *table, const lp_line *line, const lp_part *parts) {
+    lp_part number = { LP_NO_VIEW, LP_NO_VIEW, 0, 0, LP_INTEGER, false };
+    number.integer = number_of_series(tables, line, parts);
+    return number.integer >= 0 && fill_up(&table->series, table->rows) && put_cell(reader, &table->series, table->rows - 1, &number);
+}
+
 /* Reads all items that are left. */
 static bool read_all(Reader *reader, Tables *tables) {
     const lp_row *row;
@@ -245,7 +281,9 @@ static bool read_all(Reader *reader, Tables *tables) {
             PyObject *measurement = name_of(reader, row->line.measurement);
             Table *table = measurement ? table_of(tables, measurement) : NULL;
             Py_XDECREF(measurement);
-            if (!table || !put_row(reader, table, &row->line, reader->parts + row->parts_at)) return false;
+            const lp_part *parts = reader->parts + row->parts_at;
+            if (!table || !put_row(reader, table, &row->line, parts)) return false;
+            if (tables->keys && !put_series(reader, tables, table, &row->line, parts)) return false;
         } else {
             return !PyErr_Occurred();
         }
@@ -267,23 +305,36 @@ static PyObject *told_column(Column *column, size_t rows) {
     return Py_BuildValue("OINN", column->key ? column->key : Py_None, (unsigned)column->kind, cells, missing);
 }
 
-/* A table as a tuple: its measurement, how many rows it has, and its columns. */
-static PyObject *told_table(Table *table) {
-    PyObject *columns = PyList_New((Py_ssize_t)table->columns_len);
+/* A table as a tuple: its measurement, how many rows it has, its columns, and that of the numbers of its series, or None. */
+static PyObject *told_table(Table *table, bool has_series) {
+    PyObject *columns = PyList_New((Py_ssize_t)table->columns_len), *series = Py_None;
+    if (has_series) series = told_column(&table->series, table->rows);
+    else Py_INCREF(series);
+    if (!series) Py_CLEAR(columns);
     for (size_t i = 0; columns && i < table->columns_len; i++) {
         PyObject *column = told_column(&table->columns[i], table->rows);
         if (column) PyList_SetItem(columns, (Py_ssize_t)i, column);
         else Py_CLEAR(columns);
     }
-    return columns ? Py_BuildValue("OnN", table->measurement, (Py_ssize_t)table->rows, columns) : NULL;
+    if (columns) return Py_BuildValue("OnNN", table->measurement, (Py_ssize_t)table->rows, columns, series);
+    Py_XDECREF(series);
+    return NULL;
 }
 
-/* columns(reader): the tables of all items that are left, and the faults. */
+/* columns(reader, series): the tables of all items that are left, the faults, and the keys of the series if `series` asks for their
+ * numbers, or else None. */
 PyObject *fast_columns(PyObject *module, PyObject *args) {
     PyObject *read, *told = NULL;
-    Tables tables = { PyDict_New(), PyList_New(0), NULL, 0, 0 };
+    int series;
+    Tables tables = { PyDict_New(), PyList_New(0), NULL, 0, 0, NULL, NULL, NULL };
     (void)module;
-    const bool is_given = PyArg_ParseTuple(args, "O!", reader_type, &read) && tables.places && tables.faults;
+    bool is_given = PyArg_ParseTuple(args, "O!p", reader_type, &read, &series) && tables.places && tables.faults;
+    if (is_given && series) {
+        tables.keys = PyList_New(0);
+        tables.by_key = PyDict_New();
+        tables.by_text = PyDict_New();
+        is_given = tables.keys && tables.by_key && tables.by_text;
+    }
     if (is_given && ((Reader *)read)->by_pieces) PyErr_SetString(PyExc_TypeError, "pieces are no lines");
     else if (is_given && begin_call((Reader *)read)) {
         const bool is_read = read_all((Reader *)read, &tables);
@@ -291,11 +342,11 @@ PyObject *fast_columns(PyObject *module, PyObject *args) {
         told = is_read ? PyList_New((Py_ssize_t)tables.len) : NULL;
     }
     for (size_t i = 0; told && i < tables.len; i++) {
-        PyObject *table = told_table(&tables.tables[i]);
+        PyObject *table = told_table(&tables.tables[i], tables.keys != NULL);
         if (table) PyList_SetItem(told, (Py_ssize_t)i, table);
         else Py_CLEAR(told);
     }
-    PyObject *both = told ? Py_BuildValue("NO", told, tables.faults) : NULL;
+    PyObject *all = told ? Py_BuildValue("NOO", told, tables.faults, tables.keys ? tables.keys : Py_None) : NULL;
     free_tables(&tables);
-    return both;
+    return all;
 }

@@ -158,6 +158,9 @@ uint32_t put_out(PutsOut *call, uint32_t dialect, const Handed *handed, Out *out
 /* Makes a str of all that was put out, where there was no error, and frees it. */
 PyObject *str_of_out(Out *out, bool is_written);
 
+/* The key of the series of a line that was read. */
+PyObject *key_of_row(const lp_line *line, const lp_part *parts);
+
 /* An element of a list or a tuple, as a new reference. NULL without an error: there is none. */
 PyObject *element_of(PyObject *elements, Py_ssize_t at);
 

@@ -328,6 +328,15 @@ static uint32_t put_key(uint32_t dialect, const lp_line *line, const lp_part *pa
     return lp_line_key(line, parts, parts_len, out, room, len);
 }
 
+PyObject *key_of_row(const lp_line *line, const lp_part *parts) {
+    Handed handed = { 0 };
+    Out out = { NULL, 0, 0 };
+    handed.line = *line;
+    handed.parts = (lp_part *)parts;
+    handed.parts_len = line->tags + line->fields;
+    return str_of_out(&out, put_out(put_key, LP_CRATE, &handed, &out) != 0);
+}
+
 /* What a call puts out for one line. */
 static PyObject *put_out_one(PutsOut *call, uint32_t dialect, PyObject *line) {
     Handed handed = { 0 };
@@ -350,7 +359,72 @@ PyObject *fast_write(PyObject *module, PyObject *args) {
     return PyArg_ParseTuple(args, "OI", &line, &dialect) ? put_out_one(lp_line_write, dialect, line) : NULL;
 }
 PyObject *fast_show(PyObject *module, PyObject *line) { (void)module; return put_out_one(put_shown, LP_CRATE, line); }
-PyObject *fast_base(PyObject *module, PyObject *line) { (void)module; return put_out_one(put_base, LP_CRATE, line); }
+
+/* Whether a tag is a pair of str. */
+static bool is_plain_tag(PyObject *tag) {
+    return PyTuple_CheckExact(tag) && PyTuple_Size(tag) == 2 && PyUnicode_CheckExact(PyTuple_GetItem(tag, 0)) &&
+           PyUnicode_CheckExact(PyTuple_GetItem(tag, 1));
+}
+
+/* Whether tags are pairs of str, of which each key is greater than the one before it. Code points are in the order of their UTF-8. */
+static bool is_rising(PyObject *tags) {
+    PyObject *before = NULL;
+    for (Py_ssize_t i = 0; i < PyList_Size(tags); i++) {
+        PyObject *tag = PyList_GetItem(tags, i);
+        if (!is_plain_tag(tag)) return false;
+        PyObject *key = PyTuple_GetItem(tag, 0);
+        if (before && PyUnicode_Compare(before, key) >= 0) return false;
+        before = key;
+    }
+    return true;
+}
+
+/* Puts a name after a mark into a tuple, and gives whether there was memory for it. */
+static bool put_piece(PyObject *pieces, Py_ssize_t at, const char *mark, PyObject *name) {
+    PyObject *str = PyUnicode_FromString(mark);
+    if (!str) return false;
+    Py_INCREF(name);
+    PyTuple_SetItem(pieces, at, str);
+    PyTuple_SetItem(pieces, at + 1, name);
+    return true;
+}
+
+/* The measurement and the tags in their order, unescaped. */
+static PyObject *joined(PyObject *measurement, PyObject *tags) {
+    const Py_ssize_t count = PyList_Size(tags);
+    PyObject *pieces = PyTuple_New(2 + 4 * count), *none = pieces ? PyUnicode_FromString("") : NULL;
+    bool is_put = none && put_piece(pieces, 0, "", measurement);
+    for (Py_ssize_t i = 0; is_put && i < count; i++) {
+        PyObject *tag = PyList_GetItem(tags, i);
+        is_put = put_piece(pieces, 2 + 4 * i, ",", PyTuple_GetItem(tag, 0)) && put_piece(pieces, 4 + 4 * i, "=", PyTuple_GetItem(tag, 1));
+    }
+    PyObject *text = is_put ? PyUnicode_Join(none, pieces) : NULL;
+    Py_XDECREF(none);
+    Py_XDECREF(pieces);
+    return text;
+}
+
+/* The base of a line whose keys rise: its names joined, with no call of the library. NULL without an error: it is no such line, or a
+ * name of it is not UTF-8. */
+static PyObject *rising_base(PyObject *line) {
+    const Line *own = (Line *)line;
+    if (Py_TYPE(line) != (PyTypeObject *)given.line || !own->measurement || !PyUnicode_CheckExact(own->measurement)) return NULL;
+    if (!own->tags || !PyList_CheckExact(own->tags) || !is_rising(own->tags)) return NULL;
+    PyObject *text = joined(own->measurement, own->tags), *bytes = text ? PyUnicode_AsUTF8String(text) : NULL;
+    if (text && !bytes) {
+        Py_DECREF(text);
+        text = NULL;
+        if (PyErr_ExceptionMatches(PyExc_UnicodeEncodeError)) PyErr_Clear();
+    }
+    Py_XDECREF(bytes);
+    return text;
+}
+
+PyObject *fast_base(PyObject *module, PyObject *line) {
+    (void)module;
+    PyObject *base = rising_base(line);
+    return base || PyErr_Occurred() ? base : put_out_one(put_base, LP_CRATE, line);
+}
 PyObject *fast_key(PyObject *module, PyObject *line) { (void)module; return put_out_one(put_key, LP_CRATE, line); }
 
 /* write_many(lines, dialect): all lines of an iterable, one after another. */

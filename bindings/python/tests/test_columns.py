@@ -12,7 +12,7 @@ import unittest
 from array import array
 from unittest import mock
 
-from line_protocol import Fault, FaultKind, Line, Unsigned, columns, parse
+from line_protocol import Fault, FaultKind, Line, Unsigned, columns, key, parse
 
 try:
     import numpy
@@ -48,6 +48,20 @@ def of_column(value, is_mixed):
 
 
 class Columns(unittest.TestCase):
+    def test_lines_have_the_number_of_their_series(self):
+        text = "m,b=2,a=1 f=1i\nn f=1i\nm,a=1,b=2 f=2i\nm f\nm,a=2,a=1 f=1i\nm,a=1,a=2 f=1i\nm,a=1\\,b\\=2 f=1i\n" \
+            "m,,=v f=1i\nm,\\,=v f=1i\nn f=2i\n"
+        lines = [line for line in parse(text) if isinstance(line, Line)]
+        told = columns(text, use_numpy=False, series=True)
+        self.assertEqual(told.keys, list(dict.fromkeys(map(key, lines))))
+        for measurement, table in told.tables.items():
+            keys = [key(line) for line in lines if line.measurement == measurement]
+            self.assertEqual([told.keys[number] for number in table.series], keys)
+        self.assertEqual(len(told.keys), 6)
+        untold = columns(text, use_numpy=False)
+        self.assertIsNone(untold.keys)
+        self.assertEqual({table.series for table in untold.tables.values()}, {None})
+
     def compare(self, source, text, **options):
         """Compares the columns of a source with the items of the same text."""
         told = columns(source, use_numpy=False, **options)

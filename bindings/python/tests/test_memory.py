@@ -19,7 +19,7 @@ assert len(list(line_protocol.parse('a\\ b,h\\ =x f=1i\nm f=99999999999999999999
 for call in (
     lambda: line_protocol.write(line),
     lambda: line_protocol.write_columns(line_protocol.columns("m,t=a f=1i\nm,t=b f=2i", use_numpy=False)),
-    lambda: line_protocol.base(line),
+    lambda: line_protocol.base(line_protocol.Line("m", [("t", "a b"), ("s", "c")])),
     lambda: line_protocol.key(line),
     lambda: line_protocol.key(line_protocol.Line("m", [(f"t{99 - number}", "a") for number in range(40)])),
     lambda: line_protocol.is_base_safe(line_protocol.Line("m", 9 * [("t", "a")])),

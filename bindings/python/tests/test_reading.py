@@ -67,7 +67,8 @@ class Lines(unittest.TestCase):
         with contextlib.redirect_stdout(printed):
             runpy.run_path(str(Path(__file__).parent.parent / "example.py"))
         self.assertEqual(
-            printed.getvalue(), "disk usage [('host', 'a')] [('free', 42.5)] None\na fault: FIELD_SET_MISSING \n")
+            printed.getvalue(),
+            "disk usage [('host', 'a')] [('free', 42.5)] None\na fault: FIELD_SET_MISSING \nCounter({'cpu': 4, 'cpu,az=b,host=a': 3})\n")
 
 
 class Blocks(unittest.TestCase):

@@ -40,6 +40,7 @@ CALLS = {
     "parse parts": lambda: len(list(parse(iter(PARTS)))),
     "parse bad": lambda: len(list(parse(iter(BAD), max_line=8))),
     "columns": lambda: len(columns(LONG, use_numpy=False).tables),
+    "columns and series": lambda: columns(LONG, use_numpy=False, series=True).keys,
     "part_ends": lambda: line_protocol._fast.part_ends(iter([LONG.encode(), LONG.encode()]), 2 * len(LONG), 5, False),
     "split": lambda: len(list(split(TEXT))),
     "write": lambda: len(write(FIELDS)),
@@ -100,8 +101,8 @@ print("refused", refused)
 @unittest.skipIf(_testcapi is None or not hasattr(_testcapi, "set_nomemory"), "Python has no module that refuses memory")
 class Refusals(unittest.TestCase):
     def test_each_request_refused_in_turn(self):
-        calls = ["parse", "parse parts", "parse bad", "columns", "part_ends", "split", "write", "write_many", "write_columns",
-                 "refused names", "refused rows", "show", "base", "key", "is_admitted", "rebuild", "each item"]
+        calls = ["parse", "parse parts", "parse bad", "columns", "columns and series", "part_ends", "split", "write", "write_many",
+                 "write_columns", "refused names", "refused rows", "show", "base", "key", "is_admitted", "rebuild", "each item"]
         for name in calls:
             with self.subTest(call=name):
                 said = subprocess.run(

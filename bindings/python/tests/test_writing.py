@@ -5,6 +5,7 @@ import math
 import tracemalloc
 import unittest
 from concurrent.futures import ThreadPoolExecutor
+from types import SimpleNamespace
 
 from line_protocol import DuplicateTag, Line, Rebuilt, Unsigned, base, is_admitted, is_base_safe, key, parse, rebuild, show, write
 
@@ -29,6 +30,30 @@ class Writing(unittest.TestCase):
         self.assertEqual(base(Line("m", [("z", "1"), ("a", "2")], [("f", 1)])), "m,a=2,z=1")
         with self.assertRaisesRegex(DuplicateTag, "^a$"):
             base(Line("m", [("a", "1"), ("a", "2")], [("f", 1)]))
+
+    def test_bases_are_those_of_the_library(self):
+        """A line whose keys rise is not handed to the library; what has its members is."""
+        rows = [
+            [], [("a", "1"), ("ab", "2"), ("b", "3")], [("a", "1"), ("a", "2")], [("ab", "1"), ("a", "2")], [("é", "1"), ("z", "2")],
+            [(",", "x y"), ("z", "\\"), ("\U0001f600", "é")], [("\uffff", "1"), ("\U00010000", "2")], [("", "1"), ("a", "")],
+            [("a", "1"), ("b", "2"), ("b", "3"), ("a", "4")]]
+        for tags in rows:
+            for name in ("m", "a, b", "é", ""):
+                with self.subTest(name=name, tags=tags):
+                    answers = []
+                    for line in (Line(name, tags), SimpleNamespace(measurement=name, tags=tags)):
+                        try:
+                            answers.append(base(line))
+                        except DuplicateTag as raised:
+                            answers.append(raised.args)
+                    self.assertEqual(answers[0], answers[1])
+        for tags in ([("a", "\ud800")], [("\ud800", "1")], [("a", 1)], [("a",)], [("a", "1", "2")], [["a", None]], "ab", 5):
+            said = []
+            for line in (Line("m", tags), SimpleNamespace(measurement="m", tags=tags)):
+                with self.subTest(tags=tags), self.assertRaises((TypeError, ValueError)) as raised:
+                    base(line)
+                said.append((type(raised.exception), str(raised.exception)))
+            self.assertEqual(said[0], said[1])
 
     def test_bases_and_keys_do_not_look_at_fields(self):
         for fields in ([], [("f", math.nan)], [("f", None)], [(None, 1)]):

@@ -14,6 +14,7 @@ fn main() {
     assert_eq!(lines.into_bytes(), b"disk\\ usage,host=a free=42.5 7\n");
     // [end]
     print_lines();
+    print_sums();
     print_pieces().expect("a slice can be read");
 }
 
@@ -29,6 +30,21 @@ fn print_lines() {
             Err(fault) => println!("a fault: {fault}"),
         }
     }
+    // [end]
+}
+
+fn print_sums() {
+    // [sums_in_rust]
+    use influxdb_line_protocol::{parse_lines, FieldValue};
+    use std::collections::BTreeMap;
+
+    let mut sums: BTreeMap<String, i64> = BTreeMap::new();
+    for line in parse_lines("cpu,host=a,az=b n=1i\ncpu,az=b,host=a n=2i\ncpu n=4i\n").flatten() {
+        if let Some(FieldValue::I64(n)) = line.field_value("n") {
+            *sums.entry(line.series.key()).or_default() += n;
+        }
+    }
+    assert_eq!(sums, BTreeMap::from([("cpu".to_owned(), 4), ("cpu,az=b,host=a".to_owned(), 3)]));
     // [end]
 }
 

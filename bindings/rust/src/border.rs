@@ -5,7 +5,6 @@ use std::{alloc, marker::PhantomData};
 pub(crate) mod answer {
     pub(crate) const END: u32 = 0;
     pub(crate) const LINE: u32 = 1;
-    pub(crate) const FAULT: u32 = 2;
     pub(crate) const MORE_PARTS: u32 = 3;
     pub(crate) const MORE_ROOM: u32 = 4;
     pub(crate) const OUT_OF_MEMORY: u32 = 5;
@@ -135,6 +134,7 @@ pub(crate) struct Line<'a> {
     pub(crate) side: u32,
     pub(crate) has_tag_set: bool,
     pub(crate) has_timestamp: bool,
+    pub(crate) series_is_base: bool,
 }
 
 impl Line<'_> {
@@ -150,6 +150,7 @@ impl Line<'_> {
         side: 0,
         has_tag_set: false,
         has_timestamp: false,
+        series_is_base: false,
     };
 }
 
@@ -240,14 +241,6 @@ extern "C" {
     fn lp_cuts_begin(dialect: u32, limit: usize, cuts: *mut Cuts) -> bool;
     fn lp_cuts_next(cuts: *mut Cuts, text: *const u8, len: usize, cut: *mut usize) -> u32;
     pub(crate) fn lp_line_show(
-        line: *const Line<'_>,
-        parts: *const Part<'_>,
-        parts_len: usize,
-        out: *mut u8,
-        room: usize,
-        len: *mut usize,
-    ) -> u32;
-    pub(crate) fn lp_line_base(
         line: *const Line<'_>,
         parts: *const Part<'_>,
         parts_len: usize,

@@ -147,16 +147,37 @@ impl<'a> Series<'a> {
     /// assert_eq!(line.series.generate_base().unwrap(), "m,a=1,b=2");
     /// ```
     pub fn generate_base(self) -> Result<Cow<'a, str>> {
-        let (line, tags) = self.handed();
-        border::put_out(border::lp_line_base, &line, &tags, |answer, bytes| {
-            let text = border::text_of(bytes);
-            match answer {
-                answer::WRITTEN if text == self.raw_input && !self.is_escaped() => Ok(Cow::Borrowed(self.raw_input)),
-                answer::WRITTEN => Ok(Cow::Owned(text.to_owned())),
-                answer::FAULT => Err(Error::DuplicateTag { tag_key: text.to_owned() }),
-                _ => unreachable!("a series was refused"),
-            }
-        })
+        let tags = self.tag_set.as_deref().unwrap_or_default();
+        if !tags.windows(2).all(|two| two[0].0 < two[1].0) {
+            return self.base_by_key(tags).map(Cow::Owned);
+        }
+        if self.is_escaped() {
+            return Ok(Cow::Owned(self.based(tags.iter())));
+        }
+        Ok(Cow::Borrowed(self.raw_input))
+    }
+
+    // The base with these tags, unescaped.
+    fn based<'t>(&'t self, tags: impl Iterator<Item = &'t (EscapedStr<'a>, EscapedStr<'a>)> + Clone) -> String {
+        let len = tags.clone().map(|(key, value)| key.len() + value.len() + 2).sum::<usize>();
+        let mut base = String::with_capacity(self.measurement.len() + len);
+        base.push_str(&self.measurement);
+        for (key, value) in tags {
+            base.extend([",", key, "=", value]);
+        }
+        base
+    }
+
+    // The base with the tags in the order of their keys. Equal keys come beside one another, in their own order: of those that come after
+    // an equal one, the one that the line has first is the fault.
+    fn base_by_key(&self, tags: &[(EscapedStr<'a>, EscapedStr<'a>)]) -> Result<String> {
+        let mut places: Vec<_> = (0..tags.len()).collect();
+        places.sort_by(|&one, &other| tags[one].0.cmp(&tags[other].0));
+        let repeated = places.windows(2).filter(|two| tags[two[0]].0 == tags[two[1]].0).map(|two| two[1]).min();
+        match repeated {
+            Some(place) => Err(Error::DuplicateTag { tag_key: tags[place].0.to_string() }),
+            None => Ok(self.based(places.iter().map(|&place| &tags[place]))),
+        }
     }
 
     /// The key of this series: a text that it has alone, whatever its names hold.

@@ -101,6 +101,38 @@ fn bases_are_borrowed_where_nothing_changes() {
 }
 
 #[test]
+fn bases_are_those_of_the_library_at_each_edge() {
+    let rows = [
+        ("m", Some("m")),
+        ("m,a=1,ab=2,b=3", Some("m,a=1,ab=2,b=3")),
+        ("m,\\,=v,é=w", Some("m,\\,=v,é=w")),
+        ("m,a=1,a=2", None),
+        ("m,a=1,b=2,b=3,a=4", None),
+        ("m,ab=1,a=2", Some("m,a=2,ab=1")),
+        ("m,é=1,z=2", Some("m,z=2,é=1")),
+        ("m\\ n,a=1", Some("m n,a=1")),
+        ("m,a\\ b=1,c=2", Some("m,a b=1,c=2")),
+        ("m,a=1\\ 2,b=\\,", Some("m,a=1 2,b=,")),
+        ("m,b=\\,,a=1", Some("m,a=1,b=,")),
+    ];
+    for (series, wanted) in rows {
+        let text = format!("{series} f=1i");
+        let parsed = line(&text);
+        let is_own = wanted == Some(series);
+        match (parsed.series.generate_base(), wanted) {
+            (Ok(base), Some(wanted)) => {
+                assert_eq!(base, wanted, "{series}");
+                assert_eq!(matches!(base, Cow::Borrowed(_)), is_own, "{series}");
+            }
+            (Err(Error::DuplicateTag { tag_key }), None) => {
+                assert_eq!(tag_key, if series.ends_with("a=4") { "b" } else { "a" }, "{series}");
+            }
+            (base, _) => panic!("{series}: {base:?}"),
+        }
+    }
+}
+
+#[test]
 fn bases_are_safe_where_no_name_divides_them_or_is_one_escape_alone() {
     let rows = [
         ("m", true),

@@ -13,12 +13,15 @@ pub use Rattle.lp_lines.specs.code.Lookups
 pub use Rattle.lp_format.specs.code.Light
 pub use Rattle.lp_lines.specs.code.ParseSteps
 pub use Rattle.lp_lines.specs.code.ReadInto
+pub use Rattle.lp_events.specs.code.OwnBases
 pub use Rattle.lp_events.specs.code.Events
 pub use Rattle.lp_events.specs.code.EventsLeft
 pub use Rattle.lp_build.specs.code.Built
 pub use Rattle.lp_build.specs.code.WrittenAgain
 pub use Rattle.lp_format.specs.code.Shown
 pub use Rattle.lp_lines.specs.code.Bases
+pub use Rattle.lp_lines.specs.code.Keys
+pub use Rattle.lp_written.specs.code.WrittenKeys
 pub use Rattle.lp_split.specs.code.Stops
 pub use Rattle.lp_split.specs.code.Ahead
 pub use Rattle.lp_split.specs.code.Searches

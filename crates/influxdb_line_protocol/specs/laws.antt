@@ -7,5 +7,7 @@ pub use Rattle.lp_format.specs.laws.Laws
 pub use Rattle.lp_format.specs.laws.Meanings
 pub use Rattle.lp_format.specs.laws.MeaningsOfAnswers
 pub use Rattle.lp_lines.specs.laws.BaseLaws
+pub use Rattle.lp_lines.specs.laws.KeyLaws
+pub use Rattle.lp_written.specs.laws.WrittenKeyLaws
 pub mod StopLaws
 pub mod StreamLaws

@@ -12,6 +12,7 @@ ghost use Rattle.influxdb_line_protocol.specs.laws.GivenItems.{ItemsAreOfPieces,
 ghost use Rattle.lp_lines.specs.laws.BaseLaws.{ClearSeriesHaveBases, SameSeriesHaveOneBase, TagsByKeyAreSorted, OneBaseIsOneSeries};
 ghost use Rattle.lp_lines.specs.laws.BaseLaws.{PlainSeriesAreClear, ReadSeriesAreParsed, SafeBasesTellSeries, SameSeriesAreSafeAlike};
 ghost use Rattle.lp_lines.specs.laws.KeyLaws.{KeysReadBack, KeysTellSeries};
+ghost use Rattle.lp_written.specs.laws.WrittenKeyLaws.{KeysStandInTexts, LinesBeginWithKeys};
 ghost use Rattle.lp_format.specs.laws.Meanings.{LogicalIsWithoutEscapes, TheMostIsRead, TheNextHasTheFault, TheFirstMisses};
 ghost use Rattle.lp_format.specs.laws.Meanings.{CountIsOfTheMost, FloatFrontIsFloat, FloatFrontIsLongest, WordFrontIsWord};
 ghost use Rattle.lp_format.specs.laws.Meanings.{WordFrontIsLongest, TrimmedIsAfterBlanks, TrimmedFrontIsLongest};
@@ -241,7 +242,12 @@ pub fn bases_tell_series()
 /// Two series have the same key, as [`Series::key`](crate::Series::key) gives it, exactly if they have the same measurement and,
 /// for each tag key, the same values in the same order. It is so whatever the names hold, also for those that no line has. If
 /// all names are admitted, the key reads back as that series.
+///
+/// The line of a point whose tags are in the order of their keys begins with the key of its series. What
+/// [`key_of_text`](crate::key_of_text) lends is the key of the series that is read from it.
 pub fn keys_tell_series()
     ensures tell { KeysTellSeries }
     ensures read { KeysReadBack }
+    ensures begin { LinesBeginWithKeys }
+    ensures stand { KeysStandInTexts }
 {}

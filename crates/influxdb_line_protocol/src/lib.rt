@@ -20,6 +20,7 @@ pub use lp_events::{
 };
 pub use lp_lines::{
     FieldSet, ParseLines, ParsedLine, Series, TagSet, hash_series, parse_lines, parse_lines_in,
+    same_series,
 };
 pub use lp_split::{
     BoundedLineStream, Dialect, LineStream, PieceTooLong, SplitLines, split_lines, split_lines_in,
@@ -28,3 +29,4 @@ pub use lp_values::{
     Error, ErrorKind, EscapedStr, FieldValue, FloatText, Measurement, OutOfRange, Result, Spelled,
     SpelledFault, SpelledValue,
 };
+pub use lp_written::key_of_text;

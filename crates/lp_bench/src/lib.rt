@@ -87,6 +87,14 @@ fn of_line_in_numbers(line: &ParsedLine<'_>) -> u64 {
     sum
 }
 
+// The length of the base of a line's series, or 1 if it has none.
+fn of_base(alloc: Global, line: ParsedLine<'_>) -> u64 {
+    match line.series.generate_base(alloc) {
+        Ok(base) => base.len() as u64,
+        Err(_) => 1,
+    }
+}
+
 /// Reads all items of a text, and sums what they hold: lengths of texts, and numbers. A fault counts 1.
 #[unsafe(no_mangle)]
 pub extern "C" fn lp_bench_parse(alloc: Global, text: &[u8]) -> u64 {
@@ -97,6 +105,23 @@ pub extern "C" fn lp_bench_parse(alloc: Global, text: &[u8]) -> u64 {
     for item in parse_lines(alloc, text) {
         let one = match &item {
             Ok(line) => of_line(line),
+            Err(_) => 1,
+        };
+        sum = sum.wrapping_add(one);
+    }
+    sum
+}
+
+/// Reads all items of a text, and sums the lengths of the bases of their series. A fault counts 1, and so does a series without a base.
+#[unsafe(no_mangle)]
+pub extern "C" fn lp_bench_bases(alloc: Global, text: &[u8]) -> u64 {
+    let Ok(text) = str::from_utf8(text) else {
+        return 0;
+    };
+    let mut sum = 0u64;
+    for item in parse_lines(alloc, text) {
+        let one = match item {
+            Ok(line) => of_base(alloc, line),
             Err(_) => 1,
         };
         sum = sum.wrapping_add(one);

@@ -34,6 +34,7 @@ shows_own read line xs h = record {
       ∙ (ap (map field_shown) (take-take line.fields line.fields (drop line.tags xs) (omega arith)) ∙ h.fields);
   timestamp = h.timestamp;
   no_timestamp = h.no_timestamp;
+  series_is_base = h.series_is_base;
   fault = h.fault;
   side = h.side;
 }

@@ -84,6 +84,7 @@ shows_filled read old new room full parts is measurement tags fields shows = rec
       ∙ (back_same field_shown old.tags old.fields parts full fields ∙ shows.fields);
   timestamp = ap (λ line. if line.has_timestamp then Some line.timestamp else None) is ∙ shows.timestamp;
   no_timestamp = λ none. ap (λ line. line.timestamp) is ∙ shows.no_timestamp (sym (ap (λ line. line.has_timestamp) is) ∙ none);
+  series_is_base = ap (λ line. line.series_is_base) is ∙ shows.series_is_base;
   fault = ap (λ line. line.fault) is ∙ shows.fault;
   side = ap (λ line. line.side) is ∙ shows.side;
 }

@@ -5,7 +5,7 @@ use Rattle.std.specs.Prelude.{slice_set}
 use Rattle.std.specs.List.{sum_by}
 use Rattle.std.proofs.lemmas.List.{drop-take, drop_at, length-take-le, take-take, take_at, take_more_set}
 use Rattle.std.proofs.lemmas.List.Sums.{sum_by-append, sum_by-cons}
-use Rattle.influxdb_line_protocol.specs.code.Events.{AreEventsOf, Event, TakesAll, ended, events_of_line, failed, named, tagged, valued}
+use Rattle.influxdb_line_protocol.specs.code.Events.{AreEventsOf, Event, TakesAll, end_of_line, events_of_line, failed, named, tagged, valued}
 use Rattle.influxdb_line_protocol.specs.code.SpelledParts.{spelled_fault}
 use Rattle.influxdb_line_protocol.specs.format.Dialects.{Dialect}
 use Rattle.influxdb_line_protocol.specs.format.Lines as format
@@ -129,7 +129,7 @@ module _ (l : format.Line) (begun told_tags told_fields new : Placing)
     (tags_same : SameMemory begun told_tags) (fields_same : SameMemory told_tags told_fields) (end_same : SameMemory told_fields new)
     (tags : ToldParts tag_at logical_tag (λ s. s.tags) (λ s. s.fields) begun (some_tags l.tags) told_tags)
     (fields : ToldParts field_at logical_field (λ s. s.fields) (λ s. s.tags) told_tags l.fields told_fields)
-    (last : Does told_fields (ended l.series l.timestamp) new) where
+    (last : Does told_fields (end_of_line l) new) where
   -- how many tags are counted
   tags_are : new.tags ≡ length (some_tags l.tags)
   tags_are = last.1 ∙ (fields.kept ∙ omega (arith, tags.counted, first.0))
@@ -188,9 +188,9 @@ events_told : (dialect : Dialect) (text : List ℕ) (l : format.Line) (old new :
     → (new.fault ≡ old.fault) × ToldRead l new.line.text.now new.parts.now new.room.now (told_of new)
 events_told dialect text l old new short is (begun, first, told) =
     let few = line_room dialect text l is in
-    let apart = takes_parted Places begun new (map tagged (some_tags l.tags) ++ map valued l.fields) (ended l.series l.timestamp ∷ []) told in
+    let apart = takes_parted Places begun new (map tagged (some_tags l.tags) ++ map valued l.fields) (end_of_line l ∷ []) told in
     let front = takes_parted Places begun apart.0 (map tagged (some_tags l.tags)) (map valued l.fields) apart.1 in
-    let last : Places apart.0 (ended l.series l.timestamp) new = rw apart.2.2 at apart.2.1 in
+    let last : Places apart.0 (end_of_line l) new = rw apart.2.2 at apart.2.1 in
     let tags = told_parts tagged tag_at logical_tag (λ s. s.tags) (λ s. s.fields) (λ s. refl)
     (λ old new x one. one.does) (λ old new x one. one.fault) begun front.0 (some_tags l.tags)
     (omega (arith, few, short, first.does.0)) front.1 in
@@ -253,7 +253,7 @@ line_len : (l : format.Line) → sum_by event_len (events_of_line l) ≡ texts_l
 line_len l =
     let tags = map tagged (some_tags l.tags) in
     let fields = map valued l.fields in
-    let last = ended l.series l.timestamp ∷ [] in
+    let last = end_of_line l ∷ [] in
     omega (
       arith,
       sum_by-cons event_len (named l.measurement) ((tags ++ fields) ++ last),

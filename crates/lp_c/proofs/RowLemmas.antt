@@ -5,7 +5,7 @@ use Rattle.std.proofs.lemmas.List.{drop-take, length-take-le, take-take}
 use Rattle.influxdb_line_protocol.specs.format.Lines as format
 use Rattle.influxdb_line_protocol.specs.format.Readings.{Fault}
 use Rattle.influxdb_line_protocol.specs.types.SpelledFault.{SpelledFault}
-use Rattle.lp_c.specs.OffsetBlocks.{AnswersRow, BeginsAt, HasNoFault, HasNoLine, IsTooMuch, PutsRow, ShowsRow, came_number, fault as is_fault, line as is_line, piece_in, timestamp_in}
+use Rattle.lp_c.specs.OffsetBlocks.{AnswersRow, BeginsAt, HasNoFault, HasNoLine, PutsRow, came_number, fault as is_fault, line as is_line, piece_in, timestamp_in}
 use Rattle.lp_format.specs.format.{Dialect, trimmed}
 use Rattle.lp_events.specs.code.Stops.{reading_stop}
 use Rattle.lp_c.specs.Offsets.{field_at, tag_at}
@@ -21,71 +21,48 @@ pub line_answers : (read : Result format.Line Fault) (kept : Option SpelledFault
     (told : Told) (used : ℕ) (row : OffsetRow) → ToldAnswer read kept text parts room told → kept ≡ None
     → told.tags + told.fields ≤ length parts → row.tags ≡ told.tags → row.fields ≡ told.fields
     → row.measurement ≡ told.name.span → row.measurement_copied ≡ told.name.copied → timestamp_in row ≡ told.timestamp
-    → AnswersRow read Came.Line text parts room used (told.tags + told.fields) told.used row
+    → AnswersRow read Came.Line text parts room used (row.tags + row.fields) told.used row
 line_answers (Err fault) None text parts room told used row is none fits tags fields span copied time = absurd is
 line_answers (Err fault) (Some kept) text parts room told used row is none fits tags fields span copied time = absurd (cc)
 line_answers (Ok read) (Some kept) text parts room told used row is none fits tags fields span copied time = absurd is
 line_answers (Ok read) None text parts room told used row is none fits tags fields span copied time =
     let shows = is.shows fits in
-    let own = told.tags + told.fields in
+    let own = row.tags + row.fields in
     let front : take row.tags (take own parts) ≡ take told.tags parts =
-    ap (λ n. take n (take own parts)) tags ∙ take-take told.tags own parts (omega arith) in
+    ap (λ n. take n (take own parts)) tags ∙ take-take told.tags own parts (omega (arith, tags)) in
     let back : take row.fields (drop row.tags (take own parts)) ≡ take told.fields (drop told.tags parts) =
     rw (tags, fields) (ap (take told.fields) (drop-take told.tags told.fields parts)
-    ∙ take-take told.fields told.fields (drop told.tags parts) (omega arith)) in (
+    ∙ take-take told.fields told.fields (drop told.tags parts) (omega arith)) in
+    let all : own ≤ length parts = omega (arith, tags, fields, fits) in (
       record {
         measurement = rw (span, copied) shows.measurement;
         tags = λ enough r same. ap (map (tag_at text r)) front ∙ shows.tags enough r same;
         fields = λ enough r same. ap (map (field_at text r)) back ∙ shows.fields enough r same;
         timestamp = time ∙ shows.timestamp;
-        all = length-take-le own parts fits ∙ omega (arith, tags, fields);
+        all = length-take-le own parts all;
       },
-      fits,
+      all,
     )
-
--- a row shows the same with another answer
-shows_numbered : (l : format.Line) (text : List ℕ) (own : List OffsetPart) (room : List ℕ) (used number : ℕ) (row : OffsetRow)
-    → ShowsRow l text own room used row → ShowsRow l text own room used (record row { answer = number })
-shows_numbered l text own room used number row shows = record {
-  measurement = shows.measurement;
-  tags = shows.tags;
-  fields = shows.fields;
-  timestamp = shows.timestamp;
-  all = shows.all;
-}
-
--- so it tells
-tells_numbered : (l : format.Line) (came : Came) (number : ℕ) (row : OffsetRow) (parts room used : ℕ)
-    → IsTooMuch l came row parts room used → IsTooMuch l came (record row { answer = number }) parts room used
-tells_numbered l came number row parts room used tells = record {
-  tags = tells.tags;
-  fields = tells.fields;
-  needed = tells.needed;
-  room_len = tells.room_len;
-  bound = tells.bound;
-  parts_lack = tells.parts_lack;
-  room_lacks = tells.room_lacks;
-}
 
 -- what came of a line is what was put down of its piece
 pub line_puts : (dialect : Dialect) (text : List ℕ) (piece : Piece) (read : Result format.Line Fault) (came : Came)
-    (parts : List OffsetPart) (room : List ℕ) (used own all number : ℕ) (row : OffsetRow) → IsUtf8 (piece_in text piece)
+    (parts : List OffsetPart) (room : List ℕ) (used own all : ℕ) (row : OffsetRow) → IsUtf8 (piece_in text piece)
     → format.answer dialect (trimmed (piece_in text piece)) ≡ read → AnswersRow read came text parts room used own all row
     → (came ≡ Came.Fault → row.stop_at ≡ piece.at + piece.len - length (reading_stop dialect (trimmed (piece_in text piece))).1)
-    → number ≡ came_number came → (came ≡ Came.Line → HasNoFault row) → (came ≡ Came.Fault → HasNoLine row)
+    → row.answer ≡ came_number came → (came ≡ Came.Line → HasNoFault row) → (came ≡ Came.Fault → HasNoLine row)
     → BeginsAt text piece row → (came ≡ Came.Line → row.stop_at ≡ piece.at + piece.len)
-    → PutsRow dialect text piece came (take own parts) (length parts) room used all (record row { answer = number })
-line_puts dialect text piece (Ok l) Came.Line parts room used own all number row utf8 answered is stop numbered line fault begins end =
-    is_line l numbered (line refl) utf8 begins (end refl) answered (shows_numbered l text (take own parts) room all number row is.0)
-line_puts dialect text piece (Ok l) Came.Fault parts room used own all number row utf8 answered is stop numbered line fault begins end = absurd is
-line_puts dialect text piece (Ok l) Came.NotUtf8 parts room used own all number row utf8 answered is stop numbered line fault begins end = absurd is
-line_puts dialect text piece (Ok l) Came.MoreParts parts room used own all number row utf8 answered is stop numbered line fault begins end =
-    record { read = l; answered = answered; too_much = tells_numbered l Came.MoreParts number row (length parts) (length room) used is }
-line_puts dialect text piece (Ok l) Came.MoreRoom parts room used own all number row utf8 answered is stop numbered line fault begins end =
-    record { read = l; answered = answered; too_much = tells_numbered l Came.MoreRoom number row (length parts) (length room) used is }
-line_puts dialect text piece (Err f) Came.Line parts room used own all number row utf8 answered is stop numbered line fault begins end = absurd is
-line_puts dialect text piece (Err f) Came.Fault parts room used own all number row utf8 answered is stop numbered line fault begins end =
+    → PutsRow dialect text piece came (take own parts) (length parts) room used all row
+line_puts dialect text piece (Ok l) Came.Line parts room used own all row utf8 answered is stop numbered line fault begins end =
+    is_line l numbered (line refl) utf8 begins (end refl) answered is.0
+line_puts dialect text piece (Ok l) Came.Fault parts room used own all row utf8 answered is stop numbered line fault begins end = absurd is
+line_puts dialect text piece (Ok l) Came.NotUtf8 parts room used own all row utf8 answered is stop numbered line fault begins end = absurd is
+line_puts dialect text piece (Ok l) Came.MoreParts parts room used own all row utf8 answered is stop numbered line fault begins end =
+    record { read = l; answered = answered; too_much = is }
+line_puts dialect text piece (Ok l) Came.MoreRoom parts room used own all row utf8 answered is stop numbered line fault begins end =
+    record { read = l; answered = answered; too_much = is }
+line_puts dialect text piece (Err f) Came.Line parts room used own all row utf8 answered is stop numbered line fault begins end = absurd is
+line_puts dialect text piece (Err f) Came.Fault parts room used own all row utf8 answered is stop numbered line fault begins end =
     is_fault f numbered (fault refl) utf8 begins answered is.0 is.1 (stop refl) (ap (λ n. take n parts) is.2)
-line_puts dialect text piece (Err f) Came.NotUtf8 parts room used own all number row utf8 answered is stop numbered line fault begins end = absurd is
-line_puts dialect text piece (Err f) Came.MoreParts parts room used own all number row utf8 answered is stop numbered line fault begins end = absurd is
-line_puts dialect text piece (Err f) Came.MoreRoom parts room used own all number row utf8 answered is stop numbered line fault begins end = absurd is
+line_puts dialect text piece (Err f) Came.NotUtf8 parts room used own all row utf8 answered is stop numbered line fault begins end = absurd is
+line_puts dialect text piece (Err f) Came.MoreParts parts room used own all row utf8 answered is stop numbered line fault begins end = absurd is
+line_puts dialect text piece (Err f) Came.MoreRoom parts room used own all row utf8 answered is stop numbered line fault begins end = absurd is

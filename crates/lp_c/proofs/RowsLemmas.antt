@@ -1,13 +1,13 @@
 -- The rows of a block, one after another.
 use Rattle.std.proofs.Common.{◌≡◌, ◌∙◌, ℕ, ◌+◌, ◌<◌, ◌≤◌, List, [], ◌∷◌, ◌++◌, length, take, drop, Option, Some}
-use Rattle.std.proofs.Common.{refl, sym, ap, arith, subst, true, false, Bool}
+use Rattle.std.proofs.Common.{◌-◌, ◌^◌, min, refl, sym, ap, arith, subst, true, false, Bool}
 use Rattle.std.specs.Prelude.{slice_set}
 use borrow.Rule.Slice.PartMut.{post_of, put_mid}
 use Rattle.std.proofs.Math.Seq.{take-add}
 use Rattle.std.proofs.lemmas.Bool.{false≢true}
 use Rattle.std.proofs.lemmas.List.{drop-set, drop_all, drop_at, length-take-le, take-append-le, take-set, take_all, take_more_set}
 use Rattle.influxdb_line_protocol.specs.format.Dialects.{Dialect}
-use Rattle.lp_c.specs.OffsetBlocks.{IsPlaced, OffsetRows, PassesBlanks, PutsRow, ReadsRow, ReadsRows, ShowsItem}
+use Rattle.lp_c.specs.OffsetBlocks.{HasNewlines, IsBlankIn, IsPieceIn, IsPlaced, OffsetRows, PassesBlanks, PutsRow, ReadsRow, ReadsRows, ShowsItem}
 use Rattle.lp_c.specs.OffsetBlocks.{blank, fault, has_row, is_too_much, line, more, no_text, none}
 use Rattle.lp_c.specs.Rooms.{Grows}
 use Rattle.lp_c.specs.declared.offsets.Came.{Came}
@@ -119,3 +119,12 @@ all_filled dialect last text from rows parts room filled i past before =
     let same : take (length rows) rows ≡ take i rows = take_all (length rows) rows (omega arith) ∙ sym (take_all i rows past) in
     let no_row : drop (length rows) rows ≡ [] = drop_all (length rows) rows (omega arith) in
     record { reads = rw same before; stops = rw no_row refl }
+
+-- a blank piece more is passed
+pub blank_more : (dialect : Dialect) (last : Bool) (text : List ℕ) (from spot after : Spot) (piece : Piece) → PassesBlanks dialect last text from spot
+    → (piece.at ≡ spot.at) × IsPieceIn dialect last text piece × HasNewlines text piece → IsBlankIn text piece
+    → after ≡ record { at = piece.next; line = min (spot.line + piece.newlines + 1) (2 ^ 64 - 1) }
+    → PassesBlanks dialect last text from after
+blank_more dialect last text from spot after piece so_far is is_blank new =
+    subst (PassesBlanks dialect last text from) (sym (new ∙ ap (λ n. record { at = piece.next; line = min (spot.line + n + 1) (2 ^ 64 - 1) }) is.2))
+    (PassesBlanks.blank spot piece so_far is.0 is.1 is_blank)

@@ -1,4 +1,4 @@
--- Which spellings are read as a part of the input, and that no text is longer than its spelling.
+-- No text is longer than its spelling.
 use Rattle.std.proofs.Common.{◌≡◌, ℕ, List, [], ◌∷◌, ◌≤◌, length, true, false, refl, arith, inl, inr, ap, take}
 use Rattle.std.specs.Prelude.{◌==◌}
 use Rattle.std.proofs.lemmas.Bool.{and_parts, cases_Bool, false≢true}
@@ -6,41 +6,6 @@ use Rattle.std.proofs.lemmas.List.{length-take-le}
 use Rattle.lp_format.specs.format.Bytes.{backslash, is_one_of}
 use Rattle.lp_format.specs.format.Escapes.{without_escapes}
 use Rattle.lp_format.specs.format.Names.{is_one_escape, is_shared}
-
--- two bytes that are read as one are an escape
-pub one_of_two : (known text : List ℕ) → length text ≡ 2 → length (without_escapes known text) ≡ 1 → is_one_escape known text ≡ true
-unfolding without_escapes
-one_of_two known [] two one = absurd (omega (arith, two))
-one_of_two known (b ∷ []) two one = absurd (omega (arith, two))
-one_of_two known (b ∷ c ∷ []) two one =
-    elim (cases_Bool (b == backslash)) [
-      | inl mark ↦ elim (cases_Bool (is_one_of known c)) [
-        | inl is ↦ rw (mark, is) refl
-        | inr other ↦ absurd (let both = rw (mark, other) at one in omega (arith, both))
-      ]
-      | inr other ↦ absurd (let both = rw other at one in omega (arith, both))
-    ]
-one_of_two known (b ∷ c ∷ d ∷ rest) two one = absurd (omega (arith, two))
-
--- an escape has two bytes and is read as one
-escape_lens : (known text : List ℕ) → is_one_escape known text ≡ true
-    → (length text ≡ 2) × (length (without_escapes known text) ≡ 1)
-unfolding without_escapes
-escape_lens known [] h = absurd (false≢true h)
-escape_lens known (b ∷ []) h = absurd (false≢true h)
-escape_lens known (b ∷ c ∷ []) h =
-    let parts = and_parts (b == backslash) (is_one_of known c) h in
-    (refl, rw (parts.0, parts.1) refl)
-escape_lens known (b ∷ c ∷ d ∷ rest) h = absurd (false≢true h)
-
--- what holds a backslash, and is not two bytes that are read as one, is not read as a part of the input
-pub not_shared : (known text : List ℕ) → is_one_of text backslash ≡ true
-    → (length text ≡ 2 → length (without_escapes known text) ≡ 1 → ⊥) → is_shared known text ≡ false
-not_shared known text some apart =
-    elim (cases_Bool (is_one_escape known text)) [
-      | inl is ↦ absurd (let lens = escape_lens known text is in apart lens.0 lens.1)
-      | inr other ↦ rw (other, some) refl
-    ]
 
 -- no text takes more bytes than its spelling
 no_longer : (known text : List ℕ) → length (without_escapes known text) ≤ length text

@@ -8,7 +8,7 @@ use Rattle.std.proofs.Math.Seq.{drop-append_seam, take-append_seam}
 use Rattle.std.proofs.lemmas.Bool.{cases_Bool, ne_eqb}
 use Rattle.std.proofs.lemmas.List.{append-nil, drop-drop, length-map, take-append-drop, take_all, take_more_set}
 use Rattle.std.proofs.lemmas.List.Sums.{sum_by-append, sum_by-cons}
-use Rattle.influxdb_line_protocol.specs.code.Events.{AreEventsOf, Event, TakesAll, ended, events_of_line, failed, tagged, valued}
+use Rattle.influxdb_line_protocol.specs.code.Events.{AreEventsOf, Event, TakesAll, end_of_line, events_of_line, failed, tagged, valued}
 use Rattle.influxdb_line_protocol.specs.code.SpelledParts.{spelled_fault}
 use Rattle.influxdb_line_protocol.specs.format.Dialects.{Dialect}
 use Rattle.influxdb_line_protocol.specs.format.Lines as format
@@ -19,6 +19,7 @@ use Rattle.influxdb_line_protocol.specs.format.Values.{Value, integer, unsigned,
 use Rattle.influxdb_line_protocol.specs.types.SpelledFault.{SpelledFault}
 use Rattle.lp_lines.proofs.lemmas.line.AnsweredLines.{line_room, HasSome, line_some_tags}
 use Rattle.lp_lines.proofs.lemmas.line.Filled.{takes_parted}
+use Rattle.influxdb_line_protocol.specs.code.OwnBases.{is_own_base}
 use Rattle.lp_c.specs.Crossing.{ShowsLine, copied_field, copied_in, copied_tag, copied_text, copied_value, field_shown, tag_shown, text_shown}
 use Rattle.lp_c.specs.Telling.{Lent, PutsCopy, Tells, TellsEnd, TellsName, TellsPart, Told, ToldLine, Waits, field_copies, filled_line, filled_own}
 use Rattle.lp_c.specs.Telling.{filled_part, filled_parts, filled_view, lent_to, own_parts, part_len, place, tag_copies, text_copy, value_copy, view_len}
@@ -225,7 +226,7 @@ tag_set_told (Some tags) n some is =
 module _ (l : format.Line) (old begun told_tags told_fields new : Lent) (first : TellsName old l.measurement begun)
     (tags : ToldParts tag_shown tag_copies (λ line. line.tags) (λ line. line.fields) begun (some_tags l.tags) told_tags)
     (fields : ToldParts field_shown field_copies (λ line. line.fields) (λ line. line.tags) told_tags l.fields told_fields)
-    (last : TellsEnd told_fields l.series l.timestamp new) where
+    (last : TellsEnd told_fields l.series l.timestamp (is_own_base l.measurement (some_tags l.tags)) new) where
   -- how many tags and fields are counted
   counted : (new.line.tags ≡ length (some_tags l.tags)) × (new.line.fields ≡ length l.fields)
   counted = (
@@ -347,6 +348,7 @@ module _ (l : format.Line) (old begun told_tags told_fields new : Lent) (first :
               ∙ (ap (map field_shown) (take_all new.line.fields full_fields (omega (arith, few, counted.1))) ∙ fields_shown));
           timestamp = last.timestamp;
           no_timestamp = last.no_timestamp;
+          series_is_base = ap (λ line. line.series_is_base) last.line;
           fault = ap (λ line. line.fault) last.line;
           side = ap (λ line. line.side) last.line;
         }
@@ -383,9 +385,9 @@ events_told : (dialect : Dialect) (text : List ℕ) (l : format.Line) (old new :
     → TakesAll Tells old (events_of_line l) new → (new.fault ≡ old.fault) × ToldLine l (lent_to old) (lent_to new)
 events_told dialect text l old new short is (begun, first, told) =
     let few = line_room dialect text l is in
-    let parted = takes_parted Tells begun new (map tagged (some_tags l.tags) ++ map valued l.fields) (ended l.series l.timestamp ∷ []) told in
+    let parted = takes_parted Tells begun new (map tagged (some_tags l.tags) ++ map valued l.fields) (end_of_line l ∷ []) told in
     let front = takes_parted Tells begun parted.0 (map tagged (some_tags l.tags)) (map valued l.fields) parted.1 in
-    let last : Tells parted.0 (ended l.series l.timestamp) new = rw parted.2.2 at parted.2.1 in
+    let last : Tells parted.0 (end_of_line l) new = rw parted.2.2 at parted.2.1 in
     let tags = told_parts tagged tag_shown tag_copies (λ line. line.tags) (λ line. line.fields) (λ s. refl)
     (λ old new x one. one.does) (λ old new x one. one.fault) begun front.0 (some_tags l.tags)
     (omega (arith, few, short, first.does.tags)) (omega (arith, first.does.copies.counted)) front.1 in

@@ -15,6 +15,7 @@ use Rattle.influxdb_line_protocol.specs.format.Readings.{Fault, Text, above, bel
 use Rattle.influxdb_line_protocol.specs.format.Readings.{cannot_parse_entire_line, ends_with_backslash, field_set_missing}
 use Rattle.influxdb_line_protocol.specs.format.Readings.{measurement_value_invalid, tag_set_malformed, take_while1, timestamp_value_invalid}
 use Rattle.influxdb_line_protocol.specs.format.Values.{Value, integer, unsigned, float, string, boolean}
+use Rattle.influxdb_line_protocol.specs.code.OwnBases.{is_own_base}
 use Rattle.influxdb_line_protocol.specs.code.ParseSteps.{GivesLine}
 use Rattle.lp_c.specs.Numbers.{answer_number, dialect_number, fault_number, kind_number, side_number}
 use Rattle.lp_c.specs.declared.views.Answer.{Answer}
@@ -99,6 +100,7 @@ pub record ShowsLine (read : format.Line) (line : Line) (parts : List Part) : Ty
   pub fields : map field_shown (take line.fields (drop line.tags parts)) ≡ map Some read.fields
   pub timestamp : timestamp_shown line ≡ read.timestamp
   pub no_timestamp : line.has_timestamp ≡ false → line.timestamp ≡ pos 0
+  pub series_is_base : line.series_is_base ≡ is_own_base read.measurement (some_tags read.tags)
   pub fault : line.fault ≡ fault_number FaultKind.None
   pub side : line.side ≡ side_number Side.Neither
 
@@ -170,7 +172,8 @@ fault_seen (cannot_parse_entire_line rest) = record { kind = FaultKind.CannotPar
 fault_seen tag_set_malformed = bare_fault FaultKind.TagSetMalformed
 fault_seen take_while1 = bare_fault FaultKind.GenericParsingError
 
--- the line shows this fault, and how many bytes of room its text takes; it has no tags, no fields and no timestamp
+-- the line shows this fault, and how many bytes of room its text takes; it has no tags, no fields and no timestamp, and no
+-- text is its base
 pub record ShowsFault (fault : FaultSeen) (line : Line) : Type 0 where
   pub kind : line.fault ≡ fault_number fault.kind
   pub side : line.side ≡ side_number fault.side
@@ -181,6 +184,7 @@ pub record ShowsFault (fault : FaultSeen) (line : Line) : Type 0 where
   pub has_tag_set : line.has_tag_set ≡ false
   pub has_timestamp : line.has_timestamp ≡ false
   pub timestamp : line.timestamp ≡ pos 0
+  pub series_is_base : line.series_is_base ≡ false
 
 -- what is answered for a fault: it is shown, or its text takes more room than was lent
 abbrev pub AnswersFault : FaultSeen → ℕ → Answer → Line → Type 0

@@ -115,6 +115,11 @@ is_too_much Came.MoreParts = true
 is_too_much Came.MoreRoom = true
 is_too_much came = false
 
+-- how many parts the item of a row has
+abbrev pub own_of : Came → OffsetRow → ℕ
+own_of Came.Line row = row.tags + row.fields
+own_of came row = 0
+
 -- a row shows no fault
 abbrev pub HasNoFault : OffsetRow → Type 0
 HasNoFault row = (row.fault ≡ 0) × (row.side ≡ 0)

@@ -1,5 +1,5 @@
 -- What the sink of the parts of a line does with each, and what it has put at the end.
-use Rattle.std.specs.Prelude.{◌≡◌, ◌<◌, ◌≤◌, ◌+◌, ◌-◌, ◌^◌, ◌==◌, ℕ, ℤ, List, [], ◌∷◌, ◌++◌, false, drop, length, min, not, pos, take}
+use Rattle.std.specs.Prelude.{◌≡◌, ◌<◌, ◌≤◌, ◌+◌, ◌-◌, ◌^◌, ◌==◌, ℕ, ℤ, Bool, List, [], ◌∷◌, ◌++◌, false, drop, length, min, not, pos, take}
 use Rattle.std.specs.Prelude.{Option, Some, None, Result, Ok, Err, if◌then◌else◌, slice_set}
 use Rattle.std.specs.List.{sum_by}
 use Rattle.influxdb_line_protocol.specs.code.Events.{Event, ended, failed, named, tagged, valued}
@@ -124,8 +124,8 @@ TellsTag = TellsPart tag_shown tag_copies (λ line. line.tags) (λ line. line.fi
 abbrev pub TellsField : Lent → Pair Text (Value Text) → Lent → Type 0
 TellsField = TellsPart field_shown field_copies (λ line. line.fields) (λ line. line.tags)
 
--- a line ends, with this series and this timestamp; it has a tag set if it has tags, and no fault
-pub record TellsEnd (old : Lent) (text : List ℕ) (time : Option ℤ) (new : Lent) : Type 0 where
+-- a line ends, with this series text, this timestamp and whether that text is its base; it has a tag set if it has tags, and no fault
+pub record TellsEnd (old : Lent) (text : List ℕ) (time : Option ℤ) (is_base : Bool) (new : Lent) : Type 0 where
   pub line : new.line ≡ record old.line {
     series = new.line.series;
     has_tag_set = not (old.line.tags == 0);
@@ -133,6 +133,7 @@ pub record TellsEnd (old : Lent) (text : List ℕ) (time : Option ℤ) (new : Le
     timestamp = new.line.timestamp;
     fault = fault_number FaultKind.None;
     side = side_number Side.Neither;
+    series_is_base = is_base;
   }
   pub series : new.line.series.now ≡ text
   pub timestamp : timestamp_shown new.line ≡ time
@@ -145,7 +146,7 @@ abbrev pub Does : Lent → Event → Lent → Type 0
 Does old (named name) new = TellsName old name new
 Does old (tagged tag) new = TellsTag old tag new
 Does old (valued field) new = TellsField old field new
-Does old (ended series timestamp) new = TellsEnd old series timestamp new
+Does old (ended series timestamp is_base) new = TellsEnd old series timestamp is_base new
 Does old (failed fault) new = Unit {0}
 
 -- the sink takes an event: it puts it into the same memory, and keeps a fault

@@ -1,7 +1,7 @@
 //! Texts, tags, fields and faults are put into what the caller lends.
 
 ghost use Rattle.std.specs.Prelude.{◌≡◌, ◌≢◌, ◌+◌, ◌≤◌, ◌-◌, ◌^◌, [], drop, false, length, map, true};
-ghost use Rattle.std.specs.Prelude.{MatchOption, Some};
+ghost use Rattle.std.specs.Prelude.{Some};
 ghost use Rattle.std.specs.List.{sum_by};
 ghost use Rattle.influxdb_line_protocol.specs.code.Events.{spelled_field, spelled_tag};
 ghost use Rattle.influxdb_line_protocol.specs.code.Outcomes.{side};
@@ -14,6 +14,7 @@ ghost use Rattle.lp_c.specs.Telling.{filled_line, filled_own, filled_part, fille
 
 use crate::views::{Answer, FaultKind, Kind, Line, Part, Room, Side, View};
 use influxdb_line_protocol::{ErrorKind, OutOfRange, Spelled, SpelledFault, SpelledValue};
+use lp_values::spelled::shared;
 use std::mem;
 
 // Puts a text into the room.
@@ -36,22 +37,6 @@ pub(crate) fn reads_as_spelled(text: Spelled<'_>) -> bool
     ensures { result ≡ true → spelled_text text.entry ≡ record { bytes = spelling_of text.entry; is_single = true } }
 {
     text.is_plain()
-}
-
-// The logical text, if it is a part of the input: without a backslash it is the spelling, and of one escape the byte after it.
-#[inline(always)]
-pub fn shared<'a>(spelled: Spelled<'a>) -> Option<&'a [u8]>
-    ensures { MatchOption result ((spelled_text spelled.entry).is_single ≡ false)
-        (λ text. record { bytes = text.now; is_single = true } ≡ spelled_text spelled.entry) }
-{
-    let text = spelled.spelled().as_bytes();
-    if spelled.is_plain() {
-        return Some(text);
-    }
-    if text.len() == 2 && spelled.len() == 1 {
-        return Some(&text[1..]);
-    }
-    None
 }
 
 // Puts the logical text of a spelling into the room after `len` bytes, if it fits, and says how many bytes there are with it.
@@ -119,7 +104,7 @@ fn show_escaped<'a>(
     ensures copy { PutsCopy room.old.bytes.now len (text_copy (spelled_text text.entry)) room.new.bytes.now result }
 {
     if let Some(shared) = shared(text) {
-        view.text = shared;
+        view.text = shared.as_bytes();
         view.copied = false;
         return len;
     }
@@ -355,6 +340,7 @@ pub fn put_fault<'a>(fault: SpelledFault<'a>, room: &mut Room<'a>, line: &mut Li
     line.has_tag_set = false;
     line.has_timestamp = false;
     line.timestamp = 0;
+    line.series_is_base = false;
     if room.bytes.len() < text.len() {
         return Answer::MoreRoom;
     }

@@ -4,11 +4,11 @@ ghost use Rattle.std.specs.Prelude.{◌≡◌, ◌≢◌, ◌↔◌, ◌⊎◌, 
 ghost use Rattle.influxdb_line_protocol.specs.code.Rules.{rules_of};
 ghost use Rattle.influxdb_line_protocol.specs.code.SpelledParts.{spelled_fault};
 ghost use Rattle.influxdb_line_protocol.specs.format.Lines.{answer};
-ghost use Rattle.lp_events.specs.code.Stops.{reading_stop};
+ghost use Rattle.lp_events.specs.code.Stops.{IsStopOf, reading_stop};
 ghost use Rattle.lp_c.specs.Crossing.{dialect_of, fault_seen};
 ghost use Rattle.lp_c.specs.Numbers.{IsNoDialect, answer_number, fault_number, side_number};
 ghost use Rattle.lp_c.specs.Offsets.{IsLineIn};
-ghost use Rattle.lp_c.specs.OffsetBlocks.{AnswersRow, HasNoFault, HasNoLine, IsItemIn, IsPlaced, IsSeenOf, PutsRow, ReadsOffsets, ReadsRow, ReadsRows, block_answer, came_number, has_row, in_32, is_too_much, timestamp_in};
+ghost use Rattle.lp_c.specs.OffsetBlocks.{AnswersRow, HasNoFault, HasNoLine, IsItemIn, IsPlaced, IsSeenOf, PutsRow, ReadsOffsets, ReadsRow, ReadsRows, block_answer, came_number, has_row, in_32, is_too_much, own_of, timestamp_in};
 ghost use Rattle.lp_c.specs.Rooms.{Grows};
 ghost use Rattle.lp_c.specs.declared.offsets.Came.TheVariants as Came;
 ghost use Rattle.lp_c.specs.declared.views.Answer.TheVariants as Answer;
@@ -21,9 +21,6 @@ use crate::portions::no_portion;
 use crate::views::{Answer, Dialect};
 use influxdb_line_protocol::{Dialect as Rules, SpelledFault};
 use lp_events::stops::reading_stop;
-
-// How many bytes are tested for UTF-8 at once for each row: a short line has fewer, and a longer one is tested as it is.
-const EACH: usize = 64;
 
 /// An item by offsets.
 #[repr(C)]
@@ -65,19 +62,19 @@ pub struct OffsetRow {
     pub has_timestamp: u16,
 }
 
-// What came of an item.
+// What came of an item, by the number of the answer for it.
 #[derive(Clone, Copy)]
 pub(crate) enum Came {
     /// Its line is shown.
-    Line,
+    Line = 1,
     /// Its fault is shown.
-    Fault,
-    /// Its piece is not UTF-8.
-    NotUtf8,
+    Fault = 2,
     /// Its line takes more parts than are left.
-    MoreParts,
+    MoreParts = 3,
     /// Its line takes more room than is left.
-    MoreRoom,
+    MoreRoom = 4,
+    /// Its piece is not UTF-8.
+    NotUtf8 = 8,
 }
 
 impl Came {
@@ -85,14 +82,7 @@ impl Came {
     fn number(self) -> u32
         ensures { result ≡ came_number self }
     {
-        let answer = match self {
-            Came::Line => Answer::Line,
-            Came::Fault => Answer::Fault,
-            Came::NotUtf8 => Answer::NotUtf8,
-            Came::MoreParts => Answer::MoreParts,
-            Came::MoreRoom => Answer::MoreRoom,
-        };
-        answer.number()
+        self as u32
     }
 
     // Whether it takes more than is left.
@@ -127,11 +117,19 @@ fn in_32(number: usize) -> u32
     number.min(u32::MAX as usize) as u32
 }
 
-// Shows the fault of a line that ends at this place, and where reading it stopped.
+// Shows the fault of a line that ends at this place, and where reading it stopped: if that was not seen, the line is read again.
 #[cold]
 #[inline(never)]
-fn show_fault(dialect: Rules, line: &str, end: usize, fault: SpelledFault<'_>, row: &mut OffsetRow)
-    requires { end < 2 ^ 32 }
+fn show_fault(
+    dialect: Rules,
+    line: &str,
+    end: usize,
+    fault: SpelledFault<'_>,
+    stop: Option<&str>,
+    row: &mut OffsetRow,
+)
+    requires end { end < 2 ^ 32 }
+    requires stop { IsStopOf (rules_of dialect) line.now stop }
     ensures { row.new ≡ record row.old {
       fault = fault_number (fault_seen (spelled_fault fault.entry)).kind;
       side = side_number (fault_seen (spelled_fault fault.entry)).side;
@@ -141,7 +139,10 @@ fn show_fault(dialect: Rules, line: &str, end: usize, fault: SpelledFault<'_>, r
     let (kind, side, _) = fault_seen(fault);
     row.fault = kind.number();
     row.side = side.number();
-    let rest = reading_stop(dialect, line).rest;
+    let rest = match stop {
+        Some(rest) => rest,
+        None => reading_stop(dialect, line).rest,
+    };
     row.stop_at = in_32(end.saturating_sub(rest.len()));
 }
 
@@ -174,8 +175,8 @@ fn show_time(row: &mut OffsetRow, timestamp: Option<i64>)
     }
 }
 
-// Puts down a line that ends at this place, and gives what came of it, how many parts it has, and how many bytes of the room are in use
-// with it.
+// Puts down a line that ends at this place, and gives what came of it, and how many bytes of the room are in use with it: two numbers,
+// which are given in registers.
 #[inline(never)]
 fn put_line(
     dialect: Rules,
@@ -186,40 +187,45 @@ fn put_line(
     parts: &mut [OffsetPart],
     room: &mut [u8],
     used: usize,
-) -> (Came, usize, usize)
+) -> (Came, usize)
     requires lies { IsLineIn text.now line.now end }
     requires parts { length parts.old < 2 ^ 32 }
     requires small { length room.old < 2 ^ 32 }
     ensures size { length parts.new ≡ length parts.old }
-    ensures grows { Grows room.old used room.new result.2 }
+    ensures grows { Grows room.old used room.new result.1 }
     ensures piece { (row.new.piece ≡ row.old.piece) × (row.new.line ≡ row.old.line) × (row.new.parts_at ≡ row.old.parts_at) }
     ensures kept { (row.new.key ≡ row.old.key) × (row.new.verdict ≡ row.old.verdict) }
     ensures begins { row.new.line_at ≡ end - length line.now }
+    ensures answer { row.new.answer ≡ came_number result.0 }
     ensures end { result.0 ≡ Came.Line → row.new.stop_at ≡ end }
     ensures line { result.0 ≡ Came.Line → HasNoFault row.old → HasNoFault row.new }
     ensures fault { result.0 ≡ Came.Fault → HasNoLine row.old → HasNoLine row.new }
-    ensures answers { AnswersRow (answer (rules_of dialect) line.now) result.0 text.now parts.new room.new used result.1 result.2 row.new }
-    ensures fits { result.1 ≤ length parts.new }
-    ensures stays { is_too_much result.0 ≡ true → (result.1 ≡ 0) × (result.2 ≡ used) }
-    ensures room { used ≤ length room.old → result.2 ≤ length room.new }
+    ensures answers { AnswersRow (answer (rules_of dialect) line.now) result.0 text.now parts.new room.new used (own_of result.0 row.new) result.1
+        row.new }
+    ensures fits { own_of result.0 row.new ≤ length parts.new }
+    ensures stays { is_too_much result.0 ≡ true → result.1 ≡ used }
+    ensures room { used ≤ length room.old → result.1 ≤ length room.new }
     ensures stop { result.0 ≡ Came.Fault →
         row.new.stop_at ≡ end - length (reading_stop (rules_of dialect) line.now).1 }
 {
     row.line_at = (end - line.len()) as u32;
     let line_in = LineIn { text, line, end };
-    let told = put_told(dialect, line_in, parts, room, used);
+    let (told, stop) = put_told(dialect, line_in, parts, room, used);
     if let Some(fault) = told.fault {
-        show_fault(dialect, line, end, fault, row);
-        return (Came::Fault, 0, used);
+        show_fault(dialect, line, end, fault, stop, row);
+        row.answer = Came::Fault.number();
+        return (Came::Fault, used);
     }
     let needed = told.used - used;
     if parts.len() < told.tags || parts.len() - told.tags < told.fields {
         show_need(row, told.tags, told.fields, needed);
-        return (Came::MoreParts, 0, used);
+        row.answer = Came::MoreParts.number();
+        return (Came::MoreParts, used);
     }
     if room.len() < told.used {
         show_need(row, told.tags, told.fields, needed);
-        return (Came::MoreRoom, 0, used);
+        row.answer = Came::MoreRoom.number();
+        return (Came::MoreRoom, used);
     }
     row.tags = told.tags as u32;
     row.fields = told.fields as u32;
@@ -227,8 +233,20 @@ fn put_line(
     row.stop_at = end as u32;
     row.measurement = told.name.span;
     row.measurement_copied = told.name.copied;
+    row.answer = Came::Line.number();
     show_time(row, told.timestamp);
-    (Came::Line, told.tags + told.fields, told.used)
+    (Came::Line, told.used)
+}
+
+// How many parts the item of a row has.
+#[inline(always)]
+fn own_of(came: Came, row: &OffsetRow) -> usize
+    ensures { result ≡ own_of came row.now }
+{
+    match came {
+        Came::Line => row.tags as usize + row.fields as usize,
+        _ => 0,
+    }
 }
 
 // A row of a piece in this line, of which nothing is shown, and which so many parts come before.
@@ -296,9 +314,8 @@ fn put_row(
         return (Came::NotUtf8, 0, used);
     };
     let end = piece.at + piece.len;
-    let (came, own, used) = put_line(dialect, text, line, end, row, parts, room, used);
-    row.answer = came.number();
-    (came, own, used)
+    let (came, used) = put_line(dialect, text, line, end, row, parts, room, used);
+    (came, own_of(came, row), used)
 }
 
 // What was filled so far: where the next piece begins, how many parts are filled, and how many bytes of the room are in use.
@@ -317,6 +334,8 @@ fn read_row<'a>(
     last: bool,
     text: &'a [u8],
     seen: &mut Seen<'a>,
+    texts: usize,
+    given: usize,
     row: &mut OffsetRow,
     parts: &mut [OffsetPart],
     room: &mut [u8],
@@ -334,7 +353,7 @@ fn read_row<'a>(
     ensures fits { (filled.new.spot.at ≤ length text.now) × (filled.new.parts ≤ length parts.new) × (filled.new.room ≤ length room.new) }
     ensures reads { ReadsRow (rules_of dialect) last text.now filled.old result row.new parts.new room.new filled.new }
 {
-    let (piece, item) = next_item(dialect, last, text, seen, &mut filled.spot)?;
+    let (piece, item) = next_item(dialect, last, text, seen, &mut filled.spot, texts, given)?;
     let own_parts = &mut parts[filled.parts..];
     let (came, own, used) = put_row(
         dialect,
@@ -387,7 +406,7 @@ fn read_rows(
     ensures reads { ReadsRows (rules_of dialect) last text.now filled.old.spot rows.new parts.new room.new filled.new result.0 result.1 }
 {
     let mut seen = Seen {
-        portion: no_portion(filled.spot.at, rows.len(), EACH),
+        portion: no_portion(filled.spot.at, 0, 0),
         at: 0,
         marks: 0,
     };
@@ -397,6 +416,8 @@ fn read_rows(
             last,
             text,
             &mut seen,
+            rows.len(),
+            at,
             &mut rows[at],
             parts,
             room,

@@ -116,7 +116,8 @@ pub(crate) fn pass(spot: &mut Spot, piece: Piece)
         .saturating_add(1);
 }
 
-// The next piece that is not blank, and its line, if it is UTF-8. Those before it are passed.
+// The next piece that is not blank, and its line, if it is UTF-8. Those before it are passed. So many are asked for, and so many of
+// them were given.
 #[inline(always)]
 pub(crate) fn next_item<'a>(
     dialect: Dialect,
@@ -124,6 +125,8 @@ pub(crate) fn next_item<'a>(
     text: &'a [u8],
     seen: &mut Seen<'a>,
     spot: &mut Spot,
+    texts: usize,
+    given: usize,
 ) -> Option<(Piece, Option<&'a str>)>
     requires at { spot.old.at ≤ length text.now }
     requires seen { IsSeenOf (rules_of dialect) text.now seen.old }
@@ -134,7 +137,14 @@ pub(crate) fn next_item<'a>(
         (λ p. (p.0.at ≡ spot.new.at) × IsPieceIn (rules_of dialect) last text.now p.0 × HasNewlines text.now p.0 × IsItemIn text.now p.0 p.1) }
 {
     while let Some(piece) = piece_at(dialect, last, text, spot.at, seen) {
-        let Some(piece_text) = seen.portion.next_text(text, piece.at, piece.len) else {
+        if piece.len == 0 {
+            pass(spot, piece);
+            continue;
+        }
+        let Some(piece_text) = seen
+            .portion
+            .next_text(text, piece.at, piece.len, texts, given)
+        else {
             return Some((piece, None));
         };
         let line = trimmed(piece_text);

@@ -12,9 +12,10 @@ ghost use Rattle.lp_c.specs.Offsets.{IsLineIn, bytes_at, field_at, field_len, ta
 ghost use Rattle.lp_c.specs.Rooms.{Grows, Shows};
 ghost use Rattle.lp_events.specs.code.Places.{AreBefore, EndsBefore, ValueEndsBefore};
 
-use crate::lent::{reads_as_spelled, shared};
+use crate::lent::reads_as_spelled;
 use crate::views::Kind;
 use influxdb_line_protocol::{Spelled, SpelledValue};
+use lp_values::spelled::shared;
 
 /// So many bytes from a place on.
 #[repr(C)]

@@ -3,6 +3,7 @@
 ghost use Rattle.std.specs.Prelude.{◌≡◌, ◌<◌, ◌≤◌, ◌+◌, ◌^◌, None, Ok, length};
 ghost use Rattle.influxdb_line_protocol.specs.code.Rules.{rules_of};
 ghost use Rattle.influxdb_line_protocol.specs.format.Lines.{Line, answer};
+ghost use Rattle.lp_events.specs.code.Stops.{IsStopOf};
 ghost use Rattle.lp_c.specs.Offsets.{texts_len};
 ghost use Rattle.lp_c.specs.Rooms.{Grows};
 ghost use Rattle.lp_c.specs.Placing.{ToldAnswer, told_of};
@@ -76,7 +77,7 @@ impl<'l, 'a> PlacedSink<'a> for Placing<'l, 'a> {
     }
 
     #[inline(always)]
-    fn end(&mut self, series: &'a str, timestamp: Option<i64>) {
+    fn end(&mut self, series: &'a str, timestamp: Option<i64>, is_base: bool) {
         self.timestamp = timestamp;
     }
 
@@ -86,9 +87,9 @@ impl<'l, 'a> PlacedSink<'a> for Placing<'l, 'a> {
     }
 }
 
-// Tells what the line says, which is a trimmed text.
+// Tells what the line says, which is a trimmed text, and gives what is left where reading it stops, if it is at fault and that was seen.
 #[inline(always)]
-fn tell_line<'l, 'a>(dialect: Dialect, placing: &mut Placing<'l, 'a>)
+fn tell_line<'l, 'a>(dialect: Dialect, placing: &mut Placing<'l, 'a>) -> Option<&'a str>
     requires short { length placing.old.line.line.now < 2 ^ 63 }
     requires no_fault { placing.old.fault ≡ None }
     ensures parts { placing.new.parts.ghost_name ≡ placing.old.parts.ghost_name }
@@ -99,8 +100,9 @@ fn tell_line<'l, 'a>(dialect: Dialect, placing: &mut Placing<'l, 'a>)
         → placing.new.used ≤ placing.old.used + texts_len read }
     ensures told { ToldAnswer (answer (rules_of dialect) placing.old.line.line.now) placing.new.fault placing.old.line.text.now
         placing.new.parts.now placing.new.room.now (told_of placing.new) }
+    ensures stop { IsStopOf (rules_of dialect) placing.old.line.line.now result }
 {
-    read_placed_events(dialect, placing.line.line, placing);
+    read_placed_events(dialect, placing.line.line, placing)
 }
 
 // Gives back what was lent. This changes nothing; it is where the loans end, so that the caller knows what they leave.
@@ -110,7 +112,8 @@ fn give_back(parts: &mut [OffsetPart], room: &mut [u8])
     ensures room { room.new ≡ room.old }
 {}
 
-// Puts down what a line says, as far as it fits: its parts from the first place on, and what is put into the room after so many bytes.
+// Puts down what a line says, as far as it fits: its parts from the first place on, and what is put into the room after so many bytes. Gives
+// what was told of it, and what is left where reading it stops, if it is at fault and that was seen.
 #[inline(always)]
 pub(crate) fn put_told<'a>(
     dialect: Dialect,
@@ -118,13 +121,14 @@ pub(crate) fn put_told<'a>(
     parts: &mut [OffsetPart],
     room: &mut [u8],
     used: usize,
-) -> Told<'a>
+) -> (Told<'a>, Option<&'a str>)
     requires { length line.line.now < 2 ^ 63 }
     ensures size { length parts.new ≡ length parts.old }
-    ensures grows { Grows room.old used room.new result.used }
+    ensures grows { Grows room.old used room.new result.0.used }
     ensures bound { length room.old < 2 ^ 32 → (read : Line) → answer (rules_of dialect) line.entry.line.now ≡ Ok read
-        → result.used ≤ used + texts_len read }
-    ensures told { ToldAnswer (answer (rules_of dialect) line.entry.line.now) result.fault line.entry.text.now parts.new room.new result }
+        → result.0.used ≤ used + texts_len read }
+    ensures told { ToldAnswer (answer (rules_of dialect) line.entry.line.now) result.0.fault line.entry.text.now parts.new room.new result.0 }
+    ensures stop { IsStopOf (rules_of dialect) line.entry.line.now result.1 }
 {
     let mut placing = Placing {
         line,
@@ -137,7 +141,7 @@ pub(crate) fn put_told<'a>(
         timestamp: None,
         fault: None,
     };
-    tell_line(dialect, &mut placing);
+    let stop = tell_line(dialect, &mut placing);
     let Placing {
         parts,
         room,
@@ -150,12 +154,13 @@ pub(crate) fn put_told<'a>(
         ..
     } = placing;
     give_back(parts, room);
-    Told {
+    let told = Told {
         tags,
         fields,
         used,
         name,
         timestamp,
         fault,
-    }
+    };
+    (told, stop)
 }

@@ -4,7 +4,7 @@
 //! in it is one if it begins and ends between two characters. It costs a test of bytes of which no text is taken: fewer than 4 KiB
 //! after the last one, and few if a call is for few rows. If a portion is not UTF-8, each text in it is tested again, alone.
 
-ghost use Rattle.std.specs.Prelude.{◌≡◌, ◌+◌, ◌≤◌, List, ℕ, drop, length, take};
+ghost use Rattle.std.specs.Prelude.{◌≡◌, ◌+◌, ◌≤◌, ◌<◌, ◌^◌, List, ℕ, IfSome, Some, drop, length, take};
 ghost use Rattle.lp_c.specs.Portions.{IsPortionOf, IsTextOf};
 
 /// How many bytes are tested at once, at most, but for a text that is longer.
@@ -14,7 +14,7 @@ const MOST: usize = 4096;
 const SHORT: usize = 64;
 
 // A text with as many bytes gains nothing by a portion.
-const LONG: usize = 192;
+const LONG: usize = 1024;
 
 /// A portion of bytes that was tested.
 #[derive(Clone, Copy)]
@@ -34,8 +34,13 @@ pub(crate) fn no_portion<'a>(at: usize, rows: usize, each: usize) -> Portion<'a>
     Portion {
         from: at,
         text: "",
-        size: rows.saturating_mul(each).min(MOST),
+        size: portion_size(rows, each),
     }
+}
+
+// How many bytes a portion has for so many texts of so many bytes.
+fn portion_size(texts: usize, each: usize) -> usize {
+    texts.saturating_mul(each).min(MOST)
 }
 
 // The text that bytes are, if they are UTF-8. Std's test of a short text is made without a call of the other one.
@@ -97,6 +102,22 @@ impl<'a> Portion<'a> {
         self.from.wrapping_add(self.text.len())
     }
 
+    // The text of so many bytes at a place, if they lie in this portion, between two characters.
+    #[inline(always)]
+    fn text_in(&self, at: usize, len: usize) -> Option<&'a str>
+        requires { at + len < 2 ^ 64 }
+        ensures { (bytes : List ℕ) → IsPortionOf bytes self.now → IfSome result (λ text. IsTextOf (take len (drop at bytes)) (Some text)) }
+    {
+        if at < self.from {
+            return None;
+        }
+        let start = at - self.from;
+        let text = self.text.get(start..start + len)?;
+        // The proof takes from this call that a text is UTF-8.
+        let _bytes = text.as_bytes();
+        Some(text)
+    }
+
     /// The text of so many bytes at a place, if they are UTF-8.
     #[inline(always)]
     pub(crate) fn text_at(&self, bytes: &'a [u8], at: usize, len: usize) -> Option<&'a str>
@@ -104,32 +125,47 @@ impl<'a> Portion<'a> {
         requires within { at + len ≤ length bytes.now }
         ensures { IsTextOf (take len (drop at bytes.now)) result }
     {
-        if self.from <= at {
-            let start = at - self.from;
-            if let Some(text) = self.text.get(start..start + len) {
-                // The proof takes from this call that a text is UTF-8.
-                let _bytes = text.as_bytes();
-                return Some(text);
-            }
+        match self.text_in(at, len) {
+            Some(text) => Some(text),
+            None => text_alone(bytes, at, len),
         }
-        text_alone(bytes, at, len)
     }
 
-    /// The same. If it ends after this portion, the next one begins with it, unless it is long.
-    #[inline(always)]
-    pub(crate) fn next_text(&mut self, bytes: &'a [u8], at: usize, len: usize) -> Option<&'a str>
+    // The same of a text that does not lie in this portion. If it ends after it, the next portion begins with it, unless it is long: for
+    // so many texts as long as this one.
+    #[inline(never)]
+    fn text_past(&mut self, bytes: &'a [u8], at: usize, len: usize, texts: usize) -> Option<&'a str>
         requires portion { IsPortionOf bytes.now self.old }
         requires within { at + len ≤ length bytes.now }
         ensures portion { IsPortionOf bytes.now self.new }
         ensures text { IsTextOf (take len (drop at bytes.now)) result }
     {
-        if self.end() < at + len {
-            if LONG <= len {
-                return text_alone(bytes, at, len);
-            }
-            *self = portion_from(bytes, at, at + len, self.size);
+        if LONG <= len || at + len <= self.end() {
+            return text_alone(bytes, at, len);
         }
+        *self = portion_from(bytes, at, at + len, portion_size(texts, len + 1));
         self.text_at(bytes, at, len)
+    }
+
+    /// The same of the next text. So many are asked for, and so many of them were given.
+    #[inline(always)]
+    pub(crate) fn next_text(
+        &mut self,
+        bytes: &'a [u8],
+        at: usize,
+        len: usize,
+        texts: usize,
+        given: usize,
+    ) -> Option<&'a str>
+        requires portion { IsPortionOf bytes.now self.old }
+        requires within { at + len ≤ length bytes.now }
+        ensures portion { IsPortionOf bytes.now self.new }
+        ensures text { IsTextOf (take len (drop at bytes.now)) result }
+    {
+        match self.text_in(at, len) {
+            Some(text) => Some(text),
+            None => self.text_past(bytes, at, len, texts.saturating_sub(given)),
+        }
     }
 
     /// Begins the next portion at a place that this one does not reach.

@@ -65,11 +65,12 @@ impl<'l, 'a> EventSink<'a> for Telling<'l, 'a> {
     }
 
     #[inline(always)]
-    fn end(&mut self, series: &'a str, timestamp: Option<i64>) {
+    fn end(&mut self, series: &'a str, timestamp: Option<i64>, is_base: bool) {
         self.line.series = series.as_bytes();
         self.line.has_tag_set = self.tags != 0;
         self.line.has_timestamp = timestamp.is_some();
         self.line.timestamp = timestamp.unwrap_or(0);
+        self.line.series_is_base = is_base;
         self.line.fault = FaultKind::None.number();
         self.line.side = Side::Neither.number();
     }

@@ -67,6 +67,8 @@ pub struct Line<'a> {
     pub has_tag_set: bool,
     /// Whether the line has a timestamp.
     pub has_timestamp: bool,
+    /// Whether `series` is the base of the series as it stands.
+    pub series_is_base: bool,
 }
 
 /// What is left of a text that is read.

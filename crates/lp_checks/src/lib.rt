@@ -23,8 +23,8 @@ use events::Items;
 use influxdb_line_protocol::builder::BeforeMeasurement;
 use influxdb_line_protocol::{
     BoundedLineStream, Dialect, EscapedStr, LineProtocolBuilder, LineStream, ParsedLine,
-    PieceTooLong, hash_series, parse_events_in, parse_lines, parse_lines_in, read_events_in,
-    split_lines_in, write_line,
+    PieceTooLong, hash_series, key_of_text, parse_events_in, parse_lines, parse_lines_in,
+    read_events_in, same_series, split_lines_in, write_line,
 };
 use lp_rebuild::{Reading, RunFault, Writing, rebuild_in, run_in};
 use lp_relay::{KINDS, Nowhere, Outputs, relay};
@@ -280,7 +280,7 @@ pub extern "C" fn lp_checks_bases(
     report.count()
 }
 
-// The key of a line's series, and the hash of the key: an entry each.
+// Of a line's series the key, the hash of the key, whether the series is itself, and the key that its text begins with: an entry each.
 fn report_key(alloc: Global, report: &mut Report<'_>, line: &ParsedLine<'_>) {
     render::render_copy(report, &line.series.key(alloc));
     report.end();
@@ -290,9 +290,23 @@ fn report_key(alloc: Global, report: &mut Report<'_>, line: &ParsedLine<'_>) {
         }
         Err(_) => report.push(b"OutOfMemory"),
     }
+    report.end();
+    match same_series(alloc, &line.series, &line.series) {
+        Ok(same) => {
+            let _ = write!(report, "{same}");
+        }
+        Err(_) => report.push(b"OutOfMemory"),
+    }
+    report.end();
+    report.push(
+        key_of_text(line.series.raw_input)
+            .unwrap_or("None")
+            .as_bytes(),
+    );
 }
 
-/// The key of the series of each line, and then the hash of that key, and the fault of each other item.
+/// Of the series of each line its key, the hash of that, whether it is itself, and the key that its text begins with, or `None`; and the
+/// fault of each other item.
 #[unsafe(no_mangle)]
 pub extern "C" fn lp_checks_keys(
     alloc: Global,

@@ -1,3 +1,4 @@
+pub mod bases
 pub mod events
 pub mod fields
 pub mod lines

@@ -1,4 +1,5 @@
 pub mod LineSteps
+pub mod OwnBases
 pub mod Events
 pub mod EventsLeft
 pub mod Places

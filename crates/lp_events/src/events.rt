@@ -6,8 +6,11 @@ ghost use Rattle.lp_split.specs.code.{rules_of};
 ghost use Rattle.lp_values.specs.code.SpelledParts.{GivesSpelled, spelled_fault, spelled_text, spelled_value};
 ghost use Rattle.lp_events.specs.code.Events.{AreCounted, AreEventsOf, AreEventsOfText, AreFields, AreTags, AreToldBefore, Event};
 ghost use Rattle.lp_events.specs.code.Events.{WasTold, WasToldParts, ended, failed, named, spelled_field, spelled_tag, tagged, valued};
+ghost use Rattle.lp_events.specs.code.OwnBases.{KeepsOn};
+ghost use Rattle.lp_events.specs.code.Stops.{IsStopOf};
 ghost use Rattle.lp_events.specs.code.Places.{EndsBefore, IsEndOf, LiesAt, ValueEndsBefore, placed_field, placed_tag};
 
+use crate::bases::{Kept, after_tag, before_tags};
 use crate::lines::next_line;
 use lp_scan::trim::{strip_byte, trim_start_spaces};
 use lp_split::Dialect;
@@ -25,7 +28,7 @@ use lp_values::{ErrorKind, Spelled, SpelledFault, SpelledValue};
 /// For contracts it has the member `takes`: what the sink is after it was told of an event.
 ///
 /// ```text
-/// m,t=x a=1i  calls  measurement(m), tag(t, x), field(a, I64(1)), end("m,t=x", None)
+/// m,t=x a=1i  calls  measurement(m), tag(t, x), field(a, I64(1)), end("m,t=x", None, true)
 /// m,t=x,u     calls  measurement(m), tag(t, x), fault(GenericParsingError)
 /// m a=1i,b=x  calls  measurement(m), field(a, I64(1)), fault(CannotParseEntireLine)
 /// ```
@@ -45,9 +48,10 @@ pub trait EventSink<'a> {
     fn field(&mut self, key: Spelled<'a>, value: SpelledValue<'a>)
         ensures { takes self.old (valued (spelled_field (key.entry, value.entry))) self.new };
 
-    /// The line ends: `series` is the front of it that was read as measurement and tags.
-    fn end(&mut self, series: &'a str, timestamp: Option<i64>)
-        ensures { takes self.old (ended series.now timestamp) self.new };
+    /// The line ends: `series` is the front of it that was read as measurement and tags. `is_base` tells whether that is the base of
+    /// the series as it stands: no name is a copy, and each tag key is greater than the one before it, by bytes.
+    fn end(&mut self, series: &'a str, timestamp: Option<i64>, is_base: bool)
+        ensures { takes self.old (ended series.now timestamp is_base) self.new };
 
     /// The line is at fault. What was told of it is no line.
     fn fault(&mut self, fault: SpelledFault<'a>)
@@ -62,7 +66,7 @@ pub trait EventSink<'a> {
 /// For contracts it has two members: `line`, the line that the sink is told of, and `takes`, as an [`EventSink`] has it.
 ///
 /// ```text
-/// m,t=x a=1i  calls  measurement(m, 9), tag(t, x, 7, 5), field(a, I64(1), 3, 0), end("m,t=x", None)
+/// m,t=x a=1i  calls  measurement(m, 9), tag(t, x, 7, 5), field(a, I64(1), 3, 0), end("m,t=x", None, true)
 /// ```
 pub trait PlacedSink<'a> {
     // The line that the sink is told of.
@@ -90,9 +94,9 @@ pub trait PlacedSink<'a> {
         ensures takes { takes self.old (valued (spelled_field (key.entry, value.entry))) self.new }
         ensures line { line self.new ≡ line self.old };
 
-    /// The line ends: `series` is the front of it that was read as measurement and tags.
-    fn end(&mut self, series: &'a str, timestamp: Option<i64>)
-        ensures { takes self.old (ended series.now timestamp) self.new };
+    /// The line ends, as an [`EventSink`] is told.
+    fn end(&mut self, series: &'a str, timestamp: Option<i64>, is_base: bool)
+        ensures { takes self.old (ended series.now timestamp is_base) self.new };
 
     /// The line is at fault. What was told of it is no line.
     fn fault(&mut self, fault: SpelledFault<'a>)
@@ -177,11 +181,12 @@ pub(crate) fn field<'a>(text: &'a str) -> Front<'a, (Spelled<'a>, SpelledValue<'
     Ok(Some(((key, value), rest)))
 }
 
-// Tells the tags at the start of `text`, joined by commas, and gives their number and the rest.
+// Tells the tags at the start of `text`, joined by commas, and gives their number and the rest. `kept` is what is kept of the series.
 #[inline(always)]
-fn tags<'a, S: PlacedSink<'a>>(text: &'a str, sink: &mut S) -> Front<'a, usize>
+fn tags<'a, S: PlacedSink<'a>>(text: &'a str, sink: &mut S, kept: &mut Kept<'a>) -> Front<'a, usize>
     requires { IsEndOf (S.line sink.old) text.now }
-    ensures told { WasToldParts S.takes tagged sink.old sink.new (AreCounted result tag text.now) }
+    ensures told { WasToldParts S.takes tagged sink.old sink.new
+        (λ parts. AreCounted result tag text.now parts × KeepsOn kept.old parts kept.new) }
     ensures line { S.line sink.new ≡ S.line sink.old }
 {
     let mut count = 0;
@@ -189,6 +194,7 @@ fn tags<'a, S: PlacedSink<'a>>(text: &'a str, sink: &mut S) -> Front<'a, usize>
     let mut place = text;
     while let Some(((key, value, key_left), after)) = placed_tag(place)? {
         sink.tag(key, value, key_left, after.len());
+        *kept = after_tag(*kept, key, value);
         count += 1;
         rest = after;
         match strip_byte(b',', rest) {
@@ -229,15 +235,20 @@ fn fields<'a, S: PlacedSink<'a>>(text: &'a str, sink: &mut S) -> Front<'a, usize
 
 // Tells the tags after the comma at the start of `text`, and gives the rest. If no comma is there, there are none.
 #[inline(always)]
-fn tag_set<'a, S: PlacedSink<'a>>(text: &'a str, sink: &mut S) -> Result<&'a str, SpelledFault<'a>>
+fn tag_set<'a, S: PlacedSink<'a>>(
+    text: &'a str,
+    sink: &mut S,
+    kept: &mut Kept<'a>,
+) -> Result<&'a str, SpelledFault<'a>>
     requires { IsEndOf (S.line sink.old) text.now }
-    ensures told { WasToldParts S.takes tagged sink.old sink.new (AreTags result text.now) }
+    ensures told { WasToldParts S.takes tagged sink.old sink.new
+        (λ parts. AreTags result text.now parts × KeepsOn kept.old parts kept.new) }
     ensures line { S.line sink.new ≡ S.line sink.old }
 {
     let Some(rest) = strip_byte(b',', text) else {
         return Ok(text);
     };
-    let Some((_, rest)) = tags(rest, sink)? else {
+    let Some((_, rest)) = tags(rest, sink, kept)? else {
         return Err(SpelledFault::TagSetMalformed);
     };
     Ok(rest)
@@ -281,23 +292,30 @@ pub(crate) fn front_before<'a>(line: &'a str, rest: &str) -> &'a str
     &line[..line.len() - rest.len()]
 }
 
-// Tells what the trimmed text `line` says, but for its fault: of a line at fault the parts that read.
+// Tells what the trimmed text `line` says, but for its fault: of a line at fault the parts that read. Where reading it stops is put down
+// where that is seen at once: where the measurement or a space is missing, or something is left.
 #[tactic(auto, unfolding(lp_format::specs::format::Lines::answer))]
 #[inline(always)]
 fn parts<'a, S: PlacedSink<'a>>(
     dialect: Dialect,
     line: &'a str,
     sink: &mut S,
+    stop: &mut Option<&'a str>,
 ) -> Result<(), SpelledFault<'a>>
     requires { S.line sink.old ≡ line.now }
-    ensures { WasTold S.takes sink.old sink.new (AreToldBefore result line.now (answer (rules_of dialect) line.now)) }
+    ensures told { WasTold S.takes sink.old sink.new (AreToldBefore result line.now (answer (rules_of dialect) line.now)) }
+    ensures stop { IsStopOf (rules_of dialect) line.now stop.new }
 {
+    *stop = Some(line);
     let Some((measurement, rest)) = spelled_parts::name(NameKind::Measurement, line)? else {
         return Err(SpelledFault::MeasurementValueInvalid);
     };
+    *stop = None;
     sink.measurement(measurement, rest.len());
-    let rest = tag_set(rest, sink)?;
+    let mut kept = before_tags(measurement);
+    let rest = tag_set(rest, sink, &mut kept)?;
     let Some(_after_space) = strip_byte(b' ', rest) else {
+        *stop = Some(rest);
         return Err(SpelledFault::GenericParsingError {
             kind: ErrorKind::TakeWhile1,
         });
@@ -308,27 +326,36 @@ fn parts<'a, S: PlacedSink<'a>>(
     };
     let (timestamp, rest) = spelled_parts::timestamp(rest)?;
     if !rest.is_empty() {
+        *stop = Some(rest);
         return Err(SpelledFault::CannotParseEntireLine {
             trailing_content: rest,
         });
     }
-    sink.end(series, timestamp);
+    sink.end(series, timestamp, kept.is_base);
     Ok(())
 }
 
 /// Tells what the trimmed text `line` says, as [`read_line_events`] does, to a sink that knows where the parts lie. It takes no memory.
+/// Gives what is left of a line at fault where reading it stops, if that was seen; [`reading_stop`](crate::stops) tells it of each line.
 ///
 /// ```text
 /// m,t=x a=1i 7  tells  measurement m and 12 bytes left, tag t x and 10 and 8, field a 1i and 5 and 2, end m,t=x 7
 /// ```
 #[inline(always)]
-pub fn read_placed_events<'a, S: PlacedSink<'a>>(dialect: Dialect, line: &'a str, sink: &mut S)
+pub fn read_placed_events<'a, S: PlacedSink<'a>>(
+    dialect: Dialect,
+    line: &'a str,
+    sink: &mut S,
+) -> Option<&'a str>
     requires { S.line sink.old ≡ line.now }
-    ensures { WasTold S.takes sink.old sink.new (λ events. AreEventsOf line.now events (answer (rules_of dialect) line.now)) }
+    ensures told { WasTold S.takes sink.old sink.new (λ events. AreEventsOf line.now events (answer (rules_of dialect) line.now)) }
+    ensures stop { IsStopOf (rules_of dialect) line.now result }
 {
-    if let Err(fault) = parts(dialect, line, sink) {
+    let mut stop = None;
+    if let Err(fault) = parts(dialect, line, sink, &mut stop) {
         sink.fault(fault);
     }
+    stop
 }
 
 // A sink of a line that does not ask where the parts lie.
@@ -361,8 +388,8 @@ impl<'s, 'a, S: EventSink<'a>> PlacedSink<'a> for Unplaced<'s, 'a, S> {
     }
 
     #[inline(always)]
-    fn end(&mut self, series: &'a str, timestamp: Option<i64>) {
-        self.sink.end(series, timestamp);
+    fn end(&mut self, series: &'a str, timestamp: Option<i64>, is_base: bool) {
+        self.sink.end(series, timestamp, is_base);
     }
 
     #[inline(always)]
@@ -383,7 +410,7 @@ fn tell_unplaced<'s, 'a, S: EventSink<'a>>(
     ensures told { WasTold S.takes unplaced.old.sink.now unplaced.new.sink.now
         (λ events. AreEventsOf line.now events (answer (rules_of dialect) line.now)) }
 {
-    read_placed_events(dialect, line, unplaced);
+    let _stop = read_placed_events(dialect, line, unplaced);
 }
 
 // Gives back what was lent. This changes nothing; it is where the loan ends, so that the caller knows what it leaves.

@@ -4,6 +4,7 @@
 //! whoever keeps lines is such a sink, in a crate above.
 #![tactic(auto)]
 
+mod bases;
 pub mod events;
 pub mod lines;
 mod place;

@@ -3,6 +3,7 @@
 use crate::admitted::append;
 use crate::again::{Tally, tally_of};
 use crate::bases::lines_by_series;
+use crate::grouped::{group, sums};
 use crate::keys::{host, is_of_host};
 use crate::numbers::whole_number;
 use crate::pulled::first_fault;
@@ -13,7 +14,7 @@ use crate::values::{number, text};
 use crate::written::write_again;
 use influxdb_line_protocol::builder::NoRoom;
 use influxdb_line_protocol::{Dialect, LineProtocolBuilder, ParsedLine, parse_lines};
-use std::alloc::Global;
+use std::alloc::{AllocFailed, Global};
 use std::io;
 
 // What is asked of a line: the numbers and the text of its field `a`, and its host.
@@ -50,6 +51,33 @@ fn print_series(rt: &impl Print, alloc: Global, text: &str) -> io::Result<()> {
         }
         Err(fault) => println!(rt; "no series: {fault}"),
     }
+}
+
+// The lines of a text.
+fn lines_of(alloc: Global, text: &str) -> Result<Vec<ParsedLine<'_>>, AllocFailed<ParsedLine<'_>>> {
+    let mut lines = Vec::new(alloc);
+    for item in parse_lines(alloc, text) {
+        if let Ok(line) = item {
+            lines.push(line)?;
+        }
+    }
+    Ok(lines)
+}
+
+// How many series a text has, and the sum of the field `f` of each.
+fn print_groups(rt: &impl Print, alloc: Global, text: &str) -> io::Result<()> {
+    let lines = lines_of(alloc, text)?;
+    let (Ok(groups), Ok(sums)) = (
+        group(alloc, lines.as_slice()),
+        sums(alloc, lines.as_slice(), "f"),
+    ) else {
+        return println!(rt; "no groups");
+    };
+    println!(rt; "groups: {}", groups.len())?;
+    for (key, sum) in sums.iter() {
+        println!(rt; "{key}: {sum}")?;
+    }
+    Ok(())
 }
 
 // The lines of a text that read back, written again.
@@ -120,5 +148,6 @@ pub fn print_answers(rt: &impl Print, alloc: Global, text: &str) -> io::Result<(
     print_counts(rt, alloc, text)?;
     print_fault(rt, text)?;
     print_series(rt, alloc, text)?;
+    print_groups(rt, alloc, text)?;
     print_written(rt, alloc, text)
 }

@@ -13,6 +13,7 @@ mod build;
 mod built;
 mod floats;
 mod given_back;
+mod grouped;
 mod keys;
 mod numbers;
 mod packets;

@@ -2,14 +2,16 @@
 
 ghost use Rattle.std.specs.Prelude.{◌≡◌, ◌&&◌, ◌-◌, ◌^◌, ◌++◌, IfOk, OnOk, length, map, min, not, true, string_bytes, option_map};
 ghost use Rattle.std.specs.List.{list_all, list_any};
-ghost use Rattle.lp_lines.specs.code.Bases.{GivesBase, GivesMap, base_by_key, base_of, base_text, based_tag, entry_bytes};
+ghost use Rattle.lp_lines.specs.code.Bases.{GivesBase, TellsRepeated, base_by_key, base_of, base_text, based_tag, entry_bytes};
 ghost use Rattle.lp_lines.specs.code.Bases.{in_order, is_ambiguous_name, is_ambiguous_tag, is_base_safe, is_borrowed};
-ghost use Rattle.lp_lines.specs.code.Bases.{is_byte_alone, is_strictly_sorted, keys_of};
+ghost use Rattle.lp_lines.specs.code.Bases.{is_byte_alone};
+ghost use Rattle.lp_events.specs.code.OwnBases.{is_own_base, is_strictly_sorted, keys_of};
 ghost use Rattle.lp_lines.specs.code.Parsed.{tag_of, tags_of};
 ghost use Rattle.lp_format.specs.{code.Light.is_single_tag, format.is_one_of, format.some_tags};
 ghost use Rattle.lp_values.specs.code.{Outcomes.IsNotOutOfMemory, Texts.is_single_slice, Texts.read_of, Texts.text_of};
 ghost use Rattle.lp_scan.specs.code.{known_of};
 
+use crate::key::{names_in, sorted_names};
 use crate::parsed::tags_in;
 use crate::{Series, TagSet};
 use lp_scan::sets::TokenKind;
@@ -25,7 +27,8 @@ impl<'a> Series<'a> {
     /// `m,a=1,b=2` are two series with one base, and `m,\,=v` and `m,,=v` one series with two.
     ///
     /// If each key is greater than the one before it and no name is a copy, it is `raw_input`,
-    /// borrowed; that takes no memory and is never refused. Else it is a text of its own, unescaped.
+    /// borrowed; that takes no memory and is never refused. Whether it is so, the events of a line tell at its end. Else it is a
+    /// text of its own, unescaped.
     /// It is made of the fields as they are: after a change of `measurement` or `tag_set`,
     /// `raw_input` is still that of the line.
     ///
@@ -34,11 +37,15 @@ impl<'a> Series<'a> {
     /// `DuplicateTag` if the keys do not rise so and one is repeated: with the first key, in the
     /// order of the tags, that is at an earlier place too. `OutOfMemory` if a request for
     /// memory was refused. The series is dropped in both cases.
+    #[tactic(auto, using(crate::proofs::lemmas::series::BaseLemmas::own_is_borrowed))]
     pub fn generate_base(self, alloc: Global) -> Result<CowStr<'a>>
         ensures value { GivesBase result (base_of self.entry.raw_input.now (read_of self.entry.measurement)
             (some_tags (option_map tags_of self.entry.tag_set))) }
         ensures memory { is_borrowed (base_of self.entry.raw_input.now (read_of self.entry.measurement)
             (some_tags (option_map tags_of self.entry.tag_set))) ≡ true → IsNotOutOfMemory result }
+        ensures own { is_borrowed (base_of self.entry.raw_input.now (read_of self.entry.measurement)
+            (some_tags (option_map tags_of self.entry.tag_set)))
+            ≡ is_own_base (read_of self.entry.measurement) (some_tags (option_map tags_of self.entry.tag_set)) }
     {
         base(alloc, self.raw_input, &self.measurement, tags_in(&self))
     }
@@ -178,19 +185,36 @@ fn push_tag(base: &mut String, key: &str, value: &str) -> std::result::Result<()
 }
 
 // The length of a base, and the greatest number if no `usize` holds it.
-fn base_len<'a>(measurement: &str, tags: &[(EscapedStr<'a>, EscapedStr<'a>)]) -> usize
-    ensures { result ≡ min (length (base_text measurement.now (in_order (map tag_of tags.now)))) (2 ^ 64 - 1) }
+fn base_len(measurement: &str, tags: &[(&str, &str)]) -> usize
+    ensures { result ≡ min (length (base_text measurement.now (map entry_bytes tags.now))) (2 ^ 64 - 1) }
 {
     let mut len = measurement.len();
     for (key, value) in tags {
         len = len.saturating_add(2);
-        len = len.saturating_add(key.as_str().len());
-        len = len.saturating_add(value.as_str().len());
+        len = len.saturating_add(key.len());
+        len = len.saturating_add(value.len());
     }
     len
 }
 
-// The base with the tags in their own order.
+// The base with its tags in this order.
+fn base_of_names(
+    alloc: Global,
+    measurement: &str,
+    tags: &[(&str, &str)],
+) -> std::result::Result<String, AllocError>
+    ensures { IfOk result (λ base. string_bytes base ≡ base_text measurement.now (map entry_bytes tags.now)) }
+{
+    let mut base = String::with_capacity(alloc, base_len(measurement, tags))?;
+    base.push_str(measurement)?;
+    for (key, value) in tags {
+        push_tag(&mut base, key, value)?;
+    }
+    Ok(base)
+}
+
+// The base with the tags in their own order. It stands apart, as the next one does, since the room for names is cleared first.
+#[inline(never)]
 fn base_in_order<'a>(
     alloc: Global,
     measurement: &str,
@@ -198,53 +222,39 @@ fn base_in_order<'a>(
 ) -> std::result::Result<String, AllocError>
     ensures { IfOk result (λ base. string_bytes base ≡ base_text measurement.now (in_order (map tag_of tags.now))) }
 {
-    let mut base = String::with_capacity(alloc, base_len(measurement, tags))?;
-    base.push_str(measurement)?;
-    for (key, value) in tags {
-        push_tag(&mut base, key.as_str(), value.as_str())?;
-    }
-    Ok(base)
+    let names = names_in(alloc, tags)?;
+    base_of_names(alloc, measurement, names.as_slice())
 }
 
-// The tags as a map, or the first repeated key.
-#[tactic(auto, using(crate::proofs::lemmas::series::BaseLemmas::map_steps))]
-fn tag_map<'t, 'a>(
-    alloc: Global,
-    tags: &'t [(EscapedStr<'a>, EscapedStr<'a>)],
-) -> Result<BTreeMap<&'t str, &'t str>>
-    ensures { GivesMap result (map tag_of tags.now) }
+// Whether each of these names is greater than the one before it, by its key.
+fn names_rise(names: &[(&str, &str)]) -> bool
+    ensures { result ≡ is_strictly_sorted (map (λ t. t.0.now) names.now) }
 {
-    let mut map = BTreeMap::new(alloc);
-    for (key, value) in tags {
+    names.is_sorted_by(|(before, _), (key, _)| before < key)
+}
+
+// Tells the first key that is repeated.
+#[tactic(auto, using(crate::proofs::lemmas::series::BaseLemmas::repeat_steps))]
+#[cold]
+#[inline(never)]
+fn check_keys<'a>(alloc: Global, tags: &[(EscapedStr<'a>, EscapedStr<'a>)]) -> Result<()>
+    ensures { TellsRepeated result (map tag_of tags.now) }
+{
+    let mut keys = BTreeMap::new(alloc);
+    for (key, _) in tags {
         let name = key.as_str();
-        if map.contains_key(name) {
+        if keys.contains_key(name) {
             let tag_key = String::from_str(alloc, name)?;
             return Err(Error::DuplicateTag { tag_key });
         }
-        map.insert(name, value.as_str())?;
+        keys.insert(name, ())?;
     }
-    Ok(map)
+    Ok(())
 }
 
-// The measurement and the tags of a map, unescaped; `len` is how long that is.
-fn base_of_map(
-    alloc: Global,
-    len: usize,
-    measurement: &str,
-    tags: &BTreeMap<&str, &str>,
-) -> std::result::Result<String, AllocError>
-    ensures { IfOk result (λ base. string_bytes base ≡ base_text measurement.now (map entry_bytes tags.now.entries)) }
-{
-    let mut base = String::with_capacity(alloc, len)?;
-    base.push_str(measurement)?;
-    for (key, value) in tags {
-        push_tag(&mut base, *key, *value)?;
-    }
-    Ok(base)
-}
-
-// The base with the tags in the order of their keys.
-#[tactic(auto, unfolding(crate::specs::code::Bases::base_by_key))]
+// The base with the tags in the order of their keys. Only if these do not rise then, a key is repeated: it is looked for.
+#[tactic(auto, unfolding(crate::specs::code::Bases::base_by_key, crate::specs::code::Bases::by_key))]
+#[inline(never)]
 fn base_by_key<'a>(
     alloc: Global,
     measurement: &str,
@@ -252,8 +262,10 @@ fn base_by_key<'a>(
 ) -> Result<CowStr<'a>>
     ensures { GivesBase result (base_by_key measurement.now (map tag_of tags.now)) }
 {
-    let map = tag_map(alloc, tags)?;
-    let len = base_len(measurement, tags);
-    let base = base_of_map(alloc, len, measurement, &map)?;
+    let names = sorted_names(alloc, tags)?;
+    if !names_rise(names.as_slice()) {
+        check_keys(alloc, tags)?;
+    }
+    let base = base_of_names(alloc, measurement, names.as_slice())?;
     Ok(CowStr::Owned(base))
 }

@@ -11,13 +11,15 @@ ghost use Rattle.lp_values.specs.code.{ReadValues.value_of, SpelledParts.spelled
 ghost use Rattle.lp_events.specs.code.Events.{spelled_field, spelled_tag};
 ghost use Rattle.lp_split.specs.code.Rules.{rules_of};
 ghost use Rattle.lp_lines.specs.code.Filling.{FillsAnswer, KeepsRooms, fields_so_far, first_read, tags_so_far};
-ghost use Rattle.lp_lines.specs.code.Parsed.{field_of, tag_of};
+ghost use Rattle.lp_format.specs.code.Light.{inline_tags};
+ghost use Rattle.lp_lines.specs.code.{Lookups.room_of, Lookups.some_items, Parsed.field_of, Parsed.tag_of};
 
 use crate::{FieldSet, ParsedLine, TagSet};
 use lp_events::{EventSink, read_line_events};
 use lp_split::Dialect;
 use lp_values::spelled::put_text;
 use lp_values::{FieldValue, Spelled, SpelledFault, SpelledValue};
+use smallvec::SmallVec;
 use std::alloc::Global;
 
 // Puts the value that is spelled so into the place of another, whatever that is.
@@ -190,6 +192,15 @@ fn put_field<'a>(
     true
 }
 
+// Gives a line a tag set. It stands apart, since the room for a set that is moved is cleared first.
+#[inline(never)]
+fn make_tags<'a>(alloc: Global, set: &mut Option<TagSet<'a>>)
+    ensures room { inline_tags ≤ room_of set.new }
+    ensures items { some_items set.new ≡ [] }
+{
+    *set = Some(SmallVec::new(alloc));
+}
+
 /// A line that is filled: how many tags and fields of it were told, whether memory for one was refused, and its fault, if it has one.
 ///
 /// What its sets hold after those was there before.
@@ -217,8 +228,15 @@ impl<'l, 'a> EventSink<'a> for Filling<'l, 'a> {
 
     #[inline(always)]
     fn tag(&mut self, key: Spelled<'a>, value: Spelled<'a>) {
-        let is_put = match &mut self.line.series.tag_set {
-            Some(tags) => put_tag(self.alloc, tags, &mut self.tag_count, key, value),
+        let set = &mut self.line.series.tag_set;
+        if set.is_none() {
+            make_tags(self.alloc, set);
+        }
+        let is_put = match set {
+            Some(tags) => {
+                let _at_least_inline = tags.capacity();
+                put_tag(self.alloc, tags, &mut self.tag_count, key, value)
+            }
             None => false,
         };
         if !is_put {
@@ -235,7 +253,7 @@ impl<'l, 'a> EventSink<'a> for Filling<'l, 'a> {
     }
 
     #[inline(always)]
-    fn end(&mut self, series: &'a str, timestamp: Option<i64>) {
+    fn end(&mut self, series: &'a str, timestamp: Option<i64>, _is_base: bool) {
         self.line.series.raw_input = series;
         self.line.timestamp = timestamp;
     }

@@ -1,6 +1,6 @@
 //! The key of a series: a text that it has alone, by which series can be grouped and compared.
 
-ghost use Rattle.std.specs.Prelude.{◌≡◌, ◌≤◌, ◌-◌, ◌^◌, ◌++◌, IfOk, IsOk, OnOk, fold, length, map, min, string_bytes, option_map};
+ghost use Rattle.std.specs.Prelude.{◌≡◌, ◌↔◌, ◌≤◌, ◌-◌, ◌^◌, ◌++◌, true, IfOk, IsOk, OnOk, fold, length, map, min, string_bytes, option_map};
 ghost use Rattle.lp_format.specs.format.{Escapes.escaped, Escapes.escaped_byte, built_tag, logical_tag, some_tags};
 ghost use Rattle.lp_lines.specs.code.Keys.{hash_byte, hash_of, key_text, lent_tag, series_key, sorted_by};
 ghost use Rattle.lp_lines.specs.code.{Lookups.some_items, Parsed.tag_of, Parsed.tags_of};
@@ -78,8 +78,47 @@ pub fn hash_series(alloc: Global, series: &Series<'_>) -> Result<u64, AllocError
     Ok(hash_key(series.measurement.as_str(), names.as_slice()))
 }
 
+/// Whether two series are one: whether they have the same measurement and, for each tag key, the same values in the same order.
+///
+/// That is whether they have one [`key`](Series::key), which is not made. With at most 8 tags each it takes no memory and is never
+/// refused. With more it asks for memory as `key` does, but not for a text.
+///
+/// # Errors
+///
+/// A request for memory was refused.
+///
+/// ```text
+/// m,a=1,b=2  and  m,b=2,a=1  are one series
+/// m,a=1,a=2  and  m,a=2,a=1  are two
+/// ```
+#[tactic(auto, unfolding(crate::specs::code::Keys::series_key))]
+pub fn same_series(
+    alloc: Global,
+    series: &Series<'_>,
+    other: &Series<'_>,
+) -> Result<bool, AllocError>
+    ensures value { IfOk result (λ same. (same ≡ true)
+        ↔ (series_key (text_of series.now.measurement) (map logical_tag (some_tags (option_map tags_of series.now.tag_set)))
+        ≡ series_key (text_of other.now.measurement) (map logical_tag (some_tags (option_map tags_of other.now.tag_set))))) }
+    ensures memory { length (some_items series.now.tag_set) ≤ 8 → length (some_items other.now.tag_set) ≤ 8 → IsOk result }
+{
+    if series.measurement.as_str() != other.measurement.as_str() {
+        return Ok(false);
+    }
+    let names = sorted_names(alloc, tags_in(series))?;
+    let others = sorted_names(alloc, tags_in(other))?;
+    Ok(are_same(names.as_slice(), others.as_slice()))
+}
+
+// Whether these are the same names in the same order.
+fn are_same(names: &[(&str, &str)], others: &[(&str, &str)]) -> bool
+    ensures { (result ≡ true) ↔ (map lent_tag names.now ≡ map lent_tag others.now) }
+{
+    names == others
+}
+
 // The names of these tags, lent.
-fn names_in<'l, 'a>(
+pub(crate) fn names_in<'l, 'a>(
     alloc: Global,
     tags: &'l [(EscapedStr<'a>, EscapedStr<'a>)],
 ) -> Result<Names<'l>, AllocError>
@@ -104,7 +143,7 @@ fn sort_names(alloc: Global, names: &mut [(&str, &str)]) -> Result<(), AllocErro
 }
 
 // The names of these tags, lent, sorted by their keys.
-fn sorted_names<'l, 'a>(
+pub(crate) fn sorted_names<'l, 'a>(
     alloc: Global,
     tags: &'l [(EscapedStr<'a>, EscapedStr<'a>)],
 ) -> Result<Names<'l>, AllocError>

@@ -13,7 +13,7 @@ pub mod parsed;
 mod shown;
 mod unread;
 
-pub use key::hash_series;
+pub use key::{hash_series, same_series};
 pub use line::{
     ParseLines, parse_lines, parse_lines_in, read_into, read_spelled_into, refill_line,
 };

@@ -5,7 +5,7 @@ ghost use Rattle.lp_format.specs.format.{Crate, answer, trimmed};
 ghost use Rattle.lp_format.specs.code.Light.{inline_fields, inline_tags, is_light_in};
 ghost use Rattle.lp_split.specs.code.{rules_of};
 ghost use Rattle.lp_values.specs.code.Outcomes.{IsNotOutOfMemory};
-ghost use Rattle.lp_lines.specs.code.{Lookups.room_of, Lookups.some_items, Parsed.FillsLine, ReadInto.IsEmptyLine};
+ghost use Rattle.lp_lines.specs.code.{Lookups.room_of, Lookups.some_items, Lookups.tag_room, Parsed.FillsLine, ReadInto.IsEmptyLine};
 ghost use Rattle.lp_lines.specs.code.{ReadInto.KeepsTagRoom, Unreads.FillsSpelled};
 ghost use Rattle.lp_events.specs.code.LineSteps.{most_items};
 
@@ -67,8 +67,8 @@ fn keep_fields<'a>(fields: &mut FieldSet<'a>, count: usize)
     }
 }
 
-// Fills the line `parsed`, which has a tag set, with what the trimmed text `line` says. At a fault, and if memory is refused,
-// it is filled in part. A tag set that has grown is kept at `spare`, if that is given and the line has no tags.
+// Fills the line `parsed` with what the trimmed text `line` says. At a fault, and if memory is refused, it is filled in part. A tag set that
+// has grown is kept at `spare`, if that is given and the line has no tags.
 #[tactic(auto, using(crate::proofs::lemmas::line::Filled::fill_steps))]
 #[inline(never)]
 fn fill<'a>(
@@ -79,7 +79,7 @@ fn fill<'a>(
     spare: Option<&mut Option<TagSet<'a>>>,
 ) -> std::result::Result<(), Unread<'a>>
     ensures value { FillsSpelled parsed.new result (answer (rules_of dialect) line.now) }
-    ensures light { is_light_in (room_of parsed.old.series.tag_set) parsed.old.field_set.capacity (rules_of dialect)
+    ensures light { is_light_in (tag_room parsed.old.series.tag_set) parsed.old.field_set.capacity (rules_of dialect)
         line.now ≡ true → result ≢ Err Unread.OutOfMemory }
     ensures tag_room { KeepsTagRoom parsed.old parsed.new }
     ensures field_room { parsed.old.field_set.capacity ≤ parsed.new.field_set.capacity }
@@ -112,30 +112,15 @@ fn fill<'a>(
     Ok(())
 }
 
-// Gives a line without a tag set the one at `spare`, or a new one. It stands apart, since the room for a set that is moved is cleared first.
+// Gives a line without a tag set the one at `spare`. It stands apart, since the room for a set that is moved is cleared first.
+#[cold]
 #[inline(never)]
-fn give_tags<'a>(alloc: Global, set: &mut Option<TagSet<'a>>, spare: &mut Option<TagSet<'a>>)
-    ensures { inline_tags ≤ room_of set.new }
+fn give_back<'a>(set: &mut Option<TagSet<'a>>, spare: &mut Option<TagSet<'a>>)
+    ensures set { room_of set.old ≤ room_of set.new }
+    ensures tags { tag_room set.old ≤ tag_room set.new }
 {
-    *set = spare.take();
-    match set {
-        Some(tags) => {
-            let _at_least_inline = tags.capacity();
-        }
-        None => *set = Some(SmallVec::new(alloc)),
-    }
-}
-
-// Makes the tag set of a line ready to be filled: it is there, and keeps its room.
-#[inline(always)]
-fn ready_tags<'a>(alloc: Global, set: &mut Option<TagSet<'a>>, spare: &mut Option<TagSet<'a>>)
-    ensures { max inline_tags (room_of set.old) ≤ room_of set.new }
-{
-    match set {
-        Some(tags) => {
-            let _at_least_inline = tags.capacity();
-        }
-        None => give_tags(alloc, set, spare),
+    if set.is_none() {
+        *set = spare.take();
     }
 }
 
@@ -167,7 +152,7 @@ fn fill_new<'a>(
     parsed: &mut ParsedLine<'a>,
 ) -> Result<()>
     ensures value { FillsLine parsed.new result (answer (rules_of dialect) line.now) }
-    ensures light { is_light_in (room_of parsed.old.series.tag_set) parsed.old.field_set.capacity (rules_of dialect)
+    ensures light { is_light_in (tag_room parsed.old.series.tag_set) parsed.old.field_set.capacity (rules_of dialect)
         line.now ≡ true → IsNotOutOfMemory result }
 {
     match fill(alloc, dialect, line, parsed, None) {
@@ -214,7 +199,9 @@ pub fn refill_line<'a>(
         (rules_of dialect) text.now ≡ true → result ≢ Err Unread.OutOfMemory }
 {
     let _at_least_inline = line.field_set.capacity();
-    ready_tags(alloc, &mut line.series.tag_set, spare);
+    if spare.is_some() {
+        give_back(&mut line.series.tag_set, spare);
+    }
     fill(alloc, dialect, text, line, Some(spare))
 }
 

@@ -4,7 +4,7 @@ use Rattle.influxdb_line_protocol.specs.format.Readings.{Fault, Text}
 use Rattle.influxdb_line_protocol.specs.format.Points.{Pair}
 use Rattle.influxdb_line_protocol.specs.format.Values.{Value}
 use Rattle.influxdb_line_protocol.specs.format.Lines.{Line, some_tags}
-use Rattle.influxdb_line_protocol.specs.code.Events.{AreEventsOf, Event, TakesAll, ended, events_of_line, failed, tagged, valued}
+use Rattle.influxdb_line_protocol.specs.code.Events.{AreEventsOf, Event, TakesAll, end_of_line, events_of_line, failed, tagged, valued}
 use Rattle.lp_relay.specs.declared.verdict.Verdict.{Verdict}
 use Rattle.lp_relay.specs.Verdicts.{Judges, fault_after, fault_in}
 use Rattle.lp_values.specs.code.SpelledParts.{spelled_fault}
@@ -44,7 +44,7 @@ told_line : (l : Line) → fault_told None (events_of_line l) ≡ None
 told_line l =
     let tags = map tagged (some_tags l.tags) in
     let fields = map valued l.fields in
-    told_append None (tags ++ fields) (ended l.series l.timestamp ∷ []) ∙ told_append None tags fields
+    told_append None (tags ++ fields) (end_of_line l ∷ []) ∙ told_append None tags fields
     ∙ ap (λ (f : Option Fault). fault_told f fields) (told_tags None (some_tags l.tags)) ∙ told_fields None l.fields
 
 -- a verdict on a text has its fault

@@ -1,6 +1,6 @@
 //! Names, strings, values and faults as they are spelled in the input, with no memory.
 
-ghost use Rattle.std.specs.Prelude.{◌≡◌, ◌≤◌, ◌+◌, ◌++◌, true, false, drop, length, not, IfOk, IsOk, bytes_eq};
+ghost use Rattle.std.specs.Prelude.{◌≡◌, ◌≤◌, ◌+◌, ◌++◌, true, false, drop, length, not, IfOk, IsOk, MatchOption, bytes_eq};
 ghost use Rattle.lp_format.specs.format.{backslash, is_one_of};
 ghost use Rattle.lp_values.specs.code.{SpelledParts.spelled_text, SpelledParts.spelling_of, Texts.read_of};
 
@@ -145,6 +145,26 @@ pub fn put_text<'a>(alloc: Global, place: &mut EscapedStr<'a>, text: Spelled<'a>
         *place = EscapedStr::SingleSlice(token.text);
     }
     true
+}
+
+/// The logical text, if it is a part of the input: without a backslash it is the spelling, and of one escape the byte after it.
+///
+/// ```text
+/// cpu  gives  cpu,  \,  gives  ,  and  cpu\ load  none
+/// ```
+#[inline(always)]
+pub fn shared<'a>(text: Spelled<'a>) -> Option<&'a str>
+    ensures { MatchOption result ((spelled_text text.entry).is_single ≡ false)
+        (λ part. record { bytes = part.now; is_single = true } ≡ spelled_text text.entry) }
+{
+    let spelling = text.token.text;
+    if text.token.is_plain {
+        return Some(spelling);
+    }
+    if spelling.len() == 2 && text.token.len == 1 {
+        return Some(&spelling[1..]);
+    }
+    None
 }
 
 /// A value of a field as it is spelled in the input.

@@ -1,1 +1,2 @@
 pub mod AsWritten
+pub mod WrittenKeys

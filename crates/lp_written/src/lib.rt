@@ -4,8 +4,10 @@
 //! uses nothing of the builder, so a change of either leaves the other as it was proved.
 #![tactic(auto)]
 
+mod keys;
 mod numbers;
 mod tokens;
 mod written;
 
+pub use keys::key_of_text;
 pub use written::is_as_written;

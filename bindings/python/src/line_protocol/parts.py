@@ -12,7 +12,7 @@ from .checking import Dialect, as_dialect
 from .items import Fault, Unsigned, as_integer, short
 from .reading import reader_of
 from .sources import BLOCK
-from .tables import _NUMBERS, BOOLEAN, MIXED, TAG, Columns, _numpy_of, _table
+from .tables import _NUMBERS, BOOLEAN, MIXED, TAG, Columns, Told, _numpy_of, _table
 
 MOST_PARTS = 1_000_000
 """The ends of so many parts take 8 MB. `lp_relay --cut` has the same limit."""
@@ -28,9 +28,6 @@ _NEWLINE: Extent = (None, 0, 1)
 
 Cells = Tuple[int, Any, Optional[bytearray]]
 """The kind of a column, its numbers or objects, and where it has missing ones."""
-
-Told = Tuple[Optional[str], int, Any, Optional[bytearray]]
-"""A column as the extension tells it: its key, and its cells. The first of a table has the times, and no key."""
 
 Place = Tuple[int, int, int]
 """How many items, newlines and bytes come before a part."""
@@ -163,8 +160,8 @@ def read_part(extents: Sequence[Extent], dialect: int, max_line: Optional[int]) 
             size += len(block)
             yield block
 
-    tables, faults = _fast.columns(reader_of(counted(), dialect, max_line))
-    return PartRead(tables, faults, newlines, size)
+    tables, faults, _ = _fast.columns(reader_of(counted(), dialect, max_line), False)
+    return PartRead([table[:3] for table in tables], faults, newlines, size)
 
 
 def after(place: Place, read: PartRead) -> Place:
@@ -227,4 +224,4 @@ def columns_of(reads: Sequence[PartRead], place: Place, use_numpy: Optional[bool
             shares.setdefault(measurement, []).append((rows, told))
         faults += _faults_at(place, read.faults)
         place = after(place, read)
-    return Columns({measurement: _table(_joined_table(tables), numpy) for measurement, tables in shares.items()}, faults)
+    return Columns({measurement: _table(_joined_table(tables), None, numpy) for measurement, tables in shares.items()}, faults)

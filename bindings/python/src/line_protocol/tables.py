@@ -17,6 +17,9 @@ BOOLEAN = 5
 MIXED = 100
 """The kind of a column of objects, as one whose fields are of several kinds."""
 
+Told = Tuple[Optional[str], int, Any, Optional[bytearray]]
+"""A column as the extension tells it: its key, and its cells. The first of a table has the times, and no key."""
+
 _NUMBERS = {1: ("q", "int64"), 2: ("Q", "uint64"), 3: ("d", "float64"), BOOLEAN: ("Q", "uint64")}
 """For each kind of numbers, of enum lp_kind, its type for `array` and for NumPy."""
 
@@ -56,7 +59,8 @@ class Column:
 
 @dataclass
 class Table:
-    """The lines of a measurement, in their order. Tags and fields are in the order in which their keys came.
+    """The lines of a measurement, in their order. Tags and fields are in the order in which their keys came. `series` has the number of
+    the series of each line, if `columns` was asked for it.
 
     >>> table = columns("m,t=a f=1i 5\\nm f=2i,g=t 6", use_numpy=False).tables["m"]
     >>> len(table), list(table.time), list(table.tags["t"]), list(table.fields["g"])
@@ -66,6 +70,7 @@ class Table:
     time: Column
     tags: Dict[str, Column] = field(default_factory=dict)
     fields: Dict[str, Column] = field(default_factory=dict)
+    series: Optional[Column] = None
 
     def __len__(self) -> int:
         return len(self.time)
@@ -73,7 +78,8 @@ class Table:
 
 @dataclass
 class Columns:
-    """The tables of a source by their measurements, in the order in which these came, and its faults.
+    """The tables of a source by their measurements, in the order in which these came, and its faults. `keys` has the key of each series by
+    its number, if `columns` was asked for the numbers.
 
     >>> told = columns("m f=1i\\nm f\\nn f=2i", use_numpy=False)
     >>> list(told.tables), [fault.line for fault in told.faults]
@@ -82,6 +88,7 @@ class Columns:
 
     tables: Dict[str, Table]
     faults: List[Fault]
+    keys: Optional[List[str]] = None
 
 
 def _numpy_of(use_numpy: Optional[bool]) -> Any:
@@ -117,12 +124,16 @@ def _of_numpy(numpy: Any, kind: int, cells: Any, missing: Optional[bytearray]) -
     return Column(values, mask)
 
 
-def _table(told: List[Tuple[Optional[str], int, Any, Optional[bytearray]]], numpy: Any) -> Table:
+def _column(told: Told, numpy: Any) -> Column:
+    """A column that the extension tells."""
+    _, kind, cells, missing = told
+    return _plain(kind, cells, missing) if numpy is None else _of_numpy(numpy, kind, cells, missing)
+
+
+def _table(told: List[Told], series: Optional[Told], numpy: Any) -> Table:
     """A table of the columns that the extension tells: the first are the times."""
-    made = [
-        (str(key), kind, _plain(kind, cells, missing) if numpy is None else _of_numpy(numpy, kind, cells, missing))
-        for key, kind, cells, missing in told]
-    table = Table(made[0][2])
+    made = [(str(column[0]), column[1], _column(column, numpy)) for column in told]
+    table = Table(made[0][2], series=None if series is None else _column(series, numpy))
     for key, kind, column in made[1:]:
         (table.tags if kind == TAG else table.fields)[key] = column
     return table
@@ -130,11 +141,12 @@ def _table(told: List[Tuple[Optional[str], int, Any, Optional[bytearray]]], nump
 
 def columns(
         source: Source, *, strict: Optional[bool] = None, dialect: Optional[Dialect] = None,
-        max_line: Optional[int] = None, use_numpy: Optional[bool] = None) -> Columns:
+        max_line: Optional[int] = None, use_numpy: Optional[bool] = None, series: bool = False) -> Columns:
     """The lines of a source as columns. It is read as `parse` reads it, to its end, and no object is made of a number.
 
     Integers stay integers, and unsigned ones unsigned. Of a key that comes twice in a line the last value counts. `use_numpy` says
-    whether the columns are arrays of NumPy: by default where it is there.
+    whether the columns are arrays of NumPy: by default where it is there. With `series` each table also has the number of the series of
+    each line, from 0 in the order in which they came: lines have one number exactly if their series have one `key`.
 
     >>> told = columns("cpu,host=a usage=1i,load=0.5 5\\ncpu,host=b usage=2i 6\\n", use_numpy=False)
     >>> cpu = told.tables["cpu"]
@@ -142,12 +154,15 @@ def columns(
     (array('q', [5, 6]), array('q', [1, 2]))
     >>> cpu.fields["load"]
     Column(values=array('d', [0.5, 0.0]), mask=[False, True])
+    >>> told = columns("cpu,host=a,az=b n=1i\\ncpu,az=b,host=a n=2i\\ncpu n=4i\\n", use_numpy=False, series=True)
+    >>> told.tables["cpu"].series.values, told.keys
+    (array('q', [0, 0, 1]), ['cpu,az=b,host=a', 'cpu'])
     """
     numpy = _numpy_of(use_numpy)
-    tables, faults = _fast.columns(reader_of(source, as_dialect(strict, dialect), max_line))
+    tables, faults, keys = _fast.columns(reader_of(source, as_dialect(strict, dialect), max_line), series)
     tables.reverse()
     made: Dict[str, Table] = {}
     while tables:  # each is let go once its columns are made
-        measurement, _, told = tables.pop()
-        made[measurement] = _table(told, numpy)
-    return Columns(made, faults)
+        measurement, _, told, numbers = tables.pop()
+        made[measurement] = _table(told, numbers, numpy)
+    return Columns(made, faults, keys)

@@ -1,2 +1,3 @@
+pub mod FaultStops
 pub mod FrontLemmas
 pub mod ManyLemmas

@@ -130,3 +130,8 @@ abbrev pub reading_stop : Dialect → List ℕ → Place
 reading_stop dialect line =
     after (name a_measurement line) (Measurement, line) (λ start.
     series_stop dialect (most (after_comma tag) (length start.rest) start.rest))
+
+-- this is left of a line where reading it stops, if it is told
+abbrev pub IsStopOf : Dialect → List ℕ → Option (Bor (List ℕ)) → Type 0
+IsStopOf dialect line None = Unit {0}
+IsStopOf dialect line (Some rest) = rest.now ≡ (reading_stop dialect line).1

@@ -1,5 +1,6 @@
 pub mod BaseLemmas
 pub mod BasesTellSeries
+pub mod KeyParts
 pub mod KeyTexts
 pub mod SortedByKey
 pub mod SortedTags

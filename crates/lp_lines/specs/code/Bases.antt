@@ -1,26 +1,18 @@
 -- The base of a series, a text by which series can be grouped, and whether it is safe to do so.
 use Rattle.std.specs.Prelude.{◌≡◌, ℕ, ◌<◌, ◌==◌, ◌&&◌, ◌||◌, Bool, true, false, not, List, [], ◌∷◌, ◌++◌, length, take, map, slice_index_or}
-use Rattle.std.specs.Prelude.{if◌then◌else◌, Result, Ok, Err, string_bytes, flat_map, fold, bytes_eq}
-use Rattle.std.specs.{BTreeMap.BTreeMap, BTreeMap.insert_entry, Borrow.Bor, Cmp.Lexicographic.slice_cmp, List.list_all, List.list_any}
-use Rattle.std.specs.{List.position_or_len, List.range_with_len, Ordering.is_lt, Ordering.nat_cmp, declared.borrow.CowStr.CowStr}
+use Rattle.std.specs.Prelude.{if◌then◌else◌, Result, Ok, Err, string_bytes, flat_map, bytes_eq}
+use Rattle.std.specs.{Borrow.Bor, Cmp.Lexicographic.slice_cmp, List.list_all, List.list_any}
+use Rattle.std.specs.{List.position_or_len, List.range_with_len, Ordering.nat_cmp, declared.borrow.CowStr.CowStr}
 use Rattle.std.specs.{declared.borrow.CowStr.TheVariants.Borrowed, declared.borrow.CowStr.TheVariants.Owned}
 use Rattle.lp_values.specs.declared.{error.Error.Error, error.Error.TheVariants.DuplicateTag, error.Error.TheVariants.OutOfMemory}
 use Rattle.lp_format.specs.format.{comma, equals, is_one_of, a_measurement, a_tag_key, a_tag_value, escapable, Text, Pair}
 use Rattle.lp_format.specs.code.Light.{is_single_tag}
+use Rattle.lp_events.specs.code.OwnBases.{is_strictly_sorted, keys_of}
+use Rattle.lp_lines.specs.code.Keys.{sorted_by}
 
 -- a base is a part of the input or a text of its own, and there is none if this key is repeated
 pub data Base : Type 0 where
   borrowed owned duplicate_key : List ℕ → Base
-
--- whether each text is greater than the one before it, by bytes
-abbrev pub is_strictly_sorted : List (List ℕ) → Bool
-is_strictly_sorted [] = true
-is_strictly_sorted (k ∷ []) = true
-is_strictly_sorted (k ∷ l ∷ keys) = is_lt (slice_cmp nat_cmp k l) && is_strictly_sorted (l ∷ keys)
-
--- the keys, in order
-abbrev pub keys_of : List (Pair Text Text) → List (List ℕ)
-keys_of tags = map (λ t. t.key.bytes) tags
 
 -- whether the text at this place is at an earlier place too
 abbrev pub is_repeated_at : List (List ℕ) → ℕ → Bool
@@ -30,13 +22,13 @@ is_repeated_at keys place = list_any (bytes_eq (slice_index_or keys place [])) (
 unfoldable pub first_repeated : List (List ℕ) → ℕ
 first_repeated keys = position_or_len (is_repeated_at keys) (range_with_len 0 (length keys))
 
--- the tags as a finite map has them: in the order of their keys
-unfoldable pub by_key : List (Pair Text Text) → List (List ℕ × List ℕ)
-by_key tags = fold (λ entries t. insert_entry (slice_cmp nat_cmp) entries t.key.bytes t.value.bytes) [] tags
-
 -- the tags in their own order
 abbrev pub in_order : List (Pair Text Text) → List (List ℕ × List ℕ)
 in_order tags = map (λ t. (t.key.bytes, t.value.bytes)) tags
+
+-- the tags in the order of their keys
+unfoldable pub by_key : List (Pair Text Text) → List (List ℕ × List ℕ)
+by_key tags = sorted_by (λ e. e.0) (in_order tags)
 
 -- a tag with the comma before it, unescaped
 abbrev pub based_tag : List ℕ × List ℕ → List ℕ
@@ -94,10 +86,10 @@ is_borrowed base = false
 abbrev pub entry_bytes : Bor (List ℕ) × Bor (List ℕ) → List ℕ × List ℕ
 entry_bytes e = (e.0.now, e.1.now)
 
--- the code made a map of the tags, unless a key is repeated
-abbrev pub GivesMap : Result (BTreeMap (Bor (List ℕ)) (Bor (List ℕ))) Error → List (Pair Text Text) → Type 0
-GivesMap (Ok entries) tags = (first_repeated (keys_of tags) ≡ length tags) × (map entry_bytes entries.entries ≡ by_key tags)
-GivesMap (Err (DuplicateTag key)) tags = (first_repeated (keys_of tags) < length tags)
+-- the keys were looked through: none is repeated, or the code gives the first that is; `OutOfMemory` may be in its place
+abbrev pub TellsRepeated : {A : Type 0} → Result A Error → List (Pair Text Text) → Type 0
+TellsRepeated (Ok none) tags = first_repeated (keys_of tags) ≡ length tags
+TellsRepeated (Err (DuplicateTag key)) tags = (first_repeated (keys_of tags) < length tags)
     × (string_bytes key ≡ slice_index_or (keys_of tags) (first_repeated (keys_of tags)) [])
-GivesMap (Err OutOfMemory) tags = Unit {0}
-GivesMap (Err e) tags = ⊥
+TellsRepeated (Err OutOfMemory) tags = Unit {0}
+TellsRepeated (Err e) tags = ⊥

@@ -5,7 +5,7 @@ use Rattle.lp_format.specs.format.{Line, some_tags, Pair, Fault, Text, Value}
 use Rattle.lp_format.specs.code.Light.{is_single_field, is_single_line, is_single_tag}
 use Rattle.lp_values.specs.{declared.spelled.SpelledFault.SpelledFault, code.SpelledParts.spelled_fault, code.Texts.read_of}
 use Rattle.lp_lines.specs.declared.{filling.Filling.Filling, parsed.ParsedLine.ParsedLine}
-use Rattle.lp_lines.specs.code.{Lookups.room_of, Lookups.some_items, Parsed.field_of, Parsed.tag_of}
+use Rattle.lp_lines.specs.code.{Lookups.room_of, Lookups.tag_room, Lookups.some_items, Parsed.field_of, Parsed.tag_of}
 use Rattle.lp_events.specs.code.Events.{Event, ended, failed, named, tagged, valued}
 
 -- the first elements of a set, as they are read
@@ -34,16 +34,16 @@ Puts old (named m) new =
     (read_of new.line.now.series.measurement ≡ m) × (tags_so_far new ≡ tags_so_far old) × (fields_so_far new ≡ fields_so_far old)
 Puts old (tagged t) new = (tags_so_far new ≡ tags_so_far old ++ t ∷ []) × (beside_tags new ≡ beside_tags old)
 Puts old (valued f) new = (fields_so_far new ≡ fields_so_far old ++ f ∷ []) × (beside_fields new ≡ beside_fields old)
-Puts old (ended series timestamp) new = (new.line.now.series.raw_input.now ≡ series) × (new.line.now.timestamp ≡ timestamp)
+Puts old (ended series timestamp is_base) new = (new.line.now.series.raw_input.now ≡ series) × (new.line.now.timestamp ≡ timestamp)
     × (beside_tags new ≡ beside_tags old) × (tags_so_far new ≡ tags_so_far old)
 Puts old (failed fault) new = Unit {0}
 
 -- an event needs memory for a line: the part is a copy, or there is no room left
 abbrev pub NeedsRoom : Filling → Event → Type 0
 NeedsRoom old (named m) = m.is_single ≡ false
-NeedsRoom old (tagged t) = (is_single_tag t ≡ false) ⊎ (room_of old.line.now.series.tag_set ≤ length (tags_so_far old))
+NeedsRoom old (tagged t) = (is_single_tag t ≡ false) ⊎ (tag_room old.line.now.series.tag_set ≤ length (tags_so_far old))
 NeedsRoom old (valued f) = (is_single_field f ≡ false) ⊎ (old.line.now.field_set.capacity ≤ length (fields_so_far old))
-NeedsRoom old (ended series timestamp) = ⊥
+NeedsRoom old (ended series timestamp is_base) = ⊥
 NeedsRoom old (failed fault) = ⊥
 
 -- the fault that is kept after an event
@@ -53,7 +53,8 @@ KeepsFault old event new = new ≡ old
 
 -- the rooms of a line do not shrink
 pub record KeepsRooms (old new : ParsedLine) : Type 0 where
-  pub tags : room_of old.series.tag_set ≤ room_of new.series.tag_set
+  pub set : room_of old.series.tag_set ≤ room_of new.series.tag_set
+  pub tags : tag_room old.series.tag_set ≤ tag_room new.series.tag_set
   pub fields : old.field_set.capacity ≤ new.field_set.capacity
 
 -- a line is filled by an event, unless memory was refused, now or before; it is refused only if the event needs some
@@ -76,7 +77,7 @@ pub record HasRead (filling : Filling) (l : Line) : Type 0 where
 pub record FilledLine (old : Filling) (l : Line) (new : Filling) : Type 0 where
   pub fault : new.fault ≡ old.fault
   pub read : new.refused ≡ false → HasRead new l
-  pub fits : is_single_line l ≡ true → length (some_tags l.tags) ≤ room_of old.line.now.series.tag_set
+  pub fits : is_single_line l ≡ true → length (some_tags l.tags) ≤ tag_room old.line.now.series.tag_set
       → length l.fields ≤ old.line.now.field_set.capacity → new.refused ≡ false
 
 -- the events of an answer were told: its line is filled, or its fault is kept

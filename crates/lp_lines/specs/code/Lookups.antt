@@ -1,8 +1,9 @@
 -- Values by their keys.
-use Rattle.std.specs.Prelude.{ℕ, ◌+◌, Bool, List, [], length, nat_eq, option_map, Option, Some, None, find}
+use Rattle.std.specs.Prelude.{ℕ, ◌+◌, Bool, List, [], length, max, nat_eq, option_map, Option, Some, None, find}
 use Rattle.std.specs.Cmp.Lexicographic.{pointwise}
 use Rattle.smallvec.specs.SmallVec.{SmallVec}
 use Rattle.lp_values.specs.{declared.escaped.EscapedStr.EscapedStr, code.Texts.text_of}
+use Rattle.lp_format.specs.code.Light.{inline_tags}
 use Rattle.lp_lines.specs.declared.parsed.ParsedLine.{ParsedLine}
 
 -- whether a pair has a key of this text
@@ -22,6 +23,10 @@ some_items (Some set) = set.items
 abbrev pub room_of : {T : Type 0} → Option (SmallVec T) → ℕ
 room_of None = 0
 room_of (Some set) = set.capacity
+
+-- how many tags fit without memory: a set that is not there is made with room for so many
+abbrev pub tag_room : {T : Type 0} → Option (SmallVec T) → ℕ
+tag_room set = max inline_tags (room_of set)
 
 -- how many columns a line has: one for the timestamp, and one for each field and each tag
 abbrev pub columns : ParsedLine → ℕ

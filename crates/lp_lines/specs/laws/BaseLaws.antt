@@ -5,7 +5,7 @@ use Rattle.std.specs.List.{list_any}
 use Rattle.lp_format.specs.format.{Dialect, backslash, comma, equals, is_one_of, Line, answer, some_tags, tag_set, a_measurement, a_tag_key}
 use Rattle.lp_format.specs.format.{a_tag_value, escapable, is_one_escape, name, spelled, spelled_len, Pair, Text, reads}
 use Rattle.lp_lines.specs.code.Bases.{Base, borrowed, owned, duplicate_key, base_of, by_key, first_repeated, in_order, is_base_safe}
-use Rattle.lp_lines.specs.code.Bases.{keys_of, is_strictly_sorted}
+use Rattle.lp_events.specs.code.OwnBases.{keys_of, is_strictly_sorted}
 
 -- a series as it is parsed: its raw text reads to its measurement and its tags, and nothing is left
 pub record IsParsedSeries (raw : List ℕ) (measurement : Text) (tags : List (Pair Text Text)) : Type 0 where

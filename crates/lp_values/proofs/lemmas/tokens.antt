@@ -1,2 +1,3 @@
+pub mod SharedTexts
 pub mod TokenLemmas
 pub mod WalkLemmas

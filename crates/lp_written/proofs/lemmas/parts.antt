@@ -1,3 +1,4 @@
 pub mod WrittenNames
 pub mod WrittenNumbers
+pub mod WrittenKeys
 pub mod WrittenLines

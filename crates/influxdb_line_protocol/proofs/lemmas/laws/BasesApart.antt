@@ -14,12 +14,8 @@ use Rattle.lp_format.proofs.lemmas.names.NameLemmas.{without_escapes_same, no_ba
 use Rattle.lp_values.proofs.lemmas.fields.ReadingLemmas.{name_parts}
 use Rattle.lp_split.proofs.lemmas.split.ScanLemmas.{bare_len, first_bare_len}
 use Rattle.lp_lines.proofs.lemmas.series.SortedTags.{by_key_placed}
+use Rattle.lp_lines.proofs.lemmas.series.KeyParts.{Begins}
 use Rattle.lp_lines.proofs.lemmas.series.BasesTellSeries.{base_is, tag_parts, tags_separated, value_part, same_series_have_one_base}
-
--- nothing, or a text that begins with this byte
-abbrev pub Begins : ℕ → List ℕ → Type 0
-Begins c [] = Unit {0}
-Begins c (b ∷ text) = b ≡ c
 
 -- a text that begins with the byte does not begin with one of those before it
 no_other : (c y : ℕ) (ys us vs : List ℕ) → is_one_of (y ∷ ys) c ≡ false → Begins c us → us ≡ y ∷ ys ++ vs → ⊥

@@ -1,71 +1,23 @@
 -- The key of a series fixes it, whatever its names hold, and reads back as it if they are admitted.
 use Prim.Native.String.{String}
-use Rattle.std.proofs.Common.{◌≡◌, ℕ, ◌++◌, ◌&&◌, true, false, not, List, [], ◌∷◌, refl, sym, ap, ◌∙◌, arith, append_assoc, flat_map, None}
-use Rattle.std.proofs.Common.{Ordering, is_eq, is_lt, nat_cmp, bytes_eq, ◌==◌, codes, Err}
-use Rattle.std.specs.{Cmp.Lexicographic.slice_cmp, Ordering.ordering_reverse, List.filter}
+use Rattle.std.proofs.Common.{◌≡◌, ℕ, ◌++◌, ◌&&◌, ◌<◌, true, false, not, List, [], ◌∷◌, refl, sym, ap, ◌∙◌, arith, None}
+use Rattle.std.proofs.Common.{Ordering, is_eq, is_lt, nat_cmp, bytes_eq, codes, Err, Ok, Option, length, map, subst, append_assoc, flat_map, ℤ}
+use Rattle.std.specs.{Cmp.Lexicographic.slice_cmp, Ordering.ordering_reverse, List.AllByRecursion, List.filter, List.list_all}
 use Rattle.std.specs.List.Sorted.{ties}
-use Rattle.std.proofs.lemmas.{Bool.cases_Bool, Bool.false≢true, Cmp.nat_list_cmp_total, List.Elements.filter_agree, Map.Text.is_eq-slice_cmp}
-use Rattle.lp_format.specs.format.{backslash, comma, equals, is_one_of, escaped, escapable, spelling, a_measurement, a_tag_key, a_tag_value}
+use Rattle.std.proofs.lemmas.{Cmp.nat_list_cmp_total, List.Elements.filter_agree, Map.Text.is_eq-slice_cmp}
+use Rattle.lp_format.specs.format.{comma, equals, escaped, space, spelling, a_measurement, built_field, built_fields, built_tag, built_timestamp}
+use Rattle.lp_format.specs.format.{Field, Pair, Read, Text, line_of, logical_tag, reads}
 use Rattle.lp_format.specs.format.{ends_with_backslash, first_bare, is_escaped_after, name, tag, tag_set, without_escapes}
-use Rattle.lp_format.specs.format.{Tag, Point, built_tag, boolean, is_admitted_name, is_admitted_tag, Crate, some_tags}
-use Rattle.lp_format.proofs.lemmas.read_back.NameReadsBack.{escaped_found, escaped_plain, read_line, read_line_is, read_name, read_tags}
-use Rattle.lp_lines.proofs.lemmas.read_back.{LinePieces.admitted_tags, LineReadsBack.line_reads_back}
+use Rattle.lp_format.specs.format.{Tag, Point, boolean, is_admitted_name, is_admitted_tag, Crate, some_tags}
+use Rattle.lp_format.proofs.lemmas.read_back.NameReadsBack.{read_line, read_line_is, read_name, read_tags}
+use Rattle.lp_lines.proofs.lemmas.read_back.{LinePieces.admitted_tags, LinePieces.line_parts, LineReadsBack.line_reads_back}
+use Rattle.lp_lines.proofs.lemmas.series.KeyParts.{key_parts}
 use Rattle.lp_lines.proofs.lemmas.series.SortedByKey.{all_sorted, by_key, same_sorted, stable_sorted}
 use Rattle.lp_build.proofs.lemmas.series.ParsedSeries.{read_series_are_parsed}
 use Rattle.lp_lines.specs.code.Keys.{series_key, sorted_by}
-use Rattle.lp_lines.specs.laws.KeyLaws.{KeysReadBack, KeysTellSeries, tags_with}
-use Rattle.influxdb_line_protocol.proofs.lemmas.laws.BasesApart.{Begins}
-
-module _ (known : List ℕ) (c : ℕ) (closed : is_one_of known backslash ≡ true) (ends : is_one_of known c ≡ true)
-    (other : (c == backslash) ≡ false) where
-  -- a text that begins with the byte does not begin with a byte of a name
-  no_byte : (y : ℕ) (ys us vs : List ℕ) → Begins c us → us ≡ escaped known (y ∷ ys) ++ vs → ⊥
-  no_byte y ys [] vs begins e = grind (arith, cases_Bool, escaped_found, escaped_plain)
-  no_byte y ys (u ∷ us) vs begins e = grind (arith, cases_Bool, false≢true, escaped_found, escaped_plain)
-
-  -- the first such byte that gets no backslash fixes the name before it
-  first_name : (xs ys us vs : List ℕ) → Begins c us → Begins c vs → escaped known xs ++ us ≡ escaped known ys ++ vs
-      → (xs ≡ ys) × (us ≡ vs)
-  unfolding escaped
-  first_name [] [] us vs p q e = (refl, e)
-  first_name [] (y ∷ ys) us vs p q e = absurd (no_byte y ys us vs p e)
-  first_name (x ∷ xs) [] us vs p q e = absurd (no_byte x xs vs us q (sym e))
-  first_name (x ∷ xs) (y ∷ ys) us vs p q e = grind (arith, cases_Bool, false≢true, first_name xs ys us vs p q)
-
--- a measurement ends before a comma
-measurement_ends : (m n us vs : List ℕ) → Begins comma us → Begins comma vs
-    → spelling a_measurement m ++ us ≡ spelling a_measurement n ++ vs → (m ≡ n) × (us ≡ vs)
-measurement_ends = first_name (escapable a_measurement) comma refl refl refl
-
--- tags as they are written begin with a comma
-tags_begin : (ts : List Tag) → Begins comma (flat_map built_tag ts)
-tags_begin [] = tt
-tags_begin (t ∷ ts) = refl
-
--- tags with the same names are the same
-same_tag : (t u : Tag) → t.key ≡ u.key → t.value ≡ u.value → t ≡ u
-same_tag t u k v = λ i. record { key = k i; value = v i }
-
--- the text of tags fixes them
-same_tags : (ts us : List Tag) → flat_map built_tag ts ≡ flat_map built_tag us → ts ≡ us
-same_tags [] [] same = refl
-same_tags [] (u ∷ us) same = absurd (cc)
-same_tags (t ∷ ts) [] same = absurd (cc)
-same_tags (t ∷ ts) (u ∷ us) same =
-    let inner : (spelling a_tag_key t.key ++ equals ∷ spelling a_tag_value t.value) ++ flat_map built_tag ts
-    ≡ (spelling a_tag_key u.key ++ equals ∷ spelling a_tag_value u.value) ++ flat_map built_tag us = cc in
-    let whole = sym (append_assoc (spelling a_tag_key t.key) (equals ∷ spelling a_tag_value t.value) (flat_map built_tag ts)) ∙ inner
-    ∙ append_assoc (spelling a_tag_key u.key) (equals ∷ spelling a_tag_value u.value) (flat_map built_tag us) in
-    let keys = first_name (escapable a_tag_key) equals refl refl refl t.key u.key
-    (equals ∷ spelling a_tag_value t.value ++ flat_map built_tag ts) (equals ∷ spelling a_tag_value u.value ++ flat_map built_tag us)
-    refl refl whole in
-    let after : spelling a_tag_value t.value ++ flat_map built_tag ts ≡ spelling a_tag_value u.value ++ flat_map built_tag us =
-    let k = keys.1 in cc in
-    let values = first_name (escapable a_tag_value) comma refl refl refl t.value u.value (flat_map built_tag ts) (flat_map built_tag us)
-    (tags_begin ts) (tags_begin us) after in
-    let first = same_tag t u keys.0 values.0 in
-    let more = same_tags ts us values.1 in
-    cc
+use Rattle.lp_lines.specs.laws.{BaseLaws.IsParsedSeries, KeyLaws.KeysReadBack, KeyLaws.KeysTellSeries, KeyLaws.tags_with}
+use Rattle.lp_written.specs.{code.WrittenKeys.IsAdmittedKey, code.WrittenKeys.IsTag}
+use Rattle.lp_written.specs.laws.WrittenKeyLaws.{KeysStandInTexts, LinesBeginWithKeys}
 
 -- the two tests of a tie
 tie_tests : (o : Ordering) → (not (is_lt (ordering_reverse o)) && not (is_lt o)) ≡ is_eq o
@@ -89,11 +41,10 @@ tags_sorted key ts =
 pub keys_tell_series : KeysTellSeries
 unfolding series_key
 keys_tell_series m n ts us = (
-  λ same. let parts = measurement_ends m n _ _ (tags_begin (sorted_by (λ t. t.key) ts)) (tags_begin (sorted_by (λ t. t.key) us)) same in
-      let tags = same_tags (sorted_by (λ t. t.key) ts) (sorted_by (λ t. t.key) us) parts.1 in
+  λ same. let parts = key_parts m n (sorted_by (λ t. t.key) ts) (sorted_by (λ t. t.key) us) same in
       record {
         measurement_is = parts.0;
-        tags_are = λ key. sym (tags_sorted key ts) ∙ ap (tags_with key) tags ∙ tags_sorted key us;
+        tags_are = λ key. sym (tags_sorted key ts) ∙ ap (tags_with key) parts.1 ∙ tags_sorted key us;
       },
   λ h. let tags = same_sorted (λ (t : Tag). t.key) ts us (λ z. tags_that_tie z ts ∙ h.tags_are z.key ∙ sym (tags_that_tie z us)) in
       let measurement = h.measurement_is in
@@ -128,6 +79,54 @@ keys_read_back m ts named tagged =
       };
     }
 
+-- what is read to the end is one set
+one_set : (text : List ℕ) (x y : Option (List (Pair Text Text))) → tag_set text ≡ Ok (record { value = x; rest = [] })
+    → tag_set text ≡ Ok (record { value = y; rest = [] }) → x ≡ y
+one_set text x y h k =
+    let same = sym h ∙ k in
+    let read : (let r : Read (Option (List (Pair Text Text))) = record { value = x; rest = [] } in r) ≡ record { value = y; rest = [] } = cc in
+    ap (λ r. r.value) read
+
+-- what a text reads as is one series
+one_reading : (text : List ℕ) (m n : Text) (ts us : List (Pair Text Text)) → IsParsedSeries text m ts → IsParsedSeries text n us
+    → (m ≡ n) × (ts ≡ us)
+one_reading text m n ts us p q =
+    let names : reads m p.after ≡ reads n q.after = sym p.measurement_is ∙ q.measurement_is in
+    let after : p.after ≡ q.after = cc in
+    let sets = one_set p.after p.set q.set p.set_is (ap tag_set after ∙ q.set_is) in
+    (cc, sym p.tags_are ∙ ap some_tags sets ∙ q.tags_are)
+
+-- what each tag passes, all pass
+all_admitted : (ts : List Tag) → AllByRecursion IsTag ts → list_all is_admitted_tag ts ≡ true
+all_admitted [] all = refl
+all_admitted (t ∷ ts) all = rw (all.0, all_admitted ts all.1) refl
+
+-- a key that stands in a text is that of the series that is read there
+pub keys_stand_in_texts : KeysStandInTexts
+keys_stand_in_texts text m ts k read =
+    let back = keys_read_back k.measurement k.tags k.named (all_admitted k.tags k.tagged) in
+    let parsed = subst (λ (x : List ℕ). IsParsedSeries x back.measurement_read back.tags_read) k.is back.parsed in
+    let one = one_reading text m back.measurement_read ts back.tags_read read parsed in
+    let same = (keys_tell_series back.measurement_read.bytes k.measurement (map logical_tag back.tags_read) k.tags).1 back.same in
+    (λ i. series_key (one.0 i).bytes (map logical_tag (one.1 i))) ∙ same ∙ k.is
+
+-- the fields of a point come after a space
+space_first : (fs : List Field) (t : Option ℤ) → 0 < length fs
+    → (fields : List ℕ) × (built_fields space fs ++ built_timestamp t ≡ space ∷ fields)
+space_first [] t some = absurd (omega arith)
+space_first (f ∷ fs) t some = (_, append_assoc (space ∷ built_field f) (built_fields comma fs) (built_timestamp t))
+
+-- the line of a point with sorted tags begins with its key
+pub lines_begin_with_keys : LinesBeginWithKeys
+unfolding series_key
+lines_begin_with_keys p sorted some =
+    let after = space_first p.fields p.timestamp some in (
+      after.0,
+      line_parts p ∙ ap (λ (r : List ℕ). spelling a_measurement p.measurement ++ (flat_map built_tag p.tags ++ r)) after.1
+          ∙ sym (append_assoc (spelling a_measurement p.measurement) (flat_map built_tag p.tags) (space ∷ after.0))
+          ∙ ap (λ (ts : List Tag). (spelling a_measurement p.measurement ++ flat_map built_tag ts) ++ (space ∷ after.0)) (sym sorted),
+    )
+
 -- a tag of these texts
 abbrev pair : String → String → Tag
 pair key value = record { key = codes key; value = codes value }
@@ -156,3 +155,29 @@ a_tab_does_not_read_back : (is_admitted_tag (pair "a" "b\\\tc") ≡ false) × (i
     × (tag_set (codes ",a=b\\\\\tc") ≡ Err ends_with_backslash)
 unfolding series_key escaped is_admitted_name tag name first_bare without_escapes is_escaped_after
 a_tab_does_not_read_back = (refl, refl, refl, refl)
+
+-- a point with two tags
+abbrev two_tags : Tag → Tag → Point
+two_tags t u = point_with (codes "m") (t ∷ u ∷ [])
+
+-- the line of a point whose tags are in order begins with its key
+a_line_begins_with_its_key : line_of (two_tags (pair "a" "1") (pair "b" "2"))
+    ≡ series_key (codes "m") (pair "a" "1" ∷ pair "b" "2" ∷ []) ++ codes " \\==true"
+unfolding series_key escaped line_of
+a_line_begins_with_its_key = refl
+
+-- with its tags in another order it does not
+a_line_in_another_order_does_not : (line_of (two_tags (pair "b" "2") (pair "a" "1")) ≡ codes "m,b=2,a=1 \\==true")
+    × (series_key (codes "m") (pair "b" "2" ∷ pair "a" "1" ∷ []) ≡ codes "m,a=1,b=2")
+unfolding series_key escaped line_of
+a_line_in_another_order_does_not = (refl, refl)
+
+-- a key stands in a text
+a_key_stands : IsAdmittedKey (codes "m,a=1")
+unfolding series_key escaped is_admitted_name
+a_key_stands = record { measurement = codes "m"; tags = pair "a" "1" ∷ []; named = refl; tagged = (refl, tt); is = refl }
+
+-- a backslash that the builder would write twice is read, and is written so in the key
+a_spelling_that_is_no_key : (series_key (codes "m") (pair "a" "x\\y" ∷ []) ≡ codes "m,a=x\\\\y")
+unfolding series_key escaped
+a_spelling_that_is_no_key = refl

@@ -7,7 +7,8 @@ use Rattle.std.proofs.lemmas.List.{Elements.All-head, Sorted.IsPermutation-sym, 
 use Rattle.lp_format.specs.{format.longer_front, laws.Meanings.WordFrontIsWord, laws.Meanings.WordFrontIsLongest}
 use Rattle.lp_lines.{proofs.lemmas.names.ParsedNames.nothing_in_nil, specs.laws.BaseLaws.entry_keys, specs.laws.BaseLaws.TagsByKeyAreSorted}
 use Rattle.lp_format.proofs.lemmas.lists.Elements.{first_element, first_or_later, later_element}
-use Rattle.lp_lines.specs.code.Bases.{by_key, in_order, is_strictly_sorted}
+use Rattle.lp_lines.specs.code.Bases.{by_key, in_order}
+use Rattle.lp_events.specs.code.OwnBases.{is_strictly_sorted}
 use Rattle.lp_lines.proofs.lemmas.series.SortedTags.{Rise, by_key_placed, passes_rise, same_moved}
 use Rattle.lp_format.proofs.lemmas.line.TrimLemmas.{trimmed_is_after, trimmed_is_longest}
 

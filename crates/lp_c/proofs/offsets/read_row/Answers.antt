@@ -1,10 +1,8 @@
-use Rattle.std.proofs.Common.{◌≡◌, ◌+◌, ◌-◌, ◌^◌, ◌∙◌, List, ℕ, ap, arith, drop, min, sym, take, false}
+use Rattle.std.proofs.Common.{◌≡◌, ◌+◌, ◌-◌, ◌^◌, ◌∙◌, ap, min, sym, take, false}
 use Rattle.std.specs.Prelude.{not}
 use Rattle.std.proofs.lemmas.Bool.{false≢true}
 use Rattle.influxdb_line_protocol.specs.code.Rules.{rules_of}
-use Rattle.lp_format.specs.format.Bytes.{newlines_in}
-use Rattle.lp_c.specs.OffsetBlocks.{is_too_much, piece_in}
-use Rattle.lp_c.specs.declared.pieces.Spot.{Spot}
+use Rattle.lp_c.specs.OffsetBlocks.{is_too_much}
 use Rattle.lp_c.proofs.RowsLemmas.{own_after, puts_shows}
 use Rattle.lp_c.proofs.offsets.read_row.Goals as goal
 

@@ -9,7 +9,7 @@ abbrev pub invariant-loop-key : goal.invariant-loop-key
 invariant-loop-key g l = record {
   utf8_rest : shadow (Utf8 l.rest);
   utf8_place : shadow (Utf8 l.place);
-  told : ToldSoFar g.S.PlacedSink.takes valued field l.fn.sink l.sink l.text l.count l.rest l.place;
+  told : ToldSoFar g.S.PlacedSink.takes valued field (λ parts. Unit {0}) l.fn.sink l.sink l.text l.count l.rest l.place;
   line : g.S.PlacedSink.line l.sink ≡ g.S.PlacedSink.line l.fn.sink;
   ends : IsEndOf (g.S.PlacedSink.line l.fn.sink) l.place;
   room : l.count + length l.place ≤ length l.text;

@@ -4,8 +4,9 @@ use Rattle.lp_values.proofs.lemmas.fields.ReadingLemmas.{name_ends}
 use Rattle.lp_split.specs.code.{rules_of}
 use Rattle.lp_values.specs.declared.error.ErrorKind.TheVariants.{TakeWhile1}
 use Rattle.lp_values.specs.declared.spelled.SpelledFault.TheVariants.{CannotParseEntireLine, FieldSetMissing, GenericParsingError}
-use Rattle.lp_events.proofs.lemmas.events.LineEvents.{complete_none, complete_some, fields_fault, line_told, tags_fault}
+use Rattle.lp_events.proofs.lemmas.events.LineEvents.{complete_none, complete_some, fields_fault, line_told, tags_fault, told_these}
 use Rattle.lp_events.proofs.lemmas.fields.ManyLemmas.{series_ends}
+use Rattle.lp_events.proofs.lemmas.fields.FaultStops.{names_stop, trailing_stop}
 use Rattle.lp_events.proofs.lemmas.events.PlacedParts.{drop_end, ends_within, name_before, same_end}
 use Rattle.lp_events.proofs.events.parts.Goals as goal
 
@@ -25,69 +26,83 @@ pub field_set-requires : goal.field_set-requires
 field_set-requires g c κs =
     let name = rw c.in-Some.is at c.in_ok-measurement.ensures.value in
     let rest = c.in_ok-rest.rest.now in
-    let end = series_ends c.args.line.now _ _ _ name c.in_ok-rest.ensures.told.are.1 in
+    let end = series_ends c.args.line.now _ _ _ name c.in_ok-rest.ensures.told.are.0.1 in
     let dropped = drop_end (spaces rest) c.args.line.now rest _ (end.front, end.is) c.trim_start_spaces.ensures in
     ((refl, tt), same_end _ _ _ (c.tag_set.ensures.line ∙ (c.measurement.ensures.line ∙ c.requires)) dropped)
 
-pub returns-in_err-rest : goal.returns-in_err-rest
+pub returns-in_err-rest-clause-told : goal.returns-in_err-rest-clause-told
 unfolding answer
-returns-in_err-rest g c =
+returns-in_err-rest-clause-told g c =
     let p = err_from_is_err_and c.from_residual-in_err-rest.result c.from_residual-in_err-rest.ensures.1 in
     let name = rw c.in-Some.is at c.in_ok-measurement.ensures.value in
-    let are = c.in_err-rest.ensures.told.are in
+    let are = c.in_err-rest.ensures.told.are.0 in
     rw (p.1, p.2) (tags_fault g.S.PlacedSink.takes c.args.line.now name c.measurement.ensures.takes c.in_err-rest.ensures.told _ (grind arith) are.2 are.3)
 
-pub returns-in_default-strip_byte : goal.returns-in_default-strip_byte
+pub returns-in_default-strip_byte-clause-told : goal.returns-in_default-strip_byte-clause-told
 unfolding answer
-returns-in_default-strip_byte g c =
+returns-in_default-strip_byte-clause-told g c =
     let name = rw c.in-Some.is at c.in_ok-measurement.ensures.value in
     tags_fault g.S.PlacedSink.takes c.args.line.now name c.measurement.ensures.takes c.in_ok-rest.ensures.told (GenericParsingError TakeWhile1) (grind arith)
-    c.in_ok-rest.ensures.told.are.3 (grind arith)
+    c.in_ok-rest.ensures.told.are.0.3 (grind arith)
 
 pub front_before-series-requires-clause-ends : goal.front_before-series-requires-clause-ends
 front_before-series-requires-clause-ends g c =
     let name = rw c.in-Some.is at c.in_ok-measurement.ensures.value in
-    let ends = series_ends c.args.line.now _ _ _ name c.in_ok-rest.ensures.told.are.1 in
+    let ends = series_ends c.args.line.now _ _ _ name c.in_ok-rest.ensures.told.are.0.1 in
     (ends.front, ends.is)
 
-pub returns-in_err-rest-2 : goal.returns-in_err-rest-2
+pub returns-in_err-rest-2-clause-told : goal.returns-in_err-rest-2-clause-told
 unfolding answer
-returns-in_err-rest-2 g c =
+returns-in_err-rest-2-clause-told g c =
     let p = err_from_is_err_and c.from_residual-in_err-rest-2.result c.from_residual-in_err-rest-2.ensures.1 in
     let name = rw c.in-Some.is at c.in_ok-measurement.ensures.value in
     let fault = c.in_err-rest-2.ensures.are.given in
-    rw (p.1, p.2) (fields_fault g.S.PlacedSink.takes c.args.line.now name c.measurement.ensures.takes c.in_ok-rest.rest c.in_ok-rest.ensures.told
+    rw (p.1, p.2) (fields_fault g.S.PlacedSink.takes c.args.line.now name c.measurement.ensures.takes c.in_ok-rest.rest (told_these c.in_ok-rest.ensures.told)
     c.in-Some-strip_byte.ensures.value c.trim_start_spaces.ensures (rules_of c.args.dialect) (Err c.in_err-rest-2.field-0.0)
     c.in_err-rest-2.ensures _ (grind arith))
 
-pub returns-in_default-2 : goal.returns-in_default-2
+pub returns-in_default-2-clause-told : goal.returns-in_default-2-clause-told
 unfolding answer
-returns-in_default-2 g c =
+returns-in_default-2-clause-told g c =
     let name = rw c.in-Some.is at c.in_ok-measurement.ensures.value in
-    fields_fault g.S.PlacedSink.takes c.args.line.now name c.measurement.ensures.takes c.in_ok-rest.rest c.in_ok-rest.ensures.told c.in-Some-strip_byte.ensures.value
+    fields_fault g.S.PlacedSink.takes c.args.line.now name c.measurement.ensures.takes c.in_ok-rest.rest (told_these c.in_ok-rest.ensures.told) c.in-Some-strip_byte.ensures.value
     c.trim_start_spaces.ensures (rules_of c.args.dialect) (Ok c.in_ok-rest-2.field-0) c.in_ok-rest-2.ensures FieldSetMissing (grind arith)
 
-pub returns-in_err-timestamp : goal.returns-in_err-timestamp
+pub returns-in_err-timestamp-clause-told : goal.returns-in_err-timestamp-clause-told
 unfolding answer
-returns-in_err-timestamp g c =
+returns-in_err-timestamp-clause-told g c =
     let p = err_from_is_err_and c.from_residual-in_err-timestamp.result c.from_residual-in_err-timestamp.ensures.1 in
     let name = rw c.in-Some.is at c.in_ok-measurement.ensures.value in
-    rw (p.1, p.2) (fields_fault g.S.PlacedSink.takes c.args.line.now name c.measurement.ensures.takes c.in_ok-rest.rest c.in_ok-rest.ensures.told
+    rw (p.1, p.2) (fields_fault g.S.PlacedSink.takes c.args.line.now name c.measurement.ensures.takes c.in_ok-rest.rest (told_these c.in_ok-rest.ensures.told)
     c.in-Some-strip_byte.ensures.value c.trim_start_spaces.ensures (rules_of c.args.dialect) (Ok c.in_ok-rest-2.field-0)
     c.in_ok-rest-2.ensures _ (grind arith))
 
-pub returns-then-not-is_empty : goal.returns-then-not-is_empty
+pub returns-then-not-is_empty-clause-told : goal.returns-then-not-is_empty-clause-told
 unfolding answer
-returns-then-not-is_empty g c =
+returns-then-not-is_empty-clause-told g c =
     let name = rw c.in-Some.is at c.in_ok-measurement.ensures.value in
-    fields_fault g.S.PlacedSink.takes c.args.line.now name c.measurement.ensures.takes c.in_ok-rest.rest c.in_ok-rest.ensures.told c.in-Some-strip_byte.ensures.value
+    fields_fault g.S.PlacedSink.takes c.args.line.now name c.measurement.ensures.takes c.in_ok-rest.rest (told_these c.in_ok-rest.ensures.told) c.in-Some-strip_byte.ensures.value
     c.trim_start_spaces.ensures (rules_of c.args.dialect) (Ok c.in_ok-rest-2.field-0) c.in_ok-rest-2.ensures
     (CannotParseEntireLine c.in_ok-timestamp.rest) (grind (arith, common_steps, complete_some))
 
-pub returns : goal.returns
+pub returns-clause-told : goal.returns-clause-told
 unfolding answer
-returns g c =
+returns-clause-told g c =
     let name = rw c.in-Some.is at c.in_ok-measurement.ensures.value in
-    line_told g.S.PlacedSink.takes c.args.line.now name c.measurement.ensures.takes c.in_ok-rest.rest c.in_ok-rest.ensures.told c.in-Some-strip_byte.ensures.value
-    c.trim_start_spaces.ensures (rules_of c.args.dialect) (Ok c.in_ok-rest-2.field-0) c.in_ok-rest-2.ensures _ _ _ c.end.ensures
-    (grind (arith, common_steps, complete_none))
+    line_told g.S.PlacedSink.takes c.args.line.now name c.measurement.ensures.takes c.in_ok-rest.rest (told_these c.in_ok-rest.ensures.told) c.in-Some-strip_byte.ensures.value
+    c.trim_start_spaces.ensures (rules_of c.args.dialect) (Ok c.in_ok-rest-2.field-0) c.in_ok-rest-2.ensures _ _ _ _ c.end.ensures
+    ((c.in_ok-rest.ensures.told.are.1 _ c.before_tags-kept.ensures).is_base) (grind (arith, common_steps, complete_none))
+
+pub returns-in_default-strip_byte-clause-stop : goal.returns-in_default-strip_byte-clause-stop
+returns-in_default-strip_byte-clause-stop g c =
+    let name = rw c.in-Some.is at c.in_ok-measurement.ensures.value in
+    let are = c.in_ok-rest.ensures.told.are.0 in
+    names_stop (rules_of c.args.dialect) c.args.line.now name are.3 are.1 (grind arith)
+
+pub returns-then-not-is_empty-clause-stop : goal.returns-then-not-is_empty-clause-stop
+returns-then-not-is_empty-clause-stop g c =
+    let name = rw c.in-Some.is at c.in_ok-measurement.ensures.value in
+    let fields = c.in_ok-rest-2.ensures in
+    trailing_stop (rules_of c.args.dialect) c.args.line.now name c.in_ok-rest.ensures.told.are.0.3 c.in-Some-strip_byte.ensures.value
+    c.trim_start_spaces.ensures c.in-Some-2.rest fields.parts (rw c.in-Some-2.is at fields.are) _ c.in_ok-timestamp.rest.now
+    c.in_ok-timestamp.ensures

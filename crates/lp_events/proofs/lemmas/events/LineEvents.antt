@@ -1,6 +1,6 @@
 -- What a sink was told of a line, one event after another, and of the lines of a text.
 use Rattle.std.proofs.Common.{◌≡◌, ℕ, ◌+◌, ◌<◌, List, [], ◌∷◌, ◌++◌, length, length-append, map, refl, sym, arith, ◌∙◌}
-use Rattle.std.proofs.Common.{append_assoc, Some, Ok, Result, drop, ℤ, Option, Err, Bor, append-nil, All, eq-eqb, ne_eqb}
+use Rattle.std.proofs.Common.{append_assoc, Bool, Some, None, Ok, Result, drop, ℤ, Option, Err, Bor, append-nil, All, eq-eqb, ne_eqb}
 use Rattle.std.proofs.lemmas.{List.map_push, List.Elements.All-head, List.Elements.All-tail}
 use Rattle.lp_format.specs.format.{comma, Fault, Reading, fatal, miss, reads, Text, cannot_parse_entire_line, byte, Line}
 use Rattle.lp_format.specs.format.{answer, after_comma, a_measurement, name, space, spaces, tag, complete, Dialect, answers_of_piece, Left, Pair, trimmed}
@@ -10,6 +10,7 @@ use Rattle.lp_events.specs.code.Events.{AreCounted, AreFields, AreMost, AreRead,
 use Rattle.lp_events.specs.code.Events.{WasTold, ended, front_events, named, tagged, valued}
 use Rattle.lp_events.specs.code.EventsLeft.{AreEventsLeft, Completes}
 use Rattle.lp_events.specs.code.LineSteps.{GivesLine, IsBlankPiece}
+use Rattle.lp_events.specs.code.OwnBases.{is_own_base}
 use Rattle.lp_events.proofs.lemmas.fields.FrontLemmas.{fields_told, front_fields, front_names}
 use Rattle.lp_events.proofs.lemmas.fields.ManyLemmas.{Reached, read_all, read_fault, read_more, reached_more}
 use Rattle.lp_format.proofs.lemmas.meanings.ShorterRests.{IsNoLonger}
@@ -26,61 +27,79 @@ pub takes_more : {S : Type 0} (takes : S → Event → S → Type 0) (before mid
     → TakesAll takes before events mid → takes mid event after → TakesAll takes before (events ++ event ∷ []) after
 takes_more takes before mid after events event told one = grind (arith, takes_append)
 
--- the parts that were told are so many, and all that was read so far; the next one may be at the place
-abbrev pub ToldSoFar : {S A : Type 0} → (S → Event → S → Type 0) → (A → Event) → (List ℕ → Reading A)
+-- the parts that were told are so many, and all that was read so far, and this holds of them; the next one may be at the place
+abbrev pub ToldSoFar : {S A : Type 0} → (S → Event → S → Type 0) → (A → Event) → (List ℕ → Reading A) → (List A → Type 0)
     → S → S → List ℕ → ℕ → List ℕ → List ℕ → Type 0
-ToldSoFar takes event one before after text count rest place =
-    WasToldParts takes event before after (λ parts. (count ≡ length parts) × Reached one text parts rest place)
+ToldSoFar takes event one Are before after text count rest place =
+    WasToldParts takes event before after (λ parts. (count ≡ length parts) × Reached one text parts rest place × Are parts)
 
 module _ {S A : Type 0} (takes : S → Event → S → Type 0) (event : A → Event) (one : List ℕ → Reading A)
     (no_longer : (text : List ℕ) → IsNoLonger text (one text)) where
-  module _ (before mid after : S) (x : A) (told : takes mid (event x) after) (text : List ℕ) (count : ℕ) (rest place : List ℕ)
-      (so_far : ToldSoFar takes event one before mid text count rest place) (n : ℕ) (more : n ≡ count + 1) where
+  module _ (Were Are : List A → Type 0) (before mid after : S) (x : A) (goes_on : (parts : List A) → Were parts → Are (parts ++ x ∷ []))
+      (told : takes mid (event x) after) (text : List ℕ) (count : ℕ) (rest place : List ℕ)
+      (so_far : ToldSoFar takes event one Were before mid text count rest place) (n : ℕ) (more : n ≡ count + 1) where
     -- one part more was told
     one_more : (end : List ℕ) → one place ≡ reads x end
         → TakesAll takes before (map event (so_far.parts ++ x ∷ [])) after × (n ≡ length (so_far.parts ++ x ∷ []))
-        × AreRead one (after_comma one) (so_far.parts ++ x ∷ []) text end
+        × AreRead one (after_comma one) (so_far.parts ++ x ∷ []) text end × Are (so_far.parts ++ x ∷ [])
     one_more end is = (
       rw (map_push event so_far.parts x) (takes_more takes before mid after (map event so_far.parts) (event x) so_far.told told),
       grind (arith, so_far.are.0, length-append),
       read_more one (after_comma one) so_far.parts text rest end x so_far.are.1.are (so_far.are.1.next ∙ is),
+      goes_on so_far.parts so_far.are.2,
     )
 
     -- and a comma comes after it
     pub told_next : (end next : List ℕ) → one place ≡ reads x end → byte comma end ≡ reads comma next
-        → ToldSoFar takes event one before after text n end next
+        → ToldSoFar takes event one Are before after text n end next
     told_next end next is mark =
         let t = one_more end is in
-        record { parts = _; told = t.0; are = (t.1, reached_more one so_far.parts text end next x t.2 mark) }
+        record { parts = _; told = t.0; are = (t.1, reached_more one so_far.parts text end next x t.2 mark, t.3) }
 
     -- and no comma comes after it
     pub told_last : (end : Bor (List ℕ)) → one place ≡ reads x end.now → byte comma end.now ≡ miss
-        → WasToldParts takes event before after (AreCounted (Ok (Some (n, end))) one text)
+        → WasToldParts takes event before after (λ parts. AreCounted (Ok (Some (n, end))) one text parts × Are parts)
     told_last end is none =
         let t = one_more end.now is in
         let all = read_all one no_longer _ text end.now (omega (arith, t.1, more)) t.2 (last so_far.parts) in
-        record { parts = _; told = t.0; are = (t.1, all.0, all.1) }
+        record { parts = _; told = t.0; are = ((t.1, all.0, all.1), t.3) }
       where
         -- none comes after a comma
         last : (done : List A) → reader_after one (after_comma one) (done ++ x ∷ []) end.now ≡ miss
         last [] = rw none refl
         last (y ∷ ys) = rw none refl
 
-  module _ (before after : S) (text : List ℕ) (count : ℕ) (place : List ℕ) where
+  module _ (Are : List A → Type 0) (before after : S) (text : List ℕ) (count : ℕ) (place : List ℕ) where
     -- no part reads at the place: these were all
-    pub told_all : (rest : Bor (List ℕ)) → ToldSoFar takes event one before after text count rest.now place → one place ≡ miss
-        → 0 < count → WasToldParts takes event before after (AreCounted (Ok (Some (count, rest))) one text)
+    pub told_all : (rest : Bor (List ℕ)) → ToldSoFar takes event one Are before after text count rest.now place → one place ≡ miss
+        → 0 < count → WasToldParts takes event before after (λ parts. AreCounted (Ok (Some (count, rest))) one text parts × Are parts)
     told_all rest so_far none some =
         let all = read_all one no_longer so_far.parts text rest.now (omega (arith, so_far.are.0)) so_far.are.1.are (so_far.are.1.next ∙ none) in
-        record { parts = so_far.parts; told = so_far.told; are = (so_far.are.0, all.0, all.1) }
+        record { parts = so_far.parts; told = so_far.told; are = ((so_far.are.0, all.0, all.1), so_far.are.2) }
+
+    -- and if there is none before it, there are none
+    pub told_none : {rest : List ℕ} → ToldSoFar takes event one Are before after text count rest place → one place ≡ miss
+        → count ≡ 0 → WasToldParts takes event before after (λ parts. AreCounted (Ok None) one text parts × Are parts)
+    told_none so_far none first =
+        record { parts = so_far.parts; told = so_far.told; are = (no_part so_far.parts so_far.are.0 so_far.are.1, so_far.are.2) }
+      where
+        -- they are no parts
+        no_part : {rest : List ℕ} (parts : List A) → count ≡ length parts → Reached one text parts rest place → (one text ≡ miss) × (parts ≡ [])
+        no_part [] len reached = (rw reached.are (reached.next ∙ none), refl)
+        no_part (x ∷ parts) len reached = absurd (omega (arith, len, first))
 
     -- what is at the place is fatal
-    pub told_fatal : (rest : List ℕ) (fault : SpelledFault) → ToldSoFar takes event one before after text count rest place
+    pub told_fatal : (rest : List ℕ) (fault : SpelledFault) → ToldSoFar takes event one Are before after text count rest place
         → one place ≡ fatal (spelled_fault fault)
-        → WasToldParts takes event before after (AreCounted (Err fault) one text)
+        → WasToldParts takes event before after (λ parts. AreCounted (Err fault) one text parts × Are parts)
     told_fatal rest fault so_far is =
         let fault_is = read_fault one no_longer so_far.parts text rest (spelled_fault fault) so_far.are.1.are (so_far.are.1.next ∙ is) in
-        record { parts = so_far.parts; told = so_far.told; are = fault_is }
+        record { parts = so_far.parts; told = so_far.told; are = (fault_is, so_far.are.2) }
+
+-- parts were told of which one thing holds, if two do
+abbrev pub told_these : {S A : Type 0} {takes : S → Event → S → Type 0} {event : A → Event} {before after : S} {Are Also : List A → Type 0}
+    → WasToldParts takes event before after (λ parts. Are parts × Also parts) → WasToldParts takes event before after Are
+told_these told = record { parts = told.parts; told = told.told; are = told.are.0 }
 
 -- a line is complete if nothing is left
 pub complete_none : (l : Line) (rest : List ℕ) → length rest ≡ 0 → complete l rest ≡ Ok l
@@ -124,17 +143,17 @@ module _ {S : Type 0} (takes : S → Event → S → Type 0) {before begun mid :
         }
 
     -- the line ends after them
-    pub line_told : {answer : Result Line Fault} (last : S) (series : List ℕ) (time : Option ℤ) → takes after (ended series time) last
-        → answer ≡ Ok (record { series = series; measurement = m; tags = tags.are.0; fields = fields.parts; timestamp = time })
+    pub line_told : {answer : Result Line Fault} (last : S) (series : List ℕ) (time : Option ℤ) (is_base : Bool)
+        → takes after (ended series time is_base) last → is_base ≡ is_own_base m tags.parts → answer ≡ Ok (record { series = series; measurement = m; tags = tags.are.0; fields = fields.parts; timestamp = time })
         → WasTold takes before last (AreToldBefore {X = Unit {0}} (Ok (tt {0})) line answer)
-    line_told last series time done is =
+    line_told last series time is_base done base is =
         record {
-          events = front_events m tags.parts fields.parts ++ ended series time ∷ [];
-          told = takes_more takes before after last (front_events m tags.parts fields.parts) (ended series time) front_told done;
+          events = front_events m tags.parts fields.parts ++ ended series time is_base ∷ [];
+          told = takes_more takes before after last (front_events m tags.parts fields.parts) (ended series time is_base) front_told done;
           are = (
             record { series = series; measurement = m; tags = tags.are.0; fields = fields.parts; timestamp = time },
             is,
-            rw tags.are.2 refl,
+            rw (tags.are.2, base) refl,
           );
         }
 

@@ -75,7 +75,7 @@ module _ {A : Type 0} (one : List ℕ → Reading A) (no_longer : (text : List �
   )
 
   -- parts that commas join
-  joined : (xs : List A) (text rest : List ℕ) → AreRead one (after_comma one) xs text rest ↔ SeparatedBy one xs text rest
+  pub joined : (xs : List A) (text rest : List ℕ) → AreRead one (after_comma one) xs text rest ↔ SeparatedBy one xs text rest
   joined [] text rest = (λ h. h, λ h. h)
   joined (x ∷ xs) text rest =
       (λ h. (h.0, h.1, (after_commas xs h.0 rest).0 h.2), λ h. (h.0, h.1, (after_commas xs h.0 rest).1 h.2))

@@ -1,7 +1,8 @@
 -- The most parts that read at the start of a text, one after another.
-use Rattle.std.proofs.Common.{◌≡◌, ℕ, zero, suc, ◌+◌, ◌<◌, ◌≤◌, List, [], ◌∷◌, ◌++◌, length, length-append, refl, arith}
+use Rattle.std.proofs.Common.{◌≡◌, ℕ, ◌+◌, ◌<◌, ◌≤◌, List, [], ◌∷◌, ◌++◌, length, length-append, refl, arith}
 use Rattle.lp_format.specs.format.{Reading, reads}
 use Rattle.lp_events.specs.code.{Events.AreRead, Stops.DoesNotRead, Stops.most}
+use Rattle.lp_events.proofs.lemmas.fields.FaultStops.{most_is}
 use Rattle.lp_events.proofs.lemmas.fields.ManyLemmas.{read_more, same_reader}
 
 -- so many parts were read, and this is left
@@ -26,24 +27,12 @@ module _ {A : Type 0} (one : List ℕ → Reading A) where
     room = grind (arith, so_far.room);
   }
 
-  -- where none reads, none are the most
-  most_none : (n : ℕ) (rest : List ℕ) → DoesNotRead (one rest) → most one n rest ≡ record { value = []; rest = rest }
-  most_none zero rest none = refl
-  most_none (suc n) rest none = grind arith
-
-  -- the parts before one that does not read are the most
-  most_is : (n : ℕ) (xs : List A) (text rest : List ℕ) → AreRead one one xs text rest → DoesNotRead (one rest) → length xs ≤ n
-      → most one n text ≡ record { value = xs; rest = rest }
-  most_is n [] text rest h none room = rw h (most_none n rest none)
-  most_is zero (x ∷ xs) text rest h none room = absurd (omega arith)
-  most_is (suc n) (x ∷ xs) text rest h none room = rw (h.1, most_is n xs h.0 rest h.2 none (omega arith)) refl
-
   -- if none reads, these are the most
   pub most_end : (text rest : List ℕ) (count : ℕ) → MostSoFar one text count rest → DoesNotRead (one rest)
       → (count ≡ length (most one (length text) text).value) × (rest ≡ (most one (length text) text).rest)
   most_end text rest count so_far none =
       let room : length so_far.done ≤ length text = omega (arith, so_far.counted, so_far.room) in
-      rw (most_is (length text) so_far.done text rest so_far.are none room) (so_far.counted, refl)
+      rw (most_is one (length text) so_far.done text rest so_far.are none room) (so_far.counted, refl)
 
 -- the steps of a reader of the most parts
 pub ruleset most_steps = (most_start, most_more, most_end)

@@ -9,11 +9,11 @@ use Rattle.lp_format.specs.format.{Line, some_tags, answer, Pair, Fault, Text, D
 use Rattle.lp_values.specs.declared.{error.Error.Error, error.Error.TheVariants.OutOfMemory, escaped.EscapedStr.EscapedStr}
 use Rattle.lp_values.specs.declared.{spelled.SpelledFault.SpelledFault, values.FieldValue.FieldValue}
 use Rattle.lp_values.specs.code.SpelledParts.{spelled_fault}
-use Rattle.lp_events.specs.code.Events.{AreEventsOf, Event, TakesAll, ended, events_of_line, named, tagged, valued}
+use Rattle.lp_events.specs.code.Events.{AreEventsOf, Event, TakesAll, end_of_line, events_of_line, named, tagged, valued}
 use Rattle.lp_lines.specs.declared.{filling.Filling.Filling, parsed.ParsedLine.ParsedLine}
 use Rattle.lp_lines.specs.code.Filling.{FilledLine, FillsAnswer, FillsBy, HasRead, KeepsRooms, beside_fields, beside_tags, fields_so_far}
 use Rattle.lp_lines.specs.code.Filling.{tags_so_far}
-use Rattle.lp_lines.specs.code.{Lookups.room_of, Lookups.some_items, Parsed.line_read, Parsed.tag_of, Parsed.tags_of}
+use Rattle.lp_lines.specs.code.{Lookups.tag_room, Lookups.some_items, Parsed.line_read, Parsed.tag_of, Parsed.tags_of}
 use Rattle.lp_lines.proofs.lemmas.line.AnsweredLines.{light_fault, light_line, HasSome, line_some_tags}
 
 -- what takes some events and then others takes the first ones before the others
@@ -26,7 +26,7 @@ takes_parted takes before after (event ∷ events) others (next, first, more) =
 
 -- the rooms of a line do not shrink, whatever is told
 pub rooms_kept : (old new : Filling) (events : List Event) → TakesAll FillsBy old events new → KeepsRooms old.line.now new.line.now
-rooms_kept old new [] same = rw same (record { tags = omega arith; fields = omega arith })
+rooms_kept old new [] same = rw same (record { set = omega arith; tags = omega arith; fields = omega arith })
 rooms_kept old new (event ∷ events) (mid, first, more) = grind (arith, rooms_kept mid new events more)
 
 -- it is the same line
@@ -61,11 +61,11 @@ module _ {A X : Type 0} (event : A → Event) (set : Filling → List A) (room :
 module _ (old : Filling) (l : Line) (begun told_tags told_fields new : Filling) (first : FillsBy old (named l.measurement) begun)
     (tags_told : TakesAll FillsBy begun (map tagged (some_tags l.tags)) told_tags)
     (fields_told : TakesAll FillsBy told_tags (map valued l.fields) told_fields)
-    (last : FillsBy told_fields (ended l.series l.timestamp) new) (not_refused : old.refused ≡ false)
+    (last : FillsBy told_fields (end_of_line l) new) (not_refused : old.refused ≡ false)
     (no_tags : tags_so_far old ≡ []) (no_fields : fields_so_far old ≡ []) where
   -- what the tags filled
-  tags : FilledBy tags_so_far (λ line. room_of line.series.tag_set) is_single_tag beside_tags begun (some_tags l.tags) told_tags
-  tags = filled_by tagged tags_so_far (λ line. room_of line.series.tag_set) is_single_tag beside_tags
+  tags : FilledBy tags_so_far (λ line. tag_room line.series.tag_set) is_single_tag beside_tags begun (some_tags l.tags) told_tags
+  tags = filled_by tagged tags_so_far (λ line. tag_room line.series.tag_set) is_single_tag beside_tags
       (λ old new x by. by.rooms.tags) (λ old new x by. by.fault) (λ old new x by taken. let put = by.puts taken in (put.0, put.1.0, put.1.1)) (λ old new x by refused. by.needs refused)
       begun told_tags (some_tags l.tags) tags_told
 
@@ -80,7 +80,7 @@ module _ (old : Filling) (l : Line) (begun told_tags told_fields new : Filling) 
   end_fits taken = grind (arith, cases_Bool)
 
   -- so it is not refused for a line without a copy, if there is room
-  line_fits : is_single_line l ≡ true → length (some_tags l.tags) ≤ room_of old.line.now.series.tag_set → length l.fields ≤ old.line.now.field_set.capacity
+  line_fits : is_single_line l ≡ true → length (some_tags l.tags) ≤ tag_room old.line.now.series.tag_set → length l.fields ≤ old.line.now.field_set.capacity
       → new.refused ≡ false
   line_fits single few_tags few_fields = grind (arith, and_parts, tags, fields, rooms_kept, end_fits, cases_Bool)
 
@@ -96,7 +96,7 @@ module _ (old : Filling) (l : Line) (begun told_tags told_fields new : Filling) 
 pub filled_line : (old new : Filling) (l : Line) → TakesAll FillsBy old (events_of_line l) new → old.refused ≡ false
     → tags_so_far old ≡ [] → fields_so_far old ≡ [] → FilledLine old l new
 filled_line old new l (begun, first, told) not_refused no_tags no_fields =
-    let parted = takes_parted FillsBy begun new (map tagged (some_tags l.tags) ++ map valued l.fields) (ended l.series l.timestamp ∷ []) told in
+    let parted = takes_parted FillsBy begun new (map tagged (some_tags l.tags) ++ map valued l.fields) (end_of_line l ∷ []) told in
     let front = takes_parted FillsBy begun parted.0 (map tagged (some_tags l.tags)) (map valued l.fields) parted.1 in
     filled_parts old l begun front.0 parted.0 new first front.1 front.2 (rw parted.2.2 at parted.2.1) not_refused no_tags no_fields
 
@@ -149,7 +149,7 @@ module _ (old new : Filling) (none : old.fault ≡ None) where
 
     -- memory is not refused for a light line
     pub light_is_not_refused : ((fault : SpelledFault) → new.fault ≡ Some fault → ⊥) → new.refused ≡ true
-        → is_light_in (room_of old.line.now.series.tag_set) old.line.now.field_set.capacity dialect text ≡ true → ⊥
+        → is_light_in (tag_room old.line.now.series.tag_set) old.line.now.field_set.capacity dialect text ≡ true → ⊥
     light_is_not_refused without refused light = grind (arith, line_is, light_line)
 
     -- the line that is filled is the answer

@@ -1,36 +1,41 @@
--- Bases: keys that rise, the first repeated key, and tags by their keys.
+-- Bases: keys that rise, and the first repeated key.
 use Rattle.std.proofs.Common.{◌≡◌, ℕ, suc, zero, ◌+◌, ◌<◌, ◌≤◌, Bool, true, false, cond, ◌||◌, List, [], ◌∷◌, length, take}
 use Rattle.std.proofs.Common.{get_or, map, Some, Option, refl, ap, sym, ◌∙◌, arith, Bor, BTreeMap, is_some}
 use Rattle.std.proofs.Common.{is_lt, nat_cmp, bytes_eq}
 use borrow.Author.Count.{below_more}
 use Rattle.std.proofs.lemmas.{Grind.common_steps, List.FromFn.length-range_with_len, List.FromFn.get_or-range_with_len}
-use Rattle.std.proofs.lemmas.{List.map_more, List.length-map, List.get_or-map, List.Folds.list_all-map, List.Folds.list_any_more}
-use Rattle.std.proofs.lemmas.{List.Sums.fold_push, List.Sums.position_or_len_is, Map.Text.btree_map_updates_str}
+use Rattle.std.proofs.lemmas.{List.length-map, List.get_or-map, List.Folds.list_all-map, List.Folds.list_any_more}
+use Rattle.std.proofs.lemmas.{List.Sums.position_or_len_is, Map.Text.btree_map_updates_str}
+use Rattle.std.proofs.lemmas.Bool.{cases_Bool}
 use Rattle.std.proofs.Math.Bool.{and-false}
-use Rattle.std.specs.{BTreeMap.UpdatesBy, BTreeMap.get_by, BTreeMap.insert_entry, Cmp.Lexicographic.slice_cmp}
+use Rattle.std.specs.{BTreeMap.UpdatesBy, BTreeMap.get_by, Cmp.Lexicographic.slice_cmp}
 use Rattle.std.specs.{Cmp.Lexicographic.nat_list_eq_equiv, List.list_all, List.list_any, List.range_with_len}
 use Rattle.std.specs.{List.IsAllAdjacentAnswer}
 use Rattle.lp_values.specs.{declared.escaped.EscapedStr.EscapedStr, code.Texts.text_of}
-use Rattle.lp_lines.specs.code.Bases.{by_key, entry_bytes, first_repeated, is_repeated_at, is_ambiguous_tag, keys_of}
-use Rattle.lp_lines.specs.code.Bases.{is_strictly_sorted}
+use Rattle.lp_lines.specs.code.Bases.{base_by_key, base_of, first_repeated, is_ambiguous_tag, is_borrowed, is_repeated_at}
+use Rattle.lp_events.specs.code.OwnBases.{is_own_base, is_strictly_sorted, keys_of}
 use Rattle.lp_lines.specs.code.Parsed.{tag_of}
 use Rattle.lp_format.specs.{code.Light.is_single_tag, format.Pair, format.Text}
 
--- keys rise if each is greater than the one before it
-pub keys_rise_is : (tags : List (EscapedStr × EscapedStr)) (r : Bool)
-    → IsAllAdjacentAnswer (λ x y b. b ≡ is_lt (slice_cmp nat_cmp (text_of x.0) (text_of y.0))) tags r
-    → r ≡ is_strictly_sorted (keys_of (map tag_of tags))
-keys_rise_is [] true h = refl
-keys_rise_is [] false h = let l = h.1 in absurd (omega arith)
-keys_rise_is (t ∷ []) true h = refl
-keys_rise_is (t ∷ []) false h = let l = h.1 in absurd (omega arith)
-keys_rise_is (t ∷ u ∷ tags) true h = rw (← h 0 t (omega arith)) (keys_rise_is (u ∷ tags) true (λ k d l.
+-- texts rise if each is greater than the one before it
+pub rise_is : {X : Type 0} (text : X → List ℕ) (xs : List X) (r : Bool)
+    → IsAllAdjacentAnswer (λ x y b. b ≡ is_lt (slice_cmp nat_cmp (text x) (text y))) xs r → r ≡ is_strictly_sorted (map text xs)
+rise_is text [] true h = refl
+rise_is text [] false h = let l = h.1 in absurd (omega arith)
+rise_is text (x ∷ []) true h = refl
+rise_is text (x ∷ []) false h = let l = h.1 in absurd (omega arith)
+rise_is text (x ∷ y ∷ xs) true h = rw (← h 0 x (omega arith)) (rise_is text (y ∷ xs) true (λ k d l.
     let next : suc k + 1 ≡ suc (k + 1) = omega arith in rw next at (h (suc k) d (omega arith))))
-keys_rise_is (t ∷ u ∷ tags) false (zero, l, falls) = rw (← falls t) refl
-keys_rise_is (t ∷ u ∷ tags) false (suc k, l, falls) =
+rise_is text (x ∷ y ∷ xs) false (zero, l, falls) = rw (← falls x) refl
+rise_is text (x ∷ y ∷ xs) false (suc k, l, falls) =
     let next : suc k + 1 ≡ suc (k + 1) = omega arith in
-    rw (← keys_rise_is (u ∷ tags) false (k, omega arith, λ d. rw next at (falls d)))
-    (sym (and-false (is_lt (slice_cmp nat_cmp (text_of t.0) (text_of u.0)))))
+    rw (← rise_is text (y ∷ xs) false (k, omega arith, λ d. rw next at (falls d)))
+    (sym (and-false (is_lt (slice_cmp nat_cmp (text x) (text y)))))
+
+-- the keys of the tags are the texts of their names
+pub keys_are : (tags : List (EscapedStr × EscapedStr)) → map (λ t. text_of t.0) tags ≡ keys_of (map tag_of tags)
+keys_are [] = refl
+keys_are (t ∷ tags) = ap (λ (keys : List (List ℕ)). text_of t.0 ∷ keys) (keys_are tags)
 
 -- the key at a place is the text of the tag there
 pub key_is : (tags : List (EscapedStr × EscapedStr)) (i : ℕ) (t : EscapedStr × EscapedStr) → i < length tags → t ≡ get_or tags i t
@@ -53,19 +58,12 @@ first_repeated_is keys n fits none found = position_or_len_is (is_repeated_at ke
     (grind (arith, length-range_with_len)) (λ k h. grind (arith, get_or-range_with_len, none k h))
     (λ h. grind (arith, get_or-range_with_len, length-range_with_len))
 
--- an entry goes in by the bytes of its key
-pub insert_bytes : (es : List (Bor (List ℕ) × Bor (List ℕ))) (k v : Bor (List ℕ))
-    → map entry_bytes (insert_entry (λ x y. slice_cmp nat_cmp x.now y.now) es k v) ≡ insert_entry
-    (slice_cmp nat_cmp) (map entry_bytes es) k.now v.now
-insert_bytes [] k v = refl
-insert_bytes (e ∷ es) k v = grind (arith, insert_bytes es k v)
-
 -- the map has a key if and only if it was among the keys so far: one key more
-some_or : (b : Bool) (o : Option (Bor (List ℕ))) (v : Bor (List ℕ)) (a : Bool) → is_some o ≡ a → is_some (cond b (Some v) o) ≡ (a || b)
+some_or : (b : Bool) (o : Option Unit) (v : Unit) (a : Bool) → is_some o ≡ a → is_some (cond b (Some v) o) ≡ (a || b)
 some_or x0 o v x3 h = grind (arith)
 
 -- a map with one key more has the keys so far
-pub has_more : (m n : BTreeMap (Bor (List ℕ)) (Bor (List ℕ))) (k v : Bor (List ℕ)) (keys : List (List ℕ)) (i : ℕ)
+pub has_more : (m n : BTreeMap (Bor (List ℕ)) Unit) (k : Bor (List ℕ)) (v : Unit) (keys : List (List ℕ)) (i : ℕ)
     → i < length keys → k.now ≡ get_or keys i []
     → UpdatesBy (λ x y. slice_cmp nat_cmp x.now y.now) (λ x. slice_cmp nat_cmp k.now x.now) m n (Some v)
     → ((q : List ℕ) → is_some (get_by (λ x. slice_cmp nat_cmp q x.now) m) ≡ list_any (bytes_eq q) (take i keys))
@@ -78,33 +76,21 @@ has_more m n k v keys i within is updates has q = rw (
 )
     (some_or (bytes_eq k.now q) _ v _ (has q))
 
--- no tags
-pub by_key_nil : [] ≡ by_key []
-unfolding by_key
-by_key_nil = refl
-
--- one tag more
-pub by_key_more : (tags : List (EscapedStr × EscapedStr)) (i : ℕ) (t : EscapedStr × EscapedStr) → i < length tags → t ≡ get_or tags i t
-    → by_key (map tag_of (take (i + 1) tags)) ≡ insert_entry (slice_cmp nat_cmp) (by_key (map tag_of (take i tags)))
-    (text_of t.0) (text_of t.1)
-unfolding by_key
-by_key_more tags i t within is = rw (map_more tag_of tags i t within, ← is)
-    (fold_push (λ (entries : List (List ℕ × List ℕ)) (t : Pair Text Text). insert_entry (slice_cmp nat_cmp) entries
-    t.key.bytes t.value.bytes) [] (map tag_of (take i tags)) (tag_of t))
-
--- a loop's step: the entry of one tag more goes in
-pub entries_more : (old new : List (Bor (List ℕ) × Bor (List ℕ))) (k v : Bor (List ℕ))
-    (tags : List (EscapedStr × EscapedStr)) (i : ℕ) (t : EscapedStr × EscapedStr)
-    → i < length tags → t ≡ get_or tags i t → k.now ≡ text_of t.0 → v.now ≡ text_of t.1
-    → new ≡ insert_entry (λ x y. slice_cmp nat_cmp x.now y.now) old k v
-    → map entry_bytes old ≡ by_key (map tag_of (take i tags)) → map entry_bytes new ≡ by_key (map tag_of (take (i + 1) tags))
-entries_more old new k v tags i t within is key value goes_in so_far =
-    rw (goes_in, insert_bytes old k v, so_far, key, value) (sym (by_key_more tags i t within is))
-
 -- the test of tags, as the code has it
 pub all_single : (tags : List (EscapedStr × EscapedStr))
     → list_all is_single_tag (map tag_of tags) ≡ list_all (λ t. is_single_tag (tag_of t)) tags
 all_single tags = list_all-map is_single_tag tag_of tags
+
+-- a base by key is a text of its own, or there is none
+not_borrowed : (measurement : List ℕ) (tags : List (Pair Text Text)) → is_borrowed (base_by_key measurement tags) ≡ false
+unfolding base_by_key
+not_borrowed measurement tags = grind (arith, cases_Bool)
+
+-- a base is a part of the input exactly if the text of the series is its base
+pub own_is_borrowed : (raw : List ℕ) (measurement : Text) (tags : List (Pair Text Text))
+    → is_borrowed (base_of raw measurement tags) ≡ is_own_base measurement tags
+unfolding base_of is_own_base
+own_is_borrowed raw measurement tags = grind (arith, cases_Bool, not_borrowed)
 
 -- the test of ambiguous tags, as the code has it
 pub any_ambiguous : (tags : List (EscapedStr × EscapedStr))
@@ -112,5 +98,5 @@ pub any_ambiguous : (tags : List (EscapedStr × EscapedStr))
 any_ambiguous [] = refl
 any_ambiguous (t ∷ tags) = ap (λ (b : Bool). is_ambiguous_tag (tag_of t) || b) (any_ambiguous tags)
 
--- the map of tags, with one tag more
-pub ruleset map_steps = (common_steps, by_key_nil, entries_more, first_repeated_is, has_more, key_is, length_keys, below_more)
+-- a search for a repeated key, with one key more
+pub ruleset repeat_steps = (common_steps, first_repeated_is, has_more, key_is, length_keys, below_more)

@@ -5,7 +5,8 @@ use Rattle.std.specs.List.{list_all, list_any}
 use Rattle.std.proofs.lemmas.Bool.{and_parts, cases_Bool, false≢true, not-true, or_cases, or_parts}
 use Rattle.lp_lines.specs.laws.BaseLaws.{IsClearSeries, IsParsedSeries, ClearSeriesHaveBases, SameSeriesHaveOneBase, base_bytes}
 use Rattle.lp_lines.specs.laws.BaseLaws.{is_tag_one_escape, spelled_tags}
-use Rattle.lp_lines.specs.code.Bases.{base_by_key, base_of, base_text, based_tag, by_key, first_repeated, in_order, keys_of}
+use Rattle.lp_lines.specs.code.Bases.{base_by_key, base_of, base_text, based_tag, by_key, first_repeated, in_order}
+use Rattle.lp_events.specs.code.OwnBases.{keys_of}
 use Rattle.lp_format.specs.code.Light.{is_single_tag}
 use Rattle.lp_format.specs.format.{equals, tag, NameKind, a_measurement, a_tag_key, a_tag_value, escapable}
 use Rattle.lp_format.specs.format.{is_one_escape, name, read_text, spelled, spelled_len, Pair, Text, reads}

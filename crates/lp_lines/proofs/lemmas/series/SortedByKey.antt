@@ -110,7 +110,7 @@ module _ {X : Type 0} (key : X → List ℕ) where
   )
 
   -- what is sorted so is in order
-  ordered_sorted : (xs : List X) → Ordered by_key by_key_order (sorted_by key xs)
+  pub ordered_sorted : (xs : List X) → Ordered by_key by_key_order (sorted_by key xs)
   ordered_sorted [] = tt
   ordered_sorted (x ∷ xs) = ordered_placed x (sorted_by key xs) (ordered_sorted xs)
 

@@ -1,22 +1,25 @@
--- Tags by their keys: one list for each set of tags without a repeated key, which has them in another order.
-use Rattle.std.proofs.Common.{◌≡◌, ℕ, false, List, [], ◌∷◌, sym, ◌∙◌, ◌<◌, ◌≤◌, true, length, take, refl, zero, suc}
-use Rattle.std.proofs.Common.{ap, arith, zero-add, Ordering, Less, Equal, Greater, Contains, All}
-use Rattle.std.proofs.Common.{IsPermutation, is_eq, nat_cmp, is_lt, bytes_eq, get_or, ◌⊎◌}
-use Rattle.std.proofs.Math.Seq.{take-suc}
-use Rattle.std.specs.Ordering.{match_ordering, ordering_reverse}
-use Rattle.std.specs.{BTreeMap.insert_entry, Cmp.Lexicographic.slice_cmp, List.list_any, List.range_with_len}
-use Rattle.std.proofs.lemmas.List.Elements.{All-cons, All-contains, All-nil, All-weaker}
-use Rattle.std.proofs.lemmas.List.Sorted.{All-permutation, IsPermutation-cons, IsPermutation-map}
+-- Tags by their keys: one list for each set of tags without a repeated key.
+use Rattle.std.proofs.Common.{◌≡◌, ℕ, false, List, [], ◌∷◌, sym, ◌∙◌, ◌<◌, true, length, take, refl, zero, suc, Bool, cond}
+use Rattle.std.proofs.Common.{ap, arith, zero-add, Ordering, Less, Contains, All}
+use Rattle.std.proofs.Common.{IsPermutation, is_eq, nat_cmp, is_lt, bytes_eq, get_or, map, ◌⊎◌, Bor}
+use Rattle.std.specs.Ordering.{ordering_reverse}
+use Rattle.std.specs.{Cmp.Lexicographic.nat_list_eq_equiv, Cmp.Lexicographic.slice_cmp, List.AllByRecursion, List.IsDistinct, List.list_any}
+use Rattle.std.specs.List.{range_with_len}
+use Rattle.std.proofs.lemmas.List.Elements.{All-cons, All-contains, All-nil, All-weaker, recursion_from_All}
+use Rattle.std.proofs.lemmas.List.Sorted.{All-permutation, IsPermutation-cons}
 use Rattle.std.proofs.lemmas.List.Sorted.{IsPermutation-middle, IsPermutation-refl, IsPermutation-sym, IsPermutation-trans}
-use Rattle.std.proofs.lemmas.List.Sorted.{IsPermutation-push_more, list_any-IsPermutation}
 use Rattle.std.proofs.lemmas.List.Sorted.{Contains-permutation}
-use Rattle.std.proofs.lemmas.{Map.Text.is_eq-slice_cmp, Bool.false≢true, Bool.or_parts, Bool.and_parts, List.map-append}
+use Rattle.std.proofs.lemmas.{Map.Keys.IsDistinct-IsPermutation, Map.Text.is_eq-slice_cmp, Bool.and_parts, Bool.or_parts}
 use Rattle.std.proofs.lemmas.{Cmp.nat_list_cmp_total, Cmp.tied_itself, List.FromFn.get_or-range_with_len, List.Sums.fails_before_first}
-use Rattle.std.proofs.lemmas.{List.get_or-map, List.length-map, List.take-map, List.take_all, List.Sums.fold_push}
-use Rattle.lp_format.specs.format.{Pair, Text}
+use Rattle.std.proofs.lemmas.{List.length-map}
+use Rattle.lp_format.specs.format.{Pair, Tag, Text, logical_tag}
 use Rattle.lp_format.proofs.lemmas.lists.Elements.{first_element, first_or_later, later_element}
-use Rattle.lp_lines.specs.code.Bases.{by_key, in_order, first_repeated, is_repeated_at, keys_of, is_strictly_sorted}
+use Rattle.lp_lines.specs.code.Bases.{by_key, entry_bytes, in_order, first_repeated, is_repeated_at}
+use Rattle.lp_events.specs.code.OwnBases.{keys_of, is_strictly_sorted}
+use Rattle.lp_lines.specs.code.Keys.{lent_tag, placed_by, sorted_by}
 use Rattle.lp_lines.specs.laws.BaseLaws.{entry_keys}
+use Rattle.lp_lines.proofs.lemmas.series.BaseLemmas.{first_repeated_is}
+use Rattle.lp_lines.proofs.lemmas.series.SortedByKey.{all_sorted, map_sorted}
 
 -- an entry comes before all of these
 abbrev IsBefore : List ℕ × List ℕ → List (List ℕ × List ℕ) → Type 0
@@ -33,38 +36,79 @@ before_all e f es less before = All-cons (λ g. slice_cmp nat_cmp e.0 g.0 ≡ Le
     (All-weaker (λ g. slice_cmp nat_cmp f.0 g.0 ≡ Less) (λ g. slice_cmp nat_cmp e.0 g.0 ≡ Less)
     (λ g h. nat_list_cmp_total.trans e.0 f.0 g.0 less h) es before)
 
--- these are the entries and one more, and rise
-record IsPlaced (k v : List ℕ) (es placed : List (List ℕ × List ℕ)) : Type 0 where
-  moves : IsPermutation ((k, v) ∷ es) placed
-  rise : Rise placed
+-- entries with one key
+abbrev same_key : List ℕ × List ℕ → List ℕ × List ℕ → Bool
+same_key e f = bytes_eq e.0 f.0
+
+-- none of these has the key of this one
+abbrev IsNew : List ℕ × List ℕ → List (List ℕ × List ℕ) → Type 0
+IsNew e es = AllByRecursion (λ f. same_key e f ≡ false) es
+
+-- what is neither greater nor equal is less
+less_from_others : (o : Ordering) → is_lt (ordering_reverse o) ≡ false → is_eq o ≡ false → o ≡ Less
+less_from_others o greater equal = grind arith
+
+-- what the test of less says
+less_from_test : (o : Ordering) → is_lt o ≡ true → o ≡ Less
+less_from_test o h = grind (arith)
+
+-- these are the entries and one more, and rise if they did and it is new
+record IsPlaced (e : List ℕ × List ℕ) (es placed : List (List ℕ × List ℕ)) : Type 0 where
+  moves : IsPermutation (e ∷ es) placed
+  rise : Rise es → IsNew e es → Rise placed
+
+-- an entry goes in after the first of these, or before it
+at_place : (e f : List ℕ × List ℕ) (es rest : List (List ℕ × List ℕ)) (less : Bool) → is_lt (slice_cmp nat_cmp f.0 e.0) ≡ less
+    → IsPlaced e es rest → IsPlaced e (f ∷ es) (cond less (f ∷ rest) (e ∷ f ∷ es))
+at_place e f es rest true less more = record {
+  moves = IsPermutation-trans (e ∷ f ∷ es) (f ∷ e ∷ es) (f ∷ rest)
+      (IsPermutation-sym (f ∷ e ∷ es) (e ∷ f ∷ es) (IsPermutation-middle (f ∷ []) e es)) (IsPermutation-cons f (e ∷ es) rest more.moves);
+  rise = λ up new. (
+    All-permutation (λ g. slice_cmp nat_cmp f.0 g.0 ≡ Less) (e ∷ es) rest more.moves
+        (All-cons (λ g. slice_cmp nat_cmp f.0 g.0 ≡ Less) e es (less_from_test (slice_cmp nat_cmp f.0 e.0) less) up.0),
+    more.rise up.1 new.1,
+  );
+}
+at_place e f es rest false less more = record {
+  moves = IsPermutation-refl (e ∷ f ∷ es);
+  rise = λ up new. (
+    before_all e f es (less_from_others (slice_cmp nat_cmp e.0 f.0)
+        (sym (ap is_lt (nat_list_cmp_total.antisymm f.0 e.0)) ∙ less) (is_eq-slice_cmp e.0 f.0 ∙ new.0)) up.0,
+    up,
+  );
+}
 
 -- an entry goes in at its place
-at_place : (o : Ordering) (k v : List ℕ) (e : List ℕ × List ℕ) (es rest : List (List ℕ × List ℕ)) → slice_cmp nat_cmp k e.0 ≡ o
-    → is_eq o ≡ false → Rise (e ∷ es) → IsPlaced k v es rest
-    → IsPlaced k v (e ∷ es) (match_ordering o ((k, v) ∷ e ∷ es) ((e.0, v) ∷ es) (e ∷ rest))
-at_place Less k v e es rest is apart rise there =
-    record { moves = IsPermutation-refl ((k, v) ∷ e ∷ es); rise = (before_all (k, v) e es is rise.0, rise) }
-at_place Equal k v e es rest is apart rise there = absurd (false≢true (sym apart))
-at_place Greater k v e es rest is apart rise there =
-    record {
-      moves = IsPermutation-trans ((k, v) ∷ e ∷ es) (e ∷ (k, v) ∷ es) (e ∷ rest)
-          (IsPermutation-sym (e ∷ (k, v) ∷ es) ((k, v) ∷ e ∷ es) (IsPermutation-middle (e ∷ []) (k, v) es))
-          (IsPermutation-cons e ((k, v) ∷ es) rest there.moves);
-      rise = (
-        All-permutation (λ f. slice_cmp nat_cmp e.0 f.0 ≡ Less) ((k, v) ∷ es) rest there.moves
-            (All-cons (λ f. slice_cmp nat_cmp e.0 f.0 ≡ Less) (k, v) es
-            (nat_list_cmp_total.antisymm e.0 k ∙ ap ordering_reverse is) rise.0),
-        there.rise,
-      );
-    }
+placed : (e : List ℕ × List ℕ) (es : List (List ℕ × List ℕ)) → IsPlaced e es (placed_by (λ f. f.0) e es)
+placed e [] = record { moves = IsPermutation-refl (e ∷ []); rise = λ up new. (All-nil (λ f. slice_cmp nat_cmp e.0 f.0 ≡ Less), tt) }
+placed e (f ∷ es) = at_place e f es (placed_by (λ g. g.0) e es) (is_lt (slice_cmp nat_cmp f.0 e.0)) refl (placed e es)
 
--- an entry of a new key goes in at some place
-placed : (es : List (List ℕ × List ℕ)) (k v : List ℕ) → Rise es → list_any (bytes_eq k) (entry_keys es) ≡ false
-    → IsPlaced k v es (insert_entry (slice_cmp nat_cmp) es k v)
-placed [] k v rise absent = record { moves = IsPermutation-refl ((k, v) ∷ []); rise = (All-nil (λ f. slice_cmp nat_cmp k f.0 ≡ Less), tt) }
-placed (e ∷ es) k v rise absent =
-    let apart = or_parts (bytes_eq k e.0) (list_any (bytes_eq k) (entry_keys es)) absent in
-    at_place (slice_cmp nat_cmp k e.0) k v e es _ refl (is_eq-slice_cmp k e.0 ∙ apart.0) rise (placed es k v rise.1 apart.1)
+-- entries that are sorted are the entries in another order
+sorted_moves : (es : List (List ℕ × List ℕ)) → IsPermutation es (sorted_by (λ e. e.0) es)
+sorted_moves [] = IsPermutation-refl []
+sorted_moves (e ∷ es) = IsPermutation-trans (e ∷ es) (e ∷ sorted_by (λ e. e.0) es) (placed_by (λ e. e.0) e (sorted_by (λ e. e.0) es))
+    (IsPermutation-cons e es (sorted_by (λ e. e.0) es) (sorted_moves es)) (placed e (sorted_by (λ e. e.0) es)).moves
+
+-- they rise if no key is repeated
+distinct_rise : (es : List (List ℕ × List ℕ)) → IsDistinct same_key es → Rise (sorted_by (λ e. e.0) es)
+unfolding IsDistinct
+distinct_rise [] distinct = tt
+distinct_rise (e ∷ es) distinct = (placed e (sorted_by (λ e. e.0) es)).rise (distinct_rise es distinct.1)
+    (all_sorted (λ (f : List ℕ × List ℕ). f.0) (λ f. same_key e f ≡ false) es distinct.0)
+
+-- what is less than others is not equal to one of them
+less_is_new : (e : List ℕ × List ℕ) (es : List (List ℕ × List ℕ)) → AllByRecursion (λ f. slice_cmp nat_cmp e.0 f.0 ≡ Less) es → IsNew e es
+less_is_new e [] before = tt
+less_is_new e (f ∷ es) before = (sym (is_eq-slice_cmp e.0 f.0) ∙ ap is_eq before.0, less_is_new e es before.1)
+
+-- entries that rise have no key twice
+rise_distinct : (es : List (List ℕ × List ℕ)) → Rise es → IsDistinct same_key es
+unfolding IsDistinct
+rise_distinct [] up = tt
+rise_distinct (e ∷ es) up = (
+  less_is_new e es (recursion_from_All (λ f. slice_cmp nat_cmp e.0 f.0 ≡ Less) es up.0),
+  rise_distinct es up.1,
+)
 
 -- no key is repeated if no first one is
 none_repeated : (keys : List (List ℕ)) → first_repeated keys ≡ length keys → (k : ℕ) → k < length keys → is_repeated_at keys k ≡ false
@@ -73,44 +117,92 @@ none_repeated keys e k h =
     let fails = fails_before_first (is_repeated_at keys) (range_with_len 0 (length keys)) k 0 (omega arith) in
     rw (get_or-range_with_len 0 (length keys) k 0 h, zero-add k) at fails
 
--- the keys of the tags as entries
-keys_in_order : (tags : List (Pair Text Text)) → entry_keys (in_order tags) ≡ keys_of tags
-keys_in_order [] = refl
-keys_in_order (t ∷ tags) = ap (λ (ks : List (List ℕ)). t.key.bytes ∷ ks) (keys_in_order tags)
+-- a tag is new if its key is at none of these places
+new_tag : (t : Pair Text Text) (tags : List (Pair Text Text))
+    → ((k : ℕ) → k < length (keys_of tags) → bytes_eq (get_or (keys_of tags) k []) t.key.bytes ≡ false)
+    → IsNew (t.key.bytes, t.value.bytes) (in_order tags)
+new_tag t [] none = tt
+new_tag t (u ∷ tags) none = (
+  nat_list_eq_equiv.symm t.key.bytes u.key.bytes ∙ none 0 (omega arith),
+  new_tag t tags (λ k l. none (suc k) (omega arith)),
+)
 
--- the first tags by their keys are these tags in another order, and rise, if no key is repeated
-first_placed : (d : Pair Text Text) (tags : List (Pair Text Text)) → first_repeated (keys_of tags) ≡ length tags
-    → (n : ℕ) → n ≤ length tags → IsPermutation (in_order (take n tags)) (by_key (take n tags)) × Rise (by_key (take n tags))
-unfolding by_key
-first_placed d tags once zero fits = (IsPermutation-refl [], tt)
-first_placed d tags once (suc n) fits =
-    let front = take n tags in
-    let t = get_or tags n d in
-    let key_of = λ (t : Pair Text Text). t.key.bytes in
-    let len = length-map tags key_of in
-    let so_far = first_placed d tags once n (omega arith) in
-    let key : get_or (keys_of tags) n [] ≡ t.key.bytes = get_or-map key_of tags n d [] (omega arith) in
-    let apart : list_any (bytes_eq t.key.bytes) (keys_of front) ≡ false =
-    rw (key, take-map key_of n tags) at (none_repeated (keys_of tags) (once ∙ sym len) n (omega arith)) in
-    let absent = sym (list_any-IsPermutation (bytes_eq t.key.bytes) (entry_keys (in_order front)) (entry_keys (by_key front))
-    (IsPermutation-map (λ (e : List ℕ × List ℕ). e.0) (in_order front) (by_key front) so_far.0))
-    ∙ ap (list_any (bytes_eq t.key.bytes)) (keys_in_order front) ∙ apart in
-    let one = placed (by_key front) t.key.bytes t.value.bytes so_far.1 absent in
-    rw (
-      take-suc tags n d (omega arith),
-      fold_push (λ (entries : List (List ℕ × List ℕ)) (t : Pair Text Text). insert_entry (slice_cmp nat_cmp) entries
-          t.key.bytes t.value.bytes) [] front t,
-      map-append {B = List ℕ × List ℕ} (λ t. (t.key.bytes, t.value.bytes)) front (t ∷ []),
-    )
-    (IsPermutation-push_more (in_order front) (by_key front) _ (t.key.bytes, t.value.bytes) so_far.0 one.moves, one.rise)
+-- tags of which no key is at an earlier place too are distinct
+none_distinct : (tags : List (Pair Text Text)) → ((k : ℕ) → k < length (keys_of tags) → is_repeated_at (keys_of tags) k ≡ false)
+    → IsDistinct same_key (in_order tags)
+unfolding IsDistinct
+none_distinct [] none = tt
+none_distinct (t ∷ tags) none =
+    let parts = λ (k : ℕ) (l : k < length (keys_of tags)). or_parts (bytes_eq (get_or (keys_of tags) k []) t.key.bytes)
+    (list_any (bytes_eq (get_or (keys_of tags) k [])) (take k (keys_of tags))) (none (suc k) (omega arith)) in
+    (new_tag t tags (λ k l. (parts k l).0), none_distinct tags (λ k l. (parts k l).1))
 
--- the tags by their keys are the tags in another order, and rise
+-- the key of a new tag is at none of these places
+at_no_place : (t : Pair Text Text) (tags : List (Pair Text Text)) → IsNew (t.key.bytes, t.value.bytes) (in_order tags)
+    → (k : ℕ) → k < length (keys_of tags) → bytes_eq (get_or (keys_of tags) k []) t.key.bytes ≡ false
+at_no_place t [] new k l = absurd (omega arith)
+at_no_place t (u ∷ tags) new zero l = nat_list_eq_equiv.symm u.key.bytes t.key.bytes ∙ new.0
+at_no_place t (u ∷ tags) new (suc k) l = at_no_place t tags new.1 k (omega arith)
+
+-- no key of distinct tags is at an earlier place too
+distinct_none : (tags : List (Pair Text Text)) → IsDistinct same_key (in_order tags)
+    → (k : ℕ) → k < length (keys_of tags) → is_repeated_at (keys_of tags) k ≡ false
+unfolding IsDistinct
+distinct_none [] distinct k l = absurd (omega arith)
+distinct_none (t ∷ tags) distinct zero l = refl
+distinct_none (t ∷ tags) distinct (suc k) l =
+    let here = at_no_place t tags distinct.0 k (omega arith) in
+    let later = distinct_none tags distinct.1 k (omega arith) in
+    rw (here, later) refl
+
+-- a tag as an entry
+abbrev tag_entry : Tag → List ℕ × List ℕ
+tag_entry t = (t.key, t.value)
+
+-- the names of a tag, as an entry
+lent_entries : (names : List (Bor (List ℕ) × Bor (List ℕ))) → map entry_bytes names ≡ map tag_entry (map lent_tag names)
+lent_entries [] = refl
+lent_entries (t ∷ names) = ap (λ (es : List (List ℕ × List ℕ)). entry_bytes t ∷ es) (lent_entries names)
+
+-- tags that were read, as entries
+logical_entries : (tags : List (Pair Text Text)) → map tag_entry (map logical_tag tags) ≡ in_order tags
+logical_entries [] = refl
+logical_entries (t ∷ tags) = ap (λ (es : List (List ℕ × List ℕ)). (t.key.bytes, t.value.bytes) ∷ es) (logical_entries tags)
+
+-- the tags by their keys are the tags in another order, and rise, if no key is repeated
 pub by_key_placed : (tags : List (Pair Text Text)) → first_repeated (keys_of tags) ≡ length tags
     → IsPermutation (in_order tags) (by_key tags) × Rise (by_key tags)
 unfolding by_key
-by_key_placed [] once = (IsPermutation-refl [], tt)
-by_key_placed (t ∷ tags) once =
-    rw (take_all (length tags) tags (omega arith)) at (first_placed t (t ∷ tags) once (suc (length tags)) (omega arith))
+by_key_placed tags once = (
+  sorted_moves (in_order tags),
+  distinct_rise (in_order tags) (none_distinct tags (none_repeated (keys_of tags) (once ∙ sym (length-map tags (λ t. t.key.bytes))))),
+)
+
+-- lent names that are those of tags, as entries
+pub lent_in_order : (names : List (Bor (List ℕ) × Bor (List ℕ))) (tags : List (Pair Text Text))
+    → map lent_tag names ≡ map logical_tag tags → map entry_bytes names ≡ in_order tags
+lent_in_order names tags are = lent_entries names ∙ ap (map tag_entry) are ∙ logical_entries tags
+
+-- lent names that are those of tags in the order of their keys, as entries
+pub lent_by_key : (names : List (Bor (List ℕ) × Bor (List ℕ))) (tags : List (Pair Text Text))
+    → map lent_tag names ≡ sorted_by (λ t. t.key) (map logical_tag tags) → map entry_bytes names ≡ by_key tags
+unfolding by_key
+lent_by_key names tags are = lent_entries names ∙ ap (map tag_entry) are ∙ map_sorted tag_entry (λ e. e.0) (map logical_tag tags)
+    ∙ ap (sorted_by (λ e. e.0)) (logical_entries tags)
+
+-- keys of names, as of entries
+names_keys : (names : List (Bor (List ℕ) × Bor (List ℕ))) → map (λ t. t.0.now) names ≡ entry_keys (map entry_bytes names)
+names_keys [] = refl
+names_keys (t ∷ names) = ap (λ (keys : List (List ℕ)). t.0.now ∷ keys) (names_keys names)
+
+-- if they rise, no key is repeated
+pub rise_once : (tags : List (Pair Text Text)) → Rise (by_key tags) → first_repeated (keys_of tags) ≡ length tags
+unfolding by_key
+rise_once tags up =
+    let distinct = IsDistinct-IsPermutation same_key (λ e f. nat_list_eq_equiv.symm e.0 f.0) (by_key tags) (in_order tags)
+    (IsPermutation-sym (in_order tags) (by_key tags) (sorted_moves (in_order tags))) (rise_distinct (by_key tags) up) in
+    let len = length-map tags (λ (t : Pair Text Text). t.key.bytes) in
+    first_repeated_is (keys_of tags) (length tags) (omega arith) (λ k l. distinct_none tags distinct k (omega arith)) (λ l. absurd (omega arith))
 
 -- no key is less than itself
 not_below_itself : (k : List ℕ) → slice_cmp nat_cmp k k ≡ Less → ⊥
@@ -146,15 +238,23 @@ pub same_moved : (xs ys : List (List ℕ × List ℕ)) → Rise xs → Rise ys �
 same_moved xs ys rise up moves = same_elements xs ys rise up (λ e h. Contains-permutation xs ys e moves h)
     (λ e h. Contains-permutation ys xs e (IsPermutation-sym xs ys moves) h)
 
--- what the test of less says
-less_from_test : (o : Ordering) → is_lt o ≡ true → o ≡ Less
-less_from_test o h = grind (arith)
-
 -- keys that rise from one to the next rise
 pub passes_rise : (es : List (List ℕ × List ℕ)) → is_strictly_sorted (entry_keys es) ≡ true → Rise es
 passes_rise [] h = tt
 passes_rise (e ∷ []) h = (All-nil (λ f. slice_cmp nat_cmp e.0 f.0 ≡ Less), tt)
 passes_rise (e ∷ f ∷ es) h = grind (arith, and_parts, less_from_test, before_all, passes_rise (f ∷ es))
+
+-- if the keys of lent names rise that are those of tags in the order of their keys, no key is repeated
+pub names_once : (names : List (Bor (List ℕ) × Bor (List ℕ))) (tags : List (Pair Text Text))
+    → map lent_tag names ≡ sorted_by (λ t. t.key) (map logical_tag tags) → is_strictly_sorted (map (λ t. t.0.now) names) ≡ true
+    → first_repeated (keys_of tags) ≡ length tags
+names_once names tags are rise = rise_once tags (passes_rise (by_key tags)
+    (ap (λ es. is_strictly_sorted (entry_keys es)) (sym (lent_by_key names tags are)) ∙ ap is_strictly_sorted (sym (names_keys names)) ∙ rise))
+
+-- the keys of the tags as entries
+keys_in_order : (tags : List (Pair Text Text)) → entry_keys (in_order tags) ≡ keys_of tags
+keys_in_order [] = refl
+keys_in_order (t ∷ tags) = ap (λ (ks : List (List ℕ)). t.key.bytes ∷ ks) (keys_in_order tags)
 
 -- if the keys rise, that is their own order
 pub by_key_in_order : (tags : List (Pair Text Text)) → first_repeated (keys_of tags) ≡ length tags

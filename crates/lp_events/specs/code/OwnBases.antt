@@ -1,0 +1,34 @@
+-- Whether the text of a series is its base, and what is kept to tell it while tags are read.
+use Rattle.std.specs.Prelude.{◌≡◌, ℕ, ◌&&◌, Bool, true, List, [], ◌∷◌, map}
+use Rattle.std.specs.{Cmp.Lexicographic.slice_cmp, List.list_all, Ordering.is_lt, Ordering.nat_cmp}
+use Rattle.lp_format.specs.{code.Light.is_single_tag, format.Pair, format.Text}
+use Rattle.lp_events.specs.declared.bases.Kept.{Kept}
+
+-- whether each text is greater than the one before it, by bytes
+abbrev pub is_strictly_sorted : List (List ℕ) → Bool
+is_strictly_sorted [] = true
+is_strictly_sorted (k ∷ []) = true
+is_strictly_sorted (k ∷ l ∷ keys) = is_lt (slice_cmp nat_cmp k l) && is_strictly_sorted (l ∷ keys)
+
+-- the keys, in order
+abbrev pub keys_of : List (Pair Text Text) → List (List ℕ)
+keys_of tags = map (λ t. t.key.bytes) tags
+
+-- whether the text of a series with these names is its base: no name is a copy, and each key is greater than the one before it
+unfoldable pub is_own_base : Text → List (Pair Text Text) → Bool
+is_own_base measurement tags = is_strictly_sorted (keys_of tags) && (measurement.is_single && list_all is_single_tag tags)
+
+-- the last of some texts, and an empty one if there is none
+abbrev pub last_of : List (List ℕ) → List ℕ
+last_of [] = []
+last_of (k ∷ []) = k
+last_of (k ∷ l ∷ keys) = last_of (l ∷ keys)
+
+-- what is kept of a series with these names: whether its text is its base, and if so the last key
+pub record IsKeptOf (measurement : Text) (tags : List (Pair Text Text)) (kept : Kept) : Type 0 where
+  pub is_base : kept.is_base ≡ is_own_base measurement tags
+  pub last : kept.is_base ≡ true → kept.last.now ≡ last_of (keys_of tags)
+
+-- what is kept of a series with none of these tags and of one with all
+abbrev pub KeepsOn : Kept → List (Pair Text Text) → Kept → Type 0
+KeepsOn before tags after = (measurement : Text) → IsKeptOf measurement [] before → IsKeptOf measurement tags after
