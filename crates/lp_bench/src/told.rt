@@ -68,7 +68,7 @@ impl<'a> EventSink<'a> for Sum {
     }
 
     #[inline(always)]
-    fn end(&mut self, _series: &'a str, timestamp: Option<i64>, _is_base: bool) {
+    fn end(&mut self, _series: &'a str, timestamp: Option<i64>) {
         let timestamp = timestamp.unwrap_or(0).cast_unsigned();
         self.sum = self.sum.wrapping_add(self.line).wrapping_add(timestamp);
     }

@@ -1,11 +1,10 @@
 -- No text is longer than its spelling.
-use Rattle.std.proofs.Common.{◌≡◌, ℕ, List, [], ◌∷◌, ◌≤◌, length, true, false, refl, arith, inl, inr, ap, take}
+use Rattle.std.proofs.Common.{◌≡◌, ℕ, List, [], ◌∷◌, ◌≤◌, length, arith, inl, inr, ap, take}
 use Rattle.std.specs.Prelude.{◌==◌}
-use Rattle.std.proofs.lemmas.Bool.{and_parts, cases_Bool, false≢true}
+use Rattle.std.proofs.lemmas.Bool.{cases_Bool}
 use Rattle.std.proofs.lemmas.List.{length-take-le}
 use Rattle.lp_format.specs.format.Bytes.{backslash, is_one_of}
 use Rattle.lp_format.specs.format.Escapes.{without_escapes}
-use Rattle.lp_format.specs.format.Names.{is_one_escape, is_shared}
 
 -- no text takes more bytes than its spelling
 no_longer : (known text : List ℕ) → length (without_escapes known text) ≤ length text

@@ -28,8 +28,9 @@ use Rattle.lp_c.specs.declared.views.Line.{Line}
 use Rattle.lp_c.specs.declared.views.Part.{Part}
 use Rattle.lp_c.specs.declared.views.View.{View}
 
--- a sink puts what it is told into the same memory
+-- a sink puts what it is told of its line into the same memory
 pub record SameMemory (old new : Telling) : Type 0 where
+  pub text : new.text.now ≡ old.text.now
   pub line : new.line.ghost_name ≡ old.line.ghost_name
   pub parts : new.parts.ghost_name ≡ old.parts.ghost_name
   pub room : new.room.ghost_name ≡ old.room.ghost_name
@@ -38,10 +39,11 @@ pub record SameMemory (old new : Telling) : Type 0 where
 
 -- so it is with all events
 pub same_memory : (old new : Telling) (events : List Event) → TakesAll Tells old events new → SameMemory old new
-same_memory old new [] same = rw same (record { line = refl; parts = refl; room = refl; size = refl; room_size = refl })
+same_memory old new [] same = rw same (record { text = refl; line = refl; parts = refl; room = refl; size = refl; room_size = refl })
 same_memory old new (event ∷ events) (mid, first, more) =
     let later = same_memory mid new events more in
     record {
+      text = later.text ∙ first.text;
       line = later.line ∙ first.line;
       parts = later.parts ∙ first.parts;
       room = later.room ∙ first.room;
@@ -223,10 +225,11 @@ tag_set_told None n some is = rw is refl
 tag_set_told (Some tags) n some is =
     let other : (n == 0) ≡ false = ne_eqb n 0 (λ none. omega (arith, none, is, some)) in rw other refl
 
-module _ (l : format.Line) (old begun told_tags told_fields new : Lent) (first : TellsName old l.measurement begun)
+module _ (l : format.Line) {told : List ℕ} (old begun told_tags told_fields new : Lent) (first : TellsName old l.measurement begun)
     (tags : ToldParts tag_shown tag_copies (λ line. line.tags) (λ line. line.fields) begun (some_tags l.tags) told_tags)
     (fields : ToldParts field_shown field_copies (λ line. line.fields) (λ line. line.tags) told_tags l.fields told_fields)
-    (last : TellsEnd told_fields l.series l.timestamp (is_own_base l.measurement (some_tags l.tags)) new) where
+    (last : TellsEnd told told_fields l.series l.timestamp new)
+    (base : new.line.series_is_base ≡ is_own_base l.measurement (some_tags l.tags)) where
   -- how many tags and fields are counted
   counted : (new.line.tags ≡ length (some_tags l.tags)) × (new.line.fields ≡ length l.fields)
   counted = (
@@ -348,7 +351,7 @@ module _ (l : format.Line) (old begun told_tags told_fields new : Lent) (first :
               ∙ (ap (map field_shown) (take_all new.line.fields full_fields (omega (arith, few, counted.1))) ∙ fields_shown));
           timestamp = last.timestamp;
           no_timestamp = last.no_timestamp;
-          series_is_base = ap (λ line. line.series_is_base) last.line;
+          series_is_base = base;
           fault = ap (λ line. line.fault) last.line;
           side = ap (λ line. line.side) last.line;
         }
@@ -381,13 +384,14 @@ module _ (l : format.Line) (old begun told_tags told_fields new : Lent) (first :
   }
 
 -- the events of a line tell it
-events_told : (dialect : Dialect) (text : List ℕ) (l : format.Line) (old new : Telling) → length text < 2 ^ 63 → answer dialect text ≡ Ok l
+events_told : (dialect : Dialect) (l : format.Line) (old new : Telling) → length old.text.now < 2 ^ 63 → answer dialect old.text.now ≡ Ok l
     → TakesAll Tells old (events_of_line l) new → (new.fault ≡ old.fault) × ToldLine l (lent_to old) (lent_to new)
-events_told dialect text l old new short is (begun, first, told) =
-    let few = line_room dialect text l is in
+events_told dialect l old new short is (begun, first, told) =
+    let few = line_room dialect old.text.now l is in
     let parted = takes_parted Tells begun new (map tagged (some_tags l.tags) ++ map valued l.fields) (end_of_line l ∷ []) told in
     let front = takes_parted Tells begun parted.0 (map tagged (some_tags l.tags)) (map valued l.fields) parted.1 in
     let last : Tells parted.0 (end_of_line l) new = rw parted.2.2 at parted.2.1 in
+    let same : parted.0.text.now ≡ old.text.now = (same_memory begun parted.0 _ parted.1).text ∙ first.text in
     let tags = told_parts tagged tag_shown tag_copies (λ line. line.tags) (λ line. line.fields) (λ s. refl)
     (λ old new x one. one.does) (λ old new x one. one.fault) begun front.0 (some_tags l.tags)
     (omega (arith, few, short, first.does.tags)) (omega (arith, first.does.copies.counted)) front.1 in
@@ -396,14 +400,14 @@ events_told dialect text l old new short is (begun, first, told) =
     (omega (arith, few, short, tags.1.kept, first.does.fields)) (omega (arith, tags.1.copied.counted)) front.2 in (
       last.fault ∙ (fields.0 ∙ (tags.0 ∙ first.fault)),
       told_line l (lent_to old) (lent_to begun) (lent_to front.0) (lent_to parted.0) (lent_to new) first.does tags.1 fields.1 last.does
-          (line_some_tags dialect text l is) (omega (arith, few, short)),
+          (last.does.base dialect l (rw same is)) (line_some_tags dialect old.text.now l is) (omega (arith, few, short)),
     )
 
 -- what the format answers for a line was told
-pub answer_told : (dialect : Dialect) (text : List ℕ) (old new : Telling) (events : List Event) → length text < 2 ^ 63 → old.fault ≡ None
-    → AreEventsOf text events (answer dialect text) → TakesAll Tells old events new
-    → Told (answer dialect text) new.fault (lent_to old) (lent_to new)
-answer_told dialect text old new events short none are told = go (answer dialect text) refl are
+pub answer_told : (dialect : Dialect) (old new : Telling) (events : List Event) → length old.text.now < 2 ^ 63 → old.fault ≡ None
+    → AreEventsOf old.text.now events (answer dialect old.text.now) → TakesAll Tells old events new
+    → Told (answer dialect old.text.now) new.fault (lent_to old) (lent_to new)
+answer_told dialect old new events short none are told = go (answer dialect old.text.now) refl are
   where
     -- of a fault the last event is kept
     kept_fault : (kept : Option SpelledFault) (fault : Fault) → option_map spelled_fault kept ≡ Some fault
@@ -412,10 +416,10 @@ answer_told dialect text old new events short none are told = go (answer dialect
     kept_fault (Some kept) fault is = cc
 
     -- by what is answered
-    go : (read : Result format.Line Fault) → answer dialect text ≡ read → AreEventsOf text events read
+    go : (read : Result format.Line Fault) → answer dialect old.text.now ≡ read → AreEventsOf old.text.now events read
         → Told read new.fault (lent_to old) (lent_to new)
     go (Ok l) is are =
-        let line = events_told dialect text l old new short is (rw are at told) in
+        let line = events_told dialect l old new short is (rw are at told) in
         let no_fault : new.fault ≡ None = line.0 ∙ none in
         rw no_fault line.1
     go (Err fault) is (front, parts, are) =

@@ -41,7 +41,7 @@ abbrev pub event_len : Event → ℕ
 event_len (named name) = length name.bytes
 event_len (tagged tag) = tag_len tag
 event_len (valued field) = field_len field
-event_len (ended series timestamp is_base) = 0
+event_len (ended series timestamp) = 0
 event_len (failed fault) = 0
 
 -- what the sink does with an event
@@ -49,7 +49,7 @@ abbrev pub Does : Placing → Event → Placing → Type 0
 Does old (named name) new = (new.tags ≡ 0) × (new.fields ≡ 0) × ShowsName name new
 Does old (tagged tag) new = TellsPart tag_at logical_tag (λ s. s.tags) (λ s. s.fields) old tag new
 Does old (valued field) new = TellsPart field_at logical_field (λ s. s.fields) (λ s. s.tags) old field new
-Does old (ended series timestamp is_base) new =
+Does old (ended series timestamp) new =
     (new.timestamp ≡ timestamp) × (new.tags ≡ old.tags) × (new.fields ≡ old.fields) × (new.name ≡ old.name)
     × (new.parts.now ≡ old.parts.now)
 Does old (failed fault) new = Unit {0}

@@ -1,8 +1,9 @@
 -- What the sink of the parts of a line does with each, and what it has put at the end.
-use Rattle.std.specs.Prelude.{◌≡◌, ◌<◌, ◌≤◌, ◌+◌, ◌-◌, ◌^◌, ◌==◌, ℕ, ℤ, Bool, List, [], ◌∷◌, ◌++◌, false, drop, length, min, not, pos, take}
+use Rattle.std.specs.Prelude.{◌≡◌, ◌<◌, ◌≤◌, ◌+◌, ◌-◌, ◌^◌, ◌==◌, ℕ, ℤ, List, [], ◌∷◌, ◌++◌, false, drop, length, min, not, pos, take}
 use Rattle.std.specs.Prelude.{Option, Some, None, Result, Ok, Err, if◌then◌else◌, slice_set}
 use Rattle.std.specs.List.{sum_by}
 use Rattle.influxdb_line_protocol.specs.code.Events.{Event, ended, failed, named, tagged, valued}
+use Rattle.influxdb_line_protocol.specs.code.OwnBases.{TellsBase}
 use Rattle.influxdb_line_protocol.specs.code.SpelledParts.{spelled_fault}
 use Rattle.influxdb_line_protocol.specs.format.Lines as format
 use Rattle.influxdb_line_protocol.specs.format.Points.{Pair}
@@ -124,8 +125,9 @@ TellsTag = TellsPart tag_shown tag_copies (λ line. line.tags) (λ line. line.fi
 abbrev pub TellsField : Lent → Pair Text (Value Text) → Lent → Type 0
 TellsField = TellsPart field_shown field_copies (λ line. line.fields) (λ line. line.tags)
 
--- a line ends, with this series text, this timestamp and whether that text is its base; it has a tag set if it has tags, and no fault
-pub record TellsEnd (old : Lent) (text : List ℕ) (time : Option ℤ) (is_base : Bool) (new : Lent) : Type 0 where
+-- this line ends, with this series text and this timestamp; it has a tag set if it has tags, and no fault, and tells whether the series
+-- text is its base
+pub record TellsEnd (told : List ℕ) (old : Lent) (text : List ℕ) (time : Option ℤ) (new : Lent) : Type 0 where
   pub line : new.line ≡ record old.line {
     series = new.line.series;
     has_tag_set = not (old.line.tags == 0);
@@ -133,31 +135,33 @@ pub record TellsEnd (old : Lent) (text : List ℕ) (time : Option ℤ) (is_base 
     timestamp = new.line.timestamp;
     fault = fault_number FaultKind.None;
     side = side_number Side.Neither;
-    series_is_base = is_base;
+    series_is_base = new.line.series_is_base;
   }
   pub series : new.line.series.now ≡ text
   pub timestamp : timestamp_shown new.line ≡ time
   pub no_timestamp : new.line.has_timestamp ≡ false → new.line.timestamp ≡ pos 0
+  pub base : TellsBase told new.line.series_is_base
   pub parts : new.parts ≡ old.parts
   pub room : new.room ≡ old.room
 
--- what the sink does with an event
-abbrev pub Does : Lent → Event → Lent → Type 0
-Does old (named name) new = TellsName old name new
-Does old (tagged tag) new = TellsTag old tag new
-Does old (valued field) new = TellsField old field new
-Does old (ended series timestamp is_base) new = TellsEnd old series timestamp is_base new
-Does old (failed fault) new = Unit {0}
+-- what the sink of this line does with an event
+abbrev pub Does : List ℕ → Lent → Event → Lent → Type 0
+Does told old (named name) new = TellsName old name new
+Does told old (tagged tag) new = TellsTag old tag new
+Does told old (valued field) new = TellsField old field new
+Does told old (ended series timestamp) new = TellsEnd told old series timestamp new
+Does told old (failed fault) new = Unit {0}
 
--- the sink takes an event: it puts it into the same memory, and keeps a fault
+-- the sink takes an event of its line: it puts it into the same memory, and keeps a fault
 pub record Tells (old : Telling) (event : Event) (new : Telling) : Type 0 where
+  pub text : new.text.now ≡ old.text.now
   pub line : new.line.ghost_name ≡ old.line.ghost_name
   pub parts : new.parts.ghost_name ≡ old.parts.ghost_name
   pub room : new.room.ghost_name ≡ old.room.ghost_name
   pub size : length new.parts.now ≡ length old.parts.now
   pub room_size : length new.room.now.bytes.now ≡ length old.room.now.bytes.now
   pub fault : KeepsFault old.fault event new.fault
-  pub does : Does (lent_to old) event (lent_to new)
+  pub does : Does old.text.now (lent_to old) event (lent_to new)
 
 -- a line with its copy at the front of the room
 abbrev pub filled_line : List ℕ → Line → Line

@@ -12,15 +12,15 @@ ghost use Rattle.lp_c.specs.Telling.{TellsField, TellsTag, Told, lent, lent_to};
 
 use crate::lent::{fill_line, put_fault, put_field, put_tag, show_field, show_tag, show_text};
 use crate::views::{Answer, FaultKind, Line, Part, Room, Side};
-use influxdb_line_protocol::{
-    Dialect, EventSink, Spelled, SpelledFault, SpelledValue, read_line_events,
-};
+use influxdb_line_protocol::{Dialect, Spelled, SpelledFault, SpelledValue};
+use lp_events::{PlacedSink, read_placed_events};
 
-/// A line that is told: where it is put, what was counted of it, and its fault, if it has one.
+/// A line that is told: its text, where it is put, what was counted of it, and its fault, if it has one.
 ///
 /// The counts are not in the line until it was told, since a number in memory is loaded and stored again for each part.
 #[derive(Drop)]
 pub(crate) struct Telling<'l, 'a> {
+    pub(crate) text: &'a str,
     pub(crate) line: &'l mut Line<'a>,
     pub(crate) parts: &'l mut [Part<'a>],
     pub(crate) room: &'l mut Room<'a>,
@@ -30,20 +30,22 @@ pub(crate) struct Telling<'l, 'a> {
     pub(crate) fault: Option<SpelledFault<'a>>,
 }
 
-impl<'l, 'a> EventSink<'a> for Telling<'l, 'a> {
+impl<'l, 'a> PlacedSink<'a> for Telling<'l, 'a> {
     ghost use Rattle.lp_c.specs.Telling.{Tells};
+
+    ghost line = { λ telling. telling.text.now };
 
     ghost takes = { Tells };
 
     #[inline(always)]
-    fn measurement(&mut self, name: Spelled<'a>) {
+    fn measurement(&mut self, name: Spelled<'a>, left: usize) {
         self.tags = 0;
         self.fields = 0;
         self.copied_len = show_text(&mut self.line.measurement, self.room, 0, name);
     }
 
     #[inline(always)]
-    fn tag(&mut self, key: Spelled<'a>, value: Spelled<'a>) {
+    fn tag(&mut self, key: Spelled<'a>, value: Spelled<'a>, key_left: usize, left: usize) {
         let at = self.tags.wrapping_add(self.fields);
         self.tags = self.tags.wrapping_add(1);
         self.copied_len = if at < self.parts.len() {
@@ -54,7 +56,7 @@ impl<'l, 'a> EventSink<'a> for Telling<'l, 'a> {
     }
 
     #[inline(always)]
-    fn field(&mut self, key: Spelled<'a>, value: SpelledValue<'a>) {
+    fn field(&mut self, key: Spelled<'a>, value: SpelledValue<'a>, key_left: usize, left: usize) {
         let at = self.tags.wrapping_add(self.fields);
         self.fields = self.fields.wrapping_add(1);
         self.copied_len = if at < self.parts.len() {
@@ -81,19 +83,19 @@ impl<'l, 'a> EventSink<'a> for Telling<'l, 'a> {
     }
 }
 
-// Tells what the trimmed text `text` says.
+// Tells what the line says, which is a trimmed text.
 #[inline(always)]
-fn tell_line<'l, 'a>(dialect: Dialect, text: &'a str, telling: &mut Telling<'l, 'a>)
-    requires short { length text.now < 2 ^ 63 }
+fn tell_line<'l, 'a>(dialect: Dialect, telling: &mut Telling<'l, 'a>)
+    requires short { length telling.old.text.now < 2 ^ 63 }
     requires no_fault { telling.old.fault ≡ None }
     ensures line { telling.new.line.ghost_name ≡ telling.old.line.ghost_name }
     ensures parts { telling.new.parts.ghost_name ≡ telling.old.parts.ghost_name }
     ensures room { telling.new.room.ghost_name ≡ telling.old.room.ghost_name }
     ensures size { length telling.new.parts.now ≡ length telling.old.parts.now }
     ensures room_size { length telling.new.room.now.bytes.now ≡ length telling.old.room.now.bytes.now }
-    ensures told { Told (answer (rules_of dialect) text.now) telling.new.fault (lent_to telling.old) (lent_to telling.new) }
+    ensures told { Told (answer (rules_of dialect) telling.old.text.now) telling.new.fault (lent_to telling.old) (lent_to telling.new) }
 {
-    read_line_events(dialect, text, telling);
+    let _stop = read_placed_events(dialect, telling.text, telling);
 }
 
 // Gives back what was lent. This changes nothing; it is where the loans end, so that the caller knows what they leave.
@@ -119,6 +121,7 @@ fn put_told<'a>(
     ensures room { length room.new.bytes.now ≡ length room.old.bytes.now }
 {
     let mut telling = Telling {
+        text,
         line,
         parts,
         room,
@@ -127,7 +130,7 @@ fn put_told<'a>(
         copied_len: 0,
         fault: None,
     };
-    tell_line(dialect, text, &mut telling);
+    tell_line(dialect, &mut telling);
     let Telling {
         line,
         parts,
@@ -136,6 +139,7 @@ fn put_told<'a>(
         fields,
         copied_len,
         fault,
+        ..
     } = telling;
     line.tags = tags;
     line.fields = fields;

@@ -49,7 +49,7 @@ impl<'a> EventSink<'a> for Items<'_> {
     }
 
     // The head of a line is known at its end alone.
-    fn end(&mut self, series: &'a str, timestamp: Option<i64>, _is_base: bool) {
+    fn end(&mut self, series: &'a str, timestamp: Option<i64>) {
         if let Some(timestamp) = timestamp {
             let _ = write!(self.report, " at {timestamp}");
         }

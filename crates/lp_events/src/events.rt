@@ -6,7 +6,7 @@ ghost use Rattle.lp_split.specs.code.{rules_of};
 ghost use Rattle.lp_values.specs.code.SpelledParts.{GivesSpelled, spelled_fault, spelled_text, spelled_value};
 ghost use Rattle.lp_events.specs.code.Events.{AreCounted, AreEventsOf, AreEventsOfText, AreFields, AreTags, AreToldBefore, Event};
 ghost use Rattle.lp_events.specs.code.Events.{WasTold, WasToldParts, ended, failed, named, spelled_field, spelled_tag, tagged, valued};
-ghost use Rattle.lp_events.specs.code.OwnBases.{KeepsOn};
+ghost use Rattle.lp_events.specs.code.OwnBases.{KeepsOn, TellsBase};
 ghost use Rattle.lp_events.specs.code.Stops.{IsStopOf};
 ghost use Rattle.lp_events.specs.code.Places.{EndsBefore, IsEndOf, LiesAt, ValueEndsBefore, placed_field, placed_tag};
 
@@ -28,7 +28,7 @@ use lp_values::{ErrorKind, Spelled, SpelledFault, SpelledValue};
 /// For contracts it has the member `takes`: what the sink is after it was told of an event.
 ///
 /// ```text
-/// m,t=x a=1i  calls  measurement(m), tag(t, x), field(a, I64(1)), end("m,t=x", None, true)
+/// m,t=x a=1i  calls  measurement(m), tag(t, x), field(a, I64(1)), end("m,t=x", None)
 /// m,t=x,u     calls  measurement(m), tag(t, x), fault(GenericParsingError)
 /// m a=1i,b=x  calls  measurement(m), field(a, I64(1)), fault(CannotParseEntireLine)
 /// ```
@@ -48,10 +48,10 @@ pub trait EventSink<'a> {
     fn field(&mut self, key: Spelled<'a>, value: SpelledValue<'a>)
         ensures { takes self.old (valued (spelled_field (key.entry, value.entry))) self.new };
 
-    /// The line ends: `series` is the front of it that was read as measurement and tags. `is_base` tells whether that is the base of
-    /// the series as it stands: no name is a copy, and each tag key is greater than the one before it, by bytes.
-    fn end(&mut self, series: &'a str, timestamp: Option<i64>, is_base: bool)
-        ensures { takes self.old (ended series.now timestamp is_base) self.new };
+    /// The line ends: `series` is the front of it that was read as measurement and tags. Whether that is the base of the series, a
+    /// [`PlacedSink`] is told.
+    fn end(&mut self, series: &'a str, timestamp: Option<i64>)
+        ensures { takes self.old (ended series.now timestamp) self.new };
 
     /// The line is at fault. What was told of it is no line.
     fn fault(&mut self, fault: SpelledFault<'a>)
@@ -60,8 +60,8 @@ pub trait EventSink<'a> {
 
 /// What takes the parts of a line together with how many bytes of the line are left after each: so a sink knows where they lie.
 ///
-/// It is told what an [`EventSink`] is told. A name that is a part of the line ends where so many bytes are left; so does the text of a
-/// float, and that of a string, with the quote after it.
+/// It is told what an [`EventSink`] is told, and at the end of a line whether the text of its series is its base. A name that is a part of
+/// the line ends where so many bytes are left; so does the text of a float, and that of a string, with the quote after it.
 ///
 /// For contracts it has two members: `line`, the line that the sink is told of, and `takes`, as an [`EventSink`] has it.
 ///
@@ -94,9 +94,11 @@ pub trait PlacedSink<'a> {
         ensures takes { takes self.old (valued (spelled_field (key.entry, value.entry))) self.new }
         ensures line { line self.new ≡ line self.old };
 
-    /// The line ends, as an [`EventSink`] is told.
+    /// The line ends: `series` is the front of it that was read as measurement and tags. `is_base` tells whether that is the base of
+    /// the series as it stands: no name is a copy, and each tag key is greater than the one before it, by bytes.
     fn end(&mut self, series: &'a str, timestamp: Option<i64>, is_base: bool)
-        ensures { takes self.old (ended series.now timestamp is_base) self.new };
+        requires { TellsBase (line self.old) is_base }
+        ensures { takes self.old (ended series.now timestamp) self.new };
 
     /// The line is at fault. What was told of it is no line.
     fn fault(&mut self, fault: SpelledFault<'a>)
@@ -274,7 +276,8 @@ fn field_set<'a, S: PlacedSink<'a>>(
     sink: &mut S,
 ) -> Result<Option<&'a str>, SpelledFault<'a>>
     requires { IsEndOf (S.line sink.old) text.now }
-    ensures { WasToldParts S.takes valued sink.old sink.new (AreFields result (rules_of dialect) text.now) }
+    ensures told { WasToldParts S.takes valued sink.old sink.new (AreFields result (rules_of dialect) text.now) }
+    ensures line { S.line sink.new ≡ S.line sink.old }
 {
     let Some((count, rest)) = fields(text, sink)? else {
         return Ok(None);
@@ -389,7 +392,7 @@ impl<'s, 'a, S: EventSink<'a>> PlacedSink<'a> for Unplaced<'s, 'a, S> {
 
     #[inline(always)]
     fn end(&mut self, series: &'a str, timestamp: Option<i64>, is_base: bool) {
-        self.sink.end(series, timestamp, is_base);
+        self.sink.end(series, timestamp);
     }
 
     #[inline(always)]

@@ -3,8 +3,6 @@
 ghost use Rattle.std.specs.Prelude.{◌≡◌, ◌++◌};
 ghost use Rattle.lp_format.specs.format.Lines.{front_before};
 
-use crate::bases::Kept;
-
 /// Where the measurement of a line ends, or a tag of it.
 #[derive(Clone, Copy)]
 pub(crate) struct Names<'a> {
@@ -13,8 +11,6 @@ pub(crate) struct Names<'a> {
     pub rest: &'a str,
     /// Whether no tag was read.
     pub is_first: bool,
-    /// What is kept of the series.
-    pub kept: Kept<'a>,
     ghost ends: { front_before line.now rest.now ++ rest.now ≡ line.now },
 }
 
@@ -27,8 +23,6 @@ pub(crate) struct Fields<'a> {
     pub rest: &'a str,
     /// Whether it is the first field.
     pub is_first: bool,
-    /// Whether the text of the series is its base.
-    pub is_base: bool,
 }
 
 /// Where in a text the parts that were read end.

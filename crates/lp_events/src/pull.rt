@@ -9,7 +9,6 @@ ghost use Rattle.lp_events.specs.code.Events.{AreEventsOfText, Event as Told, Wa
 ghost use Rattle.lp_events.specs.code.EventsLeft.{AreLeftAfterSeries, AreLeftFrom, Completes, GivesEvent, HasEventsLeft, Steps};
 ghost use Rattle.lp_events.specs.code.EventsLeft.{most_events, most_of_line, told};
 
-use crate::bases::{after_tag, before_tags};
 use crate::events::{self, EventSink, front_before, rest_after};
 use crate::lines::next_line;
 use crate::place::{Fields, LinePlace, Names};
@@ -27,7 +26,7 @@ use lp_values::{ErrorKind, Spelled, SpelledFault, SpelledValue};
 /// the first that does not read, and, after a space, the fields up to the first that does not.
 ///
 /// ```text
-/// m,t=x a=1i  gives  Measurement(m), Tag(t, x), Field(a, I64(1)), End { series: "m,t=x", .. }
+/// m,t=x a=1i  gives  Measurement(m), Tag(t, x), Field(a, I64(1)), End { series: "m,t=x", timestamp: None }
 /// m,t=x,u     gives  Measurement(m), Tag(t, x), Fault(GenericParsingError)
 /// ```
 #[derive(Clone, Copy)]
@@ -38,12 +37,10 @@ pub enum Event<'a> {
     Tag(Spelled<'a>, Spelled<'a>),
     /// A field of the line: its key and its value.
     Field(Spelled<'a>, SpelledValue<'a>),
-    /// The line ends: `series` is the front of it that was read as measurement and tags, and `is_base` tells whether that is the
-    /// base of the series, as an [`EventSink`] is told.
+    /// The line ends: `series` is the front of it that was read as measurement and tags.
     End {
         series: &'a str,
         timestamp: Option<i64>,
-        is_base: bool,
     },
     /// The line is at fault. What came of it is no line.
     Fault(SpelledFault<'a>),
@@ -63,11 +60,7 @@ impl<'a> Event<'a> {
             Event::Measurement(name) => sink.measurement(name),
             Event::Tag(key, value) => sink.tag(key, value),
             Event::Field(key, value) => sink.field(key, value),
-            Event::End {
-                series,
-                timestamp,
-                is_base,
-            } => sink.end(series, timestamp, is_base),
+            Event::End { series, timestamp } => sink.end(series, timestamp),
             Event::Fault(fault) => sink.fault(fault),
         }
     }
@@ -114,7 +107,6 @@ fn begin<'a>(line: &'a str) -> Step<'a>
         line,
         rest,
         is_first: true,
-        kept: before_tags(name),
     };
     Ok((Event::Measurement(name), LinePlace::Names(names)))
 }
@@ -123,7 +115,7 @@ fn begin<'a>(line: &'a str) -> Step<'a>
 #[tactic(auto, using(crate::proofs::lemmas::pull::EventSteps::first_steps), unfolding(lp_format::specs::format::Lines::answer))]
 #[inline(always)]
 fn first_field<'a>(names: Names<'a>) -> Step<'a>
-    ensures steps { Steps (AreLeftAfterSeries names.entry.line.now names.entry.rest.now names.entry.kept) result }
+    ensures steps { Steps (AreLeftAfterSeries names.entry.line.now names.entry.rest.now) result }
     ensures less { IfOk result (λ p. most_of_line p.1 < length names.entry.rest.now + 1) }
 {
     let Some(_after_space) = strip_byte(b' ', names.rest) else {
@@ -139,7 +131,6 @@ fn first_field<'a>(names: Names<'a>) -> Step<'a>
         series,
         rest,
         is_first: true,
-        is_base: names.kept.is_base,
     };
     Ok((Event::Field(key, value), LinePlace::Fields(fields)))
 }
@@ -160,7 +151,6 @@ fn after_name<'a>(names: Names<'a>) -> Step<'a>
         line: names.line,
         rest,
         is_first: false,
-        kept: after_tag(names.kept, key, value),
     };
     Ok((Event::Tag(key, value), LinePlace::Names(names)))
 }
@@ -176,7 +166,6 @@ fn after_field<'a>(dialect: Dialect, fields: Fields<'a>) -> Step<'a>
             series: fields.series,
             rest,
             is_first: false,
-            is_base: fields.is_base,
         };
         return Ok((Event::Field(key, value), LinePlace::Fields(fields)));
     }
@@ -190,7 +179,6 @@ fn after_field<'a>(dialect: Dialect, fields: Fields<'a>) -> Step<'a>
     let end = Event::End {
         series: fields.series,
         timestamp,
-        is_base: fields.is_base,
     };
     Ok((end, LinePlace::Between))
 }
@@ -257,7 +245,7 @@ impl<'a> ParseEvents<'a> {
     /// Tells a sink of the events that are left.
     ///
     /// ```text
-    /// after Measurement(m) of  m a=1i  it calls  field(a, I64(1)), end("m", None, true)
+    /// after Measurement(m) of  m a=1i  it calls  field(a, I64(1)), end("m", None)
     /// ```
     pub fn tell<S: EventSink<'a>>(self, sink: &mut S)
         ensures { WasTold S.takes sink.old sink.new (HasEventsLeft self.entry) }

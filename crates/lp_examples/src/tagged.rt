@@ -32,7 +32,7 @@ impl<'a, 'k> EventSink<'a> for Tagged<'k> {
 
     fn field(&mut self, _key: Spelled<'a>, _value: SpelledValue<'a>) {}
 
-    fn end(&mut self, _series: &'a str, _timestamp: Option<i64>, _is_base: bool) {
+    fn end(&mut self, _series: &'a str, _timestamp: Option<i64>) {
         if self.has_tag {
             self.count = self.count.wrapping_add(1);
         }

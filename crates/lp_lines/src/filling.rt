@@ -253,7 +253,7 @@ impl<'l, 'a> EventSink<'a> for Filling<'l, 'a> {
     }
 
     #[inline(always)]
-    fn end(&mut self, series: &'a str, timestamp: Option<i64>, _is_base: bool) {
+    fn end(&mut self, series: &'a str, timestamp: Option<i64>) {
         self.line.series.raw_input = series;
         self.line.timestamp = timestamp;
     }

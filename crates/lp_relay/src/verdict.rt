@@ -30,7 +30,7 @@ impl<'a> EventSink<'a> for Verdict<'a> {
     fn field(&mut self, _key: Spelled<'a>, _value: SpelledValue<'a>) {}
 
     #[inline(always)]
-    fn end(&mut self, _series: &'a str, _timestamp: Option<i64>, _is_base: bool) {}
+    fn end(&mut self, _series: &'a str, _timestamp: Option<i64>) {}
 
     #[inline(always)]
     fn fault(&mut self, fault: SpelledFault<'a>) {

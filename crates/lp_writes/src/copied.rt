@@ -77,7 +77,7 @@ impl<'a, 'k> EventSink<'a> for Texts<'k> {
         }
     }
 
-    fn end(&mut self, _series: &'a str, _timestamp: Option<i64>, _is_base: bool) {}
+    fn end(&mut self, _series: &'a str, _timestamp: Option<i64>) {}
 
     fn fault(&mut self, _fault: SpelledFault<'a>) {}
 }

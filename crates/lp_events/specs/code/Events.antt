@@ -1,28 +1,26 @@
 -- What a reader of lines tells a sink.
-use Rattle.std.specs.Prelude.{◌≡◌, ◌⊎◌, ◌++◌, ◌≤◌, ℕ, ℤ, Bool, List, [], ◌∷◌, map, drop, length, Option, Some, None, Result, Ok, Err}
+use Rattle.std.specs.Prelude.{◌≡◌, ◌⊎◌, ◌++◌, ◌≤◌, ℕ, ℤ, List, [], ◌∷◌, map, drop, length, Option, Some, None, Result, Ok, Err}
 use Rattle.std.specs.Borrow.{Bor}
 use Rattle.lp_format.specs.format.{space, Dialect, Line, after_comma, answers_of_piece, byte, field, field_set, separated_list, some_tags, spaces, tag, tag_set}
 use Rattle.lp_format.specs.format.{Pieces.Pieces, a_measurement, name, Pair, Fault, Reading, Text, miss, fatal, reads, trimmed, Value, ◌>>=◌}
 use Rattle.lp_values.specs.declared.{spelled.Spelled.Spelled, spelled.SpelledFault.SpelledFault, spelled.SpelledValue.SpelledValue}
 use Rattle.lp_values.specs.code.SpelledParts.{spelled_fault, spelled_text, spelled_value}
-use Rattle.lp_events.specs.code.OwnBases.{is_own_base}
 
--- what is told of a line: its measurement, a tag, a field, that it ends, with the text of its series, its timestamp and whether that text
--- is the base of the series, or its fault
+-- what is told of a line: its measurement, a tag, a field, that it ends, with the text of its series and its timestamp, or its fault
 pub data Event : Type 0 where
   named : Text → Event
   tagged : Pair Text Text → Event
   valued : Pair Text (Value Text) → Event
-  ended : List ℕ → Option ℤ → Bool → Event
+  ended : List ℕ → Option ℤ → Event
   failed : Fault → Event
 
 -- a measurement, then tags, then fields
 abbrev pub front_events : Text → List (Pair Text Text) → List (Pair Text (Value Text)) → List Event
 front_events measurement tags fields = named measurement ∷ map tagged tags ++ map valued fields
 
--- the end of a line: its series text, its timestamp, and whether the text is the base of the series
+-- the end of a line: its series text and its timestamp
 abbrev pub end_of_line : Line → Event
-end_of_line l = ended l.series l.timestamp (is_own_base l.measurement (some_tags l.tags))
+end_of_line l = ended l.series l.timestamp
 
 -- the events of a line that was read: its measurement, each of its tags, each of its fields and its end, in order
 abbrev pub events_of_line : Line → List Event

@@ -8,8 +8,6 @@ use Rattle.lp_values.specs.code.SpelledParts.{spelled_fault, spelled_text}
 use Rattle.lp_values.specs.declared.spelled.SpelledFault.{SpelledFault}
 use Rattle.lp_events.specs.code.Events.{AreEventsOf, AreEventsOfAll, AreMost, AreRead, Event, ended, failed, front_events, named}
 use Rattle.lp_events.specs.code.Events.{spelled_field, spelled_tag, tagged, valued}
-use Rattle.lp_events.specs.code.OwnBases.{IsKeptOf, is_own_base}
-use Rattle.lp_events.specs.declared.bases.Kept.{Kept}
 use Rattle.lp_events.specs.declared.pull.Event.TheVariants.{Measurement, Tag, Field, End, Fault}
 use Rattle.lp_events.specs.declared.{place.LinePlace.LinePlace, place.LinePlace.TheVariants.Between, place.LinePlace.TheVariants.Names}
 use Rattle.lp_events.specs.declared.{place.LinePlace.TheVariants.Fields, pull.ParseEvents.ParseEvents}
@@ -20,7 +18,7 @@ abbrev pub told : given.Event → Event
 told (Measurement text) = named (spelled_text text)
 told (Tag key value) = tagged (spelled_tag (key, value))
 told (Field key value) = valued (spelled_field (key, value))
-told (End series timestamp is_base) = ended series.now timestamp is_base
+told (End series timestamp) = ended series.now timestamp
 told (Fault fault) = failed (spelled_fault fault)
 
 -- the measurement and these tags of a line were read, and this is left; tags may follow
@@ -66,9 +64,9 @@ pub record Completes (line : List ℕ) (front : List Event) (left : Left) (event
   pub others_are : AreEventsLeft left others
 
 -- these events are left after the tags of a line, whichever they are
-abbrev pub AreLeftAfterSeries : List ℕ → List ℕ → Kept → Left → List Event → Type 0
-AreLeftAfterSeries line rest kept left events =
-    (measurement : Text) (tags : List (Pair Text Text)) → SeriesRead line measurement tags rest → IsKeptOf measurement tags kept
+abbrev pub AreLeftAfterSeries : List ℕ → List ℕ → Left → List Event → Type 0
+AreLeftAfterSeries line rest left events =
+    (measurement : Text) (tags : List (Pair Text Text)) → SeriesRead line measurement tags rest
     → Completes line (front_events measurement tags []) left events
 
 -- these events are left from a place on, whatever was read of its line
@@ -76,10 +74,10 @@ abbrev pub AreLeftFrom : LinePlace → Left → List Event → Type 0
 AreLeftFrom Between left events = AreEventsLeft left events
 AreLeftFrom (Names p) left events =
     (measurement : Text) (tags : List (Pair Text Text)) → NamesRead p.line.now measurement tags p.rest.now p.is_first
-    → IsKeptOf measurement tags p.kept → Completes p.line.now (front_events measurement tags []) left events
+    → Completes p.line.now (front_events measurement tags []) left events
 AreLeftFrom (Fields p) left events =
     (line : List ℕ) (measurement : Text) (tags : List (Pair Text Text)) (fields : List (Pair Text (Value Text)))
-    → FieldsRead line p.series.now measurement tags fields p.rest.now p.is_first → p.is_base ≡ is_own_base measurement tags
+    → FieldsRead line p.series.now measurement tags fields p.rest.now p.is_first
     → Completes line (front_events measurement tags fields) left events
 
 -- a step gives the first of the events that are left, and leaves the others; a fault is the last event of its line

@@ -1,7 +1,7 @@
 -- Whether the text of a series is its base, and what is kept to tell it while tags are read.
-use Rattle.std.specs.Prelude.{◌≡◌, ℕ, ◌&&◌, Bool, true, List, [], ◌∷◌, map}
+use Rattle.std.specs.Prelude.{◌≡◌, ℕ, ◌&&◌, Bool, true, List, [], ◌∷◌, Ok, map}
 use Rattle.std.specs.{Cmp.Lexicographic.slice_cmp, List.list_all, Ordering.is_lt, Ordering.nat_cmp}
-use Rattle.lp_format.specs.{code.Light.is_single_tag, format.Pair, format.Text}
+use Rattle.lp_format.specs.{code.Light.is_single_tag, format.Dialect, format.Line, format.Pair, format.Text, format.answer, format.some_tags}
 use Rattle.lp_events.specs.declared.bases.Kept.{Kept}
 
 -- whether each text is greater than the one before it, by bytes
@@ -17,6 +17,11 @@ keys_of tags = map (λ t. t.key.bytes) tags
 -- whether the text of a series with these names is its base: no name is a copy, and each key is greater than the one before it
 unfoldable pub is_own_base : Text → List (Pair Text Text) → Bool
 is_own_base measurement tags = is_strictly_sorted (keys_of tags) && (measurement.is_single && list_all is_single_tag tags)
+
+-- whatever dialect reads this line, this tells whether the text of its series is its base
+abbrev pub TellsBase : List ℕ → Bool → Type 0
+TellsBase line is_base =
+    (dialect : Dialect) (read : Line) → answer dialect line ≡ Ok read → is_base ≡ is_own_base read.measurement (some_tags read.tags)
 
 -- the last of some texts, and an empty one if there is none
 abbrev pub last_of : List (List ℕ) → List ℕ

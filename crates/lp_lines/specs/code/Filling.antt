@@ -34,7 +34,7 @@ Puts old (named m) new =
     (read_of new.line.now.series.measurement ≡ m) × (tags_so_far new ≡ tags_so_far old) × (fields_so_far new ≡ fields_so_far old)
 Puts old (tagged t) new = (tags_so_far new ≡ tags_so_far old ++ t ∷ []) × (beside_tags new ≡ beside_tags old)
 Puts old (valued f) new = (fields_so_far new ≡ fields_so_far old ++ f ∷ []) × (beside_fields new ≡ beside_fields old)
-Puts old (ended series timestamp is_base) new = (new.line.now.series.raw_input.now ≡ series) × (new.line.now.timestamp ≡ timestamp)
+Puts old (ended series timestamp) new = (new.line.now.series.raw_input.now ≡ series) × (new.line.now.timestamp ≡ timestamp)
     × (beside_tags new ≡ beside_tags old) × (tags_so_far new ≡ tags_so_far old)
 Puts old (failed fault) new = Unit {0}
 
@@ -43,7 +43,7 @@ abbrev pub NeedsRoom : Filling → Event → Type 0
 NeedsRoom old (named m) = m.is_single ≡ false
 NeedsRoom old (tagged t) = (is_single_tag t ≡ false) ⊎ (tag_room old.line.now.series.tag_set ≤ length (tags_so_far old))
 NeedsRoom old (valued f) = (is_single_field f ≡ false) ⊎ (old.line.now.field_set.capacity ≤ length (fields_so_far old))
-NeedsRoom old (ended series timestamp is_base) = ⊥
+NeedsRoom old (ended series timestamp) = ⊥
 NeedsRoom old (failed fault) = ⊥
 
 -- the fault that is kept after an event

@@ -4,8 +4,8 @@ use Rattle.std.proofs.lemmas.{Bool.cases_Bool, List.Folds.list_all-append, List.
 use Rattle.std.proofs.Math.Bool.{and_assoc, and-true}
 use Rattle.std.specs.{Cmp.Lexicographic.slice_cmp}
 use Rattle.lp_format.specs.{code.Light.is_single_tag, format.Pair, format.Text, format.reads, format.NameKind, format.name, format.tag}
-use Rattle.lp_format.specs.format.{a_tag_key, a_tag_value, after_comma, byte, comma, without_escapes}
-use Rattle.lp_values.proofs.lemmas.fields.ReadingLemmas.{bind_reads, name_parts, pair_parts}
+use Rattle.lp_format.specs.format.{a_tag_key, a_tag_value, without_escapes}
+use Rattle.lp_values.proofs.lemmas.fields.ReadingLemmas.{name_parts, pair_parts}
 use Rattle.lp_events.specs.declared.bases.Kept.{Kept}
 use Rattle.lp_events.specs.code.OwnBases.{IsKeptOf, is_own_base, is_strictly_sorted, keys_of, last_of}
 
@@ -23,12 +23,6 @@ name_some kind text t rest e = grind (arith, cases_Bool, name_parts, logical_som
 pub key_some : (text : List ℕ) (t : Pair Text Text) (rest : List ℕ) → tag text ≡ reads t rest → 0 < length t.key.bytes
 unfolding tag
 key_some text t rest e = name_some a_tag_key text t.key _ (pair_parts a_tag_key (name a_tag_value) text t rest e).key
-
--- nor is that of a tag after a comma
-pub next_key_some : (text : List ℕ) (t : Pair Text Text) (rest : List ℕ) → after_comma tag text ≡ reads t rest → 0 < length t.key.bytes
-next_key_some text t rest e =
-    let p = bind_reads (byte comma text) (λ after. tag after.rest) t rest e in
-    key_some p.mid t rest p.next
 
 -- one text more rises if it is greater than the last one
 sorted_more : (keys : List (List ℕ)) (k : List ℕ) → 0 < length k

@@ -1,6 +1,6 @@
 -- What a sink was told of a line, one event after another, and of the lines of a text.
 use Rattle.std.proofs.Common.{◌≡◌, ℕ, ◌+◌, ◌<◌, List, [], ◌∷◌, ◌++◌, length, length-append, map, refl, sym, arith, ◌∙◌}
-use Rattle.std.proofs.Common.{append_assoc, Bool, Some, None, Ok, Result, drop, ℤ, Option, Err, Bor, append-nil, All, eq-eqb, ne_eqb}
+use Rattle.std.proofs.Common.{append_assoc, Some, None, Ok, Result, drop, ℤ, Option, Err, Bor, append-nil, All, eq-eqb, ne_eqb}
 use Rattle.std.proofs.lemmas.{List.map_push, List.Elements.All-head, List.Elements.All-tail}
 use Rattle.lp_format.specs.format.{comma, Fault, Reading, fatal, miss, reads, Text, cannot_parse_entire_line, byte, Line}
 use Rattle.lp_format.specs.format.{answer, after_comma, a_measurement, name, space, spaces, tag, complete, Dialect, answers_of_piece, Left, Pair, trimmed}
@@ -10,7 +10,6 @@ use Rattle.lp_events.specs.code.Events.{AreCounted, AreFields, AreMost, AreRead,
 use Rattle.lp_events.specs.code.Events.{WasTold, ended, front_events, named, tagged, valued}
 use Rattle.lp_events.specs.code.EventsLeft.{AreEventsLeft, Completes}
 use Rattle.lp_events.specs.code.LineSteps.{GivesLine, IsBlankPiece}
-use Rattle.lp_events.specs.code.OwnBases.{is_own_base}
 use Rattle.lp_events.proofs.lemmas.fields.FrontLemmas.{fields_told, front_fields, front_names}
 use Rattle.lp_events.proofs.lemmas.fields.ManyLemmas.{Reached, read_all, read_fault, read_more, reached_more}
 use Rattle.lp_format.proofs.lemmas.meanings.ShorterRests.{IsNoLonger}
@@ -143,17 +142,17 @@ module _ {S : Type 0} (takes : S → Event → S → Type 0) {before begun mid :
         }
 
     -- the line ends after them
-    pub line_told : {answer : Result Line Fault} (last : S) (series : List ℕ) (time : Option ℤ) (is_base : Bool)
-        → takes after (ended series time is_base) last → is_base ≡ is_own_base m tags.parts → answer ≡ Ok (record { series = series; measurement = m; tags = tags.are.0; fields = fields.parts; timestamp = time })
+    pub line_told : {answer : Result Line Fault} (last : S) (series : List ℕ) (time : Option ℤ) → takes after (ended series time) last
+        → answer ≡ Ok (record { series = series; measurement = m; tags = tags.are.0; fields = fields.parts; timestamp = time })
         → WasTold takes before last (AreToldBefore {X = Unit {0}} (Ok (tt {0})) line answer)
-    line_told last series time is_base done base is =
+    line_told last series time done is =
         record {
-          events = front_events m tags.parts fields.parts ++ ended series time is_base ∷ [];
-          told = takes_more takes before after last (front_events m tags.parts fields.parts) (ended series time is_base) front_told done;
+          events = front_events m tags.parts fields.parts ++ ended series time ∷ [];
+          told = takes_more takes before after last (front_events m tags.parts fields.parts) (ended series time) front_told done;
           are = (
             record { series = series; measurement = m; tags = tags.are.0; fields = fields.parts; timestamp = time },
             is,
-            rw (tags.are.2, base) refl,
+            rw tags.are.2 refl,
           );
         }
 

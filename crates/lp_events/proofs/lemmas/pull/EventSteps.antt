@@ -12,7 +12,6 @@ use Rattle.lp_values.proofs.lemmas.fields.ReadingLemmas.{EndsIn, bind_reads, byt
 use Rattle.lp_values.specs.declared.spelled.SpelledFault.{SpelledFault}
 use Rattle.lp_events.specs.code.Events.{reader_after, AreEventsOf, AreLongestFront, AreMost, Event, ended, failed, front_events, tagged, valued}
 use Rattle.lp_events.specs.code.EventsLeft.{AreEventsLeft, Completes, FieldsRead, NamesRead, SeriesRead, Steps, most_of_line}
-use Rattle.lp_events.specs.code.OwnBases.{is_own_base}
 use Rattle.lp_events.specs.declared.{place.LinePlace.LinePlace}
 use Rattle.lp_events.specs.code.Stops.{DoesNotRead}
 use Rattle.lp_events.proofs.lemmas.fields.ManyLemmas.{after_some, are_most, read_all, read_fault, read_more, same_reader}
@@ -152,14 +151,13 @@ module _ {line series : List ℕ} {m : Text} {tags : List (Pair Text Text)} {fie
     left_fault time more t some = grind (arith, all_fields, h.series_read, complete_some)
 
     -- nothing is left: the end completes the line
-    pub completes_end : (left : Left) (others : List Event) (time : Option ℤ) (is_base : Bool) (more : List ℕ) → left.dialect ≡ dialect
-        → is_base ≡ is_own_base m tags
+    pub completes_end : (left : Left) (others : List Event) (time : Option ℤ) (more : List ℕ) → left.dialect ≡ dialect
         → timestamp (without_comma dialect fields rest) ≡ Ok (record { value = time; rest = more }) → length more ≡ 0
-        → AreEventsLeft left others → Completes line (front_events m tags fields) left (ended series time is_base ∷ others)
+        → AreEventsLeft left others → Completes line (front_events m tags fields) left (ended series time ∷ others)
     unfolding answer
-    completes_end left others time is_base more d base t empty later =
+    completes_end left others time more d t empty later =
         record {
-          first = ended series time is_base ∷ [];
+          first = ended series time ∷ [];
           others = others;
           events_are = refl;
           line_is = rw (
@@ -172,7 +170,6 @@ module _ {line series : List ℕ} {m : Text} {tags : List (Pair Text Text)} {fie
             h.series_is,
             complete_none _ more empty,
             h.series_read.tags_are,
-            base,
           ) refl;
           others_are = later;
         }
