@@ -1,6 +1,7 @@
 # shellcheck shell=bash
-# For the scripts that build crates. `launch NAME CRATE ARGUMENTS..`, of `lp_rebuild` and `lp_relay`, runs the program of a crate,
-# and ends with its exit status. What was not built from these sources is proved and built first; a terminal sees how far that is.
+# For the scripts that build crates. `launch NAME CRATE ARGUMENTS..`, of `lp_rebuild`, `lp_relay` and `lp_series`, runs the
+# program of a crate, and ends with its exit status. What was not built from these sources is proved and built first; a terminal sees how
+# far that is.
 # Crates that do not stand on one another are proved side by side. A run of rt keeps others out of its crate's folder and of those of the
 # crates below. So where more than one crate can be proved, each is proved in a copy of the sources: rt takes what was proved in
 # another copy, by the folder rattle-kept beside the kit. Where that cannot be written to, one crate is proved after the other.

@@ -62,6 +62,8 @@ joined() {
 }
 check_programs() {
     part checks/arguments.sh checks/arguments.sh "$made/lp_rebuild_program" "$made/lp_relay_program"
+    part checks/series_arguments.sh checks/series_arguments.sh "$made/lp_series_program"
+    part checks/series.sh checks/series.sh "$made/lp_relay_program" "$made/lp_series_program"
     part checks/losses.sh checks/losses.sh "$made/lp_relay_program"
     part checks/inputs.sh checks/inputs.sh "$made/lp_rebuild_program" "$made/lp_relay_program"
     part checks/posting.sh checks/posting.sh "$made/lp_relay_program"
@@ -109,7 +111,7 @@ part misuses/check.sh misuses/check.sh
 part "rt ci" checks/times.py run "$made/crates" rt ci | hold_last
 gate=${PIPESTATUS[0]}
 joined
-if cp crates/lp_rebuild_program/out/lp_rebuild_program crates/lp_relay_program/out/lp_relay_program "$made"; then
+if cp crates/lp_{rebuild_program/out/lp_rebuild_program,relay_program/out/lp_relay_program,series_program/out/lp_series_program} "$made"; then
     beside beside_programs
     check_programs
     joined

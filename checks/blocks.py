@@ -21,7 +21,7 @@ import options
 TOP = Path(__file__).resolve().parent.parent
 EXAMPLES = TOP / "crates" / "lp_examples"
 PLACES = ["crates/lp_examples/src/*.rt", "bindings/c/example.c", "bindings/c/cuts.c", "bindings/c/writing.c",
-          "bindings/rust/examples/*.rs", "bindings/python/example.py", "bindings/go/example_test.go"]
+          "bindings/c/sums.c", "bindings/rust/examples/*.rs", "bindings/python/example.py", "bindings/go/example_test.go"]
 DOCUMENTS = ["README.md", "docs/RATTLE.md", "docs/BINDINGS.md"]
 ANSWERS = "crates/lp_answers/data/answers.tsv"
 LANGUAGES = ("rust", "antt", "c", "rs", "python", "go")  # of the blocks that must be copies

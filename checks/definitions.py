@@ -21,7 +21,7 @@ TOP = Path(__file__).resolve().parent.parent
 DOCS = TOP / "docs"
 LIBRARIES = [
     "lp_format", "lp_scan", "lp_split", "lp_values", "lp_events", "lp_lines", "lp_build", "lp_written",
-    "influxdb_line_protocol", "lp_rebuild", "lp_relay", "lp_relay_program", "lp_c",
+    "influxdb_line_protocol", "lp_rebuild", "lp_relay", "lp_series", "lp_programs", "lp_relay_program", "lp_series_program", "lp_c",
 ]
 
 HEAD = """\
@@ -45,9 +45,12 @@ Definitions of `specs/` that the contract of no public call cites: the code and 
 `checks/definitions.py --write` writes this page too.
 """
 
+# The crates of the programs `lp_relay` and `lp_series`, and of what they share.
+PROGRAMS = ["lp_programs", "lp_relay_program", "lp_series_program"]
+
 # Crates of which a caller names what their roots hand on, and crates all of whose public functions are for callers.
-HANDED_ON = ["influxdb_line_protocol", "lp_rebuild", "lp_relay"]
-PUBLIC = ["influxdb_line_protocol", "lp_c", "lp_relay_program"]
+HANDED_ON = ["influxdb_line_protocol", "lp_rebuild", "lp_relay", "lp_series"]
+PUBLIC = ["influxdb_line_protocol", "lp_c", *PROGRAMS]
 
 # The rooms of specs/, and what is in them.
 PARTS = {
@@ -55,13 +58,15 @@ PARTS = {
     "code": ("What the code holds, finds and returns", "They tie the code's types and searches to the format."),
     "laws": ("The laws", "What the definitions say of one another, and the words of these statements."),
     "program": ("Rebuilt texts", "The definitions of `lp_rebuild`."),
-    "relay": ("The relay", "The definitions of `lp_relay` and `lp_relay_program`."),
+    "relay": ("The relay", "The definitions of `lp_relay`."),
+    "series": ("Series", "The definitions of `lp_series`."),
+    "programs": ("The programs", "The definitions of `lp_programs`, `lp_relay_program` and `lp_series_program`."),
     "callers": ("Callers in C", "The definitions of `lp_c`."),
 }
 
 
 # The parts of the crates above the library.
-ROOMS = {"lp_rebuild": "program", "lp_relay": "relay", "lp_relay_program": "relay", "lp_c": "callers"}
+ROOMS = {"lp_rebuild": "program", "lp_relay": "relay", "lp_series": "series", "lp_c": "callers", **dict.fromkeys(PROGRAMS, "programs")}
 
 
 @dataclass

@@ -29,10 +29,11 @@ fail() {
 # The built files come into a folder of this check.
 mkdir "$work/built"
 if [ $# = 0 ]; then
-    build_if_changed dist lp_rebuild_program lp_relay_program lp_c || exit 1
-    cp "$top"/crates/{lp_rebuild_program/out/lp_rebuild_program,lp_relay_program/out/lp_relay_program,lp_c/out/liblp_c.a} "$work/built"
+    build_if_changed dist lp_rebuild_program lp_relay_program lp_series_program lp_c || exit 1
+    cp "$top"/crates/{lp_rebuild_program/out/lp_rebuild_program,lp_relay_program/out/lp_relay_program,lp_series_program/out/lp_series_program} "$work/built"
+    cp "$top/crates/lp_c/out/liblp_c.a" "$work/built"
 else
-    cp "$1"/{lp_rebuild_program,lp_relay_program,liblp_c.a} "$work/built"
+    cp "$1"/{lp_rebuild_program,lp_relay_program,lp_series_program,liblp_c.a} "$work/built"
 fi
 version=$(version)
 name=influxdb-line-protocol-$version-x86_64-linux
@@ -41,6 +42,7 @@ package=$work/one/influxdb-line-protocol_${version}_amd64.deb
 # What is installed, a name in each line.
 installed="bin/lp_rebuild
 bin/lp_relay
+bin/lp_series
 include/influxdb_line_protocol.h
 lib/cmake/influxdb_line_protocol/influxdb_line_protocol-config-version.cmake
 lib/cmake/influxdb_line_protocol/influxdb_line_protocol-config.cmake
@@ -51,10 +53,12 @@ lib/libinfluxdb_line_protocol.so.$version
 lib/pkgconfig/influxdb_line_protocol.pc
 share/bash-completion/completions/lp_rebuild
 share/bash-completion/completions/lp_relay
+share/bash-completion/completions/lp_series
 share/doc/influxdb-line-protocol/LICENSE-APACHE
 share/doc/influxdb-line-protocol/LICENSE-MIT
 share/man/man1/lp_rebuild.1
 share/man/man1/lp_relay.1
+share/man/man1/lp_series.1
 share/man/man3/influxdb_line_protocol.3"
 
 # equal WHAT WANTED GOT: two texts must be equal.
@@ -102,9 +106,9 @@ install_from_sources() {
     (cd "$top" && cp -R bin include man packaging launch.sh CHANGELOG.md LICENSE-* "$copy")
     mkdir -p "$copy/bindings"
     cp -R "$top/bindings/build.sh" "$top/bindings/c" "$copy/bindings"
-    mkdir -p "$copy"/crates/{lp_rebuild_program,lp_relay_program,lp_c}/src
-    touch "$copy"/crates/{lp_rebuild_program,lp_relay_program}/src/main.rt "$copy/crates/lp_c/src/lib.rt"
-    printf 'lp_rebuild_program:\nlp_relay_program:\nlp_c staticlib:\n' >"$copy/crates.txt"
+    mkdir -p "$copy"/crates/{lp_rebuild_program,lp_relay_program,lp_series_program,lp_c}/src
+    touch "$copy"/crates/{lp_rebuild_program,lp_relay_program,lp_series_program}/src/main.rt "$copy/crates/lp_c/src/lib.rt"
+    printf 'lp_rebuild_program:\nlp_relay_program:\nlp_series_program:\nlp_c staticlib:\n' >"$copy/crates.txt"
     cat >"$work/stub/rt" <<'STUB'
 #!/bin/sh
 crate=$(basename "$PWD")
@@ -120,7 +124,7 @@ STUB
         PATH=$work/stub:$PATH "$copy/bin/install" "$work/from sources" >"$work/said"
         diff -r --no-dereference "$prefix" "$work/from sources" || fail "bin/install gives other files from sources"
     done
-    equal "what rt was called for" $'lp_c lib\nlp_rebuild_program run\nlp_relay_program run' "$(sort "$CALLS")"
+    equal "what rt was called for" $'lp_c lib\nlp_rebuild_program run\nlp_relay_program run\nlp_series_program run' "$(sort "$CALLS")"
     touch "$copy/crates/lp_relay_program/src/more.rt"
     echo "// more" >"$copy/crates/lp_relay_program/src/more.rt"
     PATH=$work/stub:$PATH FAILS=lp_relay_program refused "install: lp_relay_program was not built" 1 "$copy/bin/install" "$work/nowhere"
@@ -148,7 +152,7 @@ refuse_arguments() {
         refused "usage: bin/$script *" 2 "$top/bin/$script" --built
         refused "usage: bin/$script *" 2 "$top/bin/$script" a b
         refused "usage: bin/$script *" 2 "$top/bin/$script" --help
-        for file in lp_rebuild_program lp_relay_program liblp_c.a; do
+        for file in lp_rebuild_program lp_relay_program lp_series_program liblp_c.a; do
             mv "$work/built/$file" "$work/kept"
             refused "install: $work/built/$file: there is no such file" 1 "$top/bin/$script" --built "$work/built" "$work/no"
             touch "$work/built/$file"
@@ -280,7 +284,7 @@ TEXT
     told+=("2 programs by CMake")
 }
 
-# run_programs FOLDER [COMMAND..]: runs both programs of a folder on the two lines, by a command: what comes is what README.md says.
+# run_programs FOLDER [COMMAND..]: runs the programs of a folder on the two lines, by a command: what comes is what README.md says.
 run_programs() {
     local folder=$1 program status first="cpu usage=64i" second="item 2: No fields were provided"
     shift
@@ -291,6 +295,9 @@ run_programs() {
         "$@" "$folder/$program" <"$top/examples/two_lines.lp" >"$work/out" 2>"$work/err" || status=$?
         equal "what $program gives for the two lines" "$first|$second|1" "$(cat "$work/out")|$(cat "$work/err")|$status"
     done
+    status=0
+    "$@" "$folder/lp_series" --key <"$top/examples/two_lines.lp" >"$work/out" 2>"$work/err" || status=$?
+    equal "what lp_series --key gives for the two lines" $'cpu\t'"$first|$second|1" "$(cat "$work/out")|$(cat "$work/err")|$status"
 }
 
 # Each option is told by the page, and completed.
@@ -300,6 +307,31 @@ read_page() {
         grep -qF -e ".It Fl -${option#--}" "$prefix/share/man/man1/lp_relay.1" || fail "the page of lp_relay does not tell of $option"
         complete_words lp_relay "${option%?}" | grep -qxF -e "$option" || fail "lp_relay's completion does not know $option"
     done
+    for option in $(series_options); do
+        grep -qF -e ".It Fl -${option#--}" "$prefix/share/man/man1/lp_series.1" || fail "the page of lp_series does not tell of $option"
+    done
+}
+
+# The options of lp_series, by its help, one in a line.
+series_options() { "$prefix/bin/lp_series" --help | sed -n 's/^  \(--[a-z-]*\).*/\1/p'; }
+
+# Sees that an option of lp_series is completed after another one exactly if it can be given after that one, and none after --help.
+complete_series() {
+    local option other words=() others=()
+    declare -A values=([--every]=7 [--prometheus]="$work/metrics" [--max-series]=7 [--shard]=0/2 [--faults]=raw [--max-line]=7)
+    completed "$(series_options | paste -sd ' ')" lp_series ""
+    for option in $(series_options); do
+        case $option in --help | --version) completed "" lp_series "$option" "" && continue ;; esac
+        words=("$option" ${values[$option]+"${values[$option]}"}) others=()
+        for other in $(series_options); do
+            "$prefix/bin/lp_series" "${words[@]}" "$other" ${values[$other]+"${values[$other]}"} </dev/null >/dev/null 2>&1 || continue
+            others+=("$other")
+        done
+        completed "${others[*]}" lp_series "${words[@]}" --
+    done
+    completed "line raw json" lp_series --key --faults ""
+    for option in --every --max-series --shard --max-line; do completed "" lp_series "$option" ""; done
+    for option in "" --json --prometheus; do completed "$top/launch.sh" lp_series ${option:+"$option"} "$top/lau"; done
 }
 
 # Prints how bash completes the last of these words, the first of which is the program.
@@ -365,6 +397,7 @@ complete_all() {
     completed "" lp_relay -h ""
     completed "--verbatim --version" lp_relay --v
     completed "" lp_relay --version ""
+    complete_series
     told+=("$completions completions")
 }
 
@@ -382,7 +415,7 @@ build_in_debian() {
             sh "$static"
         equal "bindings/c/example.c in Debian 12" "$(cat "$top/bindings/c/example.out")" "$(chroot "$root" /tmp/example)"
     done
-    chroot "$root" man -w lp_rebuild lp_relay influxdb_line_protocol >/dev/null || fail "man does not find the pages of the package"
+    chroot "$root" man -w lp_rebuild lp_relay lp_series influxdb_line_protocol >/dev/null || fail "man does not find the pages of the package"
     told+=("built over there")
 }
 

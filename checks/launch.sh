@@ -1,5 +1,5 @@
 #!/usr/bin/env bash
-# Runs both launchers, and builds several crates at once, in a copy of this repository that has small crates, where a stub is in the place
+# Runs the launchers, and builds several crates at once, in a copy of this repository that has small crates, where a stub is in the place
 # of `rt`: when they build, in which order and what side by side, what the program gets and gives, and what comes if a crate cannot be
 # built or the run is ended.
 set -euo pipefail
@@ -9,14 +9,15 @@ made=$(mktemp -d)
 trap 'rm -rf "$made"' EXIT
 mkdir -p "$made"/{kit/bin,rattle-kept,elsewhere,rooms,kept}
 copy="$made/a copy"
-for crate in lp_low lp_relay_program lp_rebuild_program lp_other lp_left lp_right lp_both lp_c; do
+for crate in lp_low lp_relay_program lp_rebuild_program lp_series_program lp_other lp_left lp_right lp_both lp_c; do
     mkdir -p "$copy/crates/$crate"/{src,specs,proofs/f}
     touch "$copy/crates/$crate"/{src/lib.rt,specs/Lib.antt,proofs/f/Answers.antt}
 done
-for crate in lp_relay_program lp_rebuild_program lp_both; do mv "$copy/crates/$crate/src"/{lib,main}.rt; done
+for crate in lp_relay_program lp_rebuild_program lp_series_program lp_both; do mv "$copy/crates/$crate/src"/{lib,main}.rt; done
 cat >"$copy/crates.txt" <<'LINES'
 lp_rebuild_program: lp_low
 lp_relay_program: lp_low std_lib
+lp_series_program: lp_low
 lp_other:
 lp_low:
 lp_both: lp_right std_lib lp_left
@@ -24,7 +25,7 @@ lp_left: lp_low
 lp_right: lp_low
 lp_c staticlib: lp_left
 LINES
-cp -r "$top"/{launch.sh,lp_relay,lp_rebuild,bin} "$copy"
+cp -r "$top"/{launch.sh,lp_relay,lp_rebuild,lp_series,bin} "$copy"
 ln -s "$copy/lp_relay" "$made/elsewhere/relay"
 cat >"$copy/several" <<'SCRIPT'
 #!/usr/bin/env bash
@@ -103,6 +104,7 @@ given=$'--strict\na  b\n\nin'
 relay=$'lp_low lib\nlp_relay_program run'
 wanted 7 "lp_relay_program"$'\n'"$given" "$relay" "$copy/lp_relay"
 wanted 7 "lp_rebuild_program"$'\n'"$given" $'lp_low lib\nlp_rebuild_program run' "$copy/lp_rebuild"
+wanted 7 "lp_series_program"$'\n'"$given" $'lp_low lib\nlp_series_program run' "$copy/lp_series"
 # What was built is run as it is, also by a link and from another folder, and after a change of a crate that it is not built from.
 cd "$made/elsewhere"
 touch "$copy/crates/lp_other/src/more.rt"

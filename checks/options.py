@@ -1,8 +1,9 @@
 #!/usr/bin/env python3
 """Whether the code of lp_relay and lp_rebuild, and their definitions, know just the options of packaging/options.txt, whose head says
-what its lines mean; status 1 if not.
+what its lines mean; status 1 if not. And whether the code of lp_series, its definitions and each text that lists its options have the
+same ones as its help.
 
-checks/blocks.py compares each text that lists the options with what `places` makes of them here.
+checks/blocks.py compares each text that lists the options of the first two with what `places` makes of them here.
 """
 
 import re
@@ -23,6 +24,15 @@ COLUMN, HELP_WIDTH, USAGE_WIDTH, PAGE_WIDTH, CODE_WIDTH = 21, 81, 96, 78, 100
 # The files with code and definitions of each program's words.
 CODE = {"lp_relay": ("crates/lp_relay_program/src/words.rt", "crates/lp_relay_program/specs/Words.antt"),
         "lp_rebuild": ("crates/lp_rebuild/src/program.rt", "crates/lp_rebuild/specs/Running.antt")}
+CODE_OF_SERIES = "crates/lp_series_program/src/words.rt", "crates/lp_series_program/specs/Words.antt"
+# The other texts that list the options of lp_series: between which marks, and how one is told there. -h stands beside --help.
+TEXTS_OF_SERIES = (
+    (CODE_OF_SERIES[0], "pub const USAGE", '";', r"(--[a-z][a-z-]*)"),
+    ("man/lp_series.1", ".Sh SYNOPSIS", ".Sh DESCRIPTION", r"Fl -([a-z][a-z-]*)"),
+    ("man/lp_series.1", ".Sh DESCRIPTION", ".Sh OUTPUT", r"^\.It Fl -([a-z][a-z-]*)"),
+    ("packaging/completion/lp_series", "_lp_series_options() {", "\n}", r"(--[a-z][a-z-]*)"),
+    ("docs/FORMAT.md", "| arguments of `lp_series`", "\n\n", r"^\| `(--[a-z][a-z-]*)"),
+)
 OPTION = re.compile(r"(--[a-z][a-z-]*)(?: ([A-Z.]+))?")
 WORD = re.compile(r'"(-[a-zA-Z]|--[a-z][a-z-]*)"')
 
@@ -336,16 +346,43 @@ def differences(found):
     yield from (f"{CODE['lp_relay'][0]}: the help does not say with what {word} is at odds" for word in sorted(odds) if word not in last)
 
 
+def stretch_of(path, mark, end):
+    """What a file has between two marks."""
+    front, found, rest = (TOP / path).read_text(encoding="utf-8").partition(mark)
+    text, ended, _ = rest.partition(end)
+    if not found or not ended:
+        raise Fault(f"{path} has no `{mark}`, or nothing ends it")
+    return text
+
+
+def differences_of_series():
+    """Where a text that lists the options of lp_series has others than its help, or a definition."""
+    code, definitions = CODE_OF_SERIES
+    help_text = stretch_of(code, "pub const HELP", '";')
+    words = {f"--{word.lstrip('-')}" for word in re.findall(r"^  (--[a-z][a-z-]*)", help_text, re.M)}
+    for path in CODE_OF_SERIES:
+        yield path, words, told(path, (TOP / path).read_text(encoding="utf-8")) - {"-h"}
+    for path, mark, end, pattern in TEXTS_OF_SERIES:
+        found = re.findall(pattern, stretch_of(path, mark, end), re.M)
+        yield path, words, {f"--{word.lstrip('-')}" for word in found}
+
+
+def said_of_series():
+    """The same, in words."""
+    for path, words, found in differences_of_series():
+        yield from (f"{path} lacks the option {word} of lp_series, or has it alone" for word in sorted(words ^ found))
+
+
 def main(words):
     if words:
         print(__doc__, file=sys.stderr)
         return 2
     try:
         found = options()
-        said = [f"options: {line}" for line in differences(found)]
+        said = [f"options: {line}" for line in (*differences(found), *said_of_series())]
     except Fault as fault:
         said = [f"options: {fault}"]
-    print("\n".join(said) or f"options: code and definitions have the {len(found)} options of {DATA}")
+    print("\n".join(said) or f"options: code and definitions have the {len(found)} options of {DATA}, and all texts those of lp_series")
     return 1 if said else 0
 
 

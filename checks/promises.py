@@ -3,8 +3,8 @@
 
     checks/promises.py    prints each public call with a clause that docs/TRUST.md does not name, each with a `requires` that its
                           table of conditions does not have, what that table has and no call asks for, each clause that a row names
-                          and no call of the row has, each function of `lp_relay_program` without an `ensures` that the table of these does
-                          not have, and what that has and no such function is, and each name in `code` on a page that nothing in the
+                          and no call of the row has, each function of the crates of programs without an `ensures` that the table of these
+                          does not have, and what that has and no such function is, and each name in `code` on a page that nothing in the
                           tree has; status 1 if there is any
 
 A call is public if the root or a public module of the library, `lp_rebuild` or `lp_relay` hands it on, or its type and trait,
@@ -21,18 +21,19 @@ import sys
 from pathlib import Path
 
 from clauses import bare, function, members, surface
-from definitions import LIBRARIES, handed_on
+from definitions import LIBRARIES, PROGRAMS, handed_on
 
 TOP = Path(__file__).resolve().parent.parent
 TRUST = TOP / "docs" / "TRUST.md"
 CONDITIONS = "## Conditions"
-UNPROMISED = "### Functions of `lp_relay_program` without a clause"
+UNPROMISED = "### Functions of `lp_programs`, `lp_relay_program` and `lp_series_program` without a clause"
 PAGES = ["*.md", "docs/*.md", "bench/*.md", "bindings/**/*.md", "crates/*/*.md"]
 # The crates that hand names on, and the crates whose code these are in.
 ROOTS = {
     "influxdb_line_protocol": LIBRARIES[:LIBRARIES.index("influxdb_line_protocol") + 1],
     "lp_rebuild": ["lp_rebuild"],
     "lp_relay": ["lp_relay"],
+    "lp_series": ["lp_series"],
 }
 MADE = {"out", "target", "dist", "__pycache__", ".git"}  # folders that are not looked into
 
@@ -55,6 +56,7 @@ OTHERS = {
     r"snafu|(snafu::)?ErrorCompat|BytesMut|Unpin": "it is of Rust",
     r"lzma|makefile|sys\.stdin\.buffer": "it is of Python",
     r"l/8": "it is of split",
+    r"\d+/\d+|K/N": "it is a shard",
     r"mapreduce\..*|stream\..*|textinputformat\..*|RDD\.pipe|(whole)?[tT]ext(File|Files)": "it is of Hadoop or Spark",
 }
 
@@ -125,8 +127,8 @@ def wrong_conditions(calls):
 
 
 def unpromised_functions():
-    """The functions of `lp_relay_program` without an `ensures`, but for those of an impl of a trait: the type of each, and its name."""
-    for path in sorted((TOP / "crates" / "lp_relay_program" / "src").rglob("*.rt")):
+    """The functions of the crates of programs without an `ensures`, but for those of an impl of a trait: the type of each, and its name."""
+    for path in (path for crate in PROGRAMS for path in sorted((TOP / "crates" / crate / "src").rglob("*.rt"))):
         text = bare(read(path))
         for name, _, what, here in members(text):
             if what == "fn" and " for " not in name and not any(line.startswith("ensures") for line in function(text[here:])[1]):

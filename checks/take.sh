@@ -56,6 +56,10 @@ for _ in 1 2; do
 done
 [ -e "$made/to/crates/lp_scan/out/mine" ] && [ -e "$made/to/crates/lp_lines/out/mine" ]
 [ ! -e "$made/to/crates/lp_relay" ]
+# A program, with the crates that another program shares with it.
+take 0 --update "$made/to" lp_series_program
+compare "${library[@]}" lp_rebuild lp_relay lp_series lp_programs lp_series_program
+[ ! -e "$made/to/crates/lp_relay_program" ]
 # A copy that fails, after three that do not.
 mkdir "$made/broken" "$made/half"
 printf '#!/bin/sh\ncase "$*" in *-xf*/lp_values) cat >/dev/null; exit 1 ;; esac\nexec %s "$@"\n' "$(command -v tar)" >"$made/broken/tar"

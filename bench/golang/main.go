@@ -1,6 +1,7 @@
 // Reads corpora by this library's package, from bytes and from a reader, and by InfluxDB 1.x's ParsePoints, and looks at each value; and
-// writes their lines again by the package, and by InfluxDB's NewPoint and AppendString. All go in turns in one run; the best round of each
-// counts, by processor time. It prints MB/s, the ratio to InfluxDB's, and how often memory is taken for a point.
+// writes their lines again by the package, and by InfluxDB's NewPoint and AppendString; and counts the points of each series. All go in turns
+// in one run; the best round of each counts, by processor time. It prints MB/s, the ratio to InfluxDB's, and how often memory is taken for a
+// point; and a second table of the counts by series.
 //
 //	golang FILE..
 package main
@@ -61,15 +62,56 @@ func look(d *lineprotocol.Decoder) (lines int) {
 	return lines
 }
 
-// The same by ParsePoints, which is given whole lines of 64 KiB at a time.
+// The next whole lines of a text, of 64 KiB at most, and what comes after them.
+func nextPart(text []byte) (part, rest []byte) {
+	part = text
+	if len(part) > 64<<10 {
+		part = part[:64<<10]
+		part = part[:bytes.LastIndexByte(part, '\n')+1]
+	}
+	return part, text[len(part):]
+}
+
+// Counts the lines of each series, by its key, and gives how many series there are.
+func countSeries(d *lineprotocol.Decoder) int {
+	counts, key := map[string]*int{}, []byte(nil)
+	for d.Next() {
+		var err error
+		if key, err = d.AppendSeriesKey(key[:0]); err == nil {
+			count(counts, key)
+		}
+	}
+	return len(counts)
+}
+
+// The same by the points of ParsePoints, and their keys.
+func countPoints(text []byte) int {
+	counts := map[string]*int{}
+	for len(text) > 0 {
+		var part []byte
+		part, text = nextPart(text)
+		points, _ := models.ParsePointsWithPrecision(part, time.Time{}, "n")
+		for _, point := range points {
+			count(counts, point.Key())
+		}
+	}
+	return len(counts)
+}
+
+func count(counts map[string]*int, key []byte) {
+	if counted := counts[string(key)]; counted != nil {
+		*counted++
+	} else {
+		one := 1
+		counts[string(key)] = &one
+	}
+}
+
+// The same as look by ParsePoints, which is given whole lines of 64 KiB at a time.
 func parsePoints(text []byte) (lines int) {
 	for len(text) > 0 {
-		part := text
-		if len(part) > 64<<10 {
-			part = part[:64<<10]
-			part = part[:bytes.LastIndexByte(part, '\n')+1]
-		}
-		text = text[len(part):]
+		var part []byte
+		part, text = nextPart(text)
 		points, _ := models.ParsePointsWithPrecision(part, time.Time{}, "n")
 		lines += len(points)
 		for _, point := range points {
@@ -203,6 +245,7 @@ func rate(bytes int, took time.Duration) float64 { return float64(bytes) / 1e6 /
 func main() {
 	fmt.Println("| corpus | read bytes | read a reader | ParsePoints | times | write | NewPoint | times | memory taken for a point |")
 	fmt.Println("|---|---|---|---|---|---|---|---|---|")
+	series := "| corpus | series | keys, counted | ParsePoints, counted | times |\n|---|---|---|---|---|\n"
 	for _, place := range os.Args[1:] {
 		text, err := os.ReadFile(place)
 		if err != nil {
@@ -226,9 +269,16 @@ func main() {
 		if encoder.Err() != nil {
 			fmt.Fprintln(os.Stderr, place, encoder.Err())
 		}
-		points := float64(len(lines))
-		fmt.Printf("| `%s` | %.0f | %.0f | %.0f | %.1f | %.0f | %.0f | %.1f | %.2f, %.2f |\n", strings.TrimSuffix(filepath.Base(place), ".lp"),
+		counted, found, _ := turns(
+			func() int { decoder.ResetBytes(text); return countSeries(decoder) },
+			func() int { return countPoints(text) },
+		)
+		name, points := strings.TrimSuffix(filepath.Base(place), ".lp"), float64(len(lines))
+		fmt.Printf("| `%s` | %.0f | %.0f | %.0f | %.1f | %.0f | %.0f | %.1f | %.2f, %.2f |\n", name,
 			rate(len(text), best[0]), rate(len(text), best[1]), rate(len(text), best[2]), float64(best[2])/float64(best[0]),
 			rate(sizes[0], wrote[0]), rate(sizes[1], wrote[1]), rate(sizes[0], wrote[0])/rate(sizes[1], wrote[1]), taken[0]/points, taken[2]/points)
+		series += fmt.Sprintf("| `%s` | %d, %d | %.0f | %.0f | %.1f |\n", name, found[0], found[1], rate(len(text), counted[0]),
+			rate(len(text), counted[1]), float64(counted[1])/float64(counted[0]))
 	}
+	fmt.Print("\n", series)
 }

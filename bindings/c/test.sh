@@ -1,7 +1,7 @@
 #!/usr/bin/env bash
 # Builds the static library of crates/lp_c, and programs over it, watched by the address and undefined behaviour sanitizers;
-# compares what the example prints with example.out, and lets answers.c compare the table of answers, lending.c read with little
-# lent and no request for memory, offsets.c read by offsets, cuts.c cut texts that come in parts, writing.c write with little
+# compares what the examples print with example.out and sums.out, and lets answers.c compare the table of answers, lending.c read with
+# little lent and no request for memory, offsets.c read by offsets, cuts.c cut texts that come in parts, writing.c write with little
 # lent and memory refused, numbers.c ask for the numbers of literals, and sizes.c hand over what is large. threads.c is watched
 # by the thread sanitizer, and by helgrind, which sees the library's own loads and stores too; and the archive must hold no
 # variable. The header goes through a C++ compiler too.
@@ -33,6 +33,11 @@ watched=("-fsanitize=address,undefined" -fno-sanitize-recover=all)
 build example "${watched[@]}"
 if ! "$built/example" | diff "$here/example.out" -; then
     echo "c: the example does not print example.out" >&2
+    exit 1
+fi
+build sums "${watched[@]}"
+if ! "$built/sums" | diff "$here/sums.out" -; then
+    echo "c: the sums by series are not those of sums.out" >&2
     exit 1
 fi
 build answers "${watched[@]}"
@@ -70,7 +75,7 @@ if ! sizes=$("$built/sizes"); then
     echo "c: what should come of what is large did not come: $sizes" >&2
     exit 1
 fi
-said="the example prints what it should; $lent; $offsets; $cut; $written; $numbers; $sizes"
+said="the examples print what they should; $lent; $offsets; $cut; $written; $numbers; $sizes"
 
 # Runs threads.c, built with these flags, by this command.
 run_threads() {

@@ -7,7 +7,7 @@ import (
 	"testing"
 )
 
-// The rows of crates/lp_answers/data/answers.tsv that ask for items, in each dialect of which they say something. The head of that table
+// The rows of crates/lp_answers/data/answers.tsv that ask for items or for a key, in each dialect of which they say something. The head of that table
 // says how a row is spelled. LP_ANSWERS names the table, if this package is a copy.
 func TestAnswers(t *testing.T) {
 	place := os.Getenv("LP_ANSWERS")
@@ -21,20 +21,36 @@ func TestAnswers(t *testing.T) {
 	answers := 0
 	for number, row := range strings.Split(string(table), "\n") {
 		cells := strings.Split(row, "\t")
-		if strings.HasPrefix(row, "#") || cells[0] != "items" {
+		ask := asks[cells[0]]
+		if ask == nil {
 			continue
 		}
 		for dialect, wanted := range cells[2:] {
-			if got := spelled(meant(cells[1]), Dialect(dialect)); got != meant(wanted) {
+			if got := ask(meant(cells[1]), Dialect(dialect)); got != meant(wanted) {
 				t.Errorf("row %d, dialect %d: %q, and not %q", number+1, dialect, got, meant(wanted))
 			}
 			answers++
 		}
 	}
-	if answers < 250 {
+	if answers < 270 {
 		t.Errorf("the table has %d answers", answers)
 	}
 	t.Logf("answers.tsv: %d answers are as the table has them", answers)
+}
+
+// What is asked of a text, by the kind of its row.
+var asks = map[string]func(string, Dialect) string{"items": spelled, "key": firstKey}
+
+// The key of the series of the first line of a text.
+func firstKey(text string, dialect Dialect) string {
+	d := NewDecoderWithBytes([]byte(text))
+	d.SetDialect(dialect)
+	d.Next()
+	key, err := d.AppendSeriesKey(nil)
+	if err != nil {
+		return err.Error()
+	}
+	return string(key)
 }
 
 var escapes = strings.NewReplacer(`\n`, "\n", `\t`, "\t", `\r`, "\r", `\0`, "\x00", `\\`, `\`)

@@ -6,6 +6,38 @@ package lineprotocol
 #cgo !lp_lib_dir pkg-config: influxdb_line_protocol
 #include <stdlib.h>
 #include "influxdb_line_protocol.h"
+
+// What the library answers of a key, and how long that is.
+typedef struct { size_t len; uint32_t answer; } key_answer;
+
+static lp_view view_of(lp_span place, uint16_t copied, const uint8_t *text, const uint8_t *room) {
+	const lp_view view = { { (copied ? room : text) + place.at, place.len }, copied != 0 };
+	return view;
+}
+
+static lp_part tag_of(const lp_offset_part *part, const uint8_t *text, const uint8_t *room) {
+	lp_part tag = LP_EMPTY_PART;
+	tag.key = view_of(part->key, part->key_copied, text, room);
+	tag.text = view_of(part->text, part->text_copied, text, room);
+	return tag;
+}
+
+// Puts the key of the series of a row into `out`. What has pointers is made here, and none is kept.
+static key_answer key_of_row(const lp_offset_row *row, const lp_offset_part *tags, const uint8_t *text, const uint8_t *room, uint8_t *out,
+                             size_t out_len) {
+	enum { FEW = 32 };
+	lp_part few[FEW], *parts = row->tags > FEW ? malloc(row->tags * sizeof *parts) : few;
+	lp_line line = LP_EMPTY_LINE;
+	key_answer key = { 0, LP_OUT_OF_MEMORY };
+	if (parts == NULL) return key;
+	line.measurement = view_of(row->measurement, row->measurement_copied, text, room);
+	line.tags = row->tags;
+	line.has_tag_set = row->tags > 0;
+	for (size_t at = 0; at < line.tags; at++) parts[at] = tag_of(&tags[at], text, room);
+	key.answer = lp_line_key(&line, parts, line.tags, out, out_len, &key.len);
+	if (parts != few) free(parts);
+	return key;
+}
 */
 import "C"
 
@@ -68,6 +100,22 @@ func (b *block) read(text []byte, dialect Dialect, last bool, line uint64) (rows
 		}
 	}
 	return int(b.filled.rows), int(b.filled.at), nil
+}
+
+// appendKey appends the key of the series of a row, which was read from this text.
+func (b *block) appendKey(dst, text []byte, row *C.lp_offset_row) ([]byte, error) {
+	for {
+		free := dst[len(dst):cap(dst)]
+		key := C.key_of_row(row, &b.parts[row.parts_at], first(text), first(b.room), first(free), C.size_t(len(free)))
+		switch key.answer {
+		case C.LP_WRITTEN:
+			return dst[:len(dst)+int(key.len)], nil
+		case C.LP_MORE_ROOM:
+			dst = append(dst, make([]byte, int(key.len))...)[:len(dst)]
+		default:
+			return dst, errMemory
+		}
+	}
 }
 
 // message gives what the library says of the first item of a piece: what is wrong with it. The library reads a copy, in memory of C's,

@@ -2,8 +2,9 @@
 // github.com/influxdata/line-protocol/v2/lineprotocol, so a program over that package changes its import.
 //
 // What it does otherwise: a line is read as a whole, so a line with a fault gives none of its tags and fields, but the fault; each line
-// after it is read as ever. The parts of a line may be asked for in any order. Raw gives a line as it came, Fault its fault. A line that is
-// too long costs no memory beyond MaxLine. A line is written only if it reads back as it was given, and then whole.
+// after it is read as ever. The parts of a line may be asked for in any order. Raw gives a line as it came, Fault its fault, and
+// AppendSeriesKey the key of its series. A line that is too long costs no memory beyond MaxLine. A line is written only if it reads back as it
+// was given, and then whole.
 //
 // All that a Decoder gives are views of the memory of Go, as long as the next call of Next: copy what is to stay. No call takes memory once
 // a decoder or an encoder has what its longest lines need. One call of the library serves up to 512 lines. Each is for one goroutine;
@@ -372,6 +373,25 @@ func (d *Decoder) Measurement() ([]byte, error) {
 		return nil, err
 	}
 	return d.view(row.measurement, row.measurement_copied), nil
+}
+
+// AppendSeriesKey appends the key of the series of this line to dst, and gives the longer slice: a text that the series has alone, whatever
+// its names hold. It is the measurement and the tags as line protocol has them, in the order of the tag keys, by bytes. Tags of equal keys
+// stay in their order. Two lines have the same key exactly if they have the same measurement and, for each tag key, the same values in the
+// same order; if each name is one that an Encoder writes, the key reads back as the series. So a map by keys groups lines by series.
+//
+// It gives the fault of the line, if it has one, or an error if Next gave no line or memory was refused; dst then comes back as it was. It may
+// be called at any time before the next call of Next, and moves neither NextTag nor NextField. dst must share no memory with the text that is
+// read.
+//
+// A key is one call of the library. Its time goes by the length of the key, and by a sort of the tags that are out of order. It takes no memory
+// of Go's if dst has room, as key[:0] has of a key before that was as long.
+func (d *Decoder) AppendSeriesKey(dst []byte) ([]byte, error) {
+	row, err := d.current()
+	if err != nil {
+		return dst, err
+	}
+	return d.block.appendKey(dst, d.text, row)
 }
 
 // NextTag gives the next tag: its key is nil if there is none. Else it gives the fault of the line.

@@ -58,6 +58,27 @@ func ExampleDecoder() {
 	//  at line 2:4: No fields were provided
 }
 
+func ExampleDecoder_AppendSeriesKey() {
+	// [sums_in_go]
+	d := lineprotocol.NewDecoder(strings.NewReader("cpu,host=a,az=b n=1i\ncpu,az=b,host=a n=2i\ncpu n=4i\n"))
+	sums, series, err := map[string]int64{}, []byte(nil), error(nil)
+	for d.Next() {
+		if series, err = d.AppendSeriesKey(series[:0]); err != nil {
+			fmt.Println(err)
+			continue
+		}
+		for key, value, _ := d.NextField(); key != nil; key, value, _ = d.NextField() {
+			if string(key) == "n" && value.Kind() == lineprotocol.Int {
+				sums[string(series)] += value.IntV()
+			}
+		}
+	}
+	fmt.Println(sums, d.Err())
+	// [end]
+	// Output:
+	// map[cpu:4 cpu,az=b,host=a:3] <nil>
+}
+
 func ExampleDecoder_TimeBytes() {
 	d := lineprotocol.NewDecoder(strings.NewReader("cpu usage=64i 0005\ncpu usage=65i\n"))
 	for d.Next() {

@@ -404,28 +404,50 @@ static PyObject *joined(PyObject *measurement, PyObject *tags) {
     return text;
 }
 
-/* The base of a line whose keys rise: its names joined, with no call of the library. NULL without an error: it is no such line, or a
- * name of it is not UTF-8. */
-static PyObject *rising_base(PyObject *line) {
+/* The base of a line whose keys rise: its names joined, with no call of the library, and its UTF-8 in `bytes`. NULL without an error: it
+ * is no such line, or a name of it is not UTF-8. */
+static PyObject *rising_base(PyObject *line, PyObject **bytes) {
     const Line *own = (Line *)line;
+    *bytes = NULL;
     if (Py_TYPE(line) != (PyTypeObject *)given.line || !own->measurement || !PyUnicode_CheckExact(own->measurement)) return NULL;
     if (!own->tags || !PyList_CheckExact(own->tags) || !is_rising(own->tags)) return NULL;
-    PyObject *text = joined(own->measurement, own->tags), *bytes = text ? PyUnicode_AsUTF8String(text) : NULL;
-    if (text && !bytes) {
+    PyObject *text = joined(own->measurement, own->tags);
+    *bytes = text ? PyUnicode_AsUTF8String(text) : NULL;
+    if (text && !*bytes) {
         Py_DECREF(text);
         text = NULL;
         if (PyErr_ExceptionMatches(PyExc_UnicodeEncodeError)) PyErr_Clear();
     }
-    Py_XDECREF(bytes);
     return text;
+}
+
+/* Whether the base of a series with so many tags is its key: no name of it has a byte that takes a backslash. */
+static bool is_key(PyObject *base, Py_ssize_t tags) {
+    const char *at = PyBytes_AsString(base), *end = at + PyBytes_Size(base);
+    Py_ssize_t commas = 0, equals = 0;
+    for (; at < end; at++) {
+        if (*at == ' ' || *at == '\\') return false;
+        commas += *at == ',';
+        equals += *at == '=' && commas > 0; /* a measurement may have one */
+    }
+    return commas == tags && equals == tags;
 }
 
 PyObject *fast_base(PyObject *module, PyObject *line) {
     (void)module;
-    PyObject *base = rising_base(line);
+    PyObject *bytes, *base = rising_base(line, &bytes);
+    Py_XDECREF(bytes);
     return base || PyErr_Occurred() ? base : put_out_one(put_base, LP_CRATE, line);
 }
-PyObject *fast_key(PyObject *module, PyObject *line) { (void)module; return put_out_one(put_key, LP_CRATE, line); }
+PyObject *fast_key(PyObject *module, PyObject *line) {
+    (void)module;
+    PyObject *bytes, *base = rising_base(line, &bytes);
+    const bool stands = base && is_key(bytes, PyList_Size(((Line *)line)->tags));
+    Py_XDECREF(bytes);
+    if (stands || PyErr_Occurred()) return base;
+    Py_XDECREF(base);
+    return put_out_one(put_key, LP_CRATE, line);
+}
 
 /* write_many(lines, dialect): all lines of an iterable, one after another. */
 PyObject *fast_write_many(PyObject *module, PyObject *args) {

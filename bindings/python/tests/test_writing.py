@@ -2,6 +2,8 @@
 
 import copy
 import math
+import random
+import re
 import tracemalloc
 import unittest
 from concurrent.futures import ThreadPoolExecutor
@@ -91,6 +93,10 @@ class Writing(unittest.TestCase):
                 ("m,a=c\\d", "m,a=c\\\\d"),
                 ("m,a=c\\\\d", "m,a=c\\\\d"),
                 ("m,b=1,a=2,b=0,a=1", "m,a=2,a=1,b=1,b=0"),
+                ("m,a=2,a=1,b=c", "m,a=2,a=1,b=c"),
+                ("m=n,a=b=c,d=e", "m=n,a=b\\=c,d=e"),
+                ("m=n,a,b=c,d=e", "m=n,a\\,b=c,d=e"),
+                ("m=n=o,a=b,c=d", "m=n=o,a=b,c=d"),
                 ("m,\U00010000=1,\uffff=1,aa=1,a=1,B=1", "m,B=1,a=1,aa=1,\uffff=1,\U00010000=1"),
                 ("m" + "".join(reversed(tags)), "m" + "".join(tags))):
             with self.subTest(series=series):
@@ -98,6 +104,19 @@ class Writing(unittest.TestCase):
                 self.assertEqual(key(line), text)
                 [again] = parse(text + " f=1i")
                 self.assertEqual(key(again), text)
+
+    def test_keys_are_as_their_definition_says(self):
+        rng = random.Random(7)
+
+        def name():
+            return "".join(rng.choices("abB,= \\\n\t#\u00e9", [9, 9, 9, 1, 1, 1, 1, 1, 1, 1, 3], k=rng.randrange(3)))
+
+        for _ in range(3000):
+            measurement, tags = name(), [(name(), name()) for _ in range(rng.randrange(4))]
+            text = re.sub(r"[, \\]", r"\\\g<0>", measurement)
+            for tag in sorted(tags, key=lambda tag: tag[0]):
+                text += ",%s=%s" % tuple(re.sub(r"[,= \\]", r"\\\g<0>", part) for part in tag)
+            self.assertEqual(key(Line(measurement, tags)), text)
 
     def test_names_that_do_not_read_back_have_keys(self):
         self.assertEqual(key(Line("#\n", [("b\\", ""), ("", "\t")])), "#\n,=\t,b\\\\=")

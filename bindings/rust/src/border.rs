@@ -240,14 +240,6 @@ extern "C" {
     pub(crate) fn lp_lines_piece<'a>(lines: *mut Lines<'a>, piece: *mut View<'a>) -> bool;
     fn lp_cuts_begin(dialect: u32, limit: usize, cuts: *mut Cuts) -> bool;
     fn lp_cuts_next(cuts: *mut Cuts, text: *const u8, len: usize, cut: *mut usize) -> u32;
-    pub(crate) fn lp_line_show(
-        line: *const Line<'_>,
-        parts: *const Part<'_>,
-        parts_len: usize,
-        out: *mut u8,
-        room: usize,
-        len: *mut usize,
-    ) -> u32;
     pub(crate) fn lp_line_key(
         line: *const Line<'_>,
         parts: *const Part<'_>,

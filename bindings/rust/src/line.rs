@@ -110,12 +110,35 @@ pub(crate) fn field_part<'a>(key: View<'a>, value: &'a FieldValue<'_>, float: &'
     }
 }
 
-// Shows a line without so many bytes at its front and its end.
-fn show(f: &mut fmt::Formatter<'_>, line: &Line<'_>, parts: &[Part<'_>], front: usize, end: usize) -> fmt::Result {
-    border::put_out(border::lp_line_show, line, parts, |answer, bytes| match answer {
-        answer::WRITTEN => f.write_str(&border::text_of(bytes)[front..bytes.len() - end]),
-        _ => Err(fmt::Error),
-    })
+// Whether no byte of a text is one of these. The loop has no branch within, so that it goes by many bytes at a time.
+fn has_none(text: &str, is_special: impl Fn(u8) -> bool) -> bool {
+    !text.bytes().fold(false, |found, byte| found | is_special(byte))
+}
+
+// Shows a text with a backslash before each of these bytes. What is between two of them is shown as one run.
+fn show_escaped(text: &str, is_special: impl Fn(u8) -> bool, f: &mut fmt::Formatter<'_>) -> fmt::Result {
+    if has_none(text, &is_special) {
+        return f.write_str(text);
+    }
+    let mut start = 0;
+    for (at, byte) in text.bytes().enumerate() {
+        if is_special(byte) {
+            f.write_str(&text[start..at])?;
+            f.write_str("\\")?;
+            start = at;
+        }
+    }
+    f.write_str(&text[start..])
+}
+
+// Shows a measurement.
+fn show_measurement(name: &str, f: &mut fmt::Formatter<'_>) -> fmt::Result {
+    show_escaped(name, |byte| matches!(byte, b',' | b' '), f)
+}
+
+// Shows a tag's key or value, or a field's key.
+fn show_name(name: &str, f: &mut fmt::Formatter<'_>) -> fmt::Result {
+    show_escaped(name, |byte| matches!(byte, b',' | b'=' | b' '), f)
 }
 
 impl<'a> Series<'a> {
@@ -157,6 +180,13 @@ impl<'a> Series<'a> {
         Ok(Cow::Borrowed(self.raw_input))
     }
 
+    // Whether no byte of a name has a backslash before it in the key.
+    fn is_plain(&self) -> bool {
+        let mut tags = self.tag_set.iter().flatten();
+        has_none(&self.measurement, |byte| matches!(byte, b',' | b' ' | b'\\'))
+            && tags.all(|(key, value)| [key, value].iter().all(|name| has_none(name, |byte| matches!(byte, b',' | b'=' | b' ' | b'\\'))))
+    }
+
     // The base with these tags, unescaped.
     fn based<'t>(&'t self, tags: impl Iterator<Item = &'t (EscapedStr<'a>, EscapedStr<'a>)> + Clone) -> String {
         let len = tags.clone().map(|(key, value)| key.len() + value.len() + 2).sum::<usize>();
@@ -193,6 +223,10 @@ impl<'a> Series<'a> {
     /// assert_eq!(key("m,,=v f=1i"), key("m,\\,=v f=1i"));
     /// ```
     pub fn key(&self) -> String {
+        let tags = self.tag_set.as_deref().unwrap_or_default();
+        if self.is_plain() && tags.windows(2).all(|two| two[0].0 <= two[1].0) {
+            return self.based(tags.iter());
+        }
         let (line, tags) = self.handed();
         border::put_out(border::lp_line_key, &line, &tags, |answer, bytes| match answer {
             answer::WRITTEN => border::text_of(bytes).to_owned(),
@@ -219,37 +253,44 @@ impl<'a> Series<'a> {
 /// Shown as line protocol.
 impl fmt::Display for Series<'_> {
     fn fmt(&self, f: &mut fmt::Formatter<'_>) -> fmt::Result {
-        let (mut line, mut parts) = self.handed();
-        line.fields = 1;
-        parts.push(Part { key: View::new("f"), kind: kind::BOOLEAN, boolean: true, ..Part::EMPTY });
-        show(f, &line, &parts, 0, " f=true".len())
+        show_measurement(&self.measurement, f)?;
+        let Some(tags) = &self.tag_set else { return Ok(()) };
+        if tags.is_empty() {
+            f.write_str(",")?;
+        }
+        for (key, value) in tags {
+            f.write_str(",")?;
+            show_name(key, f)?;
+            f.write_str("=")?;
+            show_name(value, f)?;
+        }
+        Ok(())
     }
 }
 
 /// Shown as line protocol, but that strings have no quotes. A line that is made without fields is shown without them.
 impl fmt::Display for ParsedLine<'_> {
     fn fmt(&self, f: &mut fmt::Formatter<'_>) -> fmt::Result {
-        if self.field_set.is_empty() {
-            write!(f, "{}", self.series)?;
-            return self.timestamp.map_or(Ok(()), |timestamp| write!(f, " {timestamp}"));
+        self.series.fmt(f)?;
+        for (place, (key, value)) in self.field_set.iter().enumerate() {
+            f.write_str(if place == 0 { " " } else { "," })?;
+            show_name(key, f)?;
+            f.write_str("=")?;
+            value.fmt(f)?;
         }
-        let (mut line, mut parts) = self.series.handed();
-        let floats: Vec<_> = self.field_set.iter().map(|(_, value)| float_text(value)).collect();
-        let fields = self.field_set.iter().zip(&floats);
-        parts.extend(fields.map(|((key, value), float)| field_part(view(key), value, float)));
-        line.fields = floats.len();
-        line.has_timestamp = self.timestamp.is_some();
-        line.timestamp = self.timestamp.unwrap_or(0);
-        show(f, &line, &parts, 0, 0)
+        self.timestamp.map_or(Ok(()), |timestamp| write!(f, " {timestamp}"))
     }
 }
 
 /// Shown as line protocol, but that strings have no quotes.
 impl fmt::Display for FieldValue<'_> {
     fn fmt(&self, f: &mut fmt::Formatter<'_>) -> fmt::Result {
-        let float = float_text(self);
-        let part = field_part(View::new("f"), self, &float);
-        let line = Line { measurement: View::new("m"), fields: 1, ..Line::EMPTY };
-        show(f, &line, &[part], "m f=".len(), 0)
+        match self {
+            Self::I64(value) => write!(f, "{value}i"),
+            Self::U64(value) => write!(f, "{value}u"),
+            Self::F64(value) => write!(f, "{value}"),
+            Self::String(text) => show_escaped(text, |byte| byte == b'"', f),
+            Self::Boolean(value) => write!(f, "{value}"),
+        }
     }
 }

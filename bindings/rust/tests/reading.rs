@@ -173,6 +173,11 @@ fn keys_tell_series_whatever_their_names_hold() {
         ("m,b=1,a=2,b=0,a=1", "m,a=2,a=1,b=1,b=0"),
         ("m,aa=1,a=1,\u{e9}=1,B=1", "m,B=1,a=1,aa=1,\u{e9}=1"),
         (&falling[..], &rising[..]),
+        (&rising[..], &rising[..]),
+        ("m,a=2,a=1,b=c", "m,a=2,a=1,b=c"),
+        ("m=n,a=b=c", "m=n,a=b\\=c"),
+        ("m=n,a,b=c", "m=n,a\\,b=c"),
+        ("m,a=\\x", "m,a=\\\\x"),
     ];
     for (series, key) in rows {
         assert_eq!(line(&format!("{series} f=1i")).series.key(), key, "{series}");

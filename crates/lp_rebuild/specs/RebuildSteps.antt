@@ -9,12 +9,20 @@ use Rattle.influxdb_line_protocol.specs.format.Readings.{Fault}
 use Rattle.influxdb_line_protocol.specs.format.Lines.{Line, point_of}
 use Rattle.influxdb_line_protocol.specs.format.Trimming.{trimmed}
 use Rattle.lp_rebuild.specs.Rebuilding.{carried_point, fault_line, is_carried_answer, refusal_text}
+use Rattle.influxdb_line_protocol.specs.code.Parsed.{line_read}
+use Rattle.influxdb_line_protocol.specs.types.ParsedLine.{ParsedLine}
 use Rattle.lp_values.specs.code.SpelledParts.{spelled_fault}
+use Rattle.lp_values.specs.declared.spelled.SpelledFault.{SpelledFault}
 
 -- what is wrong with a line that is refused for this
 abbrev pub line_refusal_text : LineRefusal → List ℕ
 line_refusal_text (refusal.Fault fault) = fault_text (spelled_fault fault)
 line_refusal_text refusal.NotAdmitted = codes "a name cannot be written again"
+
+-- the answer is the line that was read, if no fault is given, and else that fault
+abbrev pub IsReadAs : Option SpelledFault → ParsedLine → Result Line Fault → Type 0
+IsReadAs None line answer = answer ≡ Ok (line_read line)
+IsReadAs (Some fault) line answer = answer ≡ Err (spelled_fault fault)
 
 -- an answer is carried, or refused for this: it is this fault, or a line that has a name which is not admitted
 abbrev pub IsRefusedFor : Option LineRefusal → Result Line Fault → Type 0

@@ -7,13 +7,13 @@ ghost use Rattle.influxdb_line_protocol.specs.format.Lines.{answer};
 ghost use Rattle.influxdb_line_protocol.specs.format.Trimming.{trimmed};
 ghost use Rattle.influxdb_line_protocol.specs.code.Parsed.{line_read, parsed_point, IsReadLine};
 ghost use Rattle.lp_rebuild.specs.Rebuilding.{Rebuilds, RebuildsIn, ReadsBack, ReadsBackIn};
-ghost use Rattle.lp_rebuild.specs.RebuildSteps.{IsTrimmed, Refuses, Takes, TakesLine, line_refusal_text};
+ghost use Rattle.lp_rebuild.specs.RebuildSteps.{IsReadAs, IsTrimmed, Refuses, Takes, TakesLine, line_refusal_text};
 
 use crate::refusals::LineRefusal;
 use influxdb_line_protocol::builder::is_as_written;
 use influxdb_line_protocol::{
-    Dialect, EscapedStr, FieldSet, LineProtocolBuilder, ParsedLine, Series, TagSet, is_admitted,
-    laws, split_lines_in, write_line,
+    Dialect, EscapedStr, FieldSet, LineProtocolBuilder, ParsedLine, Series, SpelledFault, TagSet,
+    is_admitted, laws, split_lines_in, write_line,
 };
 use lp_lines::freeing::{forget_line, free_line};
 use lp_lines::{Unread, refill_line};
@@ -75,6 +75,38 @@ impl<'a> LineReader<'a> {
             },
             spare: None,
         }
+    }
+
+    /// Reads a trimmed text into its line, and gives the fault of the text if that is no line.
+    ///
+    /// # Errors
+    ///
+    /// If memory was refused for the line.
+    #[inline(always)]
+    pub fn read(&mut self, text: &'a str) -> Result<Option<SpelledFault<'a>>, AllocError>
+        ensures read { IfOk result (λ fault. IsReadAs fault self.new.line (answer (rules_of self.old.dialect) text.now)) }
+        ensures dialect { self.new.dialect ≡ self.old.dialect }
+    {
+        let read = refill_line(
+            self.alloc,
+            self.dialect,
+            text,
+            &mut self.line,
+            &mut self.spare,
+        );
+        match read {
+            Ok(()) => Ok(None),
+            Err(Unread::Fault(fault)) => Ok(Some(fault)),
+            Err(Unread::OutOfMemory) => Err(AllocError),
+        }
+    }
+
+    /// The line that it read last.
+    #[inline(always)]
+    pub fn line(&self) -> &ParsedLine<'a>
+        ensures { result.now ≡ self.now.line }
+    {
+        &self.line
     }
 
     /// Lets it go, without a visit to each place of its line's sets. Its memory is freed.
@@ -145,17 +177,9 @@ pub fn take_text<'a>(
         TakesLine batch.old.items refusal (answer (rules_of reader.old.dialect) text.now) batch.new.items) }
     ensures dialect { reader.new.dialect ≡ reader.old.dialect }
 {
-    let read = refill_line(
-        reader.alloc,
-        reader.dialect,
-        text,
-        &mut reader.line,
-        &mut reader.spare,
-    );
-    match read {
-        Ok(()) => take_line(reader.alloc, batch, &reader.line),
-        Err(Unread::Fault(fault)) => Ok(Some(LineRefusal::Fault(fault))),
-        Err(Unread::OutOfMemory) => Err(AllocError),
+    match reader.read(text)? {
+        None => take_line(reader.alloc, batch, &reader.line),
+        Some(fault) => Ok(Some(LineRefusal::Fault(fault))),
     }
 }
 

@@ -1,5 +1,5 @@
 -- Lines that go out only if they are as they would be written.
-use Rattle.std.proofs.Common.{◌≡◌, ◌≢◌, ℕ, false, true, List, [], ◌∷◌, ◌++◌, length, take, drop, string_bytes}
+use Rattle.std.proofs.Common.{◌≡◌, ℕ, false, true, List, [], ◌∷◌, ◌++◌, length, take, drop, string_bytes}
 use Rattle.std.proofs.Common.{None, Option, Some, Result, Ok, append-nil, refl, sym, ap, subst, ◌∙◌, inl, inr}
 use Rattle.std.proofs.Math.Seq.{drop-append_seam, take-append_seam}
 use Rattle.std.proofs.lemmas.Bool.{cases_Bool}
@@ -17,18 +17,18 @@ use Rattle.lp_rebuild.specs.declared.refusals.LineRefusal.TheVariants as line
 use Rattle.lp_rebuild.specs.RebuildSteps.{IsRefusedFor, TakesLine}
 use Rattle.lp_rebuild.specs.Rebuilding.{carried_point}
 use Rattle.lp_relay.specs.declared.taking.LineForm.{LineForm}
-use Rattle.lp_relay.specs.declared.taking.LineForm.TheVariants.{Rebuilt, Verbatim, Canonical}
+use Rattle.lp_relay.specs.declared.taking.LineForm.TheVariants.{Rebuilt, Verbatim, Canonical, Keyed, OfShard}
 use Rattle.lp_relay.specs.declared.taking.Taken.TheVariants as took
 use Rattle.lp_relay.specs.declared.refusals.Refusal.TheVariants as why
 use Rattle.lp_relay.specs.declared.differing.Part.{Part}
 use Rattle.lp_relay.specs.Differing.{differing_part, part_text}
 use Rattle.lp_relay.specs.Refusals.{TakesItem}
-use Rattle.lp_relay.specs.Relaying.{Item, answered, as_it_came, not_as_written, canonical_item, front_of, item_of}
+use Rattle.lp_relay.specs.Relaying.{Item, answered, put_out, not_as_written, canonical_item, copies, front_of, item_of}
 use Rattle.lp_relay.proofs.RefusalLemmas.{a_line, refuses_answer, same_batch}
 
 -- what the builder writes for a line that goes out as it came
 as_it_is : (front text : List ℕ) (line : Line) → is_admitted_point (point_of line) ≡ true → built (point_of line) ≡ text ++ newline ∷ []
-    → canonical_item front text line ≡ as_it_came text
+    → canonical_item front text line ≡ put_out (text ++ newline ∷ [])
 as_it_is front text line admitted writes =
     rw (admitted, (bytes_eq-Decides (built (point_of line)) (text ++ newline ∷ [])).1 writes) refl
 
@@ -39,7 +39,7 @@ otherwise : (front text : List ℕ) (line : Line) → is_admitted_point (point_o
 otherwise front text line admitted other = rw (admitted, other) refl
 
 -- a text that is as written goes out as it came if lines are written again, or go out only if they are as written
-pub takes_copied : (lines : LineForm) (dialect : Dialect) (piece text before after : List ℕ) → lines ≢ Verbatim → text ≡ trimmed piece
+pub takes_copied : (lines : LineForm) (dialect : Dialect) (piece text before after : List ℕ) → copies lines ≡ true → text ≡ trimmed piece
     → WrittenLinesStay → IsAsWritten text → after ≡ before ++ (text ++ newline ∷ [])
     → TakesItem took.Carried (item_of lines piece (answer dialect text)) before after
 takes_copied Rebuilt dialect piece text before after other is stay written copied =
@@ -49,13 +49,15 @@ takes_copied Rebuilt dialect piece text before after other is stay written copie
     sym stays.2.1 ∙ sym (append-nil (built (point_of stays.0))) ∙ ap built_all (sym point) in
     subst (λ (a : Result Line Fault). TakesItem took.Carried (item_of Rebuilt piece a) before after) (sym stays.1)
     (stays.2.0, copied ∙ ap (λ (l : List ℕ). before ++ l) same)
-takes_copied Verbatim dialect piece text before after other is stay written copied = absurd (other refl)
+takes_copied Verbatim dialect piece text before after other is stay written copied = absurd (cc)
 takes_copied Canonical dialect piece text before after other is stay written copied =
     let stays = stay dialect text written in
-    let item : item_of Canonical piece (answer dialect text) ≡ as_it_came text =
+    let item : item_of Canonical piece (answer dialect text) ≡ put_out (text ++ newline ∷ []) =
     ap (item_of Canonical piece) stays.1 ∙ ap (λ (l : List ℕ). canonical_item (front_of piece) l stays.0) (sym is)
     ∙ as_it_is (front_of piece) text stays.0 stays.2.0 stays.2.1 in
     subst (λ (i : Item). TakesItem took.Carried i before after) (sym item) (refl, copied)
+takes_copied Keyed dialect piece text before after other is stay written copied = absurd (cc)
+takes_copied (OfShard shard) dialect piece text before after other is stay written copied = absurd (cc)
 
 -- what is refused as a rebuild does is that item
 refused_item : (piece : List ℕ) (refusal : LineRefusal) (a : Result Line Fault) → IsRefusedFor (Some refusal) a

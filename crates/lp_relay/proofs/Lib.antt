@@ -23,3 +23,4 @@ pub mod RelaysOfText
 pub mod RelayEnds
 pub mod InputLemmas
 pub mod VerdictLemmas
+pub mod WorkedShards

@@ -23,13 +23,13 @@ use Rattle.lp_values.specs.declared.spelled.SpelledFault.{SpelledFault}
 use Rattle.lp_relay.specs.declared.pieces.Piece.{TheVariants.Text, TheVariants.NoText, TheVariants.TooLong}
 use Rattle.lp_relay.specs.declared.refusals.Refusal.TheVariants as why
 use Rattle.lp_relay.specs.declared.taking.LineForm.{LineForm}
-use Rattle.lp_relay.specs.declared.taking.LineForm.TheVariants.{Rebuilt, Verbatim, Canonical}
+use Rattle.lp_relay.specs.declared.taking.LineForm.TheVariants.{Rebuilt, Verbatim, Canonical, Keyed, OfShard}
 use Rattle.lp_relay.specs.declared.taking.Settings.{Settings}
 use Rattle.lp_relay.specs.declared.taking.Taken.{Taken}
 use Rattle.lp_relay.specs.declared.taking.Taken.TheVariants as took
 use Rattle.lp_relay.specs.Objects.{item_front, stop_given}
 use Rattle.lp_relay.specs.Refusals.{IsRefusal, TakesItem, TakesPiece, has_fault, is_fault, stop_in}
-use Rattle.lp_relay.specs.Relaying.{Item, answered, canonical_item, front_of, is_carried_item, item_of, kept_of, too_long}
+use Rattle.lp_relay.specs.Relaying.{Item, answered, canonical_item, front_of, is_carried_item, item_of, kept_of, keyed_item, too_long}
 use Rattle.lp_relay.specs.Verdicts.{fault_in}
 use Rattle.lp_relay.proofs.ItemLemmas.{item_of_no_text}
 use Rattle.lp_relay.proofs.RelayLemmas.{blank_items, text_item}
@@ -105,6 +105,11 @@ canonical_is_of front text l refused =
       | inr bad ↦ rw bad (refl, refl)
     ]
 
+-- and with a line that has no key to go out
+keyed_is_of : (front text : List ℕ) (l : Line) → is_carried_item (keyed_item front text l) ≡ false → IsOf front (Ok l) (keyed_item front text l)
+keyed_is_of front text l refused =
+    elim (cases_Bool (is_admitted_point (point_of l))) [ inl good ↦ let carried = rw good at refused in absurd (cc) | inr bad ↦ rw bad (refl, refl) ]
+
 -- and with each item
 item_is_of : (lines : LineForm) (piece : List ℕ) (a : Result Line Fault) → is_carried_item (item_of lines piece a) ≡ false
     → IsOf (front_of piece) a (item_of lines piece a)
@@ -114,6 +119,10 @@ item_is_of Verbatim piece (Ok l) refused = absurd (cc)
 item_is_of Verbatim piece (Err fault) refused = (refl, refl)
 item_is_of Canonical piece (Ok l) refused = canonical_is_of (front_of piece) (trimmed piece) l refused
 item_is_of Canonical piece (Err fault) refused = (refl, refl)
+item_is_of Keyed piece (Ok l) refused = keyed_is_of (front_of piece) (trimmed piece) l refused
+item_is_of Keyed piece (Err fault) refused = (refl, refl)
+item_is_of (OfShard shard) piece (Ok l) refused = absurd (cc)
+item_is_of (OfShard shard) piece (Err fault) refused = (refl, refl)
 
 -- where reading stops in a text, if it is at fault
 stop_is : (dialect : Dialect) (piece : Bor (List ℕ)) (fault : Bool) → IsUtf8 piece.now

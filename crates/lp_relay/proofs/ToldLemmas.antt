@@ -16,7 +16,7 @@ use Rattle.lp_relay.specs.FaultsTold.{line_after, told_fault, told_item}
 use Rattle.lp_relay.specs.Kinds.{with_fault}
 use Rattle.lp_relay.specs.Objects.{item_front, stop_given}
 use Rattle.lp_relay.specs.Refusals.{EndsPiece, GaveSame, IsRefusal, RefusesPiece, front_in, given_of, is_fault, reason_of, refusal_kind, stop_in}
-use Rattle.lp_relay.specs.Relaying.{Item, answered, as_it_came, not_as_written, not_utf8, too_long, is_carried_item, item_line, refused_lines}
+use Rattle.lp_relay.specs.Relaying.{Item, answered, put_out, not_as_written, not_utf8, too_long, is_carried_item, item_line, refused_lines}
 use Rattle.lp_relay.specs.RelaySteps.{EndsAhead, TakesAhead, TakesBy, TakesGiven, Unwritten, after_given, bytes_given, items_given}
 use Rattle.lp_relay.specs.RelaySteps.{len_given, newlines_given, next_place}
 use Rattle.lp_relay.proofs.ItemLemmas.{items_add_up}
@@ -31,7 +31,7 @@ nothing_put true pieces = sym (append-nil pieces)
 no_line : (item : Item) → is_carried_item item ≡ false → item_line item ≡ []
 no_line (answered front (Ok l)) refused = rw refused refl
 no_line (answered front (Err fault)) refused = refl
-no_line (as_it_came piece) refused = absurd (cc)
+no_line (put_out out) refused = absurd (cc)
 no_line (not_as_written front wrong) refused = refl
 no_line not_utf8 refused = refl
 no_line (too_long kept) refused = refl

@@ -14,3 +14,4 @@ pub mod Verdicts
 pub mod Windows
 pub mod Writers
 pub mod Refusals
+pub mod Shards

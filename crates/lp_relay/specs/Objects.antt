@@ -18,7 +18,7 @@ use Rattle.lp_relay.specs.declared.kinds.Kind.TheVariants.{TagSetMalformed, Time
 use Rattle.lp_relay.specs.declared.taking.Settings.{Settings}
 use Rattle.lp_relay.specs.declared.telling.Place.{Place}
 use Rattle.influxdb_line_protocol.specs.code.Rules.{rules_of}
-use Rattle.lp_relay.specs.Relaying.{Item, answered, as_it_came, not_as_written, not_utf8, too_long}
+use Rattle.lp_relay.specs.Relaying.{Item, answered, put_out, not_as_written, not_utf8, too_long}
 use Rattle.lp_relay.specs.Relaying.{is_too_long, limit_of, long_text}
 use Rattle.lp_events.specs.code.Stops.{reading_stop}
 use Rattle.lp_relay.specs.Told.{hex_digit}
@@ -73,7 +73,7 @@ fault_kind fault.take_while1 = GenericParsingError
 abbrev pub item_kind : Item → Option Kind
 item_kind (answered front (Ok line)) = if is_carried_answer (Ok line) then None else Some NameNotAdmitted
 item_kind (answered front (Err fault)) = Some (fault_kind fault)
-item_kind (as_it_came piece) = None
+item_kind (put_out out) = None
 item_kind (not_as_written front wrong) = Some NotAsWritten
 item_kind not_utf8 = Some NotUtf8
 item_kind (too_long kept) = Some TooLong
@@ -81,7 +81,7 @@ item_kind (too_long kept) = Some TooLong
 -- what is wrong with an item that is not carried
 abbrev pub item_text : Item → List ℕ
 item_text (answered front answer) = refusal_text answer
-item_text (as_it_came piece) = []
+item_text (put_out out) = []
 item_text (not_as_written front wrong) = wrong
 item_text not_utf8 = codes "the line is not UTF-8"
 item_text (too_long kept) = long_text kept
@@ -89,7 +89,7 @@ item_text (too_long kept) = long_text kept
 -- what comes before the text of an item in its piece: nothing if the piece has no text
 abbrev pub item_front : Item → List ℕ
 item_front (answered front answer) = front
-item_front (as_it_came piece) = []
+item_front (put_out out) = []
 item_front (not_as_written front wrong) = front
 item_front not_utf8 = []
 item_front (too_long kept) = []

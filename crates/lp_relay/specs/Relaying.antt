@@ -1,29 +1,30 @@
 -- What bytes give when they are relayed: the items of their pieces, of which one that is too long, or is not UTF-8, is one item
 -- without an answer, and what goes out for these items.
-use Rattle.std.specs.Prelude.{ℕ, ◌-◌, ◌^◌, ◌==◌, nat_lt, max, Bool, true, false, not, List, [], ◌∷◌, ◌++◌, length, take, codes, decimal, map}
+use Rattle.std.specs.Prelude.{ℕ, ◌-◌, ◌%◌, ◌^◌, ◌==◌, nat_lt, max, Bool, true, false, not, List, [], ◌∷◌, ◌++◌, length, take, codes, decimal, map}
 use Rattle.std.specs.Prelude.{Option, Some, None, Result, Ok, Err, if◌then◌else◌}
 use Rattle.std.specs.List.{flat_map, count_by}
 use Rattle.std.specs.Str.{bytes_eq, is_utf8}
-use Rattle.influxdb_line_protocol.specs.format.Bytes.{newline}
+use Rattle.influxdb_line_protocol.specs.format.Bytes.{newline, tab}
 use Rattle.influxdb_line_protocol.specs.format.Dialects.{Dialect}
 use Rattle.influxdb_line_protocol.specs.format.Readings.{Fault}
-use Rattle.influxdb_line_protocol.specs.format.Points.{built, built_all, is_admitted_point}
+use Rattle.influxdb_line_protocol.specs.format.Points.{Point, built, built_all, is_admitted_point}
 use Rattle.influxdb_line_protocol.specs.format.Lines.{Line, front_before, point_of}
 use Rattle.influxdb_line_protocol.specs.format.Items.{answers_of_piece}
 use Rattle.influxdb_line_protocol.specs.format.Trimming.{trimmed}
 use Rattle.lp_rebuild.specs.Rebuilding.{carried_point, is_carried_answer}
-use Rattle.influxdb_line_protocol.specs.code.Rules.{rules_of}
+use Rattle.influxdb_line_protocol.specs.code.{Keys.hash_of, Keys.series_key, Rules.rules_of}
 use Rattle.lp_relay.specs.declared.taking.LineForm.{LineForm}
-use Rattle.lp_relay.specs.declared.taking.LineForm.TheVariants.{Rebuilt, Verbatim, Canonical}
+use Rattle.lp_relay.specs.declared.taking.LineForm.TheVariants.{Rebuilt, Verbatim, Canonical, Keyed, OfShard}
 use Rattle.lp_relay.specs.declared.taking.Settings.{Settings}
+use Rattle.lp_relay.specs.declared.taking.Shard.{Shard}
 use Rattle.lp_relay.specs.Differing.{differing_part, part_text}
 
--- an item: an answer; a text that holds a line and goes out as it came; a line that is refused, with what is wrong with it, since
+-- an item: an answer; a line that is carried, and all that goes out for it; a line that is refused, with what is wrong with it, since
 -- it is not as it would be written; or a piece that has no answer, since it is not UTF-8 or is too long, and then as many bytes of it
 -- are kept, if any are. What may be refused for its text has what comes before that in its piece
 pub data Item : Type 0 where
   answered : (front : List ℕ) → Result Line Fault → Item
-  as_it_came : List ℕ → Item
+  put_out : (out : List ℕ) → Item
   not_as_written : (front wrong : List ℕ) → Item
   not_utf8 : Item
   too_long : (kept : Option ℕ) → Item
@@ -37,18 +38,49 @@ front_of piece = front_before piece (trimmed piece)
 abbrev pub canonical_item : (front text : List ℕ) → Line → Item
 canonical_item front text line =
     if is_admitted_point (point_of line)
-    then if bytes_eq (built (point_of line)) (text ++ newline ∷ []) then as_it_came text
+    then if bytes_eq (built (point_of line)) (text ++ newline ∷ []) then put_out (text ++ newline ∷ [])
     else not_as_written front (part_text (differing_part text (built (point_of line))))
     else answered front (Ok line)
 
--- the item of an answer for a piece: where lines go out as they came, that of a line is its piece, whatever its names are; where
--- only lines go out that are as they would be written, that of the line that is left of the piece once it is trimmed
+-- the key of the series of a point
+abbrev pub key_of : Point → List ℕ
+key_of p = series_key p.measurement p.tags
+
+-- the item of a line that comes after this front and whose text is this: if a name of it is not admitted, its answer, which is
+-- refused; and else the key of its series, a tab, and the text
+abbrev pub keyed_item : (front text : List ℕ) → Line → Item
+keyed_item front text line =
+    if is_admitted_point (point_of line) then put_out (key_of (point_of line) ++ tab ∷ (text ++ newline ∷ []))
+    else answered front (Ok line)
+
+-- the shard of a point, of so many: the hash of the key of its series, modulo that number
+abbrev pub shard_of : (count : ℕ) → Point → ℕ
+shard_of count p = hash_of (key_of p) % max 1 count
+
+-- whether a point is of a shard
+abbrev pub is_of_shard : Shard → Point → Bool
+is_of_shard shard p = shard_of shard.count p == shard.number
+
+-- the item of an answer for a piece. Of a line there goes out: its piece as it came, whatever its names are; or the line that is left of
+-- the piece once it is trimmed, if it is as it would be written; or that line after its key; or its piece, if it is of a shard
 abbrev pub item_of : LineForm → List ℕ → Result Line Fault → Item
 item_of Rebuilt piece answer = answered (front_of piece) answer
-item_of Verbatim piece (Ok line) = as_it_came piece
+item_of Verbatim piece (Ok line) = put_out (piece ++ newline ∷ [])
 item_of Verbatim piece (Err fault) = answered (front_of piece) (Err fault)
 item_of Canonical piece (Ok line) = canonical_item (front_of piece) (trimmed piece) line
 item_of Canonical piece (Err fault) = answered (front_of piece) (Err fault)
+item_of Keyed piece (Ok line) = keyed_item (front_of piece) (trimmed piece) line
+item_of Keyed piece (Err fault) = answered (front_of piece) (Err fault)
+item_of (OfShard shard) piece (Ok line) = put_out (if is_of_shard shard (point_of line) then piece ++ newline ∷ [] else [])
+item_of (OfShard shard) piece (Err fault) = answered (front_of piece) (Err fault)
+
+-- whether a line that is as the builder writes it goes out as it is
+abbrev pub copies : LineForm → Bool
+copies Rebuilt = true
+copies Verbatim = false
+copies Canonical = true
+copies Keyed = false
+copies (OfShard shard) = false
 
 -- the greatest length of a piece, if it has one: `usize::MAX` is none
 abbrev pub limit_of : ℕ → Option ℕ
@@ -83,7 +115,7 @@ items_of s pieces = flat_map (items_of_piece s) pieces
 -- whether an item is carried
 abbrev pub is_carried_item : Item → Bool
 is_carried_item (answered front answer) = is_carried_answer answer
-is_carried_item (as_it_came piece) = true
+is_carried_item (put_out out) = true
 is_carried_item (not_as_written front wrong) = false
 is_carried_item not_utf8 = false
 is_carried_item (too_long kept) = false
@@ -91,7 +123,7 @@ is_carried_item (too_long kept) = false
 -- what goes out for an item: the line that is written again, or the text that goes out as it came and a newline
 abbrev pub item_line : Item → List ℕ
 item_line (answered front answer) = built_all (carried_point answer)
-item_line (as_it_came piece) = piece ++ newline ∷ []
+item_line (put_out out) = out
 item_line (not_as_written front wrong) = []
 item_line not_utf8 = []
 item_line (too_long kept) = []

@@ -1,6 +1,7 @@
 //! Laws of the definitions, each the contract of a function that does nothing.
 ghost use Rattle.lp_relay.specs.Differing.{FrontsStopInThePart};
 ghost use Rattle.lp_relay.specs.Parts.{FaultsChangeNoLine, PartsGiveLines, PartsGiveRefused};
+ghost use Rattle.lp_relay.specs.Shards.{PointsHaveOneShard, SeriesHaveOneShard};
 
 /// The part of a line that is told as not as written is the one in which reading stops of the front before the first byte in which the
 /// line differs from what the builder writes, if a character begins at that byte.
@@ -18,3 +19,9 @@ pub fn parts_are_relayed_apart()
 {
     influxdb_line_protocol::laws::pieces_join();
 }
+
+/// The shards of one count part the series: each line is of exactly one, and all lines of a series, which have one key, are of the same.
+pub fn shards_part_the_series()
+    ensures one { PointsHaveOneShard }
+    ensures same { SeriesHaveOneShard }
+{}

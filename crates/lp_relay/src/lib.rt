@@ -34,6 +34,6 @@ pub use nowhere::Nowhere;
 pub use objects::put_json_text;
 pub use outputs::{Outputs, ThreeWriters};
 pub use relaying::{Relayed, relay};
-pub use taking::{LineForm, Numbering, Settings};
+pub use taking::{LineForm, Numbering, Settings, Shard};
 pub use telling::{Faults, tell_bytes};
 pub use windows::ReadAt;

@@ -23,10 +23,10 @@ use lp_rebuild::{RunFault, Source};
 use memchr::{memchr, memrchr};
 use std::alloc::{AllocError, Global};
 
-/// How many items of a relay went out, and how many it refused.
+/// How many items a relay carried, and how many it refused.
 #[derive(Clone, Copy, Debug, PartialEq, Eq)]
 pub struct Relayed {
-    /// How many items went out.
+    /// How many items were read and not refused: they went out, but for the lines of other shards.
     pub carried: usize,
     /// How many items have a fault line.
     pub refused: usize,
@@ -283,7 +283,8 @@ fn finish<O: ThreeWriters>(
 
 /// Relays the lines that `reader` gives, as they come: each that [`rebuild`](lp_rebuild::rebuild) would write again goes to the
 /// lines of `outputs`, and the fault of every other item to its faults, with what `settings.numbering` says. By `LineForm::Verbatim`
-/// each line that can be read goes out as it came, also one that a rebuild would refuse for a name.
+/// each line that can be read goes out as it came, also one that a rebuild would refuse for a name. By `LineForm::Keyed` it goes out after
+/// the key of its series, and by `LineForm::OfShard` only if it is of that shard.
 ///
 /// If `settings.puts_refused` says so, the refused pieces of `outputs` gain the piece of each item that has a fault line, byte for
 /// byte as it came, and a newline; of a piece that is too long its first bytes, as many as the limit. Else they gain nothing.

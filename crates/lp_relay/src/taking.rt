@@ -1,13 +1,15 @@
 //! What a relay takes of a piece of its input.
-ghost use Rattle.std.specs.Prelude.{◌≡◌, ◌≢◌, ◌+◌, ◌<◌, ◌≤◌, ◌++◌, List, false, true, ℕ, length, option_map, string_bytes, Err, IfOk, Ok, OnOk};
+ghost use Rattle.std.specs.Prelude.{◌≡◌, ◌≢◌, ◌+◌, ◌<◌, ◌≤◌, ◌++◌, ◌∷◌, [], List, false, true, ℕ, length, option_map, string_bytes, Err, IfOk, Ok, OnOk};
 ghost use Rattle.influxdb_line_protocol.specs.code.Rules.{rules_of};
 ghost use Rattle.influxdb_line_protocol.specs.format.Dialects.{Dialect as AnyDialect};
 ghost use Rattle.influxdb_line_protocol.specs.format.Lines.{answer};
+ghost use Rattle.influxdb_line_protocol.specs.format.Bytes.{newline, tab};
+ghost use Rattle.influxdb_line_protocol.specs.code.Parsed.{parsed_point};
 ghost use Rattle.influxdb_line_protocol.specs.format.Points.{IsAsWritten};
 ghost use Rattle.influxdb_line_protocol.specs.format.Trimming.{trimmed};
 ghost use Rattle.lp_relay.specs.Kinds.{counts_if, with_fault};
 ghost use Rattle.lp_relay.specs.Refusals.{EndsPiece, GaveSame, IsKnown, RefusesPiece, TakesItem, TakesPiece, given_of, reason_of, refusal_kind};
-ghost use Rattle.lp_relay.specs.Relaying.{Item, canonical_item, front_of, item_of, kept_of};
+ghost use Rattle.lp_relay.specs.Relaying.{Item, canonical_item, copies, front_of, is_of_shard, item_of, keyed_item, kept_of};
 ghost use Rattle.lp_relay.specs.FaultsTold.{first_line, line_after, told_fault};
 ghost use Rattle.lp_relay.specs.RelaySteps.{EndsAhead, HoldsLess, TakesAhead, TakesBy, TakesGiven, after_given, items_before, len_given, made};
 ghost use Rattle.lp_relay.specs.RelaySteps.{newlines_given, next_place};
@@ -20,7 +22,9 @@ use crate::pieces::{Piece, piece_of};
 use crate::refusals::Refusal;
 use crate::telling::{Faults, Place, put_fault_line, put_on_one_line};
 use crate::verdict::fault_of;
-use influxdb_line_protocol::{Dialect, PieceTooLong, is_as_written, laws};
+use influxdb_line_protocol::{
+    Dialect, ParsedLine, PieceTooLong, hash_series, is_admitted, is_as_written, laws,
+};
 use lp_rebuild::LineRefusal;
 use lp_rebuild::batch::{self, LineReader, copy_line};
 use lp_rebuild::program::BLOCK;
@@ -38,6 +42,22 @@ pub enum LineForm {
     /// else it is refused: for a name that is not admitted, or with the first part of it that is not so, as in
     /// `not as written: the value of tag 2`.
     Canonical,
+    /// A line goes out byte for byte as it came, without what its piece has before it, after the key of its series and a tab, if its names
+    /// are admitted, and else it is refused.
+    Keyed,
+    /// A line goes out as by `Verbatim` if its series is of this shard. Of a line of another shard nothing goes out; it counts as carried.
+    OfShard(Shard),
+}
+
+/// A part of all series: those whose [`hash`](influxdb_line_protocol::hash_series), modulo `count`, is `number`. A count of 0 is taken as 1.
+///
+/// So each line is of one shard of so many, and all lines of a series are of the same; `laws::shards_part_the_series` says so.
+#[derive(Clone, Copy, Debug, PartialEq, Eq)]
+pub struct Shard {
+    /// Which shard it is, from 0 on.
+    pub number: u64,
+    /// How many shards there are.
+    pub count: u64,
 }
 
 /// What the fault lines of a relay name.
@@ -260,6 +280,71 @@ fn take_rebuilt<'a>(
     }
 }
 
+// Appends a key, a tab, a text and a newline.
+fn put_keyed(batch: &mut Vec<u8>, key: &str, text: &str) -> Result<(), AllocError>
+    ensures { OnOk result (batch.new.items ≡ batch.old.items ++ (key.now ++ tab ∷ (text.now ++ newline ∷ []))) }
+{
+    batch.extend_from_slice(key.as_bytes())?;
+    batch.push(b'\t')?;
+    copy_line(batch, text.as_bytes())
+}
+
+// Takes a line: it goes out after the key of its series.
+#[inline(never)]
+fn take_keyed<'a>(
+    batch: &mut Vec<u8>,
+    reader: &mut LineReader<'a>,
+    piece: &'a str,
+    text: &'a str,
+) -> Result<Taken<'a>, AllocError>
+    requires { text.now ≡ trimmed piece.now }
+    ensures taken { IfOk result (λ taken. TakesItem taken
+        (item_of LineForm.Keyed piece.now (answer (rules_of reader.old.dialect) text.now)) batch.old.items batch.new.items) }
+    ensures dialect { reader.new.dialect ≡ reader.old.dialect }
+{
+    if let Some(fault) = reader.read(text)? {
+        return Ok(Taken::Refused(Refusal::Line(LineRefusal::Fault(fault))));
+    }
+    let line = reader.line();
+    if !is_admitted(line) {
+        return Ok(Taken::Refused(Refusal::Line(LineRefusal::NotAdmitted)));
+    }
+    let key = line.series.key(reader.alloc)?;
+    put_keyed(batch, key.as_str(), text)?;
+    Ok(Taken::Carried)
+}
+
+// Whether a series is of a shard.
+fn is_of_shard(alloc: Global, shard: Shard, line: &ParsedLine<'_>) -> Result<bool, AllocError>
+    ensures { IfOk result (λ is. is ≡ is_of_shard shard (parsed_point line.now)) }
+{
+    let hash = hash_series(alloc, &line.series)?;
+    Ok(hash % shard.count.max(1) == shard.number)
+}
+
+// Takes a line: it goes out as it came if it is of a shard.
+#[inline(never)]
+fn take_of_shard<'a>(
+    shard: Shard,
+    batch: &mut Vec<u8>,
+    reader: &mut LineReader<'a>,
+    piece: &'a str,
+    text: &'a str,
+) -> Result<Taken<'a>, AllocError>
+    ensures taken { IfOk result (λ taken. TakesItem taken
+        (item_of (LineForm.OfShard shard) piece.now (answer (rules_of reader.old.dialect) text.now)) batch.old.items batch.new.items) }
+    ensures dialect { reader.new.dialect ≡ reader.old.dialect }
+{
+    if let Some(fault) = reader.read(text)? {
+        return Ok(Taken::Refused(Refusal::Line(LineRefusal::Fault(fault))));
+    }
+    if is_of_shard(reader.alloc, shard, reader.line())? {
+        let came = piece.as_bytes();
+        copy_line(batch, came)?;
+    }
+    Ok(Taken::Carried)
+}
+
 // Takes a line: it goes out by the settings, or is refused.
 #[inline(always)]
 fn take_line<'a>(
@@ -280,6 +365,8 @@ fn take_line<'a>(
         LineForm::Rebuilt => take_rebuilt(batch, reader, piece, text),
         LineForm::Verbatim => take_verbatim(batch, reader.dialect, piece, text),
         LineForm::Canonical => take_canonical(batch, reader, piece, text),
+        LineForm::Keyed => take_keyed(batch, reader, piece, text),
+        LineForm::OfShard(shard) => take_of_shard(shard, batch, reader, piece, text),
     }
 }
 
@@ -412,10 +499,9 @@ fn end_piece(
 // Whether a line is copied if it is as the builder writes it. One that goes out as it came is read alone, since that takes no longer.
 #[inline(always)]
 fn copies(lines: LineForm) -> bool
-    ensures copied { result ≡ true → lines ≢ LineForm.Verbatim }
-    ensures canonical { lines ≡ LineForm.Canonical → result ≡ true }
+    ensures { result ≡ copies lines }
 {
-    !matches!(lines, LineForm::Verbatim)
+    matches!(lines, LineForm::Rebuilt | LineForm::Canonical)
 }
 
 // Takes a piece that is text and whose line is not copied.

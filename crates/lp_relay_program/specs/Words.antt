@@ -1,12 +1,9 @@
 -- What words ask of the program.
-use Rattle.std.specs.Prelude.{ℕ, ◌+◌, ◌^◌, nat_lt, take, drop, slice_index, Bool, true, false, not, ◌&&◌, ◌||◌, List, [], ◌∷◌, length, bytes_eq, codes}
-use Rattle.std.specs.Prelude.{Option, Some, None, is_none, is_some, option_map, option_and_then, unwrap_or}
-use Rattle.std.specs.Prelude.{◌==◌, if◌then◌else◌}
+use Rattle.std.specs.Prelude.{ℕ, Bool, true, false, not, ◌&&◌, ◌||◌, List, [], ◌∷◌, length, bytes_eq, codes}
+use Rattle.std.specs.Prelude.{Option, Some, None, is_none, is_some, option_map, unwrap_or}
+use Rattle.std.specs.Prelude.{if◌then◌else◌}
 use Rattle.std.specs.Borrow.{Bor}
-use Rattle.std.specs.List.{list_all, position}
 use Rattle.std.specs.Option.{option_map_or}
-use Rattle.std.specs.Str.{all_ascii_digits}
-use Rattle.std.specs.Str.Parse.{digits_value}
 use Rattle.influxdb_line_protocol.specs.types.Dialect.{Dialect}
 use Rattle.influxdb_line_protocol.specs.types.Dialect.TheVariants.{Crate, Strict, NewlineDelimited}
 use Rattle.lp_relay.specs.declared.telling.Faults.{Faults}
@@ -16,8 +13,8 @@ use Rattle.lp_relay.specs.declared.taking.LineForm.TheVariants.{Rebuilt, Verbati
 use Rattle.lp_relay.specs.declared.taking.Numbering.TheVariants as named
 use Rattle.lp_relay.specs.declared.taking.Settings.{Settings}
 use Rattle.lp_relay_program.specs.declared.words.Given.{Given}
-use Rattle.lp_relay_program.specs.declared.words.Range.{Range}
-use Rattle.lp_relay_program.specs.declared.words.Request.{Request}
+use Rattle.lp_programs.specs.declared.{relays.Request.Request}
+use Rattle.lp_programs.specs.Options.{are_inputs, asked_range, decimal, default_max_line, faults_form, first_number, is_one_if, names_file}
 use Rattle.lp_relay_program.specs.declared.words.Task.{Task}
 use Rattle.lp_relay_program.specs.declared.words.Task.TheVariants.{Relay, Cut, Help, Version}
 
@@ -40,10 +37,6 @@ nothing_given = record {
   refused = None;
   range = None;
 }
-
--- how many bytes a line may have if no option says it: 16 MiB
-abbrev pub default_max_line : ℕ
-default_max_line = 2 ^ 24
 
 -- whether faults are told as objects
 abbrev pub is_json : Option Faults → Bool
@@ -91,35 +84,12 @@ given_settings given = record {
   first_offset = first_offset given;
 }
 
--- the number that a word writes: one digit or more and nothing else, if a usize holds it
-abbrev pub decimal : List ℕ → Option ℕ
-decimal word =
-    if nat_lt 0 (length word) && all_ascii_digits word && nat_lt (digits_value 10 word) (2 ^ 64)
-    then Some (digits_value 10 word) else None
-
--- whether a word can be the name of a file: it has a byte, and the first is no `-`
-abbrev pub names_file : List ℕ → Bool
-names_file [] = false
-names_file (first ∷ word) = not (first == 45)
-
--- whether a word names an input: a file, or standard input, which is `-`
-abbrev pub names_input : List ℕ → Bool
-names_input word = bytes_eq word (codes "-") || names_file word
-
--- whether each word names an input
-abbrev pub are_inputs : List (Bor (List ℕ)) → Bool
-are_inputs words = list_all (λ word. names_input word.now) words
-
 -- whether two options exclude each other: a check has no file for lines, the number of the first item is none of a line, lines go
 -- out in one way, and the rules are those of one dialect
 abbrev pub are_at_odds : Given → Bool
 are_at_odds given =
     (given.check && is_some given.output) || (is_some given.first_item && names_lines given) || (given.verbatim && given.canonical)
     || (given.strict && given.newline_delimited)
-
--- whether there is one word, if that is asked for
-abbrev pub is_one_if : Bool → List (Bor (List ℕ)) → Bool
-is_one_if asked words = not asked || length words == 1
 
 -- the relay of the options that were given and of the inputs that words name, if each names an input, just one does if a part of it is
 -- asked for, and no options exclude each other
@@ -150,35 +120,6 @@ with_flag given word =
     else (if bytes_eq word (codes "--summary") && not given.summary then Some (record given { summary = true })
     else (if bytes_eq word (codes "--check") && not given.check then Some (record given { check = true })
     else None)))))))
-
--- the number that a word writes, if it is at least 1
-abbrev pub first_number : List ℕ → Option ℕ
-first_number word = option_and_then (λ first. if first == 0 then None else Some first) (decimal word)
-
--- how faults are told, as a word says: each on one line, as they are, or as objects, which name lines from 1 on
-abbrev pub faults_form : List ℕ → Option Faults
-faults_form word =
-    if bytes_eq word (codes "line") then Some OneLine
-    else (if bytes_eq word (codes "raw") then Some Raw else (if bytes_eq word (codes "json") then Some (Json 1) else None))
-
--- the place that a range ends before, as a word writes it: none if it has no byte
-abbrev pub range_end : List ℕ → Option (Option ℕ)
-range_end [] = Some None
-range_end (b ∷ word) = option_map (λ to. Some to) (decimal (b ∷ word))
-
--- the range from the place that a word writes, and before the one that another writes
-abbrev pub range_between : (from to : List ℕ) → Option Range
-range_between from to = option_and_then (λ start. option_map (λ end. record { from = start; to = end }) (range_end to)) (decimal from)
-
--- the range of which a word writes the places before and after two dots, of which these are the places
-abbrev pub range_at : List ℕ → (at next : ℕ) → Option Range
-range_at word at next =
-    if nat_lt next (length word) && slice_index word next == 46 then range_between (take at word) (drop (next + 1) word) else None
-
--- the range that a word writes, as `14..28` or `14..`: two places, with two dots between them
-abbrev pub asked_range : List ℕ → Option Range
-asked_range word =
-    option_and_then (λ at. range_at word at (at + 1)) (position (λ b. b == 46) word)
 
 -- the same, if the word after it says what it takes
 abbrev pub with_value : Given → List ℕ → Bor (List ℕ) → Option Given

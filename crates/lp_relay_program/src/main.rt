@@ -2,21 +2,10 @@
 //! other to standard error, and the other as it came to a file, if one is named for it.
 #![tactic(auto)]
 
-mod asked;
-mod beside;
-mod counted;
-mod endings;
-mod errors;
-mod files;
-mod inputs;
-mod meter;
-mod places;
-mod refusals;
 mod runs;
-mod summary;
 mod words;
 
-use places::Closed;
+use lp_programs::places::Closed;
 use runs::{refuse_words, run_words};
 use std::env;
 use std::process::ExitCode;

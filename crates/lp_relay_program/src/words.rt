@@ -1,11 +1,15 @@
 //! What the words after the program's name ask for.
-ghost use Rattle.std.specs.Prelude.{◌≡◌, ◌<◌, ◌==◌, IfSome, length, slice_index};
-ghost use Rattle.std.specs.List.{position};
-ghost use Rattle.lp_relay_program.specs.Words.{are_at_odds, are_inputs, asked_cut, asked_dialect, asked_request, asked_task, cut_task, decimal, faults_form};
-ghost use Rattle.lp_relay_program.specs.Words.{asked_range, first_named, first_number, first_offset, given_settings, is_one_if, is_json, names_file, names_input, names_lines, told_form};
-ghost use Rattle.lp_relay_program.specs.Words.{nothing_given, range_between, range_end, request_of, with_flag, with_value};
+ghost use Rattle.std.specs.Prelude.{◌≡◌};
+ghost use Rattle.lp_relay_program.specs.Words.{are_at_odds, asked_cut, asked_dialect, asked_request, asked_task, cut_task};
+ghost use Rattle.lp_relay_program.specs.Words.{first_named, first_offset, given_settings, is_json, names_lines, told_form};
+ghost use Rattle.lp_relay_program.specs.Words.{nothing_given, request_of, with_flag, with_value};
 
 use influxdb_line_protocol::Dialect;
+use lp_programs::options::{
+    DEFAULT_MAX_LINE, Range, are_inputs, decimal_of, faults_form_of, first_number_of, is_file,
+    is_one_if, range_of,
+};
+use lp_programs::relays::Request;
 use lp_relay::{Faults, LineForm, Numbering, Settings};
 
 /// How the program is called: the lines that it prints if its words ask for nothing, without the last newline.
@@ -74,39 +78,6 @@ and --output, not both --verbatim and --canonical, not both --strict and --newli
 Status 0: every item was carried; 1: some item was not; 2: the input could not be read, memory
 ran out, an output could not be written, or is an input too, or the arguments are wrong; 141:
 nothing reads the output, which is said by no message.";
-
-/// The greatest length of a line, in bytes, if the words give none: 16 MiB.
-pub const DEFAULT_MAX_LINE: usize = 16_777_216;
-
-/// The greatest number of parts that an input is cut into, since the ends of all are held: those of so many take 8 MB. No
-/// machine runs as many processes at once.
-pub const MOST_PARTS: usize = 1_000_000;
-
-/// A part of a file: its bytes from a place on, and before another, or to the end.
-#[derive(Clone, Copy)]
-pub struct Range {
-    pub from: usize,
-    pub to: Option<usize>,
-}
-
-/// A relay that words ask for.
-#[derive(Clone, Copy)]
-pub struct Request<'a> {
-    /// How lines are read and written, what the fault lines name, and whether the counts of items are told at the end.
-    pub relay: Settings<'a>,
-    /// Whether progress is shown.
-    pub progress: bool,
-    /// Whether the lines are only checked, and none is written.
-    pub check: bool,
-    /// The file that the lines go to, or none: standard output. A check has none.
-    pub output: Option<&'a str>,
-    /// The file that the refused pieces go to, if they go out.
-    pub refused: Option<&'a str>,
-    /// The part of the input that is relayed, if it is not all. There is one input then.
-    pub range: Option<Range>,
-    /// How many words name inputs: so many of the last. 0: standard input.
-    pub inputs: usize,
-}
 
 /// What the program is to do.
 #[derive(Clone, Copy)]
@@ -317,110 +288,11 @@ impl<'a> Given<'a> {
     }
 }
 
-// The number that a word writes in decimal digits, and nothing else; `None` if there is none, or no usize holds it.
-fn decimal_of(word: &str) -> Option<usize>
-    ensures { result ≡ decimal word.now }
-{
-    if word.as_bytes().starts_with(b"+") {
-        return None;
-    }
-    word.parse::<usize>().ok()
-}
-
-// The number that a word writes, if it is at least 1.
-fn first_number_of(word: &str) -> Option<usize>
-    ensures { result ≡ first_number word.now }
-{
-    decimal_of(word).filter(|first| *first > 0)
-}
-
-// The place that a range ends before, as a word writes it: none if it has no byte.
-fn range_end_of(word: &str) -> Option<Option<usize>>
-    ensures { result ≡ range_end word.now }
-{
-    if word.is_empty() {
-        return Some(None);
-    }
-    Some(Some(decimal_of(word)?))
-}
-
-// The range from the place that a word writes, and before the one that another writes.
-fn range_between(from: &str, to: &str) -> Option<Range>
-    ensures { result ≡ range_between from.now to.now }
-{
-    let from = decimal_of(from)?;
-    let to = range_end_of(to)?;
-    Some(Range { from, to })
-}
-
-// The place of the first dot.
-fn first_dot(word: &[u8]) -> Option<usize>
-    ensures place { result ≡ position (λ b. b == 46) word.now }
-    ensures dot { IfSome result (λ at. (at < length word.now) × (slice_index word.now at ≡ 46)) }
-{
-    word.iter().position(|byte| *byte == b'.')
-}
-
-// The range that a word writes: two places, with two dots between them.
-fn range_of(word: &str) -> Option<Range>
-    ensures { result ≡ asked_range word.now }
-{
-    let at = first_dot(word.as_bytes())?;
-    let next = at + 1;
-    if next >= word.len() || word.as_bytes()[next] != b'.' {
-        return None;
-    }
-    range_between(&word[..at], &word[next + 1..])
-}
-
-// Whether there is one word, if that is asked for.
-fn is_one_if(is_asked: bool, words: &[&str]) -> bool
-    ensures { result ≡ is_one_if is_asked words.now }
-{
-    !is_asked || words.len() == 1
-}
-
 // Whether faults are told as objects.
 fn is_json(faults: Option<Faults>) -> bool
     ensures { result ≡ is_json faults }
 {
     matches!(faults, Some(Faults::Json { .. }))
-}
-
-// How faults are told, as a word says.
-fn faults_form_of(word: &str) -> Option<Faults>
-    ensures { result ≡ faults_form word.now }
-{
-    match word {
-        "line" => Some(Faults::OneLine),
-        "raw" => Some(Faults::Raw),
-        "json" => Some(Faults::Json { first_line: 1 }),
-        _ => None,
-    }
-}
-
-// Whether a word can be the name of a file: it has a byte, and the first is no `-`.
-fn is_file(word: &str) -> bool
-    ensures { result ≡ names_file word.now }
-{
-    match word.as_bytes() {
-        [] => false,
-        [first, ..] => *first != b'-',
-    }
-}
-
-// Whether a word names an input: a file, or standard input.
-fn is_input(word: &str) -> bool
-    ensures { result ≡ names_input word.now }
-{
-    word == "-" || is_file(word)
-}
-
-// Whether each word names an input.
-fn are_inputs(words: &[&str]) -> bool
-    ensures { result ≡ are_inputs words.now }
-{
-    words.iter().all(|word| is_input(word))
 }
 
 // The request that words ask for after the options given. No option is taken twice, so it calls itself a few times at most.

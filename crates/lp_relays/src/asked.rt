@@ -1,7 +1,7 @@
 //! What the first cell of a row asks for: by which settings its text is relayed, and how it comes.
 
 use influxdb_line_protocol::Dialect;
-use lp_relay::{Faults, LineForm, Numbering, Settings};
+use lp_relay::{Faults, LineForm, Numbering, Settings, Shard};
 use lp_vectors::rows::number_of;
 
 const ALL: &[Dialect] = &[Dialect::Crate, Dialect::Strict, Dialect::NewlineDelimited];
@@ -45,6 +45,7 @@ impl Asked {
             "lines" => self.settings.numbering = Numbering::Lines,
             "verbatim" => self.settings.lines = LineForm::Verbatim,
             "canonical" => self.settings.lines = LineForm::Canonical,
+            "keyed" => self.settings.lines = LineForm::Keyed,
             "one_line" => self.settings.faults = Faults::OneLine,
             "refused" => self.settings.puts_refused = true,
             "kinds" => self.settings.counts_kinds = true,
@@ -60,11 +61,27 @@ impl Asked {
             "first" => self.settings.first = number,
             "json" => self.settings.faults = Faults::Json { first_line: number },
             "reads" => self.reads = Some(number),
+            "shards" => self.settings.lines = shard(0, number),
+            "shard" => match self.settings.lines {
+                LineForm::OfShard(of) => self.settings.lines = shard(
+                    number as u64,
+                    of.count as usize,
+                ),
+                _ => return false,
+            },
             "times" => self.times = number,
             _ => return false,
         }
         true
     }
+}
+
+// The lines of a shard of so many.
+fn shard(number: u64, count: usize) -> LineForm {
+    LineForm::OfShard(Shard {
+        number,
+        count: count as u64,
+    })
 }
 
 /// What these words ask for, or `None` if one of them means nothing.

@@ -1,5 +1,5 @@
 use Rattle.std.proofs.lemmas.Result.{IfOk-weaker}
-use Rattle.lp_relay.specs.declared.taking.LineForm.TheVariants.{Rebuilt, Verbatim, Canonical}
+use Rattle.lp_relay.specs.declared.taking.LineForm.TheVariants.{Rebuilt, Verbatim, Canonical, Keyed, OfShard}
 use Rattle.lp_relay.proofs.RefusalLemmas.{takes_by}
 use Rattle.lp_relay.proofs.taking.take_line.Goals as goal
 
@@ -20,3 +20,15 @@ returns-in-Canonical-clause-taken c =
     IfOk-weaker c.take_canonical.result _ _
     (λ taken. takes_by c.args.settings.now c.args.piece.now c.args.text.now taken _ _ Canonical _ c.in-Canonical.is c.requires.dialect)
     c.take_canonical.ensures.taken
+
+pub returns-in-Keyed-clause-taken : goal.returns-in-Keyed-clause-taken
+returns-in-Keyed-clause-taken c =
+    IfOk-weaker c.take_keyed.result _ _
+    (λ taken. takes_by c.args.settings.now c.args.piece.now c.args.text.now taken _ _ Keyed _ c.in-Keyed.is c.requires.dialect)
+    c.take_keyed.ensures.taken
+
+pub returns-in-OfShard-clause-taken : goal.returns-in-OfShard-clause-taken
+returns-in-OfShard-clause-taken c =
+    IfOk-weaker c.take_of_shard.result _ _
+    (λ taken. takes_by c.args.settings.now c.args.piece.now c.args.text.now taken _ _ (OfShard c.in-OfShard.shard) _ c.in-OfShard.is
+    c.requires.dialect) c.take_of_shard.ensures.taken

@@ -1,4 +1,4 @@
-use Rattle.std.proofs.Common.{◌++◌, ◌∷◌, ◌∙◌, [], List, ℕ, ap, refl}
+use Rattle.std.proofs.Common.{◌++◌, ◌∷◌, ◌∙◌, [], List, ℕ, ap, refl, sym}
 use Rattle.std.proofs.lemmas.Result.{on_ok_weaker}
 use Rattle.influxdb_line_protocol.specs.code.Rules.{rules_of}
 use Rattle.influxdb_line_protocol.specs.format.Bytes.{newline}
@@ -24,7 +24,7 @@ returns-then-is_as_written-clause-taken c =
     (λ ends. ends before
     (takes_text s c.args.piece text took.Carried before c.copy_line.new.batch.items c.utf8.piece c.trimmed-text.ensures
     (not_blank text c.args.piece.now c.is_empty.result c.trimmed-text.ensures c.is_empty.ensures c.if-is_empty.false)
-    (takes_copied s.lines (rules_of s.dialect) c.args.piece.now text before c.copy_line.new.batch.items (c.if-copies.ensures.copied refl) c.trimmed-text.ensures
+    (takes_copied s.lines (rules_of s.dialect) c.args.piece.now text before c.copy_line.new.batch.items (sym c.if-copies.ensures) c.trimmed-text.ensures
     c.written_lines_stay.ensures.stay (c.if-is_as_written.ensures.0 refl)
     (c.in_ok-copy_line.ensures ∙ ap (λ (l : List ℕ). before ++ (l ++ newline ∷ [])) c.as_bytes.ensures.value))))
     c.end_piece-then-is_as_written.ensures.ends

@@ -1,0 +1,9 @@
+pub mod Counted
+pub mod Destinations
+pub mod Endings
+pub mod Files
+pub mod Inputs
+pub mod Joined
+pub mod Options
+pub mod Refusals
+pub mod Summaries

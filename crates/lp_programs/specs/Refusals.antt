@@ -1,0 +1,73 @@
+-- What is refused before anything is opened.
+use Rattle.std.specs.Prelude.{ℕ, ◌==◌, ◌&&◌, ◌||◌, nat_lt, decimal, Bool, false, List, ◌++◌, bytes_eq, codes, find, Option, Some, None, if◌then◌else◌}
+use Rattle.std.specs.Prelude.{option_and_then, option_map, unwrap_or}
+use Rattle.std.specs.Option.{option_map_or, option_or}
+use Rattle.std.specs.Borrow.{Bor}
+use Rattle.lp_programs.specs.declared.refusals.{FileId.FileId, Located.Located, Refusal.Refusal}
+use Rattle.lp_programs.specs.declared.refusals.Refusal.TheVariants.{OutputIsInput, RefusedIsInput, RefusedIsOutput}
+use Rattle.lp_programs.specs.declared.refusals.Refusal.TheVariants.{PartsOutOfRange, RangeIsBackwards, RangeIsPastEnd, RangeOfNoFile}
+use Rattle.lp_programs.specs.declared.options.Range.{Range}
+
+-- whether both are files, and one
+abbrev pub are_one : Option FileId → Option FileId → Bool
+are_one None other = false
+are_one (Some file) None = false
+are_one (Some file) (Some other) = file.device == other.device && file.number == other.number
+
+-- the name of the first input that is this file
+abbrev pub input_at : List Located → Option FileId → Option (Bor (List ℕ))
+input_at inputs file = option_map (λ input. input.name) (find (λ input. are_one input.file file) inputs)
+
+-- why the refused pieces cannot go to a file: it is an input, or the output
+abbrev pub refused_refusal : List Located → (output : Option FileId) → Located → Option Refusal
+refused_refusal inputs output refused =
+    option_or (option_map RefusedIsInput (input_at inputs refused.file))
+    (if are_one output refused.file then Some (RefusedIsOutput refused.name) else None)
+
+-- why a run is refused over these inputs: its output is one of them, or the file of its refused pieces is one or the output
+abbrev pub refusal : List Located → (output : Option FileId) → Option Located → Option Refusal
+refusal inputs output refused =
+    option_or (option_map OutputIsInput (input_at inputs output))
+    (option_and_then (λ file. refused_refusal inputs output file) refused)
+
+-- whether a range ends before it begins
+abbrev pub is_backwards : Range → Bool
+is_backwards range = option_map_or (λ to. nat_lt to range.from) range.to false
+
+-- why a range of a file of this name is refused, which has so many bytes, or of an input that is no regular file
+abbrev pub range_of_file : Range → Bor (List ℕ) → Option ℕ → Option Refusal
+range_of_file range name None = Some (RangeOfNoFile name)
+range_of_file range name (Some len) =
+    if nat_lt len (unwrap_or range.to range.from) then Some (RangeIsPastEnd name len) else None
+
+-- the same, if it does not end before it begins
+abbrev pub range_refusal : Range → Bor (List ℕ) → Option ℕ → Option Refusal
+range_refusal range name len = if is_backwards range then Some (RangeIsBackwards range) else range_of_file range name len
+
+-- the greatest number of parts that an input is cut into
+abbrev pub most_parts : ℕ
+most_parts = 1000000
+
+-- why so many parts are refused: they are none, or too many
+abbrev pub parts_refusal : ℕ → Option Refusal
+parts_refusal parts = if parts == 0 || nat_lt most_parts parts then Some (PartsOutOfRange parts) else None
+
+-- the path of an input
+abbrev pub input_path : List ℕ → List ℕ
+input_path name = if bytes_eq name (codes "-") then codes "/proc/self/fd/0" else name
+
+-- how an input is named
+abbrev pub input_text : List ℕ → List ℕ
+input_text name = if bytes_eq name (codes "-") then codes "standard input" else name
+
+-- what is said of a refusal
+abbrev pub refusal_text : Refusal → List ℕ
+refusal_text (OutputIsInput name) = codes "the output is an input too: " ++ input_text name.now
+refusal_text (RefusedIsInput name) = codes "the file of --refused is an input too: " ++ input_text name.now
+refusal_text (RefusedIsOutput name) = codes "the file of --refused is the output too: " ++ name.now
+refusal_text (RangeIsBackwards range) =
+    codes "the range " ++ decimal range.from ++ codes ".." ++ decimal (unwrap_or range.to 0) ++ codes " ends before it begins"
+refusal_text (RangeIsPastEnd name len) =
+    codes "the range goes past the " ++ decimal len ++ codes " bytes of " ++ input_text name.now
+refusal_text (RangeOfNoFile name) = codes "--range reads a regular file, which this is not: " ++ input_text name.now
+refusal_text (PartsOutOfRange parts) = codes "--cut takes from 1 to 1000000 parts, not " ++ decimal parts

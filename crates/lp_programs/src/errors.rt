@@ -1,0 +1,116 @@
+//! What the system says of a device that failed.
+//!
+//! The fault of a run says which side failed, and no more. So the program puts a [`Watched`] before each reader and writer of
+//! std: it hands on each call, and keeps the error that comes, for the message.
+ghost use Rattle.std.specs.Prelude.{◌≡◌, None};
+
+use crate::endings::{Device, Devices};
+use lp_rebuild::DeviceFault;
+use lp_relay::ReadAt;
+use std::cell::Cell;
+use std::fs::File;
+use std::io::{self, ErrorKind, Read, Write};
+use std::os::unix::fs::FileExt;
+
+/// The devices of a run with the errors that they have so far.
+pub type LastErrors<'n> = Devices<Cell<Device<'n>>>;
+
+/// The error of a file that ends before the bytes that it was said to have.
+pub fn shorter() -> io::Error {
+    io::Error::from(ErrorKind::UnexpectedEof)
+}
+
+// A device that has not failed so far, which is the file of this name, if it has one.
+fn device<'n>(name: Option<&'n str>) -> Cell<Device<'n>> {
+    Cell::new(Device { name, error: None })
+}
+
+impl<'n> Devices<Cell<Device<'n>>> {
+    /// No error so far of a run whose lines and refused pieces go to files of these names, if they have names.
+    pub fn unfailed(output: Option<&'n str>, refused: Option<&'n str>) -> Self {
+        Devices {
+            input: device(None),
+            output: device(output),
+            faults: device(None),
+            refused: device(refused),
+        }
+    }
+
+    /// The devices with the errors that they have now.
+    pub fn now(&self) -> Devices<Device<'n>> {
+        Devices {
+            input: self.input.get(),
+            output: self.output.get(),
+            faults: self.faults.get(),
+            refused: self.refused.get(),
+        }
+    }
+}
+
+/// A reader or a writer, and the place for its last error.
+#[derive(Drop)]
+pub struct Watched<'a, 'n, D> {
+    device: &'a Cell<Device<'n>>,
+    inner: D,
+}
+
+impl<'a, 'n, D> Watched<'a, 'n, D> {
+    /// A reader or a writer that hands on each call to another.
+    pub fn new(device: &'a Cell<Device<'n>>, inner: D) -> Self
+        ensures { result.inner ≡ inner }
+    {
+        Watched { device, inner }
+    }
+
+    // Keeps the error of an answer, if it is one.
+    fn keep<T>(&self, answer: &io::Result<T>) {
+        if let Err(error) = answer {
+            let name = self.device.get().name;
+            let error = Some(*error);
+            self.device.set(Device { name, error });
+        }
+    }
+}
+
+impl<'a, 'n, R: Read> Read for Watched<'a, 'n, R> {
+    ghost remaining = { λ d. R.remaining d.inner };
+
+    fn read(&mut self, buf: &mut [u8]) -> io::Result<usize> {
+        let answer = self.inner.read(buf);
+        self.keep(&answer);
+        answer
+    }
+}
+
+impl<'a, 'n, W: Write> Write for Watched<'a, 'n, W> {
+    ghost contents = { λ d. W.contents d.inner };
+
+    fn write(&mut self, buf: &[u8]) -> io::Result<usize> {
+        let answer = self.inner.write(buf);
+        self.keep(&answer);
+        answer
+    }
+
+    fn flush(&mut self) -> io::Result<()> {
+        let answer = self.inner.flush();
+        self.keep(&answer);
+        answer
+    }
+}
+
+/// A file that ends before a place has failed there.
+impl<'a, 'n> ReadAt for Watched<'a, 'n, File> {
+    ghost text = { λ _. None };
+
+    fn read_at(&self, buf: &mut [u8], place: usize) -> Result<usize, DeviceFault> {
+        let answer = match self.inner.read_at(buf, place as u64) {
+            Ok(0) if !buf.is_empty() => Err(shorter()),
+            answer => answer,
+        };
+        self.keep(&answer);
+        match answer {
+            Ok(n) => Ok(n),
+            Err(_) => Err(DeviceFault),
+        }
+    }
+}

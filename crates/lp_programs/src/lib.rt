@@ -1,0 +1,22 @@
+//! What programs over files and streams share: their inputs and outputs, what is refused before anything is opened, and how a run ends.
+//!
+//! `lp_relay` and `lp_series` are built over it. It is a crate of its own, since a program is no library.
+#![tactic(auto)]
+
+pub mod asked;
+mod beside;
+mod counted;
+pub mod endings;
+pub mod errors;
+mod files;
+pub mod inputs;
+mod meter;
+pub mod options;
+pub mod places;
+pub mod refusals;
+pub mod relays;
+mod summary;
+pub mod watched;
+
+pub use counted::{CountedSource, Counts};
+pub use summary::Totals;

@@ -1,0 +1,190 @@
+//! What is refused before anything is opened: an output that is an input, a file of refused pieces that is one of these, a range that
+//! its file does not have, and parts that are none or too many.
+ghost use Rattle.std.specs.Prelude.{◌≡◌, ◌<◌, ◌-◌, [], ◌∷◌, codes, drop, length, map};
+ghost use Rattle.lp_programs.specs.Refusals.{are_one, input_at, input_text, is_backwards, parts_refusal, range_refusal, refusal, refused_refusal};
+
+use crate::options::{MOST_PARTS, Range};
+use std::fmt;
+
+/// The names of inputs if no word names an input.
+pub const STANDARD_INPUT: &[&str] = &["-"];
+
+/// A regular file of the system: its device, and its number there.
+#[derive(Clone, Copy)]
+pub struct FileId {
+    pub device: u64,
+    pub number: u64,
+}
+
+/// A name, and the regular file to which it leads, if it does.
+#[derive(Clone, Copy)]
+pub struct Located<'a> {
+    pub name: &'a str,
+    pub file: Option<FileId>,
+}
+
+/// Why a run is refused before anything is opened, with the name of the file that it would spoil.
+#[derive(Clone, Copy)]
+pub enum Refusal<'a> {
+    /// The lines would go to an input.
+    OutputIsInput(&'a str),
+    /// The refused pieces would go to an input.
+    RefusedIsInput(&'a str),
+    /// The refused pieces would go where the lines go.
+    RefusedIsOutput(&'a str),
+    /// A range ends before it begins.
+    RangeIsBackwards(Range),
+    /// A range begins or ends after the end of a file, which has so many bytes.
+    RangeIsPastEnd(&'a str, usize),
+    /// A range of what is no regular file.
+    RangeOfNoFile(&'a str),
+    /// No part is asked for, or so many that their ends are not held.
+    PartsOutOfRange(usize),
+}
+
+// Whether both are files, and one.
+fn are_one(one: Option<FileId>, other: Option<FileId>) -> bool
+    ensures { result ≡ are_one one other }
+{
+    match (one, other) {
+        (Some(one), Some(other)) => one.device == other.device && one.number == other.number,
+        _ => false,
+    }
+}
+
+// The name of the first input that is this file.
+fn input_at<'a>(inputs: &[Located<'a>], file: Option<FileId>) -> Option<&'a str>
+    ensures { result ≡ input_at inputs.now file }
+{
+    let input = inputs.iter().find(|input| are_one(input.file, file))?;
+    Some(input.name)
+}
+
+// Why the refused pieces cannot go to a file.
+fn refusal_of_refused<'a>(
+    inputs: &[Located<'a>],
+    output: Option<FileId>,
+    refused: Located<'a>,
+) -> Option<Refusal<'a>>
+    ensures { result ≡ refused_refusal inputs.now output refused.entry }
+{
+    if let Some(name) = input_at(inputs, refused.file) {
+        return Some(Refusal::RefusedIsInput(name));
+    }
+    if are_one(output, refused.file) {
+        return Some(Refusal::RefusedIsOutput(refused.name));
+    }
+    None
+}
+
+/// Why a run over these inputs is refused, whose lines go to this file, and its refused pieces to that, if they do.
+pub fn refusal_of<'a>(
+    inputs: &[Located<'a>],
+    output: Option<FileId>,
+    refused: Option<Located<'a>>,
+) -> Option<Refusal<'a>>
+    ensures { result ≡ refusal inputs.now output refused.entry }
+{
+    if let Some(name) = input_at(inputs, output) {
+        return Some(Refusal::OutputIsInput(name));
+    }
+    match refused {
+        Some(refused) => refusal_of_refused(inputs, output, refused),
+        None => None,
+    }
+}
+
+// Whether a range ends before it begins.
+fn is_backwards(range: Range) -> bool
+    ensures { result ≡ is_backwards range }
+{
+    match range.to {
+        Some(to) => to < range.from,
+        None => false,
+    }
+}
+
+/// Why a range of an input is refused that has so many bytes, if it is a regular file.
+pub fn refusal_of_range<'a>(range: Range, name: &'a str, len: Option<usize>) -> Option<Refusal<'a>>
+    ensures { result ≡ range_refusal range name.entry len }
+{
+    if is_backwards(range) {
+        return Some(Refusal::RangeIsBackwards(range));
+    }
+    let end = range.to.unwrap_or(range.from);
+    match len {
+        None => Some(Refusal::RangeOfNoFile(name)),
+        Some(len) if len < end => Some(Refusal::RangeIsPastEnd(name, len)),
+        Some(_) => None,
+    }
+}
+
+/// Why a cut into so many parts is refused.
+pub fn refusal_of_parts<'a>(parts: usize) -> Option<Refusal<'a>>
+    ensures { result ≡ parts_refusal parts }
+{
+    if parts == 0 || parts > MOST_PARTS {
+        return Some(Refusal::PartsOutOfRange(parts));
+    }
+    None
+}
+
+// How an input is named.
+fn input_text<'a>(name: &'a str) -> &'a str
+    ensures { result.now ≡ input_text name.now }
+{
+    if name == "-" { "standard input" } else { name }
+}
+
+impl<'a> fmt::Display for Refusal<'a> {
+    ghost use Rattle.std.specs.Prelude.{Some};
+    ghost use Rattle.lp_programs.specs.Refusals.{refusal_text};
+
+    ghost output = { λ refusal. Some (refusal_text refusal) };
+
+    fn fmt<W: fmt::Write>(&self, f: &mut fmt::Formatter<W>) -> fmt::Result {
+        match self {
+            Refusal::OutputIsInput(name) => {
+                let name = input_text(name);
+                write!(f, "the output is an input too: {name}")
+            }
+            Refusal::RefusedIsInput(name) => {
+                let name = input_text(name);
+                write!(f, "the file of --refused is an input too: {name}")
+            }
+            Refusal::RefusedIsOutput(name) => {
+                write!(f, "the file of --refused is the output too: {name}")
+            }
+            Refusal::RangeIsBackwards(range) => {
+                let from = range.from;
+                let to = range.to.unwrap_or(0);
+                write!(f, "the range {from}..{to}")?;
+                f.write_str(" ends before it begins")
+            }
+            Refusal::RangeIsPastEnd(name, len) => {
+                let name = input_text(name);
+                let len = *len;
+                write!(f, "the range goes past the {len} bytes of ")?;
+                f.write_str(name)
+            }
+            Refusal::RangeOfNoFile(name) => {
+                let name = input_text(name);
+                write!(f, "--range reads a regular file, which this is not: {name}")
+            }
+            Refusal::PartsOutOfRange(parts) => {
+                write!(f, "--cut takes from 1 to 1000000 parts, not {parts}")
+            }
+        }
+    }
+}
+
+/// The names of the inputs, of which so many words are the last: standard input if there is none.
+pub fn names_of<'a>(words: &'a [&'a str], count: usize) -> &'a [&'a str]
+    ensures named { 0 < count → result.now ≡ drop (length words.now - count) words.now }
+    ensures standard { count ≡ 0 → map (λ name. name.now) result.now ≡ codes "-" ∷ [] }
+{
+    if count == 0 {
+        return STANDARD_INPUT;
+    }
+    &words[words.len().saturating_sub(count)..]
+}

@@ -1,0 +1,7 @@
+pub mod FieldLemmas
+pub mod KeptLemmas
+pub mod TimeLemmas
+pub mod SeriesLemmas
+pub mod CountLemmas
+pub mod TextLemmas
+pub mod WorkedCounts

@@ -1,0 +1,92 @@
+-- What one line more changes of what is counted.
+use Rattle.std.specs.Prelude.{◌≡◌, ℕ, ◌+◌, ◌<◌, ◌≤◌, ◌||◌, Bool, false, List, [], ◌++◌, if◌then◌else◌}
+use Rattle.std.specs.Prelude.{ℤ, ◌∷◌, Option, Some, None, String, is_some}
+use Rattle.std.specs.{BTreeMap.BTreeMap, BTreeMap.btree_map_len, BTreeMap.get_by_text, BTreeSet.BTreeSet, BTreeSet.contains_text, Map.update, Str.bytes_eq}
+use Rattle.influxdb_line_protocol.specs.format.Points.{Field, Point, Tag}
+use Rattle.influxdb_line_protocol.specs.format.Values.{Value}
+use Rattle.lp_series.specs.declared.{kinds.FieldKinds.FieldKinds, measurements.MeasurementCounts.MeasurementCounts, tables.Found.Found, counts.SeriesCounts.SeriesCounts}
+use Rattle.lp_series.specs.declared.tables.Found.TheVariants.{Known, New, Beyond}
+use Rattle.lp_series.specs.Counting.{HasKinds, has_tag, is_tag, is_boolean, is_float, is_integer, is_string, is_unsigned}
+
+-- the kinds with that of a value more
+abbrev pub with_value : FieldKinds → Value (List ℕ) → FieldKinds
+with_value kinds v = record {
+  float = kinds.float || is_float v;
+  integer = kinds.integer || is_integer v;
+  unsigned = kinds.unsigned || is_unsigned v;
+  string = kinds.string || is_string v;
+  boolean = kinds.boolean || is_boolean v;
+}
+
+-- no kinds
+abbrev pub no_kinds : FieldKinds
+no_kinds = record { float = false; integer = false; unsigned = false; string = false; boolean = false }
+
+-- these kinds, or none
+abbrev pub kinds_or_none : Option FieldKinds → FieldKinds
+kinds_or_none None = no_kinds
+kinds_or_none (Some kinds) = kinds
+
+module _ {Y X : Type 0} where
+  -- a map has this value at a key now, and at each other what it had
+  abbrev pub SetsText : BTreeMap (String Y) X → BTreeMap (String Y) X → List ℕ → X → Type 0
+  SetsText old new key value = (q : List ℕ) → get_by_text new q ≡ update bytes_eq (get_by_text old) key (Some value) q
+
+module _ {Y : Type 0} where
+  -- a line more of the series with this key was counted, if that is kept
+  abbrev pub CountsKey : ℕ → Found → List ℕ → BTreeMap (String Y) ℕ → BTreeMap (String Y) ℕ → Type 0
+  CountsKey most Known key old new = (n : ℕ) × (get_by_text old key ≡ Some n) × SetsText old new key (n + 1)
+      × (btree_map_len new ≡ btree_map_len old)
+  CountsKey most New key old new = (get_by_text old key ≡ None) × SetsText old new key 1
+      × (btree_map_len old < most) × (btree_map_len new ≡ btree_map_len old + 1)
+  CountsKey most Beyond key old new = (get_by_text old key ≡ None) × (most ≤ btree_map_len old) × (new ≡ old)
+
+module _ {Y : Type 0} where
+  -- a value more is in a set of texts
+  abbrev pub PutsText : BTreeSet (String Y) → BTreeSet (String Y) → List ℕ → Type 0
+  PutsText old new value = (q : List ℕ) → contains_text new q ≡ (bytes_eq value q || contains_text old q)
+
+  -- a tag more is among these
+  pub record PutsTag (old new : BTreeMap (String Y) (BTreeSet (String Y))) (t : Tag) : Type 0 where
+    pub keys : (key : List ℕ) → is_some (get_by_text new key) ≡ (bytes_eq t.key key || is_some (get_by_text old key))
+    pub values : (key value : List ℕ) → has_tag new key value ≡ (is_tag key value t || has_tag old key value)
+
+-- 1 if this is so
+abbrev pub one_if : Bool → ℕ
+one_if is_so = if is_so then 1 else 0
+
+-- a point more of a measurement was counted, of a new series or of a known one
+pub record CountsPoint (is_new : Bool) (p : Point) (old new : MeasurementCounts) : Type 0 where
+  pub points : new.points ≡ old.points + 1
+  pub series : new.series ≡ old.series + one_if is_new
+  pub fields : (fields : List Field) → HasKinds old.fields fields → HasKinds new.fields (fields ++ p.fields)
+
+-- nothing was counted of a measurement yet
+pub record CountsNothing (counts : MeasurementCounts) : Type 0 where
+  pub points : counts.points ≡ 0
+  pub series : counts.series ≡ 0
+  pub fields : HasKinds counts.fields []
+
+-- a point more was counted, after what there was, or after nothing
+abbrev pub CountsAfter : Bool → Point → Option MeasurementCounts → MeasurementCounts → Type 0
+CountsAfter is_new p None new = (none : MeasurementCounts) × CountsNothing none × CountsPoint is_new p none new
+CountsAfter is_new p (Some old) new = CountsPoint is_new p old new
+
+module _ {Y : Type 0} where
+  -- a point more of its measurement was counted
+  abbrev pub CountsIn : Bool → Point → BTreeMap (String Y) MeasurementCounts → BTreeMap (String Y) MeasurementCounts → Type 0
+  CountsIn is_new p old new = (counts : MeasurementCounts)
+      × CountsAfter is_new p (get_by_text old p.measurement) counts × SetsText old new p.measurement counts
+
+-- times with one more, if there is one
+abbrev pub with_time : List ℤ → Option ℤ → List ℤ
+with_time times None = times
+with_time times (Some t) = times ++ t ∷ []
+
+-- what was counted of all points is as before
+pub record KeepsTotals (old new : SeriesCounts) : Type 0 where
+  pub most : new.max_series ≡ old.max_series
+  pub points : new.points ≡ old.points
+  pub without_time : new.without_time ≡ old.without_time
+  pub least_time : new.least_time ≡ old.least_time
+  pub greatest_time : new.greatest_time ≡ old.greatest_time

@@ -1,0 +1,4 @@
+pub mod Counting
+pub mod CountSteps
+pub mod Texts
+pub mod TextSteps

@@ -1,0 +1,88 @@
+//! Counts the line of a piece, read into the room of the lines before it.
+
+ghost use Rattle.std.specs.Prelude.{◌≡◌, OnErr, OnOk};
+ghost use Rattle.influxdb_line_protocol.specs.code.Rules.{rules_of};
+ghost use Rattle.lp_series.specs.CountSteps.{KeepsTotals};
+ghost use Rattle.lp_series.specs.Texts.{points_of_text};
+ghost use Rattle.lp_series.specs.TextSteps.{CountsGiven, CountsMore};
+
+use crate::SeriesCounts;
+use crate::texts::text_of;
+use influxdb_line_protocol::{Dialect, ParsedLine, PieceTooLong, TagSet};
+use lp_lines::freeing::{forget_line, free_line};
+use lp_lines::{Unread, refill_line};
+use lp_scan::trim::trimmed;
+use std::alloc::{AllocError, Global};
+
+// A line that is used again.
+#[derive(Drop)]
+pub(crate) struct LineRoom<'a> {
+    line: ParsedLine<'a>,
+    // A tag set that has grown, of a line that has none now.
+    spare: Option<TagSet<'a>>,
+}
+
+impl<'a> LineRoom<'a> {
+    // Before the first line. It takes no memory.
+    #[inline(always)]
+    pub(crate) fn new(alloc: Global) -> Self {
+        LineRoom {
+            line: ParsedLine::new(alloc),
+            spare: None,
+        }
+    }
+
+    // Lets it go, without a visit to each place of its line's sets. Its memory is freed.
+    #[inline(always)]
+    pub(crate) fn free(mut self, alloc: Global) {
+        free_line(alloc, &mut self.line);
+        forget_line(self.line);
+    }
+}
+
+// Counts the line of a piece, if it has one.
+pub(crate) fn count_text<'a>(
+    alloc: Global,
+    dialect: Dialect,
+    counts: &mut SeriesCounts,
+    room: &mut LineRoom<'a>,
+    piece: &'a str,
+) -> Result<(), AllocError>
+    ensures counts { OnOk result (CountsMore counts.old counts.new (points_of_text (rules_of dialect) piece.now)) }
+    ensures most { counts.new.max_series ≡ counts.old.max_series }
+    ensures totals { OnErr result (KeepsTotals counts.old counts.new) }
+{
+    let text = trimmed(piece);
+    if text.is_empty() {
+        return Ok(());
+    }
+    match refill_line(alloc, dialect, text, &mut room.line, &mut room.spare) {
+        Ok(()) => counts.add_read(alloc, &room.line),
+        Err(Unread::Fault(_)) => Ok(()),
+        Err(Unread::OutOfMemory) => Err(AllocError),
+    }
+}
+
+// Counts the line of what a stream gave, if it has one.
+#[inline(never)]
+pub(crate) fn count_given(
+    alloc: Global,
+    dialect: Dialect,
+    counts: &mut SeriesCounts,
+    given: Result<&[u8], PieceTooLong<'_>>,
+) -> Result<(), AllocError>
+    ensures counts { OnOk result (CountsGiven (rules_of dialect) counts.old counts.new given.entry) }
+    ensures most { counts.new.max_series ≡ counts.old.max_series }
+    ensures totals { OnErr result (KeepsTotals counts.old counts.new) }
+{
+    let Ok(bytes) = given else {
+        return Ok(());
+    };
+    let Some(piece) = text_of(bytes) else {
+        return Ok(());
+    };
+    let mut room = LineRoom::new(alloc);
+    let counted = count_text(alloc, dialect, counts, &mut room, piece);
+    room.free(alloc);
+    counted
+}

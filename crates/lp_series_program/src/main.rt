@@ -1,0 +1,33 @@
+//! Tells what series the lines of its inputs have, or writes the lines by their series: each after its key, or those of one shard.
+#![tactic(auto)]
+
+mod counting;
+mod report;
+mod runs;
+mod words;
+
+use lp_programs::places::Closed;
+use runs::{refuse_words, run_words};
+use std::env;
+use std::process::ExitCode;
+
+// The words after the program's name, or `None` if they cannot be read.
+fn arguments_of(rt: &HostRuntime) -> Option<Vec<String>> {
+    env::args(rt).ok()?.skip(1).collect(rt.alloc()).ok()
+}
+
+fn main(rt: HostRuntime) -> ExitCode {
+    let _closed = Closed::hold(&rt);
+    let Some(arguments) = arguments_of(&rt) else {
+        return ExitCode::from(refuse_words(&rt));
+    };
+    let words: Result<Vec<&str>, _> = arguments
+        .iter()
+        .map(|word| word.as_str())
+        .collect(rt.alloc());
+    let status = match words {
+        Ok(words) => run_words(&rt, words.as_slice()),
+        Err(_) => refuse_words(&rt),
+    };
+    ExitCode::from(status)
+}

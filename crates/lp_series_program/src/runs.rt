@@ -1,0 +1,96 @@
+//! Does what the words ask for.
+ghost use Rattle.std.specs.Prelude.{◌≡◌, IfNone};
+ghost use Rattle.lp_series_program.specs.Words.{asked_task};
+
+use crate::counting::Counting;
+use crate::words::{HELP, Report, Task, USAGE, VERSION, task_of};
+use lp_programs::Totals;
+use lp_programs::endings::{Failure, ending_of_relay, status_of_print};
+use lp_programs::refusals::names_of;
+use lp_programs::relays::{Request, end, refuse_files, relay, relay_to_files};
+use lp_rebuild::RunFault;
+
+// The name of the program.
+const NAME: &str = "lp_series";
+
+// How a count ended that a relay answered so: if memory was refused for it, or it could not be told, that is why.
+fn answer_of<'n>(
+    answer: Result<Totals, Failure<'n>>,
+    counting: &Counting<'_, 'n>,
+) -> Result<Totals, Failure<'n>> {
+    if let Some(failure) = counting.failure {
+        return Err(failure);
+    }
+    match answer {
+        Err(failure) if counting.is_refused => Err(Failure {
+            fault: RunFault::OutOfMemory,
+            ..failure
+        }),
+        answer => answer,
+    }
+}
+
+// Counts the lines of the inputs of these names, and tells what was counted, also if the inputs could not be read to their end.
+fn count<'n>(
+    rt: &HostRuntime,
+    request: Request<'n>,
+    names: &'n [&'n str],
+    report: Report<'n>,
+) -> Result<Totals, Failure<'n>> {
+    let counting = Counting::new(rt, request.relay.dialect, request.relay.limit, report);
+    let (answer, counting) = relay_to_files(rt, request, names, counting);
+    let totals = answer_of(answer, &counting);
+    if counting.failure.is_some() {
+        return totals;
+    }
+    let refused = match &totals {
+        Ok(totals) => totals.counts.kinds,
+        Err(_) => None,
+    };
+    match (totals, counting.tell(refused)) {
+        (Ok(totals), Ok(())) => Ok(totals),
+        (Ok(_), Err(failure)) => Err(failure),
+        (Err(failure), _) => Err(failure),
+    }
+}
+
+// Counts the lines of the inputs of these names, and answers with the exit status.
+fn count_files<'n>(
+    rt: &HostRuntime,
+    request: Request<'n>,
+    names: &'n [&'n str],
+    report: Report<'n>,
+) -> u8 {
+    if let Some(status) = refuse_files(rt, NAME, names, report.prometheus, None) {
+        return status;
+    }
+    let answer = count(rt, request, names, report);
+    end(rt, NAME, ending_of_relay(request.relay, answer))
+}
+
+/// Prints how the program is called, since its words ask for nothing, and answers with the exit status.
+pub(crate) fn refuse_words(rt: &HostRuntime) -> u8
+    ensures { result ≡ 2 }
+{
+    let _ = eprintln!(rt; "{USAGE}");
+    2
+}
+
+/// Does what the words ask for, and answers with the exit status.
+pub(crate) fn run_words(rt: &HostRuntime, words: &[&str]) -> u8
+    ensures { IfNone (asked_task words.now) (result ≡ 2) }
+{
+    match task_of(words) {
+        Some(Task::Relay(request)) => {
+            let names = names_of(words, request.inputs);
+            relay(rt, NAME, request, names)
+        }
+        Some(Task::Count(request, report)) => {
+            let names = names_of(words, request.inputs);
+            count_files(rt, request, names, report)
+        }
+        Some(Task::Help) => status_of_print(println!(rt; "{USAGE}\n{HELP}")),
+        Some(Task::Version) => status_of_print(println!(rt; "{NAME} {VERSION}")),
+        None => refuse_words(rt),
+    }
+}

@@ -1,0 +1,332 @@
+//! What the words after the program's name ask for.
+ghost use Rattle.std.specs.Prelude.{◌≡◌};
+ghost use Rattle.lp_series_program.specs.Words.{are_at_odds, asked_after_options, asked_dialect, asked_shard, asked_task, asks_to_count};
+ghost use Rattle.lp_series_program.specs.Words.{given_relay, given_report, is_relay, lines_form, nothing_given, shard_between, task_given, with_flag, with_value};
+
+use influxdb_line_protocol::Dialect;
+use lp_programs::options::{
+    DEFAULT_MAX_LINE, are_inputs, decimal_of, faults_form_of, first_number_of, is_file, place_of,
+};
+use lp_programs::relays::Request;
+use lp_relay::{Faults, LineForm, Numbering, Settings, Shard};
+
+/// How the program is called: the lines that it prints if its words ask for nothing, without the last newline.
+pub const USAGE: &str =
+    "usage: lp_series [--stats] [--json] [--every SECONDS] [--prometheus FILE] [--max-series N]
+                 [--strict | --newline-delimited] [--faults line|raw|json] [--max-line BYTES]
+                 [FILE..]
+       lp_series --key [--newline-delimited] [--faults line|raw|json] [--max-line BYTES]
+                 [FILE..]
+       lp_series --shard K/N [--strict | --newline-delimited] [--faults line|raw|json]
+                 [--max-line BYTES] [FILE..]
+       lp_series --help | --version";
+
+/// The version of this state, which `--version` prints: the newest of CHANGELOG.md.
+pub const VERSION: &str = "3.0.0";
+
+/// What `--help` prints after that, without the last newline.
+pub const HELP: &str =
+    "Reads lines of InfluxDB line protocol from each FILE, one after another, or from standard input,
+and tells what series they have, or writes them by their series to standard output. It writes
+`item N: FAULT` to standard error for each item that it refuses, with the name of its FILE before
+it if there are several, but not by --faults raw. A FILE that is - is standard input; ./-x names a
+file -x.
+
+  --stats            tells, at the end, how many bytes, lines and points there are, their times,
+                     how many series, the points, series and fields of each measurement, the fields
+                     with values of more than one type, and how many values each tag has; that is
+                     done if nothing else is asked for
+  --json             tells that as one object of JSON on a line
+  --every SECONDS    tells what was counted so far too, so often while input comes
+  --prometheus FILE  writes that to FILE in Prometheus' text format, for node_exporter's folder: it
+                     is put in its place whole; nothing then goes to standard output
+  --max-series N     keeps N series at most: 1000000 if it is not given. Of lines of other series it
+                     counts the points and the times alone, and tells how many there were
+  --key              writes each line as it came, after the key of its series and a tab, so that
+                     sort, uniq, awk and split go by series; a line with a name that is not
+                     admitted is refused. It reads the newline-delimited dialect
+  --shard K/N        writes each line as it came whose series is of shard K of N, from 0: the
+                     FNV-1a hash, of 64 bits, of the key of its series, modulo N
+  --strict           reads the strict dialect
+  --newline-delimited
+                     reads the newline-delimited dialect: that of --strict, but each newline ends a
+                     line, whatever is open, so that no line takes in the next one
+  --faults FORM      line, as if it is not given: each fault on one line; raw: as lp_rebuild writes
+                     it, with newlines within; json: each as an object on one line
+  --max-line BYTES   a longer line is passed over, and is a fault: 16777216 if it is not given
+  --help, -h         prints this
+  --version          prints the version
+
+The options come in any order, each at most once, before the files.
+
+Status 0: every item was read, and with --key written; 1: some item was not; 2: the input could not
+be read, memory ran out, an output could not be written, or is an input too, or the arguments are
+wrong; 141: nothing reads the output, which is said by no message.";
+
+/// How many series are kept if the words do not say it.
+pub const DEFAULT_MAX_SERIES: usize = 1_000_000;
+
+/// How it is told what was counted.
+#[derive(Clone, Copy)]
+pub struct Report<'a> {
+    /// Whether it is told as an object of JSON.
+    pub json: bool,
+    /// How many series are kept.
+    pub max_series: usize,
+    /// After how many seconds it is told what was counted so far, if it is.
+    pub every: Option<usize>,
+    /// The file that it is told to, if it is not standard output.
+    pub prometheus: Option<&'a str>,
+}
+
+/// What the program is to do.
+#[derive(Clone, Copy)]
+pub enum Task<'a> {
+    /// Write the lines of the inputs by their series.
+    Relay(Request<'a>),
+    /// Count the lines of the inputs by their series.
+    Count(Request<'a>, Report<'a>),
+    /// Print how the program is called.
+    Help,
+    /// Print the version.
+    Version,
+}
+
+/// The options that words gave so far.
+#[derive(Clone, Copy)]
+pub(crate) struct Given<'a> {
+    strict: bool,
+    newline_delimited: bool,
+    stats: bool,
+    json: bool,
+    key: bool,
+    shard: Option<Shard>,
+    faults: Option<Faults>,
+    max_line: Option<usize>,
+    max_series: Option<usize>,
+    every: Option<usize>,
+    prometheus: Option<&'a str>,
+}
+
+impl<'a> Given<'a> {
+    fn nothing() -> Self
+        ensures { result ≡ nothing_given }
+    {
+        Given {
+            strict: false,
+            newline_delimited: false,
+            stats: false,
+            json: false,
+            key: false,
+            shard: None,
+            faults: None,
+            max_line: None,
+            max_series: None,
+            every: None,
+            prometheus: None,
+        }
+    }
+
+    // Whose rules hold.
+    fn dialect(self) -> Dialect
+        ensures { result ≡ asked_dialect self.entry }
+    {
+        if self.key || self.newline_delimited {
+            Dialect::NewlineDelimited
+        } else if self.strict {
+            Dialect::Strict
+        } else {
+            Dialect::Crate
+        }
+    }
+
+    // How lines go out.
+    fn lines(self) -> LineForm
+        ensures { result ≡ lines_form self.entry }
+    {
+        if self.key {
+            return LineForm::Keyed;
+        }
+        match self.shard {
+            Some(shard) => LineForm::OfShard(shard),
+            None => LineForm::Verbatim,
+        }
+    }
+
+    // Whether lines go out, and nothing is counted.
+    fn is_relay(self) -> bool
+        ensures { result ≡ is_relay self.entry }
+    {
+        self.key || self.shard.is_some()
+    }
+
+    // Whether an option of counting was given.
+    fn asks_to_count(self) -> bool
+        ensures { result ≡ asks_to_count self.entry }
+    {
+        self.stats
+            || self.json
+            || self.max_series.is_some()
+            || self.every.is_some()
+            || self.prometheus.is_some()
+    }
+
+    // Whether two options exclude each other: the rules are those of one dialect, a key stands on a line, and one thing is asked for.
+    fn are_at_odds(self) -> bool
+        ensures { result ≡ are_at_odds self.entry }
+    {
+        self.strict && (self.newline_delimited || self.key)
+            || self.key && self.shard.is_some()
+            || self.is_relay() && self.asks_to_count()
+    }
+
+    // The relay of these options, and of so many inputs.
+    fn relay(self, inputs: usize) -> Request<'a>
+        ensures { result ≡ given_relay self.entry inputs }
+    {
+        Request {
+            relay: Settings {
+                dialect: self.dialect(),
+                limit: self.max_line.unwrap_or(DEFAULT_MAX_LINE),
+                lines: self.lines(),
+                numbering: Numbering::Items,
+                first: 1,
+                faults: self.faults.unwrap_or(Faults::OneLine),
+                puts_refused: false,
+                counts_kinds: !self.is_relay(),
+                file: None,
+                first_offset: 0,
+            },
+            progress: false,
+            check: !self.is_relay(),
+            output: None,
+            refused: None,
+            range: None,
+            inputs,
+        }
+    }
+
+    // How it is told what was counted.
+    fn report(self) -> Report<'a>
+        ensures { result ≡ given_report self.entry }
+    {
+        Report {
+            json: self.json,
+            max_series: self.max_series.unwrap_or(DEFAULT_MAX_SERIES),
+            every: self.every,
+            prometheus: self.prometheus,
+        }
+    }
+
+    // The task of these options and inputs, if each word names an input, and no options exclude each other.
+    fn task(self, words: &[&str]) -> Option<Task<'a>>
+        ensures { result ≡ task_given self.entry words.now }
+    {
+        if !are_inputs(words) || self.are_at_odds() {
+            return None;
+        }
+        let request = self.relay(words.len());
+        if self.is_relay() {
+            return Some(Task::Relay(request));
+        }
+        Some(Task::Count(request, self.report()))
+    }
+
+    // These options and the one that a word names, if that was not given before and takes no word after it.
+    fn with_flag(mut self, word: &str) -> Option<Self>
+        ensures { result ≡ with_flag self.entry word.now }
+    {
+        match word {
+            "--strict" if !self.strict => self.strict = true,
+            "--newline-delimited" if !self.newline_delimited => self.newline_delimited = true,
+            "--stats" if !self.stats => self.stats = true,
+            "--json" if !self.json => self.json = true,
+            "--key" if !self.key => self.key = true,
+            _ => return None,
+        }
+        Some(self)
+    }
+
+    // These options and the one that a word names, if that was not given before and the word after it says what it takes.
+    fn with_value(mut self, word: &str, value: &'a str) -> Option<Self>
+        ensures { result ≡ with_value self.entry word.now value.entry }
+    {
+        match word {
+            "--shard" if self.shard.is_none() => self.shard = Some(shard_of(value)?),
+            "--faults" if self.faults.is_none() => self.faults = Some(faults_form_of(value)?),
+            "--max-line" if self.max_line.is_none() => self.max_line = Some(decimal_of(value)?),
+            "--max-series" if self.max_series.is_none() => {
+                self.max_series = Some(decimal_of(value)?);
+            }
+            "--every" if self.every.is_none() => self.every = Some(first_number_of(value)?),
+            "--prometheus" if self.prometheus.is_none() && is_file(value) => {
+                self.prometheus = Some(value);
+            }
+            _ => return None,
+        }
+        Some(self)
+    }
+}
+
+// The shard whose number and count these words write, if there is one.
+fn shard_between(number: &str, count: &str) -> Option<Shard>
+    ensures { result ≡ shard_between number.now count.now }
+{
+    let number = decimal_of(number)?;
+    let count = decimal_of(count)?;
+    if number >= count {
+        return None;
+    }
+    Some(Shard {
+        number: number as u64,
+        count: count as u64,
+    })
+}
+
+// The shard that a word writes: its number, a slash, and how many there are.
+fn shard_of(word: &str) -> Option<Shard>
+    ensures { result ≡ asked_shard word.now }
+{
+    let at = place_of(b'/', word.as_bytes())?;
+    shard_between(&word[..at], &word[at + 1..])
+}
+
+// The task that words ask for after the options given. No option is taken twice, so it calls itself a few times at most.
+fn task_after<'a>(given: Given<'a>, words: &[&'a str]) -> Option<Task<'a>>
+    ensures { result ≡ asked_after_options given.entry words.now }
+{
+    let [word, rest @ ..] = words else {
+        return given.task(words);
+    };
+    if let Some(more) = given.with_flag(word) {
+        return task_after(more, rest);
+    }
+    let [value, rest @ ..] = rest else {
+        return given.task(words);
+    };
+    match given.with_value(word, value) {
+        Some(more) => task_after(more, rest),
+        None => given.task(words),
+    }
+}
+
+/// What the words after the program's name ask for, or `None` if they are not as [`USAGE`] says. It takes no memory.
+///
+/// ```text
+/// task_of(&[])                              gives  a count of standard input, which keeps a million series
+/// task_of(&["--json", "a", "-"])            gives  one of the file `a`, and of standard input after it, told as an object
+/// task_of(&["--key", "a"])                  gives  the lines of the file `a`, each after its key
+/// task_of(&["--shard", "0/4"])              gives  the lines of shard 0 of 4
+/// task_of(&["--shard", "4/4"])              gives  None
+/// task_of(&["--key", "--json"])             gives  None
+/// task_of(&["--key", "--strict"])           gives  None
+/// ```
+pub fn task_of<'a>(words: &[&'a str]) -> Option<Task<'a>>
+    ensures { result ≡ asked_task words.now }
+{
+    match words {
+        [word] if *word == "--help" || *word == "-h" => Some(Task::Help),
+        [word] if *word == "--version" => Some(Task::Version),
+        _ => task_after(Given::nothing(), words),
+    }
+}
