@@ -129,11 +129,12 @@ def compare(relay, series, name):
         what = f"{' '.join(dialect)} {name}"
         wanted = counted(text, lines)
         told = json.loads(run(series, "--json", *dialect, name))
-        refused = told.pop("refused")
+        refused, items_refused = told.pop("refused"), told.pop("items_refused")
         differs(f"--json {what}", told, wanted)
         differs(f"the refused items of --json {what}", refused, refused_of(relay, *dialect, name))
+        differs(f"their number of --json {what}", items_refused, sum(refused.values()))
         few = json.loads(run(series, "--json", "--max-series", str(FEW), *dialect, name))
-        del few["refused"]
+        del few["refused"], few["items_refused"]
         same = ["bytes", "lines", "points", "without_time", "least_time", "greatest_time"]
         differs(f"--max-series {what}", [few[key] for key in same], [wanted[key] for key in same])
         kept = dict.fromkeys(key_of(line[2], line[3]) for line in lines)

@@ -140,7 +140,7 @@ take_words() {
     local name
     wanted 1 "$nothing" "item 1: $x\n$taken\n"
     wanted 1 "$nothing" "item 1: $x\n$taken\n" --stats --every 1000 --max-series 0 --newline-delimited
-    wanted 1 '{"bytes":2,"lines":1,"points":0,"without_time":0,"least_time":null,"greatest_time":null,"series":0,"points_beyond":0,"measurements":{},"tag_values":{},"refused":{"too_long":1}}\n' \
+    wanted 1 '{"bytes":2,"lines":1,"points":0,"without_time":0,"least_time":null,"greatest_time":null,"series":0,"points_beyond":0,"measurements":{},"tag_values":{},"items_refused":1,"refused":{"too_long":1}}\n' \
         "item 1: the line is too long\n2 bytes, 1 lines, 1 items: 0 carried, 1 refused: 1 too_long\n" --max-line 0 --json --strict
     wanted 1 "" "item 1: $x\n" --key
     wanted 1 "" "item 1: $x\n" --key --newline-delimited --faults raw
@@ -181,7 +181,7 @@ report() {
     wanted 0 '105 bytes, 7 lines\n7 points, 4 of them without a time\ntimes from -7 to 9\n3 series\n2 measurements\n  a"\\\\b: 2 points, 2 series, 5 fields
   \\xc3\\xbc: 5 points, 1 series, 1 fields\n2 fields with values of more than one type\n  a"\\\\b f=g: float, string
   \\xc3\\xbc x: float, integer, unsigned, string, boolean\n1 tag keys\n  t",1: 1 values\n' "105 bytes, 7 lines, 7 items: 7 carried, 0 refused\n"
-    wanted 0 '{"bytes":105,"lines":7,"points":7,"without_time":4,"least_time":-7,"greatest_time":9,"series":3,"points_beyond":0,"measurements":{"a\\"\\\\b":{"points":2,"series":2,"fields":{"f=g":["float","string"],"g":["integer"],"h":["unsigned"],"i":["string"],"j":["boolean"]}},"ü":{"points":5,"series":1,"fields":{"x":["float","integer","unsigned","string","boolean"]}}},"tag_values":{"t\\",1":1},"refused":{}}\n' \
+    wanted 0 '{"bytes":105,"lines":7,"points":7,"without_time":4,"least_time":-7,"greatest_time":9,"series":3,"points_beyond":0,"measurements":{"a\\"\\\\b":{"points":2,"series":2,"fields":{"f=g":["float","string"],"g":["integer"],"h":["unsigned"],"i":["string"],"j":["boolean"]}},"ü":{"points":5,"series":1,"fields":{"x":["float","integer","unsigned","string","boolean"]}}},"tag_values":{"t\\",1":1},"items_refused":0,"refused":{}}\n' \
         "105 bytes, 7 lines, 7 items: 7 carried, 0 refused\n" --json
     ! command -v python3 >/dev/null || python3 -c 'import json, sys; json.load(open(sys.argv[1]))' "$work/out"
     names >"$work/names"
@@ -202,7 +202,7 @@ report() {
     wanted 0 '63 bytes, 5 lines\n5 points, 1 of them without a time\ntimes from 1 to 9\nmore than 2 series: 2 points are of others, which --max-series leaves out below
 2 measurements\n  a: 1 points, 1 series, 1 fields\n  b: 2 points, 1 series, 1 fields\n0 fields with values of more than one type\n1 tag keys\n  t: 2 values\n' \
         "63 bytes, 5 lines, 5 items: 5 carried, 0 refused\n" --max-series 2
-    wanted 0 '{"bytes":63,"lines":5,"points":5,"without_time":1,"least_time":1,"greatest_time":9,"series":2,"points_beyond":2,"measurements":{"a":{"points":1,"series":1,"fields":{"f":["integer"]}},"b":{"points":2,"series":1,"fields":{"f":["float"]}}},"tag_values":{"t":2},"refused":{}}\n' \
+    wanted 0 '{"bytes":63,"lines":5,"points":5,"without_time":1,"least_time":1,"greatest_time":9,"series":2,"points_beyond":2,"measurements":{"a":{"points":1,"series":1,"fields":{"f":["integer"]}},"b":{"points":2,"series":1,"fields":{"f":["float"]}}},"tag_values":{"t":2},"items_refused":0,"refused":{}}\n' \
         "63 bytes, 5 lines, 5 items: 5 carried, 0 refused\n" --max-series 2 --json
     ends 0 "63 bytes, *" --max-series 4
     grep -qx '4 series' "$work/out" || fail "four series are not kept"
@@ -227,9 +227,9 @@ take_files() {
     wanted 2 '10 bytes, 1 lines\n1 points, 1 of them without a time\n1 series\n1 measurements\n  m: 1 points, 1 series, 1 fields
 0 fields with values of more than one type\n1 tag keys\n  t: 1 values\n' "${unread}none: $none\n" a none b
     ends 2 "${unread}d: Is a directory (os error 21)" --json d
-    [[ $(cat "$work/out") = *'"tag_values":{},"refused":null}' ]] || fail "what is refused is told of an input that fails"
+    [[ $(cat "$work/out") = *'"tag_values":{},"items_refused":0,"refused":null}' ]] || fail "what is refused is told of an input that fails"
     ends 1 "*" --prometheus m b
-    grep -qxF 'lp_series_refused_total{kind="generic_parsing_error"} 1' m || fail "the metrics do not tell what is refused"
+    grep -qxF 'lp_series_items_refused_total 1' m && grep -qxF 'lp_series_refused_total{kind="generic_parsing_error"} 1' m || fail "the metrics do not tell what is refused"
     rm m
     # A file of metrics that is an input, by whatever name, that cannot be made, or that is no file.
     for name in a ./a link hard d/../a "$work/files/a"; do

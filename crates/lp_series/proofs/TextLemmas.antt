@@ -1,9 +1,10 @@
 -- The points of pieces, and what was counted of them so far.
-use Rattle.std.proofs.Common.{◌≡◌, ℕ, ℤ, ◌<◌, ◌≤◌, ◌++◌, List, [], ◌∷◌, length, Bool}
+use Rattle.std.proofs.Common.{◌≡◌, ℕ, ℤ, ◌+◌, ◌<◌, ◌≤◌, ◌++◌, List, [], ◌∷◌, length, Bool}
 use Rattle.std.proofs.Common.{Result, Ok, Err, Option, Some, refl, sym, ap, subst, ◌∙◌, arith, append-nil, append_assoc, inl, inr, if◌then◌else◌}
 use Rattle.std.specs.{Borrow.Bor, Str.IsUtf8, Str.is_utf8}
 use Rattle.std.proofs.lemmas.{Bool.cases_Bool, Bool.Decides.nat_tests, Grind.flat_map-append, Str.IsUtf8-from_is_utf8, Str.is_utf8-from_IsUtf8}
 use Rattle.std.proofs.lemmas.List.{length-append}
+use Rattle.std.proofs.lemmas.List.Sums.{sum_by-append}
 use Rattle.std.proofs.lemmas.Result.{MatchResult-from_err}
 use Rattle.std.specs.Prelude.{IsErr, MatchResult}
 use Rattle.influxdb_line_protocol.specs.format.Dialects.{Dialect}
@@ -23,8 +24,8 @@ use Rattle.lp_written.specs.{code.WrittenKeys.IsAdmittedKey, laws.WrittenKeyLaws
 use Rattle.lp_series.specs.declared.counts.SeriesCounts.{SeriesCounts}
 use Rattle.lp_series.specs.Counting.{Counts, CountsAll, IsGreatest, IsLeast, key_of, times_of}
 use Rattle.lp_series.specs.CountSteps.{KeepsTotals}
-use Rattle.lp_series.specs.Texts.{points_of, points_of_piece, points_of_text}
-use Rattle.lp_series.specs.TextSteps.{CountsMore, points_given}
+use Rattle.lp_series.specs.Texts.{points_of, points_of_piece, points_of_text, refused_of, refused_of_piece, refused_of_text}
+use Rattle.lp_series.specs.TextSteps.{CountsMore, points_given, refused_given}
 
 -- a front that is as long as the text is the text
 nothing_after : (key rest text : List ℕ) → key ++ rest ≡ text → length text ≤ length key → key ≡ text
@@ -135,3 +136,52 @@ none_is_last exist dialect = let p = exist dialect [] in nothing_is_last dialect
 -- what holds at an error
 pub at_error : {T E Q : Type 0} (P : T → Type 0) (r : Result T E) → IsErr r → Q → MatchResult r P (λ _. Q)
 at_error P r failed q = MatchResult-from_err r P _ failed (λ _. q)
+
+-- a blank piece has no item
+pub blank_refused : (dialect : Dialect) (piece : List ℕ) → length (trimmed piece) ≡ 0 → refused_of_text dialect piece ≡ 0
+unfolding answers_of_piece
+blank_refused dialect piece blank = rw blank refl
+
+-- a line is not refused
+pub line_refused : (dialect : Dialect) (piece : List ℕ) (l : Line) → 0 < length (trimmed piece) → answer dialect (trimmed piece) ≡ Ok l
+    → refused_of_text dialect piece ≡ 0
+line_refused dialect piece l some is = grind (arith, answered_points dialect piece some)
+
+-- a fault is
+pub fault_refused : (dialect : Dialect) (piece : List ℕ) (fault : Fault) → 0 < length (trimmed piece)
+    → answer dialect (trimmed piece) ≡ Err fault → refused_of_text dialect piece ≡ 1
+fault_refused dialect piece fault some is = grind (arith, answered_points dialect piece some)
+
+-- of what a stream gave in the place of a piece as many items are refused as of the piece
+pub given_refused : (dialect : Dialect) (limit : ℕ) (piece : List ℕ) (given : Result (Bor (List ℕ)) PieceTooLong)
+    → IsLastOf limit piece given → refused_of_piece dialect limit piece ≡ refused_given dialect given
+unfolding refused_of_piece
+given_refused dialect limit piece (Ok bytes) h = grind (arith, nat_tests, h.0, h.1)
+given_refused dialect limit piece (Err fault) h = grind (arith, nat_tests, h.0)
+
+-- the refused items of pieces with one more
+pub refused_more : (dialect : Dialect) (limit others : ℕ) (pieces : List (List ℕ)) (piece : List ℕ)
+    (given : Result (Bor (List ℕ)) PieceTooLong) (old new more : ℕ) → IsLastOf limit piece given
+    → old ≡ others + refused_of dialect limit pieces → new ≡ old + more → more ≡ refused_given dialect given
+    → new ≡ others + refused_of dialect limit (pieces ++ piece ∷ [])
+refused_more dialect limit others pieces piece given old new more is before adds of =
+    let one = given_refused dialect limit piece given is in
+    let both = sum_by-append (refused_of_piece dialect limit) pieces (piece ∷ []) in
+    grind arith
+
+-- bytes that are no text are refused
+pub no_text_refused : (dialect : Dialect) (given : Result (Bor (List ℕ)) PieceTooLong) (bytes : Bor (List ℕ)) → given ≡ Ok bytes
+    → (¬ IsUtf8 bytes.now) → refused_given dialect given ≡ 1
+no_text_refused dialect given bytes is no_text =
+    ap (refused_given dialect) is ∙ elim (cases_Bool (is_utf8 bytes.now)) [
+      | inl good ↦ absurd (no_text (IsUtf8-from_is_utf8 bytes.now good))
+      | inr bad ↦ rw bad refl
+    ]
+
+-- of a text its faults are
+pub text_refused : (dialect : Dialect) (given : Result (Bor (List ℕ)) PieceTooLong) (bytes : Bor (List ℕ)) (text : List ℕ)
+    → given ≡ Ok bytes → IsUtf8 bytes.now → text ≡ bytes.now → refused_given dialect given ≡ refused_of_text dialect text
+text_refused dialect given bytes text is utf8 same =
+    let good = is_utf8-from_IsUtf8 bytes.now utf8 in
+    ap (refused_given dialect) is
+    ∙ ap (λ (b : Bool). if b then refused_of_text dialect bytes.now else 1) good ∙ ap (refused_of_text dialect) (sym same)

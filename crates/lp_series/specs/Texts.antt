@@ -1,6 +1,6 @@
 -- The points of a text that comes in parts, and what is counted of them.
-use Rattle.std.specs.Prelude.{◌≡◌, ℕ, Bool, ◌==◌, ◌&&◌, ◌||◌, ◌^◌, ◌-◌, nat_lt, not, List, [], ◌∷◌, ◌++◌, length, if◌then◌else◌, Result, Ok, Err}
-use Rattle.std.specs.{List.flat_map, Str.is_utf8}
+use Rattle.std.specs.Prelude.{◌≡◌, ℕ, ◌+◌, is_err, Bool, ◌==◌, ◌&&◌, ◌||◌, ◌^◌, ◌-◌, nat_lt, not, List, [], ◌∷◌, ◌++◌, length, if◌then◌else◌, Result, Ok, Err}
+use Rattle.std.specs.{List.count_by, List.flat_map, List.sum_by, Str.is_utf8}
 use Rattle.influxdb_line_protocol.specs.format.Dialects.{Dialect}
 use Rattle.influxdb_line_protocol.specs.format.Items.{answers_of_piece}
 use Rattle.influxdb_line_protocol.specs.format.Lines.{Line, point_of}
@@ -29,13 +29,26 @@ is_too_long limit piece = nat_lt limit (length piece) && not (limit == 2 ^ 64 - 
 unfoldable pub points_of_piece : Dialect → ℕ → List ℕ → List Point
 points_of_piece dialect limit piece = if is_too_long limit piece || not (is_utf8 piece) then [] else points_of_text dialect piece
 
+-- how many answers of a text that is a piece are faults
+abbrev pub refused_of_text : Dialect → List ℕ → ℕ
+refused_of_text dialect piece = count_by is_err (answers_of_piece dialect piece)
+
+-- how many items of a piece are no line: one if it is too long or not UTF-8, and else its faults
+unfoldable pub refused_of_piece : Dialect → ℕ → List ℕ → ℕ
+refused_of_piece dialect limit piece = if is_too_long limit piece || not (is_utf8 piece) then 1 else refused_of_text dialect piece
+
+-- how many items of pieces are no line
+abbrev pub refused_of : Dialect → ℕ → List (List ℕ) → ℕ
+refused_of dialect limit pieces = sum_by (refused_of_piece dialect limit) pieces
+
 -- the points of pieces, in order
 abbrev pub points_of : Dialect → ℕ → List (List ℕ) → List Point
 points_of dialect limit pieces = flat_map (points_of_piece dialect limit) pieces
 
--- after these points, of a text of which so much was given, pieces were counted, by the rules of a dialect and a limit for pieces, and
--- this text is left
-pub record HasCountedTo (counter : SeriesCounter) (dialect : Dialect) (most : ℕ) (before : List Point) (given left : List ℕ) : Type 0 where
+-- after these points, and so many items that are no line, pieces of a text of which so much was given were counted, by the rules of a
+-- dialect and a limit for pieces, and this text is left
+pub record HasCountedTo (counter : SeriesCounter) (dialect : Dialect) (most : ℕ) (before : List Point) (others : ℕ) (given left : List ℕ)
+    : Type 0 where
   pub rules : rules_of counter.dialect ≡ dialect
   pub stream_rules : counter.stream.held.dialect ≡ dialect
   pub limit : counter.stream.limit ≡ most
@@ -43,11 +56,12 @@ pub record HasCountedTo (counter : SeriesCounter) (dialect : Dialect) (most : �
   pub run : Run dialect given pieces left
   pub holds : Holds counter.stream left
   pub counts : Counts counter.counts (before ++ points_of dialect most pieces)
+  pub refused : counter.refused ≡ others + refused_of dialect most pieces
 
--- after these points, of a text of which so much was given, all pieces that a newline ends were counted
-abbrev pub HasCounted : SeriesCounter → Dialect → ℕ → List Point → List ℕ → Type 0
-HasCounted counter dialect limit before given =
-    (left : List ℕ) × HasCountedTo counter dialect limit before given left × IsLastPiece dialect left
+-- after these points, and so many items that are no line, all pieces that a newline ends were counted of a text of which so much was given
+abbrev pub HasCounted : SeriesCounter → Dialect → ℕ → List Point → (others : ℕ) → List ℕ → Type 0
+HasCounted counter dialect limit before others given =
+    (left : List ℕ) × HasCountedTo counter dialect limit before others given left × IsLastPiece dialect left
 
 -- after these points, of a text of which so much was given, what was counted of all points is that of some first pieces
 pub record HasCountedSome (counter : SeriesCounter) (dialect : Dialect) (limit : ℕ) (before : List Point) (given : List ℕ) : Type 0 where

@@ -1,14 +1,15 @@
 //! Counts the lines of a text that comes in parts.
 
-ghost use Rattle.std.specs.Prelude.{◌≡◌, ◌++◌, ◌<◌, ℕ, [], List, IfOk, OnErr, OnOk, true};
+ghost use Rattle.std.specs.Prelude.{◌≡◌, ◌+◌, ◌++◌, ◌<◌, ℕ, [], List, IfOk, OnErr, OnOk, true};
 ghost use Rattle.influxdb_line_protocol.specs.code.{Bounded.most_given, Rules.rules_of};
 ghost use Rattle.influxdb_line_protocol.specs.format.{Dialects.Dialect as Format, Pieces.Pieces, Points.Point};
 ghost use Rattle.lp_series.specs.CountSteps.{KeepsTotals};
-ghost use Rattle.lp_series.specs.Texts.{HasCounted, HasCountedSome, points_of};
+ghost use Rattle.lp_series.specs.Texts.{HasCounted, HasCountedSome, points_of, refused_of};
 ghost use Rattle.lp_series.specs.TextSteps.{CountsFirst};
 
 use crate::SeriesCounts;
 use crate::lines::count_given;
+use crate::sums::{count_if, one_of};
 use influxdb_line_protocol::{BoundedLineStream, Dialect, laws};
 use std::alloc::{AllocError, Global};
 
@@ -30,13 +31,14 @@ pub struct SeriesCounter {
     dialect: Dialect,
     stream: BoundedLineStream,
     counts: SeriesCounts,
+    refused: u64,
 }
 
 impl SeriesCounter {
     /// Before the first part, by the rules of a dialect. A line may have so many bytes at most, without the newline that ends it;
     /// `usize::MAX` is no limit. At most so many series are kept. It takes no memory.
     pub fn new(alloc: Global, dialect: Dialect, limit: usize, max_series: usize) -> Self
-        ensures counts { HasCounted result (rules_of dialect) limit [] [] }
+        ensures counts { HasCounted result (rules_of dialect) limit [] 0 [] }
         ensures most { result.counts.max_series ≡ max_series }
     {
         laws::pieces_join();
@@ -45,6 +47,7 @@ impl SeriesCounter {
             dialect,
             stream: BoundedLineStream::new_in(alloc, dialect, limit),
             counts: SeriesCounts::new(alloc, max_series),
+            refused: 0,
         }
     }
 
@@ -55,6 +58,13 @@ impl SeriesCounter {
         &self.counts
     }
 
+    /// How many items so far are no line: a piece with a fault, one that is too long, and one that is not UTF-8.
+    pub fn refused(&self) -> u64
+        ensures { result ≡ self.now.refused }
+    {
+        self.refused
+    }
+
     // Counts the line of the next piece, and tells whether the stream could give one.
     fn count_next(&mut self) -> Result<bool, AllocError>
         ensures fewer { IfOk result (λ some. some ≡ true → most_given self.new.stream < most_given self.old.stream) }
@@ -62,10 +72,12 @@ impl SeriesCounter {
         ensures most { self.new.counts.max_series ≡ self.old.counts.max_series }
         ensures totals { OnErr result (KeepsTotals self.old.counts self.new.counts) }
     {
+        let one_more = count_if(self.refused, true)?;
         let Some(given) = self.stream.next() else {
             return Ok(false);
         };
-        count_given(self.alloc, self.dialect, &mut self.counts, given)?;
+        let refused = count_given(self.alloc, self.dialect, &mut self.counts, given)?;
+        self.refused = one_of(refused, self.refused, one_more);
         Ok(true)
     }
 
@@ -79,11 +91,13 @@ impl SeriesCounter {
     /// A request for memory was refused, or no `u64` holds a count, or no `usize` how many bytes a piece has that is too long. Then
     /// lines of the part may be lost, and the tables may have a part of one; what is counted of all lines is that of the first ones.
     pub fn push(&mut self, part: &[u8]) -> Result<(), AllocError>
-        ensures counts { OnOk result ((dialect : Format) (limit : ℕ) (before : List Point) (given : List ℕ)
-            → HasCounted self.old dialect limit before given → HasCounted self.new dialect limit before (given ++ part.now)) }
+        ensures counts { OnOk result ((dialect : Format) (limit : ℕ) (before : List Point) (others : ℕ) (given : List ℕ)
+            → HasCounted self.old dialect limit before others given
+            → HasCounted self.new dialect limit before others (given ++ part.now)) }
         ensures most { self.new.counts.max_series ≡ self.old.counts.max_series }
-        ensures some { OnErr result ((dialect : Format) (limit : ℕ) (before : List Point) (given : List ℕ)
-            → HasCounted self.old dialect limit before given → HasCountedSome self.new dialect limit before (given ++ part.now)) }
+        ensures some { OnErr result ((dialect : Format) (limit : ℕ) (before : List Point) (others : ℕ) (given : List ℕ)
+            → HasCounted self.old dialect limit before others given
+            → HasCountedSome self.new dialect limit before (given ++ part.now)) }
     {
         self.stream.push(part)?;
         while self.count_next()? {}
@@ -97,17 +111,19 @@ impl SeriesCounter {
     ///
     /// Those of [`push`](Self::push). The last piece is lost then.
     pub fn finish(&mut self) -> Result<(), AllocError>
-        ensures counts { OnOk result ((dialect : Format) (limit : ℕ) (before : List Point) (given : List ℕ)
-            → HasCounted self.old dialect limit before given → (pieces : List (List ℕ)) × Pieces dialect given pieces
-            × HasCounted self.new dialect limit (before ++ points_of dialect limit pieces) []) }
+        ensures counts { OnOk result ((dialect : Format) (limit : ℕ) (before : List Point) (others : ℕ) (given : List ℕ)
+            → HasCounted self.old dialect limit before others given → (pieces : List (List ℕ)) × Pieces dialect given pieces
+            × HasCounted self.new dialect limit (before ++ points_of dialect limit pieces) (others + refused_of dialect limit pieces) []) }
         ensures most { self.new.counts.max_series ≡ self.old.counts.max_series }
-        ensures some { OnErr result ((dialect : Format) (limit : ℕ) (before : List Point) (given : List ℕ)
-            → HasCounted self.old dialect limit before given → HasCountedSome self.new dialect limit before given) }
+        ensures some { OnErr result ((dialect : Format) (limit : ℕ) (before : List Point) (others : ℕ) (given : List ℕ)
+            → HasCounted self.old dialect limit before others given → HasCountedSome self.new dialect limit before given) }
     {
         laws::pieces_join();
         laws::runs_give_pieces();
+        let one_more = count_if(self.refused, true)?;
         let last = self.stream.finish();
-        count_given(self.alloc, self.dialect, &mut self.counts, last)?;
+        let refused = count_given(self.alloc, self.dialect, &mut self.counts, last)?;
+        self.refused = one_of(refused, self.refused, one_more);
         Ok(())
     }
 }

@@ -1,10 +1,10 @@
 //! Counts the line of a piece, read into the room of the lines before it.
 
-ghost use Rattle.std.specs.Prelude.{◌≡◌, OnErr, OnOk};
+ghost use Rattle.std.specs.Prelude.{◌≡◌, IfOk, OnErr, OnOk};
 ghost use Rattle.influxdb_line_protocol.specs.code.Rules.{rules_of};
-ghost use Rattle.lp_series.specs.CountSteps.{KeepsTotals};
-ghost use Rattle.lp_series.specs.Texts.{points_of_text};
-ghost use Rattle.lp_series.specs.TextSteps.{CountsGiven, CountsMore};
+ghost use Rattle.lp_series.specs.CountSteps.{KeepsTotals, one_if};
+ghost use Rattle.lp_series.specs.Texts.{points_of_text, refused_of_text};
+ghost use Rattle.lp_series.specs.TextSteps.{CountsGiven, CountsMore, refused_given};
 
 use crate::SeriesCounts;
 use crate::texts::text_of;
@@ -40,46 +40,51 @@ impl<'a> LineRoom<'a> {
     }
 }
 
-// Counts the line of a piece, if it has one.
+// Counts the line of a piece, if it has one, and tells whether it has an item that is none.
 pub(crate) fn count_text<'a>(
     alloc: Global,
     dialect: Dialect,
     counts: &mut SeriesCounts,
     room: &mut LineRoom<'a>,
     piece: &'a str,
-) -> Result<(), AllocError>
+) -> Result<bool, AllocError>
+    ensures refused { IfOk result (λ refused. one_if refused ≡ refused_of_text (rules_of dialect) piece.now) }
     ensures counts { OnOk result (CountsMore counts.old counts.new (points_of_text (rules_of dialect) piece.now)) }
     ensures most { counts.new.max_series ≡ counts.old.max_series }
     ensures totals { OnErr result (KeepsTotals counts.old counts.new) }
 {
     let text = trimmed(piece);
     if text.is_empty() {
-        return Ok(());
+        return Ok(false);
     }
     match refill_line(alloc, dialect, text, &mut room.line, &mut room.spare) {
-        Ok(()) => counts.add_read(alloc, &room.line),
-        Err(Unread::Fault(_)) => Ok(()),
+        Ok(()) => {
+            counts.add_read(alloc, &room.line)?;
+            Ok(false)
+        }
+        Err(Unread::Fault(_)) => Ok(true),
         Err(Unread::OutOfMemory) => Err(AllocError),
     }
 }
 
-// Counts the line of what a stream gave, if it has one.
+// Counts the line of what a stream gave, if it has one, and tells whether it has an item that is none.
 #[inline(never)]
 pub(crate) fn count_given(
     alloc: Global,
     dialect: Dialect,
     counts: &mut SeriesCounts,
     given: Result<&[u8], PieceTooLong<'_>>,
-) -> Result<(), AllocError>
+) -> Result<bool, AllocError>
+    ensures refused { IfOk result (λ refused. one_if refused ≡ refused_given (rules_of dialect) given.entry) }
     ensures counts { OnOk result (CountsGiven (rules_of dialect) counts.old counts.new given.entry) }
     ensures most { counts.new.max_series ≡ counts.old.max_series }
     ensures totals { OnErr result (KeepsTotals counts.old counts.new) }
 {
     let Ok(bytes) = given else {
-        return Ok(());
+        return Ok(true);
     };
     let Some(piece) = text_of(bytes) else {
-        return Ok(());
+        return Ok(true);
     };
     let mut room = LineRoom::new(alloc);
     let counted = count_text(alloc, dialect, counts, &mut room, piece);

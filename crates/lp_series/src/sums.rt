@@ -14,3 +14,10 @@ pub(crate) fn count_if(count: u64, is_so: bool) -> Result<u64, AllocError>
     }
     count.checked_add(1).ok_or(AllocError)
 }
+
+// A count, or the next one if this is so.
+pub(crate) fn one_of(is_so: bool, count: u64, next: u64) -> u64
+    ensures { next ≡ count + 1 → result ≡ count + one_if is_so }
+{
+    if is_so { next } else { count }
+}

@@ -76,6 +76,7 @@ impl<'a, 'n> Counting<'a, 'n> {
         let counted = Counted {
             read: self.read,
             counts: self.counter.counts(),
+            items_refused: self.counter.refused(),
             refused,
         };
         tell(self.rt, self.report, counted)

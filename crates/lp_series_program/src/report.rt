@@ -18,6 +18,8 @@ use std::io::{self, ErrorKind};
 pub(crate) struct Counted<'l> {
     pub(crate) read: Counts,
     pub(crate) counts: &'l SeriesCounts,
+    /// How many items are no line.
+    pub(crate) items_refused: u64,
     /// How many items were refused for each kind of fault, once all is read.
     pub(crate) refused: Option<KindCounts>,
 }
@@ -283,10 +285,12 @@ fn put_json(json: &mut String, counted: Counted<'_>) -> Result<(), AllocError> {
     put_json_measurements(json, &counts.measurements)?;
     json.push_str("},\"tag_values\":{")?;
     put_json_tags(json, &counts.tags)?;
+    let items_refused = counted.items_refused;
+    write!(json, "}},\"items_refused\":{items_refused},\"refused\":")?;
     let Some(refused) = counted.refused else {
-        return json.push_str("},\"refused\":null}\n");
+        return json.push_str("null}\n");
     };
-    json.push_str("},\"refused\":{")?;
+    json.push_str("{")?;
     put_json_refused(json, &refused)?;
     json.push_str("}}\n")
 }
@@ -474,6 +478,13 @@ fn put_metrics(text: &mut String, counted: Counted<'_>) -> Result<(), AllocError
         "counter",
         "Points of series that are not kept.",
         counts.beyond,
+    )?;
+    put_value(
+        text,
+        "items_refused_total",
+        "counter",
+        "Items refused.",
+        counted.items_refused,
     )?;
     put_refused_metrics(text, counted.refused)?;
     put_measurement_metrics(text, &counts.measurements)?;

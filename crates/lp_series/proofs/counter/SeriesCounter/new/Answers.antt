@@ -16,6 +16,7 @@ returns-clause-counts c = (
     run = begun;
     holds = c.new_in.ensures.holds;
     counts = c.new.ensures.counts;
+    refused = refl;
   },
   none_is_last c.pieces_join.ensures.some (rules_of c.args.dialect),
 )

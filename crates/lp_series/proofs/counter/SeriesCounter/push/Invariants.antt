@@ -9,9 +9,9 @@ use Rattle.lp_series.proofs.counter.SeriesCounter.push.Given as goal
 abbrev pub invariant-loop : goal.invariant-loop
 invariant-loop l = record {
   most : l.self.counts.max_series ≡ l.fn.self.counts.max_series;
-  counted : (dialect : Dialect) (limit : ℕ) (before : List Point) (given : List ℕ)
-      → HasCounted l.fn.self dialect limit before given
-      → (left : List ℕ) × HasCountedTo l.self dialect limit before (given ++ l.part) left;
+  counted : (dialect : Dialect) (limit : ℕ) (before : List Point) (others : ℕ) (given : List ℕ)
+      → HasCounted l.fn.self dialect limit before others given
+      → (left : List ℕ) × HasCountedTo l.self dialect limit before others (given ++ l.part) left;
 }
 
 -- fewer pieces can be given each time
