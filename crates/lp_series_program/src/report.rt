@@ -339,74 +339,83 @@ fn put_labeled(
     writeln!(text, "\"}} {value}")
 }
 
+// What is told of each measurement.
+#[derive(Clone, Copy)]
+enum Told {
+    Points,
+    Series,
+    Fields,
+    MixedFields,
+}
+
+impl Told {
+    // The name of its metric.
+    fn name(self) -> &'static str {
+        match self {
+            Told::Points => "measurement_points_total",
+            Told::Series => "measurement_series",
+            Told::Fields => "measurement_fields",
+            Told::MixedFields => "measurement_mixed_fields",
+        }
+    }
+
+    // The type of its metric.
+    fn kind(self) -> &'static str {
+        match self {
+            Told::Points => "counter",
+            Told::Series | Told::Fields | Told::MixedFields => "gauge",
+        }
+    }
+
+    // What its metric is.
+    fn help(self) -> &'static str {
+        match self {
+            Told::Points => "Points of a measurement.",
+            Told::Series => "Series of a measurement.",
+            Told::Fields => "Fields of a measurement.",
+            Told::MixedFields => "Fields of a measurement with values of more than one type.",
+        }
+    }
+
+    // What it is of one measurement.
+    fn of(self, counts: &MeasurementCounts) -> u64 {
+        match self {
+            Told::Points => counts.points,
+            Told::Series => counts.series,
+            Told::Fields => counts.fields.len() as u64,
+            Told::MixedFields => mixed_fields(counts),
+        }
+    }
+}
+
+// Adds a metric of measurements.
+fn put_measurement_metric(
+    text: &mut String,
+    told: Told,
+    measurements: &BTreeMap<String, MeasurementCounts>,
+) -> Result<(), AllocError> {
+    put_metric(text, told.name(), told.kind(), told.help())?;
+    for (name, counts) in measurements.iter() {
+        put_labeled(
+            text,
+            told.name(),
+            "measurement",
+            name.as_str(),
+            told.of(counts),
+        )?;
+    }
+    Ok(())
+}
+
 // Adds the metrics of measurements.
 fn put_measurement_metrics(
     text: &mut String,
     measurements: &BTreeMap<String, MeasurementCounts>,
 ) -> Result<(), AllocError> {
-    put_metric(
-        text,
-        "measurement_points_total",
-        "counter",
-        "Points of a measurement.",
-    )?;
-    for (name, counts) in measurements.iter() {
-        put_labeled(
-            text,
-            "measurement_points_total",
-            "measurement",
-            name.as_str(),
-            counts.points,
-        )?;
-    }
-    put_metric(
-        text,
-        "measurement_series",
-        "gauge",
-        "Series of a measurement.",
-    )?;
-    for (name, counts) in measurements.iter() {
-        put_labeled(
-            text,
-            "measurement_series",
-            "measurement",
-            name.as_str(),
-            counts.series,
-        )?;
-    }
-    put_metric(
-        text,
-        "measurement_fields",
-        "gauge",
-        "Fields of a measurement.",
-    )?;
-    for (name, counts) in measurements.iter() {
-        let fields = counts.fields.len() as u64;
-        put_labeled(
-            text,
-            "measurement_fields",
-            "measurement",
-            name.as_str(),
-            fields,
-        )?;
-    }
-    put_metric(
-        text,
-        "measurement_mixed_fields",
-        "gauge",
-        "Fields of a measurement with values of more than one type.",
-    )?;
-    for (name, counts) in measurements.iter() {
-        let mixed = mixed_fields(counts);
-        put_labeled(
-            text,
-            "measurement_mixed_fields",
-            "measurement",
-            name.as_str(),
-            mixed,
-        )?;
-    }
-    Ok(())
+    put_measurement_metric(text, Told::Points, measurements)?;
+    put_measurement_metric(text, Told::Series, measurements)?;
+    put_measurement_metric(text, Told::Fields, measurements)?;
+    put_measurement_metric(text, Told::MixedFields, measurements)
 }
 
 // Adds the metrics of tags.
@@ -439,54 +448,35 @@ fn put_refused_metrics(text: &mut String, refused: Option<KindCounts>) -> Result
     Ok(())
 }
 
+// Adds a counter of one value.
+fn put_counter(text: &mut String, name: &str, help: &str, value: u64) -> Result<(), AllocError> {
+    put_value(text, name, "counter", help, value)
+}
+
 // Adds metrics in Prometheus' text format.
 fn put_metrics(text: &mut String, counted: Counted<'_>) -> Result<(), AllocError> {
-    let counts = counted.counts;
+    let Counted {
+        read,
+        counts,
+        items_refused,
+        refused,
+    } = counted;
     let series = counts.series.len() as u64;
-    put_value(
-        text,
-        "bytes_total",
-        "counter",
-        "Bytes read.",
-        counted.read.bytes,
-    )?;
-    put_value(
-        text,
-        "lines_total",
-        "counter",
-        "Lines read.",
-        counted.read.lines,
-    )?;
-    put_value(
-        text,
-        "points_total",
-        "counter",
-        "Points read.",
-        counts.points,
-    )?;
-    put_value(
+    let without_time = counts.without_time;
+    let beyond = "Points of series that are not kept.";
+    put_counter(text, "bytes_total", "Bytes read.", read.bytes)?;
+    put_counter(text, "lines_total", "Lines read.", read.lines)?;
+    put_counter(text, "points_total", "Points read.", counts.points)?;
+    put_counter(
         text,
         "points_without_time_total",
-        "counter",
         "Points without a time.",
-        counts.without_time,
+        without_time,
     )?;
     put_value(text, "series", "gauge", "Series that are kept.", series)?;
-    put_value(
-        text,
-        "points_beyond_total",
-        "counter",
-        "Points of series that are not kept.",
-        counts.beyond,
-    )?;
-    put_value(
-        text,
-        "items_refused_total",
-        "counter",
-        "Items refused.",
-        counted.items_refused,
-    )?;
-    put_refused_metrics(text, counted.refused)?;
+    put_counter(text, "points_beyond_total", beyond, counts.beyond)?;
+    put_counter(text, "items_refused_total", "Items refused.", items_refused)?;
+    put_refused_metrics(text, refused)?;
     put_measurement_metrics(text, &counts.measurements)?;
     put_tag_metrics(text, &counts.tags)
 }
