@@ -1,0 +1,81 @@
+-- What the code tells of a line is what the definition says of it.
+use Rattle.std.proofs.Common.{◌≡◌, ℕ, ◌+◌, not, List, ◌∷◌, [], length, map, option_map, Some, None, codes, nat_lt, bytes_eq, refl, sym, ap, ◌∙◌}
+use Rattle.std.proofs.lemmas.List.{length-map}
+use Rattle.lp_format.specs.format.{is_one_of, quote, some_tags}
+use Rattle.lp_values.specs.{declared.escaped.EscapedStr.EscapedStr, declared.values.FieldValue.FieldValue, code.Texts.text_of}
+use Rattle.lp_events.specs.code.OwnBases.{keys_of}
+use Rattle.lp_lines.specs.{declared.parsed.ParsedLine.ParsedLine, code.Lookups.some_items, code.Parsed.field_of, code.Parsed.line_read, code.Parsed.tag_of}
+use Rattle.lp_lines.specs.code.Parsed.{tags_of}
+use Rattle.lp_portable.specs.declared.{broken.Broken.Broken, limits.Limits.Limits, names.NameBreaks.NameBreaks, portable.Parts.Parts, portable.Repeats.Repeats}
+use Rattle.lp_portable.specs.code.{ByCode.ArePartsOf, ByCode.broken_by_code, Walks.keys_in, Walks.name_breaks, Walks.repeats_of}
+use Rattle.lp_portable.specs.format.Portable.{broken_of, has_control, has_exponent, has_repeats, is_finite, is_hundreds, is_system_key, is_unsigned}
+use Rattle.lp_portable.specs.format.Spellings.{Spelling}
+use Rattle.lp_portable.proofs.{SameBroken.same_broken, Spelled.any_map}
+
+-- the keys of tags
+tag_keys : (tags : List (EscapedStr × EscapedStr)) → keys_in tags ≡ keys_of (map tag_of tags)
+tag_keys [] = refl
+tag_keys (t ∷ tags) = ap (λ (keys : List (List ℕ)). text_of t.0 ∷ keys) (tag_keys tags)
+
+-- and those of fields
+field_keys : (fields : List (EscapedStr × FieldValue)) → keys_in fields ≡ map (λ f. f.key.bytes) (map field_of fields)
+field_keys [] = refl
+field_keys (f ∷ fields) = ap (λ (keys : List (List ℕ)). text_of f.0 ∷ keys) (field_keys fields)
+
+-- the tags of a line
+pub tags_are : (read : ParsedLine) → some_tags (line_read read).tags ≡ map tag_of (some_items read.series.tag_set)
+tags_are read = by_set read.series.tag_set
+  where
+    by_set : (set : _) → some_tags (option_map tags_of set) ≡ map tag_of (some_items set)
+    by_set None = refl
+    by_set (Some tags) = refl
+
+-- what the code tells is what the definition says
+pub code_is : (limits : Limits) (text : List ℕ) (read : ParsedLine) (names : Spelling) (given : Parts) → ArePartsOf read given
+    → broken_by_code limits text given (repeats_of read) (name_breaks (length read.series.raw_input.now) names)
+    ≡ broken_of limits text (line_read read) names
+code_is limits text read names given parts =
+    let tags_read = tags_are read in
+    same_broken _ _
+    refl
+    refl
+    refl
+    refl
+    refl
+    refl
+    refl
+    refl
+    (rw tags_read (ap has_repeats (tag_keys (some_items read.series.tag_set))))
+    refl
+    refl
+    (rw parts.fields (sym (any_map (λ f. is_one_of f.key.bytes quote) field_of read.field_set.items)))
+    refl
+    (rw parts.fields (sym (any_map (λ f. is_unsigned f.value) field_of read.field_set.items)))
+    (rw parts.fields (sym (any_map (λ f. not (is_finite f.value)) field_of read.field_set.items)))
+    (rw parts.fields (sym (any_map (λ f. has_exponent f.value) field_of read.field_set.items)))
+    (rw parts.fields refl)
+    (rw parts.timestamp refl)
+    (rw (parts.tags, tags_read) (ap is_hundreds (sym (length-map (some_items read.series.tag_set) tag_of))))
+    (rw (parts.tags, parts.fields, tags_read, any_map (λ t. bytes_eq t.key.bytes (codes "time")) tag_of (some_items read.series.tag_set), any_map (λ f. bytes_eq f.key.bytes (codes "time")) field_of read.field_set.items) refl)
+    (rw (parts.measurement, parts.fields, any_map (λ f. is_system_key f.key.bytes) field_of read.field_set.items) refl)
+    (ap has_repeats (field_keys read.field_set.items))
+    (rw parts.series refl)
+    (rw (parts.measurement, parts.fields, any_map (λ f. has_control f.key.bytes) field_of read.field_set.items) refl)
+    (rw (parts.tags, tags_read) (sym (any_map (λ t. bytes_eq t.key.bytes (codes "__name__")) tag_of (some_items read.series.tag_set))))
+    (rw (parts.tags, tags_read) (sym (any_map (λ t. nat_lt 256 (length t.key.bytes)) tag_of (some_items read.series.tag_set))))
+    (rw (parts.tags, tags_read) (sym (any_map (λ t. nat_lt 16384 (length t.value.bytes)) tag_of (some_items read.series.tag_set))))
+    (rw (parts.measurement, parts.fields) (sym (any_map (λ f. nat_lt 16384 (length (text_of read.series.measurement) + 1 + length f.key.bytes)) field_of read.field_set.items)))
+    (rw (parts.series, parts.fields) (sym (any_map (λ f. nat_lt 32000 (length read.series.raw_input.now + 1 + length f.key.bytes)) field_of read.field_set.items)))
+    (rw (parts.tags, tags_read) (ap (nat_lt limits.tags) (sym (length-map (some_items read.series.tag_set) tag_of))))
+    refl
+    (rw parts.timestamp refl)
+
+-- so it is with what the code has found before
+pub told_is : (limits : Limits) (text : List ℕ) (read : ParsedLine) (names : Spelling) (given : Parts) (repeats : Repeats) (told : NameBreaks)
+    (result : Broken) → ArePartsOf read given → repeats ≡ repeats_of read → told ≡ name_breaks (length given.series.now) names
+    → result ≡ broken_by_code limits text given repeats told → result ≡ broken_of limits text (line_read read) names
+told_is limits text read names given repeats told result parts repeated spelled is =
+    let len = ap length parts.series in
+    is ∙ ap (λ (r : Repeats). broken_by_code limits text given r told) repeated
+    ∙ ap (λ (n : NameBreaks). broken_by_code limits text given (repeats_of read) n) (spelled ∙ ap (λ (n : ℕ). name_breaks n names) len)
+    ∙ code_is limits text read names given parts

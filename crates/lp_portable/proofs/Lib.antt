@@ -1,0 +1,6 @@
+pub mod Spelled
+pub mod Repeats
+pub mod SameBroken
+pub mod Lines
+pub mod LinesSpelled
+pub mod ByCode

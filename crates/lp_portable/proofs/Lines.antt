@@ -1,0 +1,44 @@
+-- Texts that are one line, and what is told of them.
+use Rattle.std.proofs.Common.{◌≡◌, ℕ, ◌<◌, ◌++◌, List, [], ◌∷◌, length, take, drop, get_or, ◌+◌, refl, subst, arith, append-nil, zero, suc, IsTrue, ◌↔◌, Ok, Err, Result}
+use Rattle.std.specs.Result.{is_ok}
+use Rattle.std.proofs.lemmas.Bool.{false≢true}
+use Rattle.lp_format.specs.format.{Dialect, Strict, Fault, IsCutPiece, Line, answer, answers_of_piece, newline, trimmed}
+use Rattle.lp_format.proofs.lemmas.split.SplitPieces.{IsLastPiece-cut, no_cut_within, split_at}
+use Rattle.lp_split.specs.code.{IsTrackOf, LeadsTo, Track, TracksOn}
+use Rattle.lp_split.proofs.lemmas.split.TrackedPieces.{tracked_is_last}
+use Rattle.lp_portable.specs.format.Portable.{IsOneLine}
+
+-- a piece that a newline ends is not one together with that
+pub goes_on : (dialect : Dialect) (text : List ℕ) (from to : Track) → IsTrackOf dialect text from → LeadsTo (newline ∷ []) from to
+    → ¬ IsCutPiece dialect text
+goes_on dialect text from to track leads cut =
+    no_cut_within dialect text [] cut (tracked_is_last dialect (text ++ newline ∷ []) to (leads dialect text track))
+
+-- a piece with a cut within is none that a newline ends
+pub cut_within : (dialect : Dialect) (text : List ℕ) (at : ℕ) → at < length text → get_or text at 0 ≡ newline → IsCutPiece dialect (take at text)
+    → ¬ IsCutPiece dialect text
+cut_within dialect text at within is cut whole =
+    no_cut_within dialect (take at text) (drop (at + 1) text) cut
+    (IsLastPiece-cut dialect _ (subst (IsCutPiece dialect) (split_at text at within is) whole))
+
+-- nothing is answered for a piece of which nothing is left
+pub blank_is_no_line : (text : List ℕ) (line : Line) → length (trimmed text) ≡ 0 → ¬ IsOneLine text line
+unfolding answers_of_piece
+blank_is_no_line text line none h = let a = h.read in absurd (grind arith)
+
+-- a piece that is at fault is no line
+pub fault_is_no_line : (text : List ℕ) (fault : Fault) (line : Line) → answer Strict (trimmed text) ≡ Err fault → ¬ IsOneLine text line
+unfolding answers_of_piece
+fault_is_no_line text fault line e h = let a = h.read in absurd (grind arith)
+
+-- what is left of a piece is read as the answer of the piece
+pub line_is_read : (text : List ℕ) (line : Line) → 0 < length (trimmed text) → answer Strict (trimmed text) ≡ Ok line → answers_of_piece Strict text ≡ Ok line ∷ []
+unfolding answers_of_piece
+line_is_read text line some e = grind arith
+
+-- one newline after a track ends the piece or not
+pub ends_by : (dialect : Dialect) (text : List ℕ) (track : Track) (result : Result ℕ Track) → IsTrackOf dialect text track
+    → TracksOn (newline ∷ []) track result → IsTrue (is_ok result) ↔ IsCutPiece dialect text
+ends_by dialect text track (Ok zero) is h = (λ ok. subst (IsCutPiece dialect) (append-nil text) (h.2 dialect text is), λ cut. refl)
+ends_by dialect text track (Ok (suc i)) is h = absurd (omega (arith, h.0))
+ends_by dialect text track (Err to) is h = (λ never. absurd (false≢true never), λ cut. absurd (goes_on dialect text track to is h.1 cut))

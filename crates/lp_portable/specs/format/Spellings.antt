@@ -1,0 +1,49 @@
+-- How the names of a line are spelled.
+use Rattle.std.specs.Prelude.{◌≡◌, ℕ, ◌==◌, ◌||◌, Bool, false, List, [], ◌∷◌, drop, length, if◌then◌else◌}
+use Rattle.lp_format.specs.format.{NameKind, a_measurement, a_tag_key, a_tag_value, a_field_key, backslash, byte, equals, is_one_of, name}
+use Rattle.lp_format.specs.format.{Line, Pair, Reading, reads, some_tags, spaces, spelled, value, ◌>>=◌}
+use Rattle.lp_format.specs.laws.Meanings.{SeparatedAfterComma, SeparatedBy}
+
+-- a name, as it is spelled
+abbrev pub name_text : NameKind → List ℕ → Reading (List ℕ)
+name_text kind text = name kind text >>= λ n. reads (spelled kind text) n.rest
+
+-- a tag, its names as they are spelled
+abbrev pub tag_text : List ℕ → Reading (Pair (List ℕ) (List ℕ))
+tag_text text = do
+  key ← name_text a_tag_key text
+  sign ← byte equals key.rest
+  x ← name_text a_tag_value sign.rest
+  reads (record { key = key.value; value = x.value }) x.rest
+
+-- a field, of which the key is given as it is spelled
+abbrev pub key_text : List ℕ → Reading (List ℕ)
+key_text text = do
+  key ← name_text a_field_key text
+  sign ← byte equals key.rest
+  x ← value sign.rest
+  reads key.value x.rest
+
+-- the names of a line as they are spelled: the measurement, the tags, and the keys of the fields
+pub record Spelling : Type 0 where
+  pub measurement : List ℕ
+  pub tags : List (Pair (List ℕ) (List ℕ))
+  pub keys : List (List ℕ)
+
+-- the names of a line are spelled so: each stands at its place in the text, and they are as many as were read
+pub record IsSpelled (text : List ℕ) (line : Line) (names : Spelling) : Type 0 where
+  pub after_name : List ℕ
+  pub after_tags : List ℕ
+  pub rest : List ℕ
+  pub measurement : name_text a_measurement text ≡ reads names.measurement after_name
+  pub tags : SeparatedAfterComma tag_text names.tags after_name after_tags
+  pub keys : SeparatedBy key_text names.keys (drop (spaces after_tags) after_tags) rest
+  pub all_tags : length names.tags ≡ length (some_tags line.tags)
+  pub all_keys : length names.keys ≡ length line.fields
+
+-- whether a spelling holds one of some bytes escaped, or one of others bare: a bare backslash escapes the byte after it
+unfoldable pub holds : List ℕ → List ℕ → List ℕ → Bool
+holds escaped bare [] = false
+holds escaped bare (b ∷ []) = is_one_of bare b
+holds escaped bare (b ∷ c ∷ rest) =
+    if b == backslash then is_one_of escaped c || holds escaped bare rest else is_one_of bare b || holds escaped bare (c ∷ rest)

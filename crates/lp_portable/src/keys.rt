@@ -1,0 +1,76 @@
+//! Whether a key is repeated.
+//!
+//! Few keys are compared with one another, without memory. More are put into a map: so that the time of a line of a million fields is
+//! not the square of that.
+
+ghost use Rattle.std.specs.Prelude.{◌≡◌, ◌≤◌, IfOk, IsOk, bytes_eq, length, map};
+ghost use Rattle.std.specs.List.{list_any};
+ghost use Rattle.lp_values.specs.code.Texts.{text_of};
+ghost use Rattle.lp_portable.specs.format.Portable.{has_repeats};
+ghost use Rattle.lp_portable.specs.code.Walks.{keys_in, most_compared};
+
+use lp_values::EscapedStr;
+use std::alloc::{AllocError, Global};
+use std::collections::BTreeMap;
+
+// How many keys are compared with one another.
+const MOST_COMPARED: usize = 32;
+
+// Whether some key is this text.
+fn has_key<'a, X: Drop>(key: &str, items: &[(EscapedStr<'a>, X)]) -> bool
+    ensures { result ≡ list_any (λ x. bytes_eq key.now (text_of x.0)) items.now }
+{
+    items.iter().any(|(other, _)| key == other.as_str())
+}
+
+// Whether a key is repeated: each is compared with those before it.
+fn has_few_repeats<'a, X: Drop>(items: &[(EscapedStr<'a>, X)]) -> bool
+    ensures { result ≡ has_repeats (keys_in items.now) }
+{
+    for at in 0..items.len() {
+        if has_key(items[at].0.as_str(), &items[..at]) {
+            return true;
+        }
+    }
+    false
+}
+
+// Whether a key is repeated: each is looked for in a map of those before it.
+fn has_many_repeats<'a, X: Drop>(
+    alloc: Global,
+    items: &[(EscapedStr<'a>, X)],
+) -> Result<bool, AllocError>
+    ensures { IfOk result (λ found. found ≡ has_repeats (keys_in items.now)) }
+{
+    let mut keys = BTreeMap::new(alloc);
+    for (key, _) in items {
+        let name = key.as_str();
+        if keys.contains_key(name) {
+            return Ok(true);
+        }
+        keys.insert(name, ())?;
+    }
+    Ok(false)
+}
+
+/// Whether a key is repeated. At most 32 keys take no memory.
+///
+/// # Errors
+///
+/// If memory was refused.
+///
+/// ```text
+/// of the fields of  m f=1,f=2  is true
+/// ```
+pub(crate) fn has_repeats<'a, X: Drop>(
+    alloc: Global,
+    items: &[(EscapedStr<'a>, X)],
+) -> Result<bool, AllocError>
+    ensures value { IfOk result (λ found. found ≡ has_repeats (keys_in items.now)) }
+    ensures no_memory { length items.now ≤ most_compared → IsOk result }
+{
+    if items.len() <= MOST_COMPARED {
+        return Ok(has_few_repeats(items));
+    }
+    has_many_repeats(alloc, items)
+}

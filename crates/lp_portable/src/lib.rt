@@ -1,0 +1,17 @@
+//! Portable lines: those that servers read as the strict reader does.
+//!
+//! A line that this reader takes may be refused by a server, or stored as another point, or take the lines of its batch with it. Which
+//! lines cannot is defined here, clause by clause, as the servers were measured, and told of a text. The text is read again for that,
+//! and walked over for its spelling.
+#![tactic(auto)]
+
+mod broken;
+mod keys;
+mod limits;
+mod names;
+mod portable;
+mod values;
+
+pub use broken::{Broken, Clause};
+pub use limits::{Limits, Servers};
+pub use portable::broken_clauses;

@@ -1,0 +1,214 @@
+//! Which clauses of what is portable a text breaks.
+//!
+//! The text is read into a line, whose names, values and timestamp are looked at; and walked over for how its names are spelled.
+
+ghost use Rattle.std.specs.Prelude.{true, IsTrue, ◌↔◌, bytes_eq, ◌||◌, ◌≡◌, ◌<◌, ◌∷◌, [], IfOk, MatchOption, length, map, option_map, codes};
+ghost use Rattle.lp_format.specs.format.{IsCutPiece, Line, Strict, some_tags, trimmed};
+ghost use Rattle.lp_lines.specs.code.Parsed.{field_of, line_read, tag_of};
+ghost use Rattle.lp_portable.specs.format.Portable.{Breaks, broken_of, has_repeats, is_outside};
+ghost use Rattle.lp_portable.specs.format.Spellings.{IsSpelled, Spelling};
+ghost use Rattle.lp_portable.specs.code.Walks.{name_breaks, repeats_of};
+ghost use Rattle.lp_portable.specs.code.ByCode.{ArePartsOf, broken_by_code};
+ghost use Rattle.std.specs.List.{list_any};
+ghost use Rattle.lp_portable.specs.code.Telling.{IsNoLine, IsTrimmedPiece, TellsBroken, TellsRead};
+
+use crate::broken::Broken;
+use crate::keys::has_repeats;
+use crate::limits::Limits;
+use crate::names::{NameBreaks, name_breaks};
+use crate::values;
+use lp_lines::parsed::tags_in;
+use lp_lines::{ParsedLine, Unread, read_spelled_into};
+use lp_scan::trim::trimmed;
+use lp_split::Dialect;
+use lp_split::split::{cut_or_track, track_on};
+use lp_values::{EscapedStr, FieldValue};
+use std::alloc::{AllocError, Global};
+
+// Whether a text is one piece by the strict rules, and a newline ends it.
+fn is_cut_piece(text: &[u8]) -> bool
+    ensures { IsTrue result ↔ IsCutPiece Strict text.now }
+{
+    match cut_or_track(Dialect::Strict, text) {
+        Ok(_) => false,
+        Err(track) => track_on(b"\n", track).is_ok(),
+    }
+}
+
+// The text without the blanks before it, if it is one piece that a newline ends, and more than blanks and a comment.
+fn one_line(text: &str) -> Option<&str>
+    ensures { MatchOption result (IsNoLine text.now) (λ line. IsTrimmedPiece text.now line.now) }
+{
+    if !is_cut_piece(text.as_bytes()) {
+        return None;
+    }
+    let line = trimmed(text);
+    if line.is_empty() {
+        return None;
+    }
+    Some(line)
+}
+
+// Which keys of a line are repeated.
+#[derive(Clone, Copy)]
+struct Repeats {
+    tag: bool,
+    field: bool,
+}
+
+// What is repeated in a line.
+fn repeats_of<'a>(alloc: Global, read: &ParsedLine<'a>) -> Result<Repeats, AllocError>
+    ensures { IfOk result (λ repeats. repeats ≡ repeats_of read.now) }
+{
+    let tag = has_repeats(alloc, tags_in(&read.series))?;
+    let field = has_repeats(alloc, read.field_set.as_slice())?;
+    Ok(Repeats { tag, field })
+}
+
+// What was read of a line.
+#[derive(Clone, Copy)]
+struct Parts<'l, 'a> {
+    series: &'a str,
+    measurement: &'l str,
+    tags: &'l [(EscapedStr<'a>, EscapedStr<'a>)],
+    fields: &'l [(EscapedStr<'a>, FieldValue<'a>)],
+    timestamp: Option<i64>,
+}
+
+// What was read of a line.
+fn parts_of<'l, 'a>(read: &'l ParsedLine<'a>) -> Parts<'l, 'a>
+    ensures { ArePartsOf read.now result }
+{
+    Parts {
+        series: read.series.raw_input,
+        measurement: read.series.measurement.as_str(),
+        tags: tags_in(&read.series),
+        fields: read.field_set.as_slice(),
+        timestamp: read.timestamp,
+    }
+}
+
+// Whether a timestamp is not kept.
+fn is_not_kept(limits: &Limits, timestamp: Option<i64>) -> bool
+    ensures { result ≡ is_outside limits.now.earliest limits.now.latest timestamp }
+{
+    values::is_outside(limits.earliest, limits.latest, timestamp)
+}
+
+// What a line breaks of which a text was read so, if its keys are repeated so, and its names are spelled so.
+fn broken_in<'l, 'a>(
+    limits: &Limits,
+    text: &str,
+    parts: Parts<'l, 'a>,
+    repeats: Repeats,
+    names: NameBreaks,
+) -> Broken
+    ensures { result ≡ broken_by_code limits.now text.now parts.entry repeats names }
+{
+    Broken {
+        leading_blank: values::begins_with_blank(text),
+        trailing_space: values::ends_in_space(text),
+        newline: values::has_byte(text.as_bytes(), b'\n'),
+        measurement_equals: names.equals,
+        measurement_escape: names.escape,
+        tag_escape: names.tags.escape,
+        tag_key_comma: names.tags.comma,
+        tag_value_equals: names.tags.sign,
+        repeated_tag: repeats.tag,
+        field_key_escape: names.keys.escape,
+        field_key_comma: names.keys.comma,
+        field_key_quote: values::has_quoted_key(parts.fields),
+        long_series: names.keys.long,
+        unsigned: values::has_unsigned(parts.fields),
+        infinite_float: values::has_infinite(parts.fields),
+        exponent: values::has_exponent(parts.fields),
+        leading_nul: values::begins_with_nul(parts.fields),
+        time_out_of_range: values::is_outside(
+            -9_223_372_036_854_775_806,
+            9_223_372_036_854_775_806,
+            parts.timestamp,
+        ),
+        tag_count: values::is_hundreds(parts.tags.len()),
+        time_name: values::has_time(parts.tags, parts.fields),
+        system_name: values::has_system_name(parts.measurement, parts.fields),
+        repeated_field: repeats.field,
+        key_separator: values::holds_text(b"#!~", parts.series.as_bytes()),
+        control_byte: values::has_control(parts.measurement, parts.fields),
+        name_label: values::has_tag_key("__name__", parts.tags),
+        long_tag_key: values::has_long_key(256, parts.tags),
+        long_tag_value: values::has_long_value(16_384, parts.tags),
+        long_metric_name: values::has_long_name(16_384, parts.measurement.len(), parts.fields),
+        long_labels: values::has_long_name(32_000, parts.series.len(), parts.fields),
+        too_many_tags: parts.tags.len() > limits.tags,
+        long_line: text.len() > limits.line,
+        time_not_kept: is_not_kept(limits, parts.timestamp),
+    }
+}
+
+// Whether a trimmed text is read as a line, into this.
+fn is_read<'a>(alloc: Global, line: &'a str, read: &mut ParsedLine<'a>) -> Result<bool, AllocError>
+    ensures { IfOk result (λ is_line. TellsRead line.now read.new is_line) }
+{
+    match read_spelled_into(alloc, Dialect::Strict, line, read, &mut None) {
+        Ok(()) => Ok(true),
+        Err(Unread::Fault(_)) => Ok(false),
+        Err(Unread::OutOfMemory) => Err(AllocError),
+    }
+}
+
+// Which clauses a text breaks, of which this is left without the blanks before it, and was read so.
+fn broken_by<'a>(
+    alloc: Global,
+    limits: &Limits,
+    text: &str,
+    line: &str,
+    read: &ParsedLine<'a>,
+) -> Result<Broken, AllocError>
+    requires piece { IsTrimmedPiece text.now line.now }
+    requires read { TellsRead line.now read.now true }
+    ensures { IfOk result (Breaks limits.now text.now) }
+{
+    let repeats = repeats_of(alloc, read)?;
+    let parts = parts_of(read);
+    let names = name_breaks(
+        parts.series.len(),
+        parts.tags.len(),
+        parts.fields.len(),
+        line,
+    );
+    Ok(broken_in(limits, text, parts, repeats, names))
+}
+
+/// Which clauses of what is portable a text breaks, with these limits. `None`: it is not just one line that the strict reader reads,
+/// without its newline.
+///
+/// [`Broken::first`] tells the first that concerns a server; if there is none, the server reads the line as this reader does. Memory is
+/// taken as for a line that is read, and for a map of more than 32 tags or fields; none for a line with at most 8 tags and 4 fields
+/// whose names and strings hold no backslash.
+///
+/// # Errors
+///
+/// If memory was refused.
+///
+/// ```text
+/// m,t=x f=1u 1    breaks unsigned
+/// m,t=x f=1i      breaks nothing
+/// m               is None
+/// ```
+pub fn broken_clauses(
+    alloc: Global,
+    limits: &Limits,
+    text: &str,
+) -> Result<Option<Broken>, AllocError>
+    ensures { IfOk result (TellsBroken limits.now text.now) }
+{
+    let Some(line) = one_line(text) else {
+        return Ok(None);
+    };
+    let mut read = ParsedLine::new(alloc);
+    if !is_read(alloc, line, &mut read)? {
+        return Ok(None);
+    }
+    let broken = broken_by(alloc, limits, text, line, &read)?;
+    Ok(Some(broken))
+}
