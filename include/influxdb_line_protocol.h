@@ -148,7 +148,7 @@ typedef struct lp_offset_part {
 typedef struct lp_offset_row {
     uint64_t line;               /* the number of the line in which the piece begins */
     int64_t timestamp;           /* 0 where the line has none */
-    uint64_t key;                /* 0: kept for a later version */
+    uint64_t key;                /* 0, until lp_offsets_keys tells it: so many bytes from `line_at` on are the key of the series */
     uint64_t verdict;            /* 0: kept for a later version */
     lp_span piece;               /* the piece, without the newline that ends it */
     lp_span measurement;
@@ -249,6 +249,15 @@ uint32_t lp_lines_block(lp_lines *lines, lp_room *room, lp_row *rows, size_t row
  * answers all is as it was. */
 uint32_t lp_offsets_block(const uint8_t *text, size_t len, uint32_t dialect, bool last, lp_block *block, uint8_t *room, size_t room_len,
                           lp_offset_row *rows, size_t rows_len, lp_offset_part *parts, size_t parts_len);
+
+/* Tells each row the key of its series, for callers that group lines: `key` is how many bytes at the start of its line, from `line_at` on,
+ * are what lp_line_key puts out. So the key is a part of the text, and needs no call of its own. It is 0 where the line does not begin with
+ * its key: ask lp_line_key then. It does if its tags are in the order of their keys, its names are spelled as lp_line_write writes them, and
+ * all names of the series are admitted. It is 0 too where a row has no line.
+ *
+ * `text` is the one of which lp_offsets_block filled the rows. Of a row it looks at `answer`, `line_at` and `stop_at`, and writes `key` alone.
+ * It asks for no memory. Rows that were made in another way are safe: where the text has no line at such a place, or no UTF-8, `key` is 0. */
+void lp_offsets_keys(const uint8_t *text, size_t len, lp_offset_row *rows, size_t rows_len);
 
 /* Takes the next piece of the text, as the splitter cuts it, not parsed. False: none is left, and `lines` is as it was. */
 bool lp_lines_piece(lp_lines *lines, lp_view *piece);

@@ -1,6 +1,7 @@
 /* Reads texts by offsets: rows that were worked out by hand, and random texts in each dialect, whole and as they come, with as little
  * lent as can be. Each whole text that is UTF-8 gives what lp_lines_next gives, and its rows, written again, what lp_rebuild gives. What
- * is lent holds anything before, and reading makes no request for memory. Compile heap.c with -DLP_REFUSE. */
+ * is lent holds anything before, and reading makes no request for memory. Keys of series are compared with those of lines that were worked
+ * out by hand, and with what lp_line_key puts out. Compile heap.c with -DLP_REFUSE. */
 #define _POSIX_C_SOURCE 200809L
 #include "influxdb_line_protocol.h"
 #include <stdio.h>
@@ -11,7 +12,7 @@ extern long lp_refused, lp_requests;
 
 enum { DIALECTS = 3, TEXTS = 4000, LONGEST = 60 };
 
-static int failed;
+static int failed, stood;
 
 static void expect(bool holds, const char *what) {
     if (holds) return;
@@ -245,6 +246,128 @@ static uint32_t draw(void) {
     return (uint32_t)(state >> 33);
 }
 
+/* How many bytes are told as the key of each of two lines: lines and numbers that were worked out by hand. */
+static const struct { const char *text; uint64_t keys[2]; } KEYS[] = {
+    { "cpu,az=b,host=a usage=1\ncpu,host=a,az=b usage=1", { 15, 0 } },                    /* in order, and not */
+    { "m f=1 5\n # c\n mem f=1", { 1, 3 } },                                             /* without tags, and after blanks and a comment */
+    { "m\\,n\\ o,a\\=b=c\\,d f=1\nm=n,k=v f=1", { 17, 7 } },                             /* as they are written */
+    { "m,a=x\\y f=1\nm,a=x\\\\y f=1", { 0, 8 } },                                        /* a backslash is written twice */
+    { "m,a=b=c f=1\nm,a=b\\=c f=1", { 0, 8 } },                                          /* and an equals sign in a value escaped */
+    { "m,a=1,a=1 f=1\nm,b=1,a=1,b=2 f=1", { 9, 0 } },                                     /* a key of the tags twice */
+    { "m,a=b\tc f=1\n\\#m f=1", { 0, 0 } },                                             /* a name that is not admitted, or not so written */
+    { "m,a\\ =1,b=2 f=1\nm,b\\ =1,a=2 f=1", { 11, 0 } },                                /* in the order of what the keys mean */
+    { "m,a\\,=1,aA=2 f=1\nm,aA=2,a\\,=1 f=1", { 12, 0 } },                               /* and not of how they are written */
+    { "m\xc3\xa8tre,\xc3\xbc=\xc3\xa9 f=1\nm,a=\xc3\xa9,z=1 f=1,s=\"a b\"", { 12, 10 } },   /* bytes that are no ASCII */
+    { "m 5\n\xff f=1", { 0, 0 } },                                                       /* no lines */
+    { "m,a=1 f=1\nm,a=1  f=1", { 5, 5 } },                                               /* more than a space after the series */
+};
+
+/* Rows that are told their keys: else they stay as they were. */
+static void tell_keys(const uint8_t *text, size_t len, struct lent lent, size_t rows) {
+    lp_offset_row *before = malloc(rows ? rows * sizeof *before : 1);
+    memcpy(before, lent.rows, rows * sizeof *before);
+    for (size_t at = 0; at < rows; at++) lent.rows[at].key = draw();
+    lp_offsets_keys(text, len, lent.rows, rows);
+    for (size_t at = 0; at < rows; at++) {
+        before[at].key = lent.rows[at].key;
+        expect(memcmp(&before[at], &lent.rows[at], sizeof *before) == 0, "a row is changed by its key");
+    }
+    free(before);
+}
+
+/* The rows of hand-made lines, whose places are then moved out of the text, or into a character, or made those of no line. */
+static void known_keys(void) {
+    for (size_t at = 0; at < sizeof KEYS / sizeof KEYS[0]; at++)
+        for (uint32_t dialect = 0; dialect < DIALECTS; dialect++) {
+            const uint8_t *text = (const uint8_t *)KEYS[at].text;
+            size_t len = strlen(KEYS[at].text);
+            lp_block block = { 1, 0, 0, 0, 0 };
+            struct lent lent = lend(2, 16, 64);
+            expect(read_block(text, len, dialect, true, &block, lent) == LP_LINE && block.rows == 2, "two rows are not read");
+            tell_keys(text, len, lent, 2);
+            for (int row = 0; row < 2; row++)
+                if (lent.rows[row].key != KEYS[at].keys[row])
+                    printf("of %s line %d has %llu\n", KEYS[at].text, row, (unsigned long long)lent.rows[row].key), failed = 1;
+            take_back(lent);
+        }
+}
+
+/* What a row tells for a key where this is another, of the lines `m,a=é f=1` and `n f=1`. */
+#define TELLS(place, other, wanted) do { \
+        lp_offset_row kept_row = lent.rows[1]; \
+        (place) = (other); \
+        tell_keys(text, len, lent, 2); \
+        expect(lent.rows[1].key == (wanted) && lent.rows[0].key == 6, #place " = " #other " tells another key"); \
+        lent.rows[1] = kept_row; \
+    } while (0)
+
+static void forged_keys(void) {
+    static const uint8_t given[] = "m,a=\xc3\xa9 f=1\nn f=1";
+    size_t len = sizeof given - 1;
+    uint8_t *text = memcpy(malloc(len), given, len); /* of just its length */
+    lp_block block = { 1, 0, 0, 0, 0 };
+    struct lent lent = lend(2, 8, 8);
+    expect(read_block(text, len, LP_CRATE, true, &block, lent) == LP_LINE && block.rows == 2, "two rows are not read");
+    TELLS(lent.rows[1].line, 7, 1);
+    TELLS(lent.rows[1].stop_at, (uint32_t)len + 1, 0);
+    TELLS(lent.rows[1].stop_at, UINT32_MAX, 0);
+    TELLS(lent.rows[1].line_at, UINT32_MAX, 0);
+    TELLS(lent.rows[1].line_at, (uint32_t)len, 0);
+    TELLS(lent.rows[1].line_at, (uint32_t)len + 1, 0);
+    TELLS(lent.rows[1].stop_at, lent.rows[1].line_at - 1, 0);
+    TELLS(lent.rows[1].stop_at, lent.rows[1].line_at + 1, 1);
+    TELLS(lent.rows[1].line_at, 4, 2); /* where a character begins */
+    TELLS(lent.rows[1].line_at, 5, 0); /* in a character */
+    TELLS(lent.rows[1].line_at, 0, 6);
+    TELLS(lent.rows[1].answer, LP_FAULT, 0);
+    TELLS(lent.rows[1].answer, LP_MORE_PARTS, 0);
+    TELLS(lent.rows[1].answer, LP_NOT_UTF8, 0);
+    lent.rows[1].line_at = 0, lent.rows[1].stop_at = 5; /* ends in a character */
+    tell_keys(text, len, lent, 2);
+    expect(lent.rows[1].key == 0 && lent.rows[0].key == 6, "half a character is in a key");
+    lp_offsets_keys(text, 0, lent.rows, 2);
+    expect(lent.rows[0].key == 0 && lent.rows[1].key == 0, "keys lie in a text of no bytes");
+    lp_offsets_keys(text, len, lent.rows, 0);
+    take_back(lent);
+    free(text);
+}
+
+/* Whether a name of a line that was read is admitted. */
+static bool is_admitted_name(lp_view name, bool measurement) {
+    bool good = name.text.len > 0 && name.text.at[name.text.len - 1] != '\\' && !(measurement && name.text.at[0] == '#');
+    for (size_t at = 0; at < name.text.len; at++)
+        good = good && name.text.at[at] != '\t' && name.text.at[at] != '\n' && !(measurement && name.text.at[at] == 0);
+    return good;
+}
+
+/* The keys that rows tell of a text are what lp_line_key puts out of its lines, where their series stand so and all names are admitted. */
+static void compare_keys(const uint8_t *text, size_t len, uint32_t dialect) {
+    static lp_part parts[256];
+    uint8_t bytes[256], key[8 * LONGEST];
+    lp_lines lines = LP_NO_LINES;
+    lp_line line = LP_EMPTY_LINE;
+    lp_block block = { 1, 0, 0, 0, 0 };
+    struct lent lent = lend(64, 256, 256);
+    expect(read_block(text, len, dialect, true, &block, lent) == LP_END, "a text has more");
+    long requests = lp_requests;
+    tell_keys(text, len, lent, block.rows);
+    expect(lp_requests == requests, "keys of rows ask for memory");
+    lp_empty_parts(parts, 256);
+    for (uint32_t at = 0; at < block.rows; at++) {
+        size_t key_len = 0;
+        lp_room room = { bytes, sizeof bytes };
+        bool stands = lp_lines_begin(text + lent.rows[at].piece.at, lent.rows[at].piece.len, dialect, &lines) &&
+                      lp_lines_next(&lines, &room, &line, parts, 256) == LP_LINE &&
+                      lp_line_key(&line, parts, 256, key, sizeof key, &key_len) == LP_WRITTEN && key_len == line.series.len &&
+                      memcmp(key, line.series.at, key_len) == 0 && is_admitted_name(line.measurement, true);
+        for (size_t tag = 0; stands && tag < line.tags; tag++)
+            stands = is_admitted_name(parts[tag].key, false) && is_admitted_name(parts[tag].text, false);
+        expect(lent.rows[at].key == (stands ? key_len : 0), "a row tells another key than lp_line_key");
+        stood += stands;
+    }
+    take_back(lent);
+}
+
 static size_t random_text(uint8_t *text) {
     static const char *const words[] = { "m", ",", "=", " ", "\n", "\"", "\\", "1", "i", "a=1i", " f=", "u", "true", "#", "\t", "-2.5e3",
                                          "\xff", "m f=1\n", ",t=\\ v", " f=\"x\"", "9999999999999999999", "\xc3\xa9" };
@@ -304,10 +427,13 @@ int main(void) {
     expect(sizeof(lp_offset_part) == 32 && sizeof(lp_offset_row) == 88, "a row or a part has another size");
     expect(lp_requests == 0, "memory was asked for");
     write_rows();
+    known_keys(), forged_keys();
     for (int at = 0; at < TEXTS; at++) {
         size_t len = random_text(text);
         for (uint32_t dialect = 0; dialect < DIALECTS; dialect++) write_again(text, len, dialect, draw() % (2 * LONGEST));
+        for (uint32_t dialect = 0; dialect < DIALECTS; dialect++) compare_keys(text, len, dialect);
     }
-    printf("%zu texts by offsets, and %d random ones, and as many written again", known, TEXTS);
+    expect(stood > 1000, "few lines begin with their keys");
+    printf("%zu texts by offsets, and %d random ones, and as many written again, of which %d lines begin with their keys", known, TEXTS, stood);
     return failed;
 }

@@ -11,6 +11,7 @@ pub mod Placing
 pub mod Portions
 pub mod Rebuilding
 pub mod Rooms
+pub mod RowKeys
 pub mod Telling
 pub mod Writing
 pub mod WritingRows

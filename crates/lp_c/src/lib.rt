@@ -18,6 +18,7 @@ mod placing;
 mod portions;
 mod reading;
 mod rebuilding;
+mod row_keys;
 mod telling;
 mod views;
 mod writing;

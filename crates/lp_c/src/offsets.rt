@@ -30,7 +30,7 @@ pub struct OffsetRow {
     pub line: u64,
     /// The timestamp, if the line has one, or else 0.
     pub timestamp: i64,
-    /// 0: kept for a key of the series.
+    /// 0, until `lp_offsets_keys` tells it: how many bytes at the start of its line are the key of its series.
     pub key: u64,
     /// 0: kept for a verdict on the line.
     pub verdict: u64,
