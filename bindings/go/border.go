@@ -64,11 +64,14 @@ type block struct {
 	parts  []C.lp_offset_part
 	room   []byte
 	filled C.lp_block
+	// The rows before keyed tell the keys of their series, if these were asked for. The last call was for run rows, of which so many keys
+	// were asked for.
+	keyed, run, asked int
 }
 
 // The memory of a new block: a line with more parts, or more to copy, makes it grow.
 func newBlock() block {
-	return block{rows: make([]C.lp_offset_row, 512), parts: make([]C.lp_offset_part, 4096), room: make([]byte, 16<<10)}
+	return block{rows: make([]C.lp_offset_row, 512), parts: make([]C.lp_offset_part, 4096), room: make([]byte, 16<<10), run: 1}
 }
 
 // The greatest part of a text that one call is given. Offsets have 32 bits.
@@ -81,7 +84,7 @@ var errDialect = errors.New("lineprotocol: no dialect has the number")
 // rows were filled, and how many bytes they and blank pieces take. The next piece goes on in the text that comes if both are 0.
 func (b *block) read(text []byte, dialect Dialect, last bool, line uint64) (rows, taken int, err error) {
 	for {
-		b.filled = C.lp_block{line: C.uint64_t(line)}
+		b.filled, b.keyed = C.lp_block{line: C.uint64_t(line)}, 0
 		answer := C.lp_offsets_block(first(text), C.size_t(len(text)), C.uint32_t(dialect), C.bool(last), &b.filled, first(b.room),
 			C.size_t(len(b.room)), &b.rows[0], C.size_t(len(b.rows)), &b.parts[0], C.size_t(len(b.parts)))
 		if answer == C.LP_NOT_A_DIALECT || answer == C.LP_TOO_LONG {
@@ -100,6 +103,22 @@ func (b *block) read(text []byte, dialect Dialect, last bool, line uint64) (rows
 		}
 	}
 	return int(b.filled.rows), int(b.filled.at), nil
+}
+
+// tellKeys lets rows from this one on tell their keys: twice as many as the last time, if half of those were asked for, or else one. So
+// few are told that no one asks for.
+func (b *block) tellKeys(text []byte, at int) {
+	if 2*b.asked < b.run {
+		b.run = 1
+	} else if b.run < len(b.rows) {
+		b.run *= 2
+	}
+	rows := int(b.filled.rows) - at
+	if rows > b.run {
+		rows = b.run
+	}
+	C.lp_offsets_keys(first(text), C.size_t(len(text)), &b.rows[at], C.size_t(rows))
+	b.keyed, b.asked = at+rows, b.run-rows
 }
 
 // appendKey appends the key of the series of a row, which was read from this text.

@@ -384,41 +384,22 @@ func (d *Decoder) Measurement() ([]byte, error) {
 // be called at any time before the next call of Next, and moves neither NextTag nor NextField. dst must share no memory with the text that is
 // read.
 //
-// A key that stands in the line as it is is copied from there; any other is one call of the library. Its time goes by the length of the key,
-// and by a sort of the tags that are out of order. It takes no memory of Go's if dst has room, as key[:0] has of a key before that was as long.
+// A key that stands in the line as it is is copied from there: one call of the library finds these keys of many lines, if most are asked for.
+// Any other key is a call of its own. Its time goes by the length of the key, and by a sort of the tags that are out of order. No memory of
+// Go's is taken if dst has room, as key[:0] has of a key before that was as long.
 func (d *Decoder) AppendSeriesKey(dst []byte) ([]byte, error) {
 	row, err := d.current()
 	if err != nil {
 		return dst, err
 	}
-	if key := d.standingKey(row); key != nil {
-		return append(dst, key...), nil
+	if d.row >= d.block.keyed {
+		d.block.tellKeys(d.text, d.row)
+	}
+	d.block.asked++
+	if row.key != 0 {
+		return append(dst, d.text[row.line_at:uint64(row.line_at)+uint64(row.key)]...), nil
 	}
 	return d.block.appendKey(dst, d.text, row)
-}
-
-// standingKey gives the text of the series of a row if that is its key: if no name of it takes a backslash, and its tags are in order.
-func (d *Decoder) standingKey(row *C.lp_offset_row) []byte {
-	end := row.measurement.at + row.measurement.len
-	if row.measurement_copied != 0 {
-		return nil
-	}
-	var before []byte
-	for i := 0; i < int(row.tags); i++ {
-		part := &d.block.parts[int(row.parts_at)+i]
-		if part.key_copied != 0 || part.text_copied != 0 {
-			return nil
-		}
-		key, value := d.view(part.key, 0), d.view(part.text, 0)
-		if bytes.Compare(before, key) > 0 || bytes.IndexByte(key, ',') >= 0 || bytes.IndexByte(value, '=') >= 0 {
-			return nil
-		}
-		before, end = key, part.text.at+part.text.len
-	}
-	if text := d.text[row.line_at:end]; bytes.IndexByte(text, '\\') < 0 {
-		return text
-	}
-	return nil
 }
 
 // NextTag gives the next tag: its key is nil if there is none. Else it gives the fault of the line.

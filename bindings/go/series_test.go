@@ -185,6 +185,34 @@ func TestSeriesKeysOfMany(t *testing.T) {
 	}
 }
 
+// Keys that are asked for at some lines alone, or more than once, are those of these lines. Some stand there, some do not, some lines have
+// faults, and there are more of them than a block has.
+func TestSeriesKeysOfSome(t *testing.T) {
+	r := rand.New(rand.NewSource(2))
+	lines := []string{"m,a=%d f=1i\n", "\n m,a=\\=%d f=1i\n", "m,b=1,a=%d f=1i\n", "m,a=\\%d f=1i\n", "m %d\n", "\xff%d\n"}
+	var text bytes.Buffer
+	for i := 0; i < 3000; i++ {
+		fmt.Fprintf(&text, lines[r.Intn(1+i/500)], i)
+	}
+	d := NewDecoderWithBytes(nil)
+	for _, each := range []int{1, 2, 3, 8, 64, 700, 1} {
+		asked := 0
+		for d.ResetBytes(text.Bytes()); d.Next(); {
+			if d.Fault() != nil || r.Intn(each) > 0 {
+				continue
+			}
+			name, tags := seriesOf(d)
+			for n := r.Intn(3); n >= 0; n-- {
+				compareKey(t, d, nil, name, tags)
+			}
+			asked++
+		}
+		if asked == 0 || asked < 2000/(2*each) {
+			t.Errorf("of one in %d lines %d keys are asked for", each, asked)
+		}
+	}
+}
+
 // A key takes no memory of Go's if there is room for it.
 func TestSeriesKeyAllocations(t *testing.T) {
 	text := bytes.Repeat([]byte("cpu,host=a\\ b,region=west,az=1 usage=1.5\nm"+strings.Repeat(",k=v", 100)+" f=1i\n"), 500)
