@@ -4,3 +4,4 @@ pub mod SameBroken
 pub mod Lines
 pub mod LinesSpelled
 pub mod ByCode
+pub mod Once

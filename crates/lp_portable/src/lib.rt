@@ -14,4 +14,4 @@ mod values;
 
 pub use broken::{Broken, Clause};
 pub use limits::{Limits, Servers};
-pub use portable::broken_clauses;
+pub use portable::{broken_clauses, is_portable};

@@ -2,19 +2,16 @@
 //!
 //! The text is read into a line, whose names, values and timestamp are looked at; and walked over for how its names are spelled.
 
-ghost use Rattle.std.specs.Prelude.{true, IsTrue, ◌↔◌, bytes_eq, ◌||◌, ◌≡◌, ◌<◌, ◌∷◌, [], IfOk, MatchOption, length, map, option_map, codes};
-ghost use Rattle.lp_format.specs.format.{IsCutPiece, Line, Strict, some_tags, trimmed};
-ghost use Rattle.lp_lines.specs.code.Parsed.{field_of, line_read, tag_of};
-ghost use Rattle.lp_portable.specs.format.Portable.{Breaks, broken_of, has_repeats, is_outside};
-ghost use Rattle.lp_portable.specs.format.Spellings.{IsSpelled, Spelling};
-ghost use Rattle.lp_portable.specs.code.Walks.{name_breaks, repeats_of};
-ghost use Rattle.lp_portable.specs.code.ByCode.{ArePartsOf, broken_by_code};
-ghost use Rattle.std.specs.List.{list_any};
+ghost use Rattle.std.specs.Prelude.{◌≡◌, ◌↔◌, ◌≤◌, true, IfOk, IsOk, IsTrue, MatchOption, length};
+ghost use Rattle.lp_format.specs.{code.Light.is_light, format.IsCutPiece, format.Line, format.Strict, format.some_tags, format.trimmed};
+ghost use Rattle.lp_lines.specs.code.{Lookups.some_items, Parsed.line_read};
+ghost use Rattle.lp_portable.specs.format.Portable.{Breaks, IsPortable, is_outside};
+ghost use Rattle.lp_portable.specs.code.{ByCode.ArePartsOf, ByCode.broken_by_code, Walks.most_compared, Walks.repeats_of};
 ghost use Rattle.lp_portable.specs.code.Telling.{IsNoLine, IsTrimmedPiece, TellsBroken, TellsRead};
 
 use crate::broken::Broken;
 use crate::keys::has_repeats;
-use crate::limits::Limits;
+use crate::limits::{Limits, Servers};
 use crate::names::{NameBreaks, name_breaks};
 use crate::values;
 use lp_lines::parsed::tags_in;
@@ -58,7 +55,9 @@ struct Repeats {
 
 // What is repeated in a line.
 fn repeats_of<'a>(alloc: Global, read: &ParsedLine<'a>) -> Result<Repeats, AllocError>
-    ensures { IfOk result (λ repeats. repeats ≡ repeats_of read.now) }
+    ensures value { IfOk result (λ repeats. repeats ≡ repeats_of read.now) }
+    ensures no_memory { length (some_items read.now.series.tag_set) ≤ most_compared → length read.now.field_set.items ≤ most_compared
+        → IsOk result }
 {
     let tag = has_repeats(alloc, tags_in(&read.series))?;
     let field = has_repeats(alloc, read.field_set.as_slice())?;
@@ -147,7 +146,8 @@ fn broken_in<'l, 'a>(
 
 // Whether a trimmed text is read as a line, into this.
 fn is_read<'a>(alloc: Global, line: &'a str, read: &mut ParsedLine<'a>) -> Result<bool, AllocError>
-    ensures { IfOk result (λ is_line. TellsRead line.now read.new is_line) }
+    ensures value { IfOk result (λ is_line. TellsRead line.now read.new is_line) }
+    ensures no_memory { is_light Strict line.now ≡ true → IsOk result }
 {
     match read_spelled_into(alloc, Dialect::Strict, line, read, &mut None) {
         Ok(()) => Ok(true),
@@ -166,7 +166,8 @@ fn broken_by<'a>(
 ) -> Result<Broken, AllocError>
     requires piece { IsTrimmedPiece text.now line.now }
     requires read { TellsRead line.now read.now true }
-    ensures { IfOk result (Breaks limits.now text.now) }
+    ensures value { IfOk result (Breaks limits.now text.now) }
+    ensures no_memory { is_light Strict line.now ≡ true → IsOk result }
 {
     let repeats = repeats_of(alloc, read)?;
     let parts = parts_of(read);
@@ -182,9 +183,9 @@ fn broken_by<'a>(
 /// Which clauses of what is portable a text breaks, with these limits. `None`: it is not just one line that the strict reader reads,
 /// without its newline.
 ///
-/// [`Broken::first`] tells the first that concerns a server; if there is none, the server reads the line as this reader does. Memory is
-/// taken as for a line that is read, and for a map of more than 32 tags or fields; none for a line with at most 8 tags and 4 fields
-/// whose names and strings hold no backslash.
+/// [`Broken::first`] tells the first that concerns a server; if there is none, the server reads the line as this reader does. The text
+/// is read once more for that. Memory is taken as for a line that is read, and for a map of more than 32 tags or fields: none for a
+/// line with at most 8 tags and 4 fields whose names and strings are no copies.
 ///
 /// # Errors
 ///
@@ -200,7 +201,8 @@ pub fn broken_clauses(
     limits: &Limits,
     text: &str,
 ) -> Result<Option<Broken>, AllocError>
-    ensures { IfOk result (TellsBroken limits.now text.now) }
+    ensures value { IfOk result (TellsBroken limits.now text.now) }
+    ensures no_memory { is_light Strict (trimmed text.now) ≡ true → IsOk result }
 {
     let Some(line) = one_line(text) else {
         return Ok(None);
@@ -211,4 +213,33 @@ pub fn broken_clauses(
     }
     let broken = broken_by(alloc, limits, text, line, &read)?;
     Ok(Some(broken))
+}
+
+/// Whether a text is a portable line: servers read it as the strict reader does, and store it as that point, with these limits.
+///
+/// It is if it is one line, without its newline, that breaks no clause that concerns the servers. Which it breaks,
+/// [`broken_clauses`] tells. Memory is taken as there.
+///
+/// # Errors
+///
+/// If memory was refused.
+///
+/// ```text
+/// m,t=x f=1i 1    is portable to all
+/// m,t=x f=1u 1    is portable to Servers::Victoria
+/// m,t=x f= 1      is not portable: it is no line
+/// ```
+pub fn is_portable(
+    alloc: Global,
+    to: Servers,
+    limits: &Limits,
+    text: &str,
+) -> Result<bool, AllocError>
+    ensures value { IfOk result (λ portable. IsTrue portable ↔ IsPortable to limits.now text.now) }
+    ensures no_memory { is_light Strict (trimmed text.now) ≡ true → IsOk result }
+{
+    match broken_clauses(alloc, limits, text)? {
+        Some(broken) => Ok(broken.first(to).is_none()),
+        None => Ok(false),
+    }
 }
