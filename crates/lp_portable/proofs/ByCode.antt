@@ -3,17 +3,17 @@ use Rattle.std.proofs.Common.{◌≡◌, ℕ, ◌+◌, not, List, ◌∷◌, [],
 use Rattle.std.proofs.lemmas.List.{length-map}
 use Rattle.lp_format.specs.format.{is_one_of, quote, some_tags}
 use Rattle.lp_values.specs.{declared.escaped.EscapedStr.EscapedStr, declared.values.FieldValue.FieldValue, code.Texts.text_of}
-use Rattle.lp_events.specs.code.OwnBases.{keys_of}
 use Rattle.lp_lines.specs.{declared.parsed.ParsedLine.ParsedLine, code.Lookups.some_items, code.Parsed.field_of, code.Parsed.line_read, code.Parsed.tag_of}
 use Rattle.lp_lines.specs.code.Parsed.{tags_of}
-use Rattle.lp_portable.specs.declared.{broken.Broken.Broken, limits.Limits.Limits, names.NameBreaks.NameBreaks, portable.Parts.Parts, portable.Repeats.Repeats}
+use Rattle.lp_portable.specs.declared.{broken.Broken.Broken, broken.Clause.Clause, limits.Limits.Limits, names.NameBreaks.NameBreaks, portable.Parts.Parts, portable.Repeats.Repeats}
 use Rattle.lp_portable.specs.code.{ByCode.ArePartsOf, ByCode.broken_by_code, Walks.keys_in, Walks.name_breaks, Walks.repeats_of}
-use Rattle.lp_portable.specs.format.Portable.{broken_of, has_control, has_exponent, has_repeats, is_finite, is_hundreds, is_system_key, is_unsigned}
+use Rattle.lp_portable.specs.format.Portable.{breaks, has_control, has_exponent, has_repeats, is_finite, is_hundreds, is_system_key, is_unsigned}
 use Rattle.lp_portable.specs.format.Spellings.{Spelling}
-use Rattle.lp_portable.proofs.{SameBroken.same_broken, Spelled.any_map}
+use Rattle.lp_portable.specs.code.Clauses.{clause_of, is_broken, limits_of}
+use Rattle.lp_portable.proofs.Spelled.{any_map}
 
 -- the keys of tags
-tag_keys : (tags : List (EscapedStr × EscapedStr)) → keys_in tags ≡ keys_of (map tag_of tags)
+tag_keys : (tags : List (EscapedStr × EscapedStr)) → keys_in tags ≡ map (λ t. t.key.bytes) (map tag_of tags)
 tag_keys [] = refl
 tag_keys (t ∷ tags) = ap (λ (keys : List (List ℕ)). text_of t.0 ∷ keys) (tag_keys tags)
 
@@ -32,50 +32,49 @@ tags_are read = by_set read.series.tag_set
 
 -- what the code tells is what the definition says
 pub code_is : (limits : Limits) (text : List ℕ) (read : ParsedLine) (names : Spelling) (given : Parts) → ArePartsOf read given
-    → broken_by_code limits text given (repeats_of read) (name_breaks (length read.series.raw_input.now) names)
-    ≡ broken_of limits text (line_read read) names
-code_is limits text read names given parts =
-    let tags_read = tags_are read in
-    same_broken _ _
-    refl
-    refl
-    refl
-    refl
-    refl
-    refl
-    refl
-    refl
-    (rw tags_read (ap has_repeats (tag_keys (some_items read.series.tag_set))))
-    refl
-    refl
-    (rw parts.fields (sym (any_map (λ f. is_one_of f.key.bytes quote) field_of read.field_set.items)))
-    refl
-    (rw parts.fields (sym (any_map (λ f. is_unsigned f.value) field_of read.field_set.items)))
-    (rw parts.fields (sym (any_map (λ f. not (is_finite f.value)) field_of read.field_set.items)))
-    (rw parts.fields (sym (any_map (λ f. has_exponent f.value) field_of read.field_set.items)))
-    (rw parts.fields refl)
-    (rw parts.timestamp refl)
-    (rw (parts.tags, tags_read) (ap is_hundreds (sym (length-map (some_items read.series.tag_set) tag_of))))
-    (rw (parts.tags, parts.fields, tags_read, any_map (λ t. bytes_eq t.key.bytes (codes "time")) tag_of (some_items read.series.tag_set), any_map (λ f. bytes_eq f.key.bytes (codes "time")) field_of read.field_set.items) refl)
-    (rw (parts.measurement, parts.fields, any_map (λ f. is_system_key f.key.bytes) field_of read.field_set.items) refl)
-    (ap has_repeats (field_keys read.field_set.items))
-    (rw parts.series refl)
-    (rw (parts.measurement, parts.fields, any_map (λ f. has_control f.key.bytes) field_of read.field_set.items) refl)
-    (rw (parts.tags, tags_read) (sym (any_map (λ t. bytes_eq t.key.bytes (codes "__name__")) tag_of (some_items read.series.tag_set))))
-    (rw (parts.tags, tags_read) (sym (any_map (λ t. nat_lt 256 (length t.key.bytes)) tag_of (some_items read.series.tag_set))))
-    (rw (parts.tags, tags_read) (sym (any_map (λ t. nat_lt 16384 (length t.value.bytes)) tag_of (some_items read.series.tag_set))))
-    (rw (parts.measurement, parts.fields) (sym (any_map (λ f. nat_lt 16384 (length (text_of read.series.measurement) + 1 + length f.key.bytes)) field_of read.field_set.items)))
-    (rw (parts.series, parts.fields) (sym (any_map (λ f. nat_lt 32000 (length read.series.raw_input.now + 1 + length f.key.bytes)) field_of read.field_set.items)))
-    (rw (parts.tags, tags_read) (ap (nat_lt limits.tags) (sym (length-map (some_items read.series.tag_set) tag_of))))
-    refl
-    (rw parts.timestamp refl)
+    → (clause : Clause)
+    → is_broken (broken_by_code limits text given (repeats_of read) (name_breaks (length read.series.raw_input.now) names)) clause
+    ≡ breaks (limits_of limits) text (line_read read) names (clause_of clause)
+code_is limits text read names given parts Clause.LeadingBlank = refl
+code_is limits text read names given parts Clause.TrailingSpace = refl
+code_is limits text read names given parts Clause.Newline = refl
+code_is limits text read names given parts Clause.MeasurementEquals = refl
+code_is limits text read names given parts Clause.MeasurementEscape = refl
+code_is limits text read names given parts Clause.TagEscape = refl
+code_is limits text read names given parts Clause.TagKeyComma = refl
+code_is limits text read names given parts Clause.TagValueEquals = refl
+code_is limits text read names given parts Clause.RepeatedTag = rw (tags_are read) (ap has_repeats (tag_keys (some_items read.series.tag_set)))
+code_is limits text read names given parts Clause.FieldKeyEscape = refl
+code_is limits text read names given parts Clause.FieldKeyComma = refl
+code_is limits text read names given parts Clause.FieldKeyQuote = rw parts.fields (sym (any_map (λ f. is_one_of f.key.bytes quote) field_of read.field_set.items))
+code_is limits text read names given parts Clause.LongSeries = refl
+code_is limits text read names given parts Clause.Unsigned = rw parts.fields (sym (any_map (λ f. is_unsigned f.value) field_of read.field_set.items))
+code_is limits text read names given parts Clause.InfiniteFloat = rw parts.fields (sym (any_map (λ f. not (is_finite f.value)) field_of read.field_set.items))
+code_is limits text read names given parts Clause.Exponent = rw parts.fields (sym (any_map (λ f. has_exponent f.value) field_of read.field_set.items))
+code_is limits text read names given parts Clause.LeadingNul = rw parts.fields refl
+code_is limits text read names given parts Clause.TimeOutOfRange = rw parts.timestamp refl
+code_is limits text read names given parts Clause.TagCount = rw (parts.tags, tags_are read) (ap is_hundreds (sym (length-map (some_items read.series.tag_set) tag_of)))
+code_is limits text read names given parts Clause.TimeName = rw (parts.tags, parts.fields, tags_are read, any_map (λ t. bytes_eq t.key.bytes (codes "time")) tag_of (some_items read.series.tag_set), any_map (λ f. bytes_eq f.key.bytes (codes "time")) field_of read.field_set.items) refl
+code_is limits text read names given parts Clause.SystemName = rw (parts.measurement, parts.fields, any_map (λ f. is_system_key f.key.bytes) field_of read.field_set.items) refl
+code_is limits text read names given parts Clause.RepeatedField = ap has_repeats (field_keys read.field_set.items)
+code_is limits text read names given parts Clause.KeySeparator = rw parts.series refl
+code_is limits text read names given parts Clause.ControlByte = rw (parts.measurement, parts.fields, any_map (λ f. has_control f.key.bytes) field_of read.field_set.items) refl
+code_is limits text read names given parts Clause.NameLabel = rw (parts.tags, tags_are read) (sym (any_map (λ t. bytes_eq t.key.bytes (codes "__name__")) tag_of (some_items read.series.tag_set)))
+code_is limits text read names given parts Clause.LongTagKey = rw (parts.tags, tags_are read) (sym (any_map (λ t. nat_lt 256 (length t.key.bytes)) tag_of (some_items read.series.tag_set)))
+code_is limits text read names given parts Clause.LongTagValue = rw (parts.tags, tags_are read) (sym (any_map (λ t. nat_lt 16384 (length t.value.bytes)) tag_of (some_items read.series.tag_set)))
+code_is limits text read names given parts Clause.LongMetricName = rw (parts.measurement, parts.fields) (sym (any_map (λ f. nat_lt 16384 (length (text_of read.series.measurement) + 1 + length f.key.bytes)) field_of read.field_set.items))
+code_is limits text read names given parts Clause.LongLabels = rw (parts.series, parts.fields) (sym (any_map (λ f. nat_lt 32000 (length read.series.raw_input.now + 1 + length f.key.bytes)) field_of read.field_set.items))
+code_is limits text read names given parts Clause.TooManyTags = rw (parts.tags, tags_are read) (ap (nat_lt limits.tags) (sym (length-map (some_items read.series.tag_set) tag_of)))
+code_is limits text read names given parts Clause.LongLine = refl
+code_is limits text read names given parts Clause.TimeNotKept = rw parts.timestamp refl
 
 -- so it is with what the code has found before
 pub told_is : (limits : Limits) (text : List ℕ) (read : ParsedLine) (names : Spelling) (given : Parts) (repeats : Repeats) (told : NameBreaks)
     (result : Broken) → ArePartsOf read given → repeats ≡ repeats_of read → told ≡ name_breaks (length given.series.now) names
-    → result ≡ broken_by_code limits text given repeats told → result ≡ broken_of limits text (line_read read) names
-told_is limits text read names given repeats told result parts repeated spelled is =
+    → result ≡ broken_by_code limits text given repeats told
+    → (clause : Clause) → is_broken result clause ≡ breaks (limits_of limits) text (line_read read) names (clause_of clause)
+told_is limits text read names given repeats told result parts repeated spelled is clause =
     let len = ap length parts.series in
-    is ∙ ap (λ (r : Repeats). broken_by_code limits text given r told) repeated
-    ∙ ap (λ (n : NameBreaks). broken_by_code limits text given (repeats_of read) n) (spelled ∙ ap (λ (n : ℕ). name_breaks n names) len)
-    ∙ code_is limits text read names given parts
+    let same = is ∙ ap (λ (r : Repeats). broken_by_code limits text given r told) repeated
+    ∙ ap (λ (n : NameBreaks). broken_by_code limits text given (repeats_of read) n) (spelled ∙ ap (λ (n : ℕ). name_breaks n names) len) in
+    ap (λ (b : Broken). is_broken b clause) same ∙ code_is limits text read names given parts clause

@@ -7,7 +7,7 @@ use Rattle.lp_format.proofs.lemmas.meanings.{JoinedMeaning.the_most_is_read, Sho
 use Rattle.lp_values.proofs.lemmas.fields.ReadingLemmas.{pair_parts}
 use Rattle.lp_events.proofs.lemmas.fields.ManyLemmas.{fields_joined, set_separated}
 use Rattle.lp_lines.proofs.lemmas.names.ParsedNames.{answer_parts}
-use Rattle.lp_portable.specs.format.Spellings.{IsSpelled, Spelling, key_text, tag_text}
+use Rattle.lp_portable.specs.format.Spellings.{AreAfterCommas, AreJoined, IsSpelled, Spelling, key_text, tag_text}
 
 -- where a tag is read its names are spelled
 tag_spelled : (text : List ℕ) (t : Pair Text Text) (rest : List ℕ) → tag text ≡ reads t rest
@@ -27,16 +27,16 @@ module _ {A B : Type 0} (one : List ℕ → Reading A) (other : List ℕ → Rea
     (each : (text : List ℕ) (x : A) (rest : List ℕ) → one text ≡ reads x rest → (y : B) × (other text ≡ reads y rest)) where
   -- so it is with parts that come after commas
   spelled_after : (xs : List A) (text rest : List ℕ) → SeparatedAfterComma one xs text rest
-      → (ys : List B) × SeparatedAfterComma other ys text rest × (length ys ≡ length xs)
+      → (ys : List B) × AreAfterCommas other ys text rest × (length ys ≡ length xs)
   spelled_after [] text rest h = ([], h, refl)
   spelled_after (x ∷ xs) text rest h =
       let y = each h.0 x h.1 h.3 in
       let others = spelled_after xs h.1 rest h.4 in
-      (y.0 ∷ others.0, (h.0, h.1, h.2, y.1, others.1), ap suc others.2)
+      (y.0 ∷ others.0, (h.1, rw h.2 y.1, others.1), ap suc others.2)
 
   -- and with parts that commas join
   spelled_by : (xs : List A) (text rest : List ℕ) → SeparatedBy one xs text rest
-      → (ys : List B) × SeparatedBy other ys text rest × (length ys ≡ length xs)
+      → (ys : List B) × AreJoined other ys text rest × (length ys ≡ length xs)
   spelled_by [] text rest h = ([], h, refl)
   spelled_by (x ∷ xs) text rest h =
       let y = each text x h.0 h.1 in

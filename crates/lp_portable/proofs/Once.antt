@@ -1,29 +1,29 @@
 -- A text breaks one set of clauses, and what is told of the first of them.
-use Rattle.std.proofs.Common.{◌≡◌, ℕ, List, [], ◌∷◌, length, drop, Option, None, Some, true, false, Bool, not, inl, inr, ◌<◌, get_or, refl, sym, ◌∙◌, ap, subst, arith, IsTrue, ◌↔◌}
+use Rattle.std.proofs.Common.{◌≡◌, ℕ, List, [], ◌∷◌, length, drop, Option, None, Some, true, false, ◌&&◌, Bool, not, inl, inr, ◌<◌, get_or, refl, sym, ◌∙◌, ap, subst, arith, IsTrue, ◌↔◌}
 use Rattle.std.proofs.lemmas.{Bool.cases_Bool, Bool.false≢true, List.Folds.list_all_at}
 use Rattle.std.specs.{List.list_all, Option.is_some}
 use Rattle.lp_format.specs.format.{Line, Reading, spaces, trimmed}
-use Rattle.lp_format.specs.laws.Meanings.{SeparatedAfterComma, SeparatedBy}
 use Rattle.lp_values.proofs.lemmas.fields.ReadingLemmas.{reads_parts}
 use Rattle.lp_portable.specs.declared.{broken.Broken.Broken, broken.Clause.Clause, broken.TheConstants.CLAUSES, limits.Limits.Limits, limits.Servers.Servers}
-use Rattle.lp_portable.specs.format.Portable.{Breaks, IsOneLine, IsPortable, first_broken, first_of, is_broken_for}
-use Rattle.lp_portable.specs.format.Spellings.{IsSpelled, Spelling, key_text, tag_text}
+use Rattle.lp_portable.specs.format.Portable as format
+use Rattle.lp_portable.specs.format.Portable.{IsOneLine, IsPortable, breaks, concerns}
+use Rattle.lp_portable.specs.code.Clauses.{Breaks, clause_of, first_broken, first_of, is_broken_for, limits_of, servers_of}
+use Rattle.lp_portable.specs.format.Spellings.{AreAfterCommas, AreJoined, IsSpelled, Spelling, key_text, tag_text}
 
 module _ {A : Type 0} (one : List ℕ → Reading A) where
   -- as many parts after commas are the same, and leave the same
-  after_once : (xs ys : List A) (text r s : List ℕ) → SeparatedAfterComma one xs text r → SeparatedAfterComma one ys text s
+  after_once : (xs ys : List A) (text r s : List ℕ) → AreAfterCommas one xs text r → AreAfterCommas one ys text s
       → length xs ≡ length ys → (xs ≡ ys) × (r ≡ s)
   after_once [] [] text r s h k n = (refl, sym h ∙ k)
   after_once [] (y ∷ ys) text r s h k n = absurd (omega (arith, n))
   after_once (x ∷ xs) [] text r s h k n = absurd (omega (arith, n))
   after_once (x ∷ xs) (y ∷ ys) text r s h k n =
-      let at : h.0 ≡ k.0 = cc (h.2, k.2) in
-      let same = reads_parts x y h.1 k.1 (sym h.3 ∙ ap one at ∙ k.3) in
-      let others = after_once xs ys k.1 r s (rw same.1 at h.4) k.4 (omega (arith, n)) in
+      let same = reads_parts x y h.0 k.0 (sym h.1 ∙ k.1) in
+      let others = after_once xs ys k.0 r s (rw same.1 at h.2) k.2 (omega (arith, n)) in
       (rw (same.0, others.0) refl, others.1)
 
   -- and so are parts that commas join
-  by_once : (xs ys : List A) (text r s : List ℕ) → SeparatedBy one xs text r → SeparatedBy one ys text s
+  by_once : (xs ys : List A) (text r s : List ℕ) → AreJoined one xs text r → AreJoined one ys text s
       → length xs ≡ length ys → (xs ≡ ys) × (r ≡ s)
   by_once [] [] text r s h k n = (refl, sym h ∙ k)
   by_once [] (y ∷ ys) text r s h k n = absurd (omega (arith, n))
@@ -46,13 +46,6 @@ spelled_once text line a b h k =
 line_once : (text : List ℕ) (a b : Line) → IsOneLine text a → IsOneLine text b → a ≡ b
 line_once text a b h k = let same = sym h.read ∙ k.read in cc
 
--- a text breaks one set of clauses
-pub breaks_once : (limits : Limits) (text : List ℕ) (a b : Broken) → Breaks limits text a → Breaks limits text b → a ≡ b
-breaks_once limits text a b h k =
-    let line = line_once text h.line k.line h.is_line k.is_line in
-    let names = spelled_once (trimmed text) k.line h.names k.names (rw line at h.are_names) k.are_names in
-    h.breaks ∙ rw (line, names) refl ∙ sym k.breaks
-
 -- of clauses of which none is the first none passes
 none_passes : (passes : Clause → Bool) (clauses : List Clause) → first_of passes clauses ≡ None → list_all (λ c. not (passes c)) clauses ≡ true
 none_passes passes [] none = refl
@@ -61,56 +54,65 @@ none_passes passes (c ∷ clauses) none = elim (cases_Bool (passes c)) [
   | inr not ↦ rw not (none_passes passes clauses (rw not at none))
 ]
 
--- each clause is listed
-listed : (clause : Clause) → (n : ℕ) × (n < length CLAUSES.now) × (get_or CLAUSES.now n clause ≡ clause)
-listed Clause.LeadingBlank = (0, omega arith, refl)
-listed Clause.TrailingSpace = (1, omega arith, refl)
-listed Clause.Newline = (2, omega arith, refl)
-listed Clause.MeasurementEquals = (3, omega arith, refl)
-listed Clause.MeasurementEscape = (4, omega arith, refl)
-listed Clause.TagEscape = (5, omega arith, refl)
-listed Clause.TagKeyComma = (6, omega arith, refl)
-listed Clause.TagValueEquals = (7, omega arith, refl)
-listed Clause.RepeatedTag = (8, omega arith, refl)
-listed Clause.FieldKeyEscape = (9, omega arith, refl)
-listed Clause.FieldKeyComma = (10, omega arith, refl)
-listed Clause.FieldKeyQuote = (11, omega arith, refl)
-listed Clause.LongSeries = (12, omega arith, refl)
-listed Clause.Unsigned = (13, omega arith, refl)
-listed Clause.InfiniteFloat = (14, omega arith, refl)
-listed Clause.Exponent = (15, omega arith, refl)
-listed Clause.LeadingNul = (16, omega arith, refl)
-listed Clause.TimeOutOfRange = (17, omega arith, refl)
-listed Clause.TagCount = (18, omega arith, refl)
-listed Clause.TimeName = (19, omega arith, refl)
-listed Clause.SystemName = (20, omega arith, refl)
-listed Clause.RepeatedField = (21, omega arith, refl)
-listed Clause.KeySeparator = (22, omega arith, refl)
-listed Clause.ControlByte = (23, omega arith, refl)
-listed Clause.NameLabel = (24, omega arith, refl)
-listed Clause.LongTagKey = (25, omega arith, refl)
-listed Clause.LongTagValue = (26, omega arith, refl)
-listed Clause.LongMetricName = (27, omega arith, refl)
-listed Clause.LongLabels = (28, omega arith, refl)
-listed Clause.TooManyTags = (29, omega arith, refl)
-listed Clause.LongLine = (30, omega arith, refl)
-listed Clause.TimeNotKept = (31, omega arith, refl)
+-- the second of two is not, if both are not and the first is
+and_second : {a b : Bool} → a ≡ true → (a && b) ≡ false → b ≡ false
+and_second is both = rw is at both
 
--- if no clause is the first that is broken, none is broken
-pub none_broken : (to : Servers) (broken : Broken) → first_broken to broken ≡ None → (clause : Clause) → is_broken_for to broken clause ≡ false
+-- both are not, if the second is not where the first is
+and_false : {a b : Bool} → (a ≡ true → b ≡ false) → (a && b) ≡ false
+and_false {a = false} h = refl
+and_false {a = true} h = h refl
+
+-- each clause is that of one that the code lists
+listed : (clause : format.Clause) → (c : Clause) × (n : ℕ) × (clause_of c ≡ clause) × (n < length CLAUSES.now) × (get_or CLAUSES.now n c ≡ c)
+listed format.leading_blank = (Clause.LeadingBlank, 0, refl, omega arith, refl)
+listed format.trailing_space = (Clause.TrailingSpace, 1, refl, omega arith, refl)
+listed format.newline = (Clause.Newline, 2, refl, omega arith, refl)
+listed format.measurement_equals = (Clause.MeasurementEquals, 3, refl, omega arith, refl)
+listed format.measurement_escape = (Clause.MeasurementEscape, 4, refl, omega arith, refl)
+listed format.tag_escape = (Clause.TagEscape, 5, refl, omega arith, refl)
+listed format.tag_key_comma = (Clause.TagKeyComma, 6, refl, omega arith, refl)
+listed format.tag_value_equals = (Clause.TagValueEquals, 7, refl, omega arith, refl)
+listed format.repeated_tag = (Clause.RepeatedTag, 8, refl, omega arith, refl)
+listed format.field_key_escape = (Clause.FieldKeyEscape, 9, refl, omega arith, refl)
+listed format.field_key_comma = (Clause.FieldKeyComma, 10, refl, omega arith, refl)
+listed format.field_key_quote = (Clause.FieldKeyQuote, 11, refl, omega arith, refl)
+listed format.long_series = (Clause.LongSeries, 12, refl, omega arith, refl)
+listed format.unsigned = (Clause.Unsigned, 13, refl, omega arith, refl)
+listed format.infinite_float = (Clause.InfiniteFloat, 14, refl, omega arith, refl)
+listed format.exponent = (Clause.Exponent, 15, refl, omega arith, refl)
+listed format.leading_nul = (Clause.LeadingNul, 16, refl, omega arith, refl)
+listed format.time_out_of_range = (Clause.TimeOutOfRange, 17, refl, omega arith, refl)
+listed format.tag_count = (Clause.TagCount, 18, refl, omega arith, refl)
+listed format.time_name = (Clause.TimeName, 19, refl, omega arith, refl)
+listed format.system_name = (Clause.SystemName, 20, refl, omega arith, refl)
+listed format.repeated_field = (Clause.RepeatedField, 21, refl, omega arith, refl)
+listed format.key_separator = (Clause.KeySeparator, 22, refl, omega arith, refl)
+listed format.control_byte = (Clause.ControlByte, 23, refl, omega arith, refl)
+listed format.name_label = (Clause.NameLabel, 24, refl, omega arith, refl)
+listed format.long_tag_key = (Clause.LongTagKey, 25, refl, omega arith, refl)
+listed format.long_tag_value = (Clause.LongTagValue, 26, refl, omega arith, refl)
+listed format.long_metric_name = (Clause.LongMetricName, 27, refl, omega arith, refl)
+listed format.long_labels = (Clause.LongLabels, 28, refl, omega arith, refl)
+listed format.too_many_tags = (Clause.TooManyTags, 29, refl, omega arith, refl)
+listed format.long_line = (Clause.LongLine, 30, refl, omega arith, refl)
+listed format.time_not_kept = (Clause.TimeNotKept, 31, refl, omega arith, refl)
+
+-- if no clause is the first that is broken, each that is listed is kept
+kept_at : (to : Servers) (broken : Broken) → first_broken to broken ≡ None → (c : Clause) (n : ℕ) → n < length CLAUSES.now → get_or CLAUSES.now n c ≡ c
+    → is_broken_for to broken c ≡ false
 unfolding first_broken
-none_broken to broken none clause =
-    let (n, within, at) = listed clause in
+kept_at to broken none c n within at =
     let all = none_passes (is_broken_for to broken) CLAUSES.now none in
-    elim (cases_Bool (is_broken_for to broken clause)) [
+    elim (cases_Bool (is_broken_for to broken c)) [
       | inl is ↦
-          let fails = subst (λ (c : Clause). not (is_broken_for to broken c) ≡ false) (sym at) (ap not is) in
-          absurd (false≢true (sym (list_all_at (λ c. not (is_broken_for to broken c)) CLAUSES.now n clause within fails) ∙ all))
+          let fails = subst (λ (d : Clause). not (is_broken_for to broken d) ≡ false) (sym at) (ap not is) in
+          absurd (false≢true (sym (list_all_at (λ d. not (is_broken_for to broken d)) CLAUSES.now n c within fails) ∙ all))
       | inr not ↦ not
     ]
 
--- and if none is broken, none is the first
-pub none_first : (to : Servers) (broken : Broken) → ((clause : Clause) → is_broken_for to broken clause ≡ false) → first_broken to broken ≡ None
+-- and if none is broken that concerns the servers, none is the first
+none_first : (to : Servers) (broken : Broken) → ((c : Clause) → is_broken_for to broken c ≡ false) → first_broken to broken ≡ None
 unfolding first_broken
 none_first to broken none = each CLAUSES.now
   where
@@ -120,11 +122,27 @@ none_first to broken none = each CLAUSES.now
 
 -- a text is portable exactly if the clauses that it breaks have no first one
 pub portable_is : (to : Servers) (limits : Limits) (text : List ℕ) (broken : Broken) → Breaks limits text broken
-    → (first_broken to broken ≡ None) ↔ IsPortable to limits text
-portable_is to limits text broken h = (
-  λ none. (broken, h, none_broken to broken none),
-  λ is. none_first to broken (λ clause. rw (breaks_once limits text broken is.0 h is.1) (is.2 clause)),
-)
+    → (first_broken to broken ≡ None) ↔ IsPortable (servers_of to) (limits_of limits) text
+portable_is to limits text broken h = (forth, back)
+  where
+    forth : first_broken to broken ≡ None → IsPortable (servers_of to) (limits_of limits) text
+    forth none = record {
+      line = h.line;
+      names = h.names;
+      is_line = h.is_line;
+      are_names = h.are_names;
+      keeps = λ clause concerned.
+          let (c, n, is, within, at) = listed clause in
+          let kept = kept_at to broken none c n within at in
+          let asked : concerns (servers_of to) (clause_of c) ≡ true = rw is concerned in
+          subst (λ (d : format.Clause). breaks (limits_of limits) text h.line h.names d ≡ false) is (sym (h.tells c) ∙ and_second asked kept);
+    }
+
+    back : IsPortable (servers_of to) (limits_of limits) text → first_broken to broken ≡ None
+    back p =
+        let line = line_once text h.line p.line h.is_line p.is_line in
+        let names = spelled_once (trimmed text) p.line h.names p.names (rw line at h.are_names) p.are_names in
+        none_first to broken (λ c. and_false (λ concerned. h.tells c ∙ rw (line, names) (p.keeps (clause_of c) concerned)))
 
 -- what is none is `None`
 pub none_is : {A : Type 0} (o : Option A) (none : Bool) → is_some o ≡ not none → (IsTrue none → o ≡ None) × (o ≡ None → IsTrue none)

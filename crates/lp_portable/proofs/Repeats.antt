@@ -1,45 +1,97 @@
--- Keys that are looked for among those before them.
-use Rattle.std.proofs.Common.{◌≡◌, ℕ, ◌<◌, ◌||◌, Bool, true, false, not, List, [], ◌∷◌, length, take, get_or, refl, sym, ap, ◌∙◌, arith, bytes_eq}
-use Rattle.std.proofs.lemmas.{List.length-map, List.get_or-map, Bool.eq-eqb, Bool.ne_eqb}
-use Rattle.std.specs.List.{list_any}
-use Rattle.std.proofs.lemmas.List.{take-map}
+-- Keys that are looked for among those after them.
+use Rattle.std.proofs.Common.{◌≡◌, ℕ, ◌<◌, ◌+◌, ◌||◌, Bool, true, false, cond, List, [], ◌∷◌, ◌++◌, length, take, drop, get_or, refl, sym, ap, ◌∙◌, arith}
+use Rattle.std.proofs.Common.{bytes_eq, Bor, BTreeMap, is_some, Some, Option, nat_cmp, take-append-drop}
+use Rattle.std.proofs.lemmas.List.{map-append, take_more}
+use Rattle.std.proofs.lemmas.{Bool.or_cases, Bool.false≢true, List.Folds.list_any-append}
+use Rattle.std.proofs.Common.{inl, inr}
+use Rattle.std.proofs.lemmas.{List.drop_more, Map.Text.btree_map_updates_str}
+use Rattle.std.specs.{BTreeMap.UpdatesBy, BTreeMap.get_by, Cmp.Lexicographic.slice_cmp, Cmp.Lexicographic.nat_list_eq_equiv, List.list_any}
 use Rattle.lp_values.specs.{declared.escaped.EscapedStr.EscapedStr, code.Texts.text_of}
-use Rattle.lp_lines.specs.code.Bases.{first_repeated, is_repeated_at}
-use Rattle.lp_lines.proofs.lemmas.series.BaseLemmas.{first_repeated_is}
-use Rattle.lp_portable.specs.format.Portable.{has_repeats}
-use Rattle.lp_portable.specs.code.Walks.{keys_in}
+use Rattle.lp_portable.specs.{code.Walks.keys_in, format.Portable.has_repeats}
 
--- a key at a place is the text of what is there
-pub key_at : {X : Type 0} (items : List (EscapedStr × X)) (i : ℕ) (x : EscapedStr × X) → i < length items → x ≡ get_or items i x
-    → get_or (keys_in items) i [] ≡ text_of x.0
-key_at {X} items i x within is =
-    get_or-map (λ (y : EscapedStr × X). text_of y.0) items i x [] within ∙ ap (λ (y : EscapedStr × X). text_of y.0) (sym is)
-
--- how many keys
-pub length_keys : {X : Type 0} (items : List (EscapedStr × X)) → length (keys_in items) ≡ length items
-length_keys items = length-map items _
-
--- a key that was there before
-pub repeated_here : (keys : List (List ℕ)) (i : ℕ) → i < length keys → ((k : ℕ) → k < i → is_repeated_at keys k ≡ false)
-    → is_repeated_at keys i ≡ true → true ≡ has_repeats keys
-repeated_here keys i within none here =
-    let first = first_repeated_is keys i (omega arith) none (λ l. here) in
-    rw first (ap not (sym (ne_eqb i (length keys) (λ e. omega (arith, e)))))
-
--- no key was
-pub none_repeated : (keys : List (List ℕ)) → ((k : ℕ) → k < length keys → is_repeated_at keys k ≡ false) → false ≡ has_repeats keys
-none_repeated keys none =
-    let first = first_repeated_is keys (length keys) (omega arith) none (λ l. absurd (omega arith)) in
-    ap not (sym (eq-eqb (first_repeated keys) (length keys) first))
+-- the keys from a place on are that there and those after it
+pub keys_from : {X : Type 0} (items : List (EscapedStr × X)) (i : ℕ) (x : EscapedStr × X) → i < length items → x ≡ get_or items i x
+    → keys_in (drop i items) ≡ text_of x.0 ∷ keys_in (drop (i + 1) items)
+keys_from {X} items i x within is =
+    ap keys_in (drop_more items i x within) ∙ ap (λ (y : EscapedStr × X). text_of y.0 ∷ keys_in (drop (i + 1) items)) (sym is)
 
 -- a test of keys, as the code has it
-keys_any : {X : Type 0} (p : List ℕ → Bool) (items : List (EscapedStr × X)) → list_any p (keys_in items) ≡ list_any (λ x. p (text_of x.0)) items
+pub keys_any : {X : Type 0} (p : List ℕ → Bool) (items : List (EscapedStr × X)) → list_any p (keys_in items) ≡ list_any (λ x. p (text_of x.0)) items
 keys_any p [] = refl
 keys_any p (x ∷ items) = ap (λ (b : Bool). p (text_of x.0) || b) (keys_any p items)
 
--- what the code finds among the keys before one tells whether that is repeated
-pub found_before : {X : Type 0} (items : List (EscapedStr × X)) (i : ℕ) (key : List ℕ) → get_or (keys_in items) i [] ≡ key
-    → list_any (λ x. bytes_eq key (text_of x.0)) (take i items) ≡ is_repeated_at (keys_in items) i
-found_before items i key is =
-    sym (keys_any (bytes_eq key) (take i items)) ∙ ap (list_any (bytes_eq key)) (sym (take-map (λ x. text_of x.0) i items))
-    ∙ rw is refl
+-- or true
+or_true : (b : Bool) → (b || true) ≡ true
+or_true true = refl
+or_true false = refl
+
+-- a key that is repeated among some is so among more
+repeats_within : (front keys : List (List ℕ)) → has_repeats keys ≡ true → has_repeats (front ++ keys) ≡ true
+repeats_within [] keys is = is
+repeats_within (k ∷ front) keys is = rw (repeats_within front keys is) (or_true (list_any (bytes_eq k) (front ++ keys)))
+
+-- so it is of all, if it is of those from a place on
+pub repeats_from : {X : Type 0} (items : List (EscapedStr × X)) (i : ℕ) → has_repeats (keys_in (drop i items)) ≡ true → has_repeats (keys_in items) ≡ true
+repeats_from {X} items i is =
+    ap (λ (xs : List (EscapedStr × X)). has_repeats (keys_in xs)) (sym (take-append-drop i items))
+    ∙ ap has_repeats (map-append (λ (x : EscapedStr × X). text_of x.0) (take i items) (drop i items))
+    ∙ repeats_within (keys_in (take i items)) (keys_in (drop i items)) is
+
+-- one key more, before the others
+some_or : (b : Bool) (o : Option Unit) (v : Unit) (a : Bool) → is_some o ≡ a → is_some (cond b (Some v) o) ≡ (b || a)
+some_or b o v a h = grind (arith)
+
+-- a map with one key more has that and the keys before
+pub has_more : (m n : BTreeMap (Bor (List ℕ)) Unit) (k : Bor (List ℕ)) (v : Unit) (key : List ℕ) (keys : List (List ℕ)) → k.now ≡ key
+    → UpdatesBy (λ x y. slice_cmp nat_cmp x.now y.now) (λ x. slice_cmp nat_cmp k.now x.now) m n (Some v)
+    → ((q : List ℕ) → is_some (get_by (λ x. slice_cmp nat_cmp q x.now) m) ≡ list_any (bytes_eq q) keys)
+    → (q : List ℕ) → is_some (get_by (λ x. slice_cmp nat_cmp q x.now) n) ≡ list_any (bytes_eq q) (key ∷ keys)
+has_more m n k v key keys is updates has q =
+    rw (btree_map_updates_str k.now m n (Some v) updates q, ← is, nat_list_eq_equiv.symm q k.now) (some_or (bytes_eq k.now q) _ v _ (has q))
+
+-- one key more is repeated if others were, or it is among them
+repeats_snoc : (keys : List (List ℕ)) (k : List ℕ) → has_repeats (keys ++ k ∷ []) ≡ (list_any (bytes_eq k) keys || has_repeats keys)
+repeats_snoc [] k = refl
+repeats_snoc (x ∷ keys) k =
+    rw (list_any-append (bytes_eq x) keys (k ∷ []), repeats_snoc keys k, nat_list_eq_equiv.symm x k)
+    (four (list_any (bytes_eq x) keys) (bytes_eq k x) (list_any (bytes_eq k) keys) (has_repeats keys))
+  where
+    four : (a b c d : Bool) → ((a || (b || false)) || (c || d)) ≡ ((b || c) || (a || d))
+    four true true c d = refl
+    four true false true d = refl
+    four true false false d = refl
+    four false true c d = refl
+    four false false true d = refl
+    four false false false d = refl
+
+-- what is repeated among the first keys is so among all
+repeats_front : (keys more : List (List ℕ)) → has_repeats keys ≡ true → has_repeats (keys ++ more) ≡ true
+repeats_front [] more is = absurd (false≢true is)
+repeats_front (k ∷ keys) more is = elim (or_cases (list_any (bytes_eq k) keys) (has_repeats keys) is) [
+  | inl here ↦ rw (list_any-append (bytes_eq k) keys more, here) refl
+  | inr later ↦ rw (repeats_front keys more later) (or_true (list_any (bytes_eq k) (keys ++ more)))
+]
+
+module _ {X : Type 0} (items : List (EscapedStr × X)) (i : ℕ) (x : EscapedStr × X) (within : i < length items) (is : x ≡ get_or items i x) where
+  -- the first keys, with one more
+  keys_more : keys_in (take (i + 1) items) ≡ keys_in (take i items) ++ text_of x.0 ∷ []
+  keys_more =
+      ap keys_in (take_more items i x within ∙ ap (λ (y : EscapedStr × X). take i items ++ y ∷ []) (sym is))
+      ∙ map-append (λ (y : EscapedStr × X). text_of y.0) (take i items) (x ∷ [])
+
+  -- a key that is among those before it is repeated
+  pub repeated_here : list_any (λ y. bytes_eq (text_of x.0) (text_of y.0)) (take i items) ≡ true → has_repeats (keys_in items) ≡ true
+  repeated_here found =
+      let again = keys_any (bytes_eq (text_of x.0)) (take i items) ∙ found in
+      let front : has_repeats (keys_in (take (i + 1) items)) ≡ true =
+      ap has_repeats keys_more ∙ repeats_snoc (keys_in (take i items)) (text_of x.0) ∙ rw again refl in
+      ap (λ (xs : List (EscapedStr × X)). has_repeats (keys_in xs)) (sym (take-append-drop (i + 1) items))
+      ∙ ap has_repeats (map-append (λ (y : EscapedStr × X). text_of y.0) (take (i + 1) items) (drop (i + 1) items))
+      ∙ repeats_front (keys_in (take (i + 1) items)) (keys_in (drop (i + 1) items)) front
+
+  -- and if it is not, it is no more repeated than they are
+  pub none_more : list_any (λ y. bytes_eq (text_of x.0) (text_of y.0)) (take i items) ≡ false → has_repeats (keys_in (take i items)) ≡ false
+      → has_repeats (keys_in (take (i + 1) items)) ≡ false
+  none_more none before =
+      let again = keys_any (bytes_eq (text_of x.0)) (take i items) ∙ none in
+      ap has_repeats keys_more ∙ repeats_snoc (keys_in (take i items)) (text_of x.0) ∙ rw (again, before) refl

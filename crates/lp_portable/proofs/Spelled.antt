@@ -2,13 +2,12 @@
 use Rattle.std.proofs.Common.{◌≡◌, ℕ, List, [], ◌∷◌, ◌++◌, length, take, refl, sym, ◌∙◌, ap, arith, take-append-drop, ◌-◌, ◌<◌, ◌||◌, Bool, map, length-append}
 use Rattle.std.proofs.Math.Seq.{take-append_seam}
 use Rattle.lp_format.specs.format.{NameKind, Reading, Text, after_comma, name, reads, spelled, spelled_len}
-use Rattle.lp_format.specs.laws.Meanings.{SeparatedAfterComma}
 use Rattle.lp_values.proofs.lemmas.fields.ReadingLemmas.{name_parts, reads_parts}
 use Rattle.std.proofs.Math.Bool.{or_assoc}
 use Rattle.std.specs.List.{list_any}
 use Rattle.lp_format.specs.format.{Pair}
 use Rattle.lp_portable.specs.declared.names.{TagBreaks.TagBreaks, KeyBreaks.KeyBreaks}
-use Rattle.lp_portable.specs.format.Spellings.{name_text}
+use Rattle.lp_portable.specs.format.Spellings.{AreAfterCommas, name_text}
 use Rattle.lp_portable.specs.format.Portable.{has_bare_comma, has_comma, has_escape, has_marked_escape, has_sign, is_long_after}
 use Rattle.lp_portable.specs.code.Walks.{either_key, either_tag, key_breaks, keys_breaks, tag_breaks, tags_breaks}
 
@@ -30,19 +29,18 @@ pub ruleset name_steps = (cut_name)
 
 module _ {A : Type 0} (one : List ℕ → Reading A) where
   -- of parts that come after commas the first is the one that is read
-  pub next_after : (xs : List A) (text rest after : List ℕ) (x : A) → SeparatedAfterComma one xs text rest → 0 < length xs
-      → after_comma one text ≡ reads x after → (more : List A) × (xs ≡ x ∷ more) × SeparatedAfterComma one more after rest
+  pub next_after : (xs : List A) (text rest after : List ℕ) (x : A) → AreAfterCommas one xs text rest → 0 < length xs
+      → after_comma one text ≡ reads x after → (more : List A) × (xs ≡ x ∷ more) × AreAfterCommas one more after rest
   next_after [] text rest after x h some e = absurd (omega arith)
   next_after (y ∷ ys) text rest after x h some e =
-      let here : one h.0 ≡ reads x after = rw h.2 at e in
-      let same = reads_parts x y after h.1 (sym here ∙ h.3) in
-      (ys, rw same.0 refl, rw same.1 h.4)
+      let same = reads_parts x y after h.0 (sym e ∙ h.1) in
+      (ys, rw same.0 refl, rw same.1 h.2)
 
   -- where a part comes after a comma, one is read
-  pub some_next : (xs : List A) (text rest : List ℕ) → SeparatedAfterComma one xs text rest → 0 < length xs
+  pub some_next : (xs : List A) (text rest : List ℕ) → AreAfterCommas one xs text rest → 0 < length xs
       → (x : A) × (after : List ℕ) × (after_comma one text ≡ reads x after)
   some_next [] text rest h some = absurd (omega arith)
-  some_next (y ∷ ys) text rest h some = (y, h.1, rw h.2 h.3)
+  some_next (y ∷ ys) text rest h some = (y, h.0, h.1)
 
 -- what tags break after others is what the next of them breaks too
 pub tags_step : (found : TagBreaks) (t : Pair (List ℕ) (List ℕ)) (tags : List (Pair (List ℕ) (List ℕ)))

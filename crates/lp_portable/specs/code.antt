@@ -1,3 +1,4 @@
+pub mod Clauses
 pub mod Walks
 pub mod Telling
 pub mod ByCode

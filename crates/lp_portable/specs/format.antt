@@ -1,4 +1,4 @@
 pub mod Spellings
 pub mod Portable
-pub use Spellings.{Spelling, name_text, tag_text, key_text, IsSpelled, holds}
-pub use Portable.{IsOneLine, broken_of, is_broken, IsPortable}
+pub use Spellings.{AreAfterCommas, AreJoined, IsSpelled, Spelling, holds, key_text, name_text, tag_text}
+pub use Portable.{Clause, IsOneLine, IsPortable, Limits, Servers, breaks, concerns, default_limits}

@@ -1,7 +1,8 @@
 //! What of a line is not portable.
 
 ghost use Rattle.std.specs.Prelude.{◌≡◌};
-ghost use Rattle.lp_portable.specs.format.Portable.{concerns, first_broken, first_of, is_broken, is_broken_for};
+ghost use Rattle.lp_portable.specs.{code.Clauses.clause_of, code.Clauses.first_broken, code.Clauses.first_of, code.Clauses.is_broken};
+ghost use Rattle.lp_portable.specs.{code.Clauses.is_broken_for, code.Clauses.servers_of, format.Portable.concerns};
 
 use crate::limits::Servers;
 
@@ -181,7 +182,7 @@ pub struct Broken {
 
 // Whether a clause concerns servers: one of them reads a line that breaks it otherwise.
 fn concerns(to: Servers, clause: Clause) -> bool
-    ensures { result ≡ concerns to clause }
+    ensures { result ≡ concerns (servers_of to) (clause_of clause) }
 {
     match clause {
         Clause::MeasurementEscape
@@ -290,7 +291,7 @@ impl Broken {
     /// ```text
     /// of  m f=1u  first(Servers::Influx1)  is Some(Clause::Unsigned),  and  first(Servers::Victoria)  is None
     /// ```
-    #[tactic(auto, unfolding(crate::specs::format::Portable::first_broken))]
+    #[tactic(auto, unfolding(crate::specs::code::Clauses::first_broken))]
     pub fn first(&self, to: Servers) -> Option<Clause>
         ensures { result ≡ first_broken to self.now }
     {

@@ -35,7 +35,7 @@ fn has_few_repeats<'a, X: Drop>(items: &[(EscapedStr<'a>, X)]) -> bool
     false
 }
 
-// Whether a key is repeated: each is looked for in a map of those before it.
+// Whether a key is repeated: each, from the last on, is looked for in a map of those after it.
 fn has_many_repeats<'a, X: Drop>(
     alloc: Global,
     items: &[(EscapedStr<'a>, X)],
@@ -43,8 +43,10 @@ fn has_many_repeats<'a, X: Drop>(
     ensures { IfOk result (λ found. found ≡ has_repeats (keys_in items.now)) }
 {
     let mut keys = BTreeMap::new(alloc);
-    for (key, _) in items {
-        let name = key.as_str();
+    let mut left = items.len();
+    while left > 0 {
+        left -= 1;
+        let name = items[left].0.as_str();
         if keys.contains_key(name) {
             return Ok(true);
         }

@@ -1,7 +1,7 @@
 //! For which servers a line is to be portable, and what their options change.
 
 ghost use Rattle.std.specs.Prelude.{◌≡◌};
-ghost use Rattle.lp_portable.specs.format.Portable.{default_limits};
+ghost use Rattle.lp_portable.specs.{code.Clauses.limits_of, format.Portable.default_limits};
 
 /// The servers that are to read a line as the strict reader does.
 #[derive(Clone, Copy, Debug)]
@@ -35,7 +35,7 @@ impl Limits {
     /// Limits::new().tags  is  29
     /// ```
     pub fn new() -> Limits
-        ensures { result ≡ default_limits }
+        ensures { limits_of result ≡ default_limits }
     {
         Limits {
             line: 262_144,

@@ -3,10 +3,9 @@
 ghost use Rattle.std.specs.Prelude.{◌≡◌, ◌<◌, ◌+◌, ◌||◌, [], ◌∷◌, ℕ, List, length, nat_lt};
 ghost use Rattle.std.specs.List.{list_any};
 ghost use Rattle.lp_format.specs.format.{Line, Pair, after_comma, is_one_of, backslash, comma, equals, quote, some_tags};
-ghost use Rattle.lp_format.specs.laws.Meanings.{SeparatedAfterComma, SeparatedBy};
 ghost use Rattle.lp_values.specs.code.Outcomes.{kind_of};
 ghost use Rattle.lp_portable.specs.format.Portable.{has_comma, has_escape, has_sign, without_sign};
-ghost use Rattle.lp_portable.specs.format.Spellings.{IsSpelled, Spelling, holds, key_text, name_text, tag_text};
+ghost use Rattle.lp_portable.specs.format.Spellings.{AreAfterCommas, AreJoined, IsSpelled, Spelling, holds, key_text, name_text, tag_text};
 ghost use Rattle.lp_portable.specs.code.Walks.{GivesReading, either_key, either_tag, key_breaks, keys_breaks, name_breaks, spelled_pair, tag_breaks};
 ghost use Rattle.lp_portable.specs.code.Walks.{tags_breaks};
 
@@ -181,7 +180,7 @@ fn key_breaks(series_len: usize, key: &[u8]) -> KeyBreaks
 
 // What the tags after a measurement break, if they are so many, and what follows them.
 fn tags_breaks(count: usize, text: &str) -> (TagBreaks, &str)
-    ensures { (tags : List (Pair (List ℕ) (List ℕ))) (rest : List ℕ) → SeparatedAfterComma tag_text tags text.now rest
+    ensures { (tags : List (Pair (List ℕ) (List ℕ))) (rest : List ℕ) → AreAfterCommas tag_text tags text.now rest
         → length tags ≡ count → (result.0 ≡ tags_breaks tags) × (result.1.now ≡ rest) }
 {
     let mut found = TagBreaks {
@@ -204,7 +203,7 @@ fn tags_breaks(count: usize, text: &str) -> (TagBreaks, &str)
 
 // What the field keys after a comma break, if they are so many, and what is found of those before them.
 fn more_breaks(series_len: usize, count: usize, first: KeyBreaks, text: &str) -> KeyBreaks
-    ensures { (keys : List (List ℕ)) (rest : List ℕ) → SeparatedAfterComma key_text keys text.now rest
+    ensures { (keys : List (List ℕ)) (rest : List ℕ) → AreAfterCommas key_text keys text.now rest
         → length keys ≡ count → result ≡ either_key first (keys_breaks series_len keys) }
 {
     let mut found = first;
@@ -223,7 +222,7 @@ fn more_breaks(series_len: usize, count: usize, first: KeyBreaks, text: &str) ->
 
 // What field keys break, if they are so many.
 fn keys_breaks(series_len: usize, count: usize, text: &str) -> KeyBreaks
-    ensures { (keys : List (List ℕ)) (rest : List ℕ) → SeparatedBy key_text keys text.now rest
+    ensures { (keys : List (List ℕ)) (rest : List ℕ) → AreJoined key_text keys text.now rest
         → length keys ≡ count → 0 < count → result ≡ keys_breaks series_len keys }
 {
     let none = KeyBreaks {

@@ -5,7 +5,8 @@
 ghost use Rattle.std.specs.Prelude.{◌≡◌, ◌↔◌, ◌≤◌, true, IfOk, IsOk, IsTrue, MatchOption, length};
 ghost use Rattle.lp_format.specs.{code.Light.is_light, format.IsCutPiece, format.Line, format.Strict, format.some_tags, format.trimmed};
 ghost use Rattle.lp_lines.specs.code.{Lookups.some_items, Parsed.line_read};
-ghost use Rattle.lp_portable.specs.format.Portable.{Breaks, IsPortable, is_outside};
+ghost use Rattle.lp_portable.specs.{code.Clauses.Breaks, code.Clauses.limits_of, code.Clauses.servers_of, format.Portable.IsPortable};
+ghost use Rattle.lp_portable.specs.format.Portable.{is_outside};
 ghost use Rattle.lp_portable.specs.code.{ByCode.ArePartsOf, ByCode.broken_by_code, Walks.most_compared, Walks.repeats_of};
 ghost use Rattle.lp_portable.specs.code.Telling.{IsNoLine, IsTrimmedPiece, TellsBroken, TellsRead};
 
@@ -235,7 +236,7 @@ pub fn is_portable(
     limits: &Limits,
     text: &str,
 ) -> Result<bool, AllocError>
-    ensures value { IfOk result (λ portable. IsTrue portable ↔ IsPortable to limits.now text.now) }
+    ensures value { IfOk result (λ portable. IsTrue portable ↔ IsPortable (servers_of to) (limits_of limits.now) text.now) }
     ensures no_memory { is_light Strict (trimmed text.now) ≡ true → IsOk result }
 {
     match broken_clauses(alloc, limits, text)? {

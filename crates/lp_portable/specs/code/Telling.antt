@@ -3,7 +3,7 @@ use Rattle.std.specs.Prelude.{◌≡◌, ◌<◌, ℕ, List, length, Bool, true,
 use Rattle.lp_format.specs.format.{Fault, IsCutPiece, Line, Strict, answer, trimmed}
 use Rattle.lp_lines.specs.{code.Parsed.line_read, declared.parsed.ParsedLine.ParsedLine}
 use Rattle.lp_portable.specs.declared.{broken.Broken.Broken, limits.Limits.Limits}
-use Rattle.lp_portable.specs.format.Portable.{Breaks, IsOneLine}
+use Rattle.lp_portable.specs.{code.Clauses.Breaks, format.Portable.IsOneLine}
 
 -- a text is no line
 abbrev pub IsNoLine : List ℕ → Type 0

@@ -1,15 +1,22 @@
 -- Which lines servers read as the strict reader does: InfluxDB 1.x, and VictoriaMetrics, by what was measured of them.
-use Rattle.std.specs.Prelude.{◌≡◌, ℕ, ℤ, pos, negsuc, ◌+◌, ◌-◌, ◌==◌, ◌&&◌, ◌||◌, Bool, true, false, not, List, [], ◌∷◌, length, map, codes, nat_lt}
+use Rattle.std.specs.Prelude.{◌≡◌, ℕ, ℤ, pos, negsuc, ◌+◌, ◌-◌, ◌==◌, ◌||◌, Bool, true, false, not, List, [], ◌∷◌, length, map, codes, nat_lt}
 use Rattle.std.specs.Prelude.{int_lt, slice_index, slice_index_or, bytes_eq, Option, Some, None, Ok, if◌then◌else◌}
-use Rattle.std.specs.{Float.Float, Float.binary64, Float.float_is_finite, List.list_any, List.starts_with}
-use Rattle.fast_float.specs.Parse.{parse_float}
-use Rattle.lp_format.specs.format.{IsCutPiece, Line, Pair, Strict, Text, Value, answers_of_piece, float, is_one_of, some_tags}
-use Rattle.lp_format.specs.format.{backslash, comma, equals, newline, nul, quote, space, tab, trimmed, unsigned}
-use Rattle.lp_events.specs.code.OwnBases.{keys_of}
-use Rattle.lp_lines.specs.code.Bases.{first_repeated}
-use Rattle.lp_portable.specs.declared.{broken.Broken.Broken, broken.Clause.Clause, broken.TheConstants.CLAUSES, limits.Limits.Limits, limits.Servers.Servers}
-use Rattle.lp_portable.specs.declared.limits.Servers.TheVariants.{Influx1, Victoria, All}
+use Rattle.std.specs.{Float.Float, Float.Parse.parse_float, Float.binary64, Float.float_is_finite, List.list_any, List.starts_with}
+use Rattle.lp_format.specs.format.{Fault, IsCutPiece, Line, Pair, Strict, Text, Value, answers_of_piece, boolean, float, integer, is_one_of}
+use Rattle.lp_format.specs.format.{backslash, comma, equals, nul, quote, some_tags, space, string, tab, trimmed}
+use Rattle.lp_format.specs.format as format
 use Rattle.lp_portable.specs.format.Spellings.{IsSpelled, Spelling, holds}
+
+-- the servers that are to read a line as the strict reader does: InfluxDB 1.x, VictoriaMetrics, or both
+pub data Servers : Type 0 where
+  influx1 victoria all : Servers
+
+-- what the options of a server change: the most bytes of a line, the most tags, and the first and the last timestamp that are kept
+pub record Limits : Type 0 where
+  pub line : ℕ
+  pub tags : ℕ
+  pub earliest : ℤ
+  pub latest : ℤ
 
 -- the limits of servers whose options are as they come
 abbrev pub default_limits : Limits
@@ -46,7 +53,8 @@ has_sign t = holds [] (equals ∷ []) (without_sign t.value)
 
 -- whether two of these keys are the same
 abbrev pub has_repeats : List (List ℕ) → Bool
-has_repeats keys = not (first_repeated keys == length keys)
+has_repeats [] = false
+has_repeats (k ∷ keys) = list_any (bytes_eq k) keys || has_repeats keys
 
 -- whether so many tags make InfluxDB panic: 100 times a power of two, as far as a series has so many
 abbrev pub is_hundreds : ℕ → Bool
@@ -54,7 +62,7 @@ is_hundreds count = is_one_of (100 ∷ 200 ∷ 400 ∷ 800 ∷ 1600 ∷ 3200 ∷
 
 -- whether a value is an unsigned integer
 abbrev pub is_unsigned : Value Text → Bool
-is_unsigned (unsigned n) = true
+is_unsigned (format.unsigned n) = true
 is_unsigned other = false
 
 -- whether a number is there, and finite
@@ -113,178 +121,131 @@ abbrev pub has_time_key : Line → Bool
 has_time_key line =
     list_any (λ t. bytes_eq t.key.bytes (codes "time")) (some_tags line.tags) || list_any (λ f. bytes_eq f.key.bytes (codes "time")) line.fields
 
--- Which clauses a line breaks, by its text, what was read of it and how its names are spelled: each with what servers make of that.
-abbrev pub broken_of : Limits → List ℕ → Line → Spelling → Broken
-broken_of limits text line names =
-    record {
-      -- VictoriaMetrics drops a line after a space, and takes a tab into the measurement
-      leading_blank = is_one_of (space ∷ tab ∷ []) (slice_index_or text 0 0);
-      -- VictoriaMetrics drops a line with a space at its end
-      trailing_space = slice_index text (length text - 1) == space;
-      -- VictoriaMetrics ends a line at each newline, and reads what follows as lines
-      newline = is_one_of text newline;
-      -- both take the backslash before an equals sign away
-      measurement_equals = holds (equals ∷ []) [] names.measurement;
-      -- InfluxDB keeps both of two backslashes, and takes one before a quote away
-      measurement_escape = has_marked_escape names.measurement;
-      -- InfluxDB keeps both of two backslashes
-      tag_escape = list_any has_escape names.tags;
-      -- both end the tag there
-      tag_key_comma = list_any has_comma names.tags;
-      -- InfluxDB refuses the line
-      tag_value_equals = list_any has_sign names.tags;
-      -- InfluxDB refuses the line, and VictoriaMetrics keeps the last value alone
-      repeated_tag = has_repeats (keys_of (some_tags line.tags));
-      -- InfluxDB keeps both of two backslashes, and takes one before a quote away
-      field_key_escape = list_any has_marked_escape names.keys;
-      -- InfluxDB refuses the line, and VictoriaMetrics drops the field
-      field_key_comma = list_any has_bare_comma names.keys;
-      -- VictoriaMetrics reads what follows it as the text of a string
-      field_key_quote = list_any (λ f. is_one_of f.key.bytes quote) line.fields;
-      -- InfluxDB refuses the line
-      long_series = list_any (is_long_after (length line.series)) names.keys;
-      -- InfluxDB refuses the line
-      unsigned = list_any (λ f. is_unsigned f.value) line.fields;
-      -- InfluxDB refuses the line
-      infinite_float = list_any (λ f. not (is_finite f.value)) line.fields;
-      -- VictoriaMetrics rounds it otherwise
-      exponent = list_any (λ f. has_exponent f.value) line.fields;
-      -- InfluxDB skips a byte 0 before the first field key
-      leading_nul = begins_with_nul line.fields;
-      -- InfluxDB refuses the line
-      time_out_of_range = is_outside (negsuc 9223372036854775805) (pos 9223372036854775806) line.timestamp;
-      -- InfluxDB panics, and the batch is lost; more tags than these are no portable series, as each takes four bytes
-      tag_count = is_hundreds (length (some_tags line.tags));
-      -- InfluxDB drops the field, or refuses the tag
-      time_name = has_time_key line;
-      -- InfluxDB's queries give other values, or do not find the point
-      system_name = is_system_measurement line.measurement.bytes || list_any (λ f. is_system_key f.key.bytes) line.fields;
-      -- InfluxDB keeps one value, or loses the batch if their types differ, and VictoriaMetrics keeps both
-      repeated_field = has_repeats (map (λ f. f.key.bytes) line.fields);
-      -- InfluxDB has another series after a restart
-      key_separator = holds_text (codes "#!~") line.series;
-      -- no query of InfluxDB names the measurement or the field
-      control_byte = has_control line.measurement.bytes || list_any (λ f. has_control f.key.bytes) line.fields;
-      -- VictoriaMetrics drops the tag
-      name_label = list_any (λ t. bytes_eq t.key.bytes (codes "__name__")) (some_tags line.tags);
-      -- VictoriaMetrics cuts the key
-      long_tag_key = list_any (λ t. nat_lt 256 (length t.key.bytes)) (some_tags line.tags);
-      -- VictoriaMetrics cuts the value
-      long_tag_value = list_any (λ t. nat_lt 16384 (length t.value.bytes)) (some_tags line.tags);
-      -- VictoriaMetrics cuts the name
-      long_metric_name = list_any (λ f. nat_lt 16384 (length line.measurement.bytes + 1 + length f.key.bytes)) line.fields;
-      -- VictoriaMetrics drops a point whose labels take over 65,510 bytes, where bytes 0, 1 and 2 count twice
-      long_labels = list_any (λ f. nat_lt 32000 (length line.series + 1 + length f.key.bytes)) line.fields;
-      -- VictoriaMetrics drops the others
-      too_many_tags = nat_lt limits.tags (length (some_tags line.tags));
-      -- VictoriaMetrics may refuse the line and all that follows
-      long_line = nat_lt limits.line (length text);
-      -- VictoriaMetrics stores the point at the time of arrival, or drops it
-      time_not_kept = is_outside limits.earliest limits.latest line.timestamp;
-    }
+-- The clauses of what is portable, each named by what breaks it, in the order in which they are told.
+pub data Clause : Type 0 where
+  leading_blank trailing_space newline measurement_equals measurement_escape tag_escape tag_key_comma tag_value_equals repeated_tag : Clause
+  field_key_escape field_key_comma field_key_quote long_series unsigned infinite_float exponent leading_nul time_out_of_range tag_count : Clause
+  time_name system_name repeated_field key_separator control_byte name_label long_tag_key long_tag_value long_metric_name long_labels : Clause
+  too_many_tags long_line time_not_kept : Clause
 
--- whether a clause is broken
-abbrev pub is_broken : Broken → Clause → Bool
-is_broken broken Clause.LeadingBlank = broken.leading_blank
-is_broken broken Clause.TrailingSpace = broken.trailing_space
-is_broken broken Clause.Newline = broken.newline
-is_broken broken Clause.MeasurementEquals = broken.measurement_equals
-is_broken broken Clause.MeasurementEscape = broken.measurement_escape
-is_broken broken Clause.TagEscape = broken.tag_escape
-is_broken broken Clause.TagKeyComma = broken.tag_key_comma
-is_broken broken Clause.TagValueEquals = broken.tag_value_equals
-is_broken broken Clause.RepeatedTag = broken.repeated_tag
-is_broken broken Clause.FieldKeyEscape = broken.field_key_escape
-is_broken broken Clause.FieldKeyComma = broken.field_key_comma
-is_broken broken Clause.FieldKeyQuote = broken.field_key_quote
-is_broken broken Clause.LongSeries = broken.long_series
-is_broken broken Clause.Unsigned = broken.unsigned
-is_broken broken Clause.InfiniteFloat = broken.infinite_float
-is_broken broken Clause.Exponent = broken.exponent
-is_broken broken Clause.LeadingNul = broken.leading_nul
-is_broken broken Clause.TimeOutOfRange = broken.time_out_of_range
-is_broken broken Clause.TagCount = broken.tag_count
-is_broken broken Clause.TimeName = broken.time_name
-is_broken broken Clause.SystemName = broken.system_name
-is_broken broken Clause.RepeatedField = broken.repeated_field
-is_broken broken Clause.KeySeparator = broken.key_separator
-is_broken broken Clause.ControlByte = broken.control_byte
-is_broken broken Clause.NameLabel = broken.name_label
-is_broken broken Clause.LongTagKey = broken.long_tag_key
-is_broken broken Clause.LongTagValue = broken.long_tag_value
-is_broken broken Clause.LongMetricName = broken.long_metric_name
-is_broken broken Clause.LongLabels = broken.long_labels
-is_broken broken Clause.TooManyTags = broken.too_many_tags
-is_broken broken Clause.LongLine = broken.long_line
-is_broken broken Clause.TimeNotKept = broken.time_not_kept
+-- Whether a line breaks a clause, by its text, what was read of it and how its names are spelled: each clause with what servers make of
+-- a line that breaks it.
+abbrev pub breaks : Limits → List ℕ → Line → Spelling → Clause → Bool
+-- VictoriaMetrics drops a line after a space, and takes a tab into the measurement
+breaks limits text line names leading_blank = is_one_of (space ∷ tab ∷ []) (slice_index_or text 0 0)
+-- VictoriaMetrics drops a line with a space at its end
+breaks limits text line names trailing_space = slice_index text (length text - 1) == space
+-- VictoriaMetrics ends a line at each newline, and reads what follows as lines
+breaks limits text line names newline = is_one_of text format.newline
+-- both take the backslash before an equals sign away
+breaks limits text line names measurement_equals = holds (equals ∷ []) [] names.measurement
+-- InfluxDB keeps both of two backslashes, and takes one before a quote away
+breaks limits text line names measurement_escape = has_marked_escape names.measurement
+-- InfluxDB keeps both of two backslashes
+breaks limits text line names tag_escape = list_any has_escape names.tags
+-- both end the tag there
+breaks limits text line names tag_key_comma = list_any has_comma names.tags
+-- InfluxDB refuses the line
+breaks limits text line names tag_value_equals = list_any has_sign names.tags
+-- InfluxDB refuses the line, and VictoriaMetrics keeps the last value alone
+breaks limits text line names repeated_tag = has_repeats (map (λ t. t.key.bytes) (some_tags line.tags))
+-- InfluxDB keeps both of two backslashes, and takes one before a quote away
+breaks limits text line names field_key_escape = list_any has_marked_escape names.keys
+-- InfluxDB refuses the line, and VictoriaMetrics drops the field
+breaks limits text line names field_key_comma = list_any has_bare_comma names.keys
+-- VictoriaMetrics reads what follows it as the text of a string
+breaks limits text line names field_key_quote = list_any (λ f. is_one_of f.key.bytes quote) line.fields
+-- InfluxDB refuses the line
+breaks limits text line names long_series = list_any (is_long_after (length line.series)) names.keys
+-- InfluxDB refuses the line
+breaks limits text line names unsigned = list_any (λ f. is_unsigned f.value) line.fields
+-- InfluxDB refuses the line
+breaks limits text line names infinite_float = list_any (λ f. not (is_finite f.value)) line.fields
+-- VictoriaMetrics rounds it otherwise
+breaks limits text line names exponent = list_any (λ f. has_exponent f.value) line.fields
+-- InfluxDB skips a byte 0 before the first field key
+breaks limits text line names leading_nul = begins_with_nul line.fields
+-- InfluxDB refuses the line
+breaks limits text line names time_out_of_range = is_outside (negsuc 9223372036854775805) (pos 9223372036854775806) line.timestamp
+-- InfluxDB panics, and the batch is lost; more tags than these are no portable series, as each takes four bytes
+breaks limits text line names tag_count = is_hundreds (length (some_tags line.tags))
+-- InfluxDB drops the field, or refuses the tag
+breaks limits text line names time_name = has_time_key line
+-- InfluxDB's queries give other values, or do not find the point
+breaks limits text line names system_name = is_system_measurement line.measurement.bytes || list_any (λ f. is_system_key f.key.bytes) line.fields
+-- InfluxDB keeps one value, or loses the batch if their types differ, and VictoriaMetrics keeps both
+breaks limits text line names repeated_field = has_repeats (map (λ f. f.key.bytes) line.fields)
+-- InfluxDB has another series after a restart
+breaks limits text line names key_separator = holds_text (codes "#!~") line.series
+-- no query of InfluxDB names the measurement or the field
+breaks limits text line names control_byte = has_control line.measurement.bytes || list_any (λ f. has_control f.key.bytes) line.fields
+-- VictoriaMetrics drops the tag
+breaks limits text line names name_label = list_any (λ t. bytes_eq t.key.bytes (codes "__name__")) (some_tags line.tags)
+-- VictoriaMetrics cuts the key
+breaks limits text line names long_tag_key = list_any (λ t. nat_lt 256 (length t.key.bytes)) (some_tags line.tags)
+-- VictoriaMetrics cuts the value
+breaks limits text line names long_tag_value = list_any (λ t. nat_lt 16384 (length t.value.bytes)) (some_tags line.tags)
+-- VictoriaMetrics cuts the name
+breaks limits text line names long_metric_name = list_any (λ f. nat_lt 16384 (length line.measurement.bytes + 1 + length f.key.bytes)) line.fields
+-- VictoriaMetrics drops a point whose labels take over 65,510 bytes, where bytes 0, 1 and 2 count twice
+breaks limits text line names long_labels = list_any (λ f. nat_lt 32000 (length line.series + 1 + length f.key.bytes)) line.fields
+-- VictoriaMetrics drops the others
+breaks limits text line names too_many_tags = nat_lt limits.tags (length (some_tags line.tags))
+-- VictoriaMetrics may refuse the line and all that follows
+breaks limits text line names long_line = nat_lt limits.line (length text)
+-- VictoriaMetrics stores the point at the time of arrival, or drops it
+breaks limits text line names time_not_kept = is_outside limits.earliest limits.latest line.timestamp
 
 -- whether a clause is about what InfluxDB 1.x does
 abbrev pub is_of_influx : Clause → Bool
-is_of_influx Clause.LeadingBlank = false
-is_of_influx Clause.TrailingSpace = false
-is_of_influx Clause.Newline = false
-is_of_influx Clause.FieldKeyQuote = false
-is_of_influx Clause.Exponent = false
-is_of_influx Clause.NameLabel = false
-is_of_influx Clause.LongTagKey = false
-is_of_influx Clause.LongTagValue = false
-is_of_influx Clause.LongMetricName = false
-is_of_influx Clause.LongLabels = false
-is_of_influx Clause.TooManyTags = false
-is_of_influx Clause.LongLine = false
-is_of_influx Clause.TimeNotKept = false
+is_of_influx leading_blank = false
+is_of_influx trailing_space = false
+is_of_influx newline = false
+is_of_influx field_key_quote = false
+is_of_influx exponent = false
+is_of_influx name_label = false
+is_of_influx long_tag_key = false
+is_of_influx long_tag_value = false
+is_of_influx long_metric_name = false
+is_of_influx long_labels = false
+is_of_influx too_many_tags = false
+is_of_influx long_line = false
+is_of_influx time_not_kept = false
 is_of_influx other = true
 
 -- whether a clause is about what VictoriaMetrics does
 abbrev pub is_of_victoria : Clause → Bool
-is_of_victoria Clause.MeasurementEscape = false
-is_of_victoria Clause.TagEscape = false
-is_of_victoria Clause.TagValueEquals = false
-is_of_victoria Clause.FieldKeyEscape = false
-is_of_victoria Clause.LongSeries = false
-is_of_victoria Clause.Unsigned = false
-is_of_victoria Clause.InfiniteFloat = false
-is_of_victoria Clause.LeadingNul = false
-is_of_victoria Clause.TimeOutOfRange = false
-is_of_victoria Clause.TagCount = false
-is_of_victoria Clause.TimeName = false
-is_of_victoria Clause.SystemName = false
-is_of_victoria Clause.KeySeparator = false
-is_of_victoria Clause.ControlByte = false
+is_of_victoria measurement_escape = false
+is_of_victoria tag_escape = false
+is_of_victoria tag_value_equals = false
+is_of_victoria field_key_escape = false
+is_of_victoria long_series = false
+is_of_victoria unsigned = false
+is_of_victoria infinite_float = false
+is_of_victoria leading_nul = false
+is_of_victoria time_out_of_range = false
+is_of_victoria tag_count = false
+is_of_victoria time_name = false
+is_of_victoria system_name = false
+is_of_victoria key_separator = false
+is_of_victoria control_byte = false
 is_of_victoria other = true
 
 -- whether a clause concerns these servers
 abbrev pub concerns : Servers → Clause → Bool
-concerns Influx1 clause = is_of_influx clause
-concerns Victoria clause = is_of_victoria clause
-concerns All clause = true
-
--- whether a clause concerns these servers and is broken
-abbrev pub is_broken_for : Servers → Broken → Clause → Bool
-is_broken_for to broken clause = concerns to clause && is_broken broken clause
-
--- the first of these clauses that passes
-abbrev pub first_of : (Clause → Bool) → List Clause → Option Clause
-first_of passes [] = None
-first_of passes (clause ∷ clauses) = if passes clause then Some clause else first_of passes clauses
-
--- the first clause that concerns these servers and is broken
-unfoldable pub first_broken : Servers → Broken → Option Clause
-first_broken to broken = first_of (is_broken_for to broken) CLAUSES.now
+concerns influx1 clause = is_of_influx clause
+concerns victoria clause = is_of_victoria clause
+concerns all clause = true
 
 -- the text is one line that a newline ends, and this was read of it by the strict rules
 pub record IsOneLine (text : List ℕ) (line : Line) : Type 0 where
   pub piece : IsCutPiece Strict text
   pub read : answers_of_piece Strict text ≡ Ok line ∷ []
 
--- the text is one line that breaks these clauses
-pub record Breaks (limits : Limits) (text : List ℕ) (broken : Broken) : Type 0 where
+-- a text is a portable line: one line that breaks no clause that concerns these servers
+pub record IsPortable (to : Servers) (limits : Limits) (text : List ℕ) : Type 0 where
   pub line : Line
   pub names : Spelling
   pub is_line : IsOneLine text line
   pub are_names : IsSpelled (trimmed text) line names
-  pub breaks : broken ≡ broken_of limits text line names
-
--- a text is a portable line: one line that breaks no clause that concerns these servers
-abbrev pub IsPortable : Servers → Limits → List ℕ → Type 0
-IsPortable to limits text = (broken : Broken) × Breaks limits text broken × ((clause : Clause) → is_broken_for to broken clause ≡ false)
+  pub keeps : (clause : Clause) → concerns to clause ≡ true → breaks limits text line names clause ≡ false

@@ -1,8 +1,7 @@
 -- How the names of a line are spelled.
 use Rattle.std.specs.Prelude.{◌≡◌, ℕ, ◌==◌, ◌||◌, Bool, false, List, [], ◌∷◌, drop, length, if◌then◌else◌}
-use Rattle.lp_format.specs.format.{NameKind, a_measurement, a_tag_key, a_tag_value, a_field_key, backslash, byte, equals, is_one_of, name}
+use Rattle.lp_format.specs.format.{NameKind, a_measurement, after_comma, a_tag_key, a_tag_value, a_field_key, backslash, byte, equals, is_one_of, name}
 use Rattle.lp_format.specs.format.{Line, Pair, Reading, reads, some_tags, spaces, spelled, value, ◌>>=◌}
-use Rattle.lp_format.specs.laws.Meanings.{SeparatedAfterComma, SeparatedBy}
 
 -- a name, as it is spelled
 abbrev pub name_text : NameKind → List ℕ → Reading (List ℕ)
@@ -24,6 +23,16 @@ key_text text = do
   x ← value sign.rest
   reads key.value x.rest
 
+-- these parts, each after a comma, are at the start of a text, and this follows them
+abbrev pub AreAfterCommas : {A : Type 0} → (List ℕ → Reading A) → List A → List ℕ → List ℕ → Type 0
+AreAfterCommas one [] text rest = text ≡ rest
+AreAfterCommas one (x ∷ xs) text rest = (after : List ℕ) × (after_comma one text ≡ reads x after) × AreAfterCommas one xs after rest
+
+-- the first of these parts is at the start of a text, the others each after a comma, and this follows them
+abbrev pub AreJoined : {A : Type 0} → (List ℕ → Reading A) → List A → List ℕ → List ℕ → Type 0
+AreJoined one [] text rest = text ≡ rest
+AreJoined one (x ∷ xs) text rest = (after : List ℕ) × (one text ≡ reads x after) × AreAfterCommas one xs after rest
+
 -- the names of a line as they are spelled: the measurement, the tags, and the keys of the fields
 pub record Spelling : Type 0 where
   pub measurement : List ℕ
@@ -36,8 +45,8 @@ pub record IsSpelled (text : List ℕ) (line : Line) (names : Spelling) : Type 0
   pub after_tags : List ℕ
   pub rest : List ℕ
   pub measurement : name_text a_measurement text ≡ reads names.measurement after_name
-  pub tags : SeparatedAfterComma tag_text names.tags after_name after_tags
-  pub keys : SeparatedBy key_text names.keys (drop (spaces after_tags) after_tags) rest
+  pub tags : AreAfterCommas tag_text names.tags after_name after_tags
+  pub keys : AreJoined key_text names.keys (drop (spaces after_tags) after_tags) rest
   pub all_tags : length names.tags ≡ length (some_tags line.tags)
   pub all_keys : length names.keys ≡ length line.fields
 

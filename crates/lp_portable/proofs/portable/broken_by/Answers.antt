@@ -32,7 +32,7 @@ returns-clause-value c =
             (subst (λ (t : List ℕ). answer Strict t ≡ Ok line) left answered);
       };
       are_names = subst (λ (t : List ℕ). IsSpelled t line names) left are;
-      breaks =
+      tells =
           told_is c.args.limits.now text read names c.parts_of-parts.result c.in_ok-repeats.repeats c.name_breaks-names.result c.broken_in.result parts
           c.in_ok-repeats.ensures.value told c.broken_in.ensures;
     }

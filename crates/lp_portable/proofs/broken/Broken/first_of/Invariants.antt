@@ -1,5 +1,5 @@
 use Rattle.std.proofs.Common.{◌≡◌, length}
-use Rattle.lp_portable.specs.format.Portable.{first_of, is_broken_for}
+use Rattle.lp_portable.specs.code.Clauses.{first_of, is_broken_for}
 use Rattle.lp_portable.proofs.broken.Broken.first_of.Given as goal
 
 abbrev pub invariant-loop-clause : goal.invariant-loop-clause
