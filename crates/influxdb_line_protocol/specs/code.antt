@@ -29,4 +29,6 @@ pub use Rattle.lp_split.specs.code.Tracks
 pub use Rattle.lp_split.specs.code.Streams
 pub use Rattle.lp_split.specs.code.Lending
 pub use Rattle.lp_split.specs.code.Bounded
+pub use Rattle.lp_portable.specs.code.Clauses
+pub use Rattle.lp_portable.specs.code.Telling
 pub mod WritingAdmitted

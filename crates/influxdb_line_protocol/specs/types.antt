@@ -21,4 +21,8 @@ pub use Rattle.lp_events.specs.declared.pull.ParseEvents
 pub use Rattle.lp_build.specs.declared.builder.buffer.NoRoom
 pub use Rattle.lp_build.specs.declared.builder.LineProtocolBuilder
 pub use Rattle.lp_build.specs.declared.builder.Refused
+pub use Rattle.lp_portable.specs.declared.broken.Broken
+pub use Rattle.lp_portable.specs.declared.broken.Clause
+pub use Rattle.lp_portable.specs.declared.limits.Limits
+pub use Rattle.lp_portable.specs.declared.limits.Servers
 pub use Rattle.influxdb_line_protocol.specs.declared.builder.admitted.Unwritten

@@ -10,6 +10,7 @@
 
 pub mod builder;
 pub mod laws;
+pub mod portable;
 
 pub use builder::{
     LineProtocolBuilder, is_admitted, is_admitted_in, is_as_written, is_as_written_in,
