@@ -196,9 +196,9 @@ def subjects():
 
 
 def handed_on(crate):
-    """The names that the root of a crate, and its module of the builder, hand on."""
+    """The names that the root of a crate, and its modules of the builder and of portable lines, hand on."""
     names = set()
-    for file in ("lib.rt", "builder.rt"):
+    for file in ("lib.rt", "builder.rt", "portable.rt"):
         path = TOP / "crates" / crate / "src" / file
         if path.exists():
             for group, single in re.findall(r"^pub use [\w:]*?(?:\{(.*?)\}|(\w+));", path.read_text(encoding="utf-8"), re.S | re.M):
