@@ -6,6 +6,12 @@ use Rattle.lp_format.specs.format.{Dialect, Strict, Fault, IsCutPiece, Line, ans
 use Rattle.lp_format.proofs.lemmas.split.SplitPieces.{IsLastPiece-cut, no_cut_within, split_at}
 use Rattle.lp_split.specs.code.{IsTrackOf, LeadsTo, Track, TracksOn}
 use Rattle.lp_split.proofs.lemmas.split.TrackedPieces.{tracked_is_last}
+use Rattle.memchr.specs.Find.{NoneBefore, Nowhere, Passes, is_byte3}
+use Rattle.std.proofs.Common.{length-append, slice_index, true}
+use Rattle.std.proofs.Math.ListN.{get_or-append}
+use Rattle.std.proofs.Math.Seq.{get_or-append_seam, take-append_seam}
+use Rattle.lp_format.specs.format.{backslash, quote}
+use Rattle.lp_split.proofs.lemmas.split.FirstMarks.{cut_at_newline}
 use Rattle.lp_portable.specs.format.Portable.{IsOneLine}
 
 -- a piece that a newline ends is not one together with that
@@ -42,3 +48,15 @@ pub ends_by : (dialect : Dialect) (text : List ℕ) (track : Track) (result : Re
 ends_by dialect text track (Ok zero) is h = (λ ok. subst (IsCutPiece dialect) (append-nil text) (h.2 dialect text is), λ cut. refl)
 ends_by dialect text track (Ok (suc i)) is h = absurd (omega (arith, h.0))
 ends_by dialect text track (Err to) is h = (λ never. absurd (false≢true never), λ cut. absurd (goes_on dialect text track to is h.1 cut))
+
+-- a newline ends a text that holds no newline, no quote and no backslash
+pub no_mark_cut : (text : List ℕ) → Nowhere (Passes (is_byte3 backslash newline quote) text) 0 (length text) → IsCutPiece Strict text
+no_mark_cut text none =
+    let whole = text ++ newline ∷ [] in
+    let here : slice_index whole (length text) ≡ newline = get_or-append_seam text newline [] 0 in
+    let before : Nowhere (Passes (is_byte3 backslash newline quote) whole) 0 (length text) =
+    λ k low high passes. none k low high (subst (λ (b : ℕ). is_byte3 backslash newline quote b ≡ true) (get_or-append text (newline ∷ []) 0 k high) passes) in
+    let range : NoneBefore (Passes (is_byte3 backslash newline quote) whole) 0 (length whole) (length text) =
+    record { low = omega arith; high = omega (arith, length-append text (newline ∷ [])); before = before } in
+    let cut = cut_at_newline Strict whole (length text) (range, rw here refl) here in
+    subst (IsCutPiece Strict) (take-append_seam text (newline ∷ [])) cut.2

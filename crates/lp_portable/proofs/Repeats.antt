@@ -6,6 +6,9 @@ use Rattle.std.proofs.lemmas.{Bool.or_cases, Bool.false≢true, List.Folds.list_
 use Rattle.std.proofs.Common.{inl, inr}
 use Rattle.std.proofs.lemmas.{List.drop_more, Map.Text.btree_map_updates_str}
 use Rattle.std.specs.{BTreeMap.UpdatesBy, BTreeMap.get_by, Cmp.Lexicographic.slice_cmp, Cmp.Lexicographic.nat_list_eq_equiv, List.list_any}
+use Rattle.std.proofs.Common.{Ordering, Less, is_lt, is_eq}
+use Rattle.std.proofs.lemmas.{Bool.and_parts, Cmp.nat_list_cmp_total, Map.Text.is_eq-slice_cmp}
+use Rattle.lp_events.specs.code.OwnBases.{is_strictly_sorted}
 use Rattle.lp_values.specs.{declared.escaped.EscapedStr.EscapedStr, code.Texts.text_of}
 use Rattle.lp_portable.specs.{code.Walks.keys_in, format.Portable.has_repeats}
 
@@ -95,3 +98,32 @@ module _ {X : Type 0} (items : List (EscapedStr × X)) (i : ℕ) (x : EscapedStr
   none_more none before =
       let again = keys_any (bytes_eq (text_of x.0)) (take i items) ∙ none in
       ap has_repeats keys_more ∙ repeats_snoc (keys_in (take i items)) (text_of x.0) ∙ rw (again, before) refl
+
+-- what the test of less says
+less_is : (o : Ordering) → is_lt o ≡ true → o ≡ Less
+less_is o h = grind (arith)
+
+-- a text that is less than the first of texts that rise is less than the second too
+rises_past : (k l : List ℕ) (keys : List (List ℕ)) → is_lt (slice_cmp nat_cmp k l) ≡ true → is_strictly_sorted (l ∷ keys) ≡ true
+    → is_strictly_sorted (k ∷ keys) ≡ true
+rises_past k l [] less up = refl
+rises_past k l (m ∷ keys) less up =
+    let parts = and_parts (is_lt (slice_cmp nat_cmp l m)) (is_strictly_sorted (m ∷ keys)) up in
+    let past = nat_list_cmp_total.trans k l m (less_is (slice_cmp nat_cmp k l) less) (less_is (slice_cmp nat_cmp l m) parts.0) in
+    rw past parts.1
+
+-- and it is none of them
+less_is_new : (k : List ℕ) (keys : List (List ℕ)) → is_strictly_sorted (k ∷ keys) ≡ true → list_any (bytes_eq k) keys ≡ false
+less_is_new k [] rise = refl
+less_is_new k (l ∷ keys) rise =
+    let parts = and_parts (is_lt (slice_cmp nat_cmp k l)) (is_strictly_sorted (l ∷ keys)) rise in
+    let other : bytes_eq k l ≡ false = sym (is_eq-slice_cmp k l) ∙ ap is_eq (less_is (slice_cmp nat_cmp k l) parts.0) in
+    rw other (less_is_new k keys (rises_past k l keys parts.0 parts.1))
+
+-- keys that rise are not repeated
+pub risen_once : (keys : List (List ℕ)) → is_strictly_sorted keys ≡ true → has_repeats keys ≡ false
+risen_once [] rise = refl
+risen_once (k ∷ []) rise = refl
+risen_once (k ∷ l ∷ keys) rise =
+    let parts = and_parts (is_lt (slice_cmp nat_cmp k l)) (is_strictly_sorted (l ∷ keys)) rise in
+    rw (less_is_new k (l ∷ keys) rise) (risen_once (l ∷ keys) parts.1)

@@ -1,11 +1,12 @@
 //! Whether a key is repeated.
 //!
-//! Few keys are compared with one another, without memory. More are put into a map: so that the time of a line of a million fields is
-//! not the square of that.
+//! It is not if keys rise, as most writers sort them. Else few keys are compared with one another, without memory. More are put into a map:
+//! so that the time of a line of a million fields is not the square of that.
 
 ghost use Rattle.std.specs.Prelude.{◌≡◌, ◌≤◌, IfOk, IsOk, bytes_eq, length, map};
 ghost use Rattle.std.specs.List.{list_any};
 ghost use Rattle.lp_values.specs.code.Texts.{text_of};
+ghost use Rattle.lp_events.specs.code.OwnBases.{is_strictly_sorted};
 ghost use Rattle.lp_portable.specs.format.Portable.{has_repeats};
 ghost use Rattle.lp_portable.specs.code.Walks.{keys_in, most_compared};
 
@@ -21,6 +22,13 @@ fn has_key<'a, X: Drop>(key: &str, items: &[(EscapedStr<'a>, X)]) -> bool
     ensures { result ≡ list_any (λ x. bytes_eq key.now (text_of x.0)) items.now }
 {
     items.iter().any(|(other, _)| key == other.as_str())
+}
+
+// Whether each key is greater than the one before it.
+fn keys_rise<'a, X: Drop>(items: &[(EscapedStr<'a>, X)]) -> bool
+    ensures { result ≡ is_strictly_sorted (keys_in items.now) }
+{
+    items.is_sorted_by(|(before, _), (key, _)| before.as_str() < key.as_str())
 }
 
 // Whether a key is repeated: each is compared with those before it.
@@ -55,7 +63,7 @@ fn has_many_repeats<'a, X: Drop>(
     Ok(false)
 }
 
-/// Whether a key is repeated. At most 32 keys take no memory.
+/// Whether a key is repeated. At most 32 keys, and keys that rise, take no memory.
 ///
 /// # Errors
 ///
@@ -71,6 +79,9 @@ pub(crate) fn has_repeats<'a, X: Drop>(
     ensures value { IfOk result (λ found. found ≡ has_repeats (keys_in items.now)) }
     ensures no_memory { length items.now ≤ most_compared → IsOk result }
 {
+    if keys_rise(items) {
+        return Ok(false);
+    }
     if items.len() <= MOST_COMPARED {
         return Ok(has_few_repeats(items));
     }

@@ -21,12 +21,17 @@ use lp_scan::trim::trimmed;
 use lp_split::Dialect;
 use lp_split::split::{cut_or_track, track_on};
 use lp_values::{EscapedStr, FieldValue};
+use memchr::memchr3;
 use std::alloc::{AllocError, Global};
 
 // Whether a text is one piece by the strict rules, and a newline ends it.
 fn is_cut_piece(text: &[u8]) -> bool
     ensures { IsTrue result ↔ IsCutPiece Strict text.now }
 {
+    // Where no quote is open, and nothing is escaped, any newline ends the piece.
+    if memchr3(b'\\', b'\n', b'"', text).is_none() {
+        return true;
+    }
     match cut_or_track(Dialect::Strict, text) {
         Ok(_) => false,
         Err(track) => track_on(b"\n", track).is_ok(),
