@@ -4,6 +4,7 @@ pub mod ParseSteps
 pub mod ReadInto
 pub mod Bases
 pub mod Keys
+pub mod Ranks
 pub mod Freeing
 pub mod Filling
 pub mod Unreads

@@ -2,23 +2,27 @@
 
 ghost use Rattle.std.specs.Prelude.{◌≡◌, ◌&&◌, ◌-◌, ◌^◌, ◌++◌, IfOk, OnOk, length, map, min, not, true, string_bytes, option_map};
 ghost use Rattle.std.specs.List.{list_all, list_any};
-ghost use Rattle.lp_lines.specs.code.Bases.{GivesBase, TellsRepeated, base_by_key, base_of, base_text, based_tag, entry_bytes};
+ghost use Rattle.lp_lines.specs.code.Bases.{GivesBase, TellsRepeated, base_by_key, base_of, base_text, based_tag};
 ghost use Rattle.lp_lines.specs.code.Bases.{in_order, is_ambiguous_name, is_ambiguous_tag, is_base_safe, is_borrowed};
 ghost use Rattle.lp_lines.specs.code.Bases.{is_byte_alone};
 ghost use Rattle.lp_events.specs.code.OwnBases.{is_own_base, is_strictly_sorted, keys_of};
+ghost use Rattle.lp_lines.specs.code.Ranks.{lent_of};
 ghost use Rattle.lp_lines.specs.code.Parsed.{tag_of, tags_of};
 ghost use Rattle.lp_format.specs.{code.Light.is_single_tag, format.is_one_of, format.some_tags};
 ghost use Rattle.lp_values.specs.code.{Outcomes.IsNotOutOfMemory, Texts.is_single_slice, Texts.read_of, Texts.text_of};
 ghost use Rattle.lp_scan.specs.code.{known_of};
 
-use crate::key::{names_in, sorted_names};
 use crate::parsed::tags_in;
+use crate::ranks::{Ranked, put_sorted, ranks_rise};
 use crate::{Series, TagSet};
 use lp_scan::sets::TokenKind;
 use lp_values::{Error, EscapedStr, Result};
 use std::alloc::{AllocError, Global};
 use std::borrow::CowStr;
 use std::collections::BTreeMap;
+
+// How many tags are put in order without memory.
+const FEW_TAGS: usize = 16;
 
 impl<'a> Series<'a> {
     /// A text by which series can be grouped: the measurement, and the tags in the order of their keys, by bytes.
@@ -121,7 +125,7 @@ fn is_ambiguous<'a>(measurement: &EscapedStr<'a>, tags: &[(EscapedStr<'a>, Escap
 }
 
 // The base of a series with this raw text, measurement and tags.
-#[tactic(auto, unfolding(crate::specs::code::Bases::base_of, crate::specs::code::Bases::base_by_key))]
+#[tactic(auto, using(crate::proofs::lemmas::series::SortedTags::rising_by_key, crate::proofs::lemmas::series::BaseLemmas::not_borrowed), unfolding(crate::specs::code::Bases::base_of))]
 fn base<'a>(
     alloc: Global,
     raw_input: &'a str,
@@ -131,14 +135,10 @@ fn base<'a>(
     ensures value { GivesBase result (base_of raw_input.now (read_of measurement.now) (map tag_of tags.now)) }
     ensures memory { is_borrowed (base_of raw_input.now (read_of measurement.now) (map tag_of tags.now)) ≡ true → IsNotOutOfMemory result }
 {
-    if !keys_rise(tags) {
-        return base_by_key(alloc, measurement.as_str(), tags);
-    }
-    if is_all_single(measurement, tags) {
+    if keys_rise(tags) && is_all_single(measurement, tags) {
         return Ok(CowStr::Borrowed(raw_input));
     }
-    let base = base_in_order(alloc, measurement.as_str(), tags)?;
-    Ok(CowStr::Owned(base))
+    base_by_key(alloc, measurement.as_str(), tags)
 }
 
 // Whether each key is greater than the one before it.
@@ -185,52 +185,32 @@ fn push_tag(base: &mut String, key: &str, value: &str) -> std::result::Result<()
 }
 
 // The length of a base, and the greatest number if no `usize` holds it.
-fn base_len(measurement: &str, tags: &[(&str, &str)]) -> usize
-    ensures { result ≡ min (length (base_text measurement.now (map entry_bytes tags.now))) (2 ^ 64 - 1) }
+fn base_len<'l, 'a>(measurement: &str, tags: &[Ranked<'l, 'a>]) -> usize
+    ensures { result ≡ min (length (base_text measurement.now (in_order (map lent_of tags.now)))) (2 ^ 64 - 1) }
 {
     let mut len = measurement.len();
-    for (key, value) in tags {
+    for (_, tag) in tags {
         len = len.saturating_add(2);
-        len = len.saturating_add(key.len());
-        len = len.saturating_add(value.len());
+        len = len.saturating_add(tag.0.as_str().len());
+        len = len.saturating_add(tag.1.as_str().len());
     }
     len
 }
 
 // The base with its tags in this order.
-fn base_of_names(
+fn base_in_order<'l, 'a>(
     alloc: Global,
     measurement: &str,
-    tags: &[(&str, &str)],
+    tags: &[Ranked<'l, 'a>],
 ) -> std::result::Result<String, AllocError>
-    ensures { IfOk result (λ base. string_bytes base ≡ base_text measurement.now (map entry_bytes tags.now)) }
+    ensures { IfOk result (λ base. string_bytes base ≡ base_text measurement.now (in_order (map lent_of tags.now))) }
 {
     let mut base = String::with_capacity(alloc, base_len(measurement, tags))?;
     base.push_str(measurement)?;
-    for (key, value) in tags {
-        push_tag(&mut base, key, value)?;
+    for (_, tag) in tags {
+        push_tag(&mut base, tag.0.as_str(), tag.1.as_str())?;
     }
     Ok(base)
-}
-
-// The base with the tags in their own order. It stands apart, as the next one does, since the room for names is cleared first.
-#[inline(never)]
-fn base_in_order<'a>(
-    alloc: Global,
-    measurement: &str,
-    tags: &[(EscapedStr<'a>, EscapedStr<'a>)],
-) -> std::result::Result<String, AllocError>
-    ensures { IfOk result (λ base. string_bytes base ≡ base_text measurement.now (in_order (map tag_of tags.now))) }
-{
-    let names = names_in(alloc, tags)?;
-    base_of_names(alloc, measurement, names.as_slice())
-}
-
-// Whether each of these names is greater than the one before it, by its key.
-fn names_rise(names: &[(&str, &str)]) -> bool
-    ensures { result ≡ is_strictly_sorted (map (λ t. t.0.now) names.now) }
-{
-    names.is_sorted_by(|(before, _), (key, _)| before < key)
 }
 
 // Tells the first key that is repeated.
@@ -252,20 +232,42 @@ fn check_keys<'a>(alloc: Global, tags: &[(EscapedStr<'a>, EscapedStr<'a>)]) -> R
     Ok(())
 }
 
-// The base with the tags in the order of their keys. Only if these do not rise then, a key is repeated: it is looked for.
-#[tactic(auto, unfolding(crate::specs::code::Bases::base_by_key, crate::specs::code::Bases::by_key))]
-#[inline(never)]
-fn base_by_key<'a>(
+// The base with the tags in the order of their keys, which are put out in that order. Only if these do not rise then, a key is
+// repeated: it is looked for.
+#[tactic(auto, unfolding(crate::specs::code::Bases::base_by_key))]
+fn base_by_ranks<'l, 'a>(
     alloc: Global,
     measurement: &str,
-    tags: &[(EscapedStr<'a>, EscapedStr<'a>)],
+    tags: &'l [(EscapedStr<'a>, EscapedStr<'a>)],
+    out: &mut [Ranked<'l, 'a>],
+) -> Result<CowStr<'a>>
+    requires { length out.old ≡ length tags.now }
+    ensures { GivesBase result (base_by_key measurement.now (map tag_of tags.now)) }
+{
+    put_sorted(alloc, tags, out)?;
+    if !ranks_rise(out) {
+        check_keys(alloc, tags)?;
+    }
+    let base = base_in_order(alloc, measurement, out)?;
+    Ok(CowStr::Owned(base))
+}
+
+// The base with the tags in the order of their keys.
+#[inline(never)]
+fn base_by_key<'l, 'a>(
+    alloc: Global,
+    measurement: &str,
+    tags: &'l [(EscapedStr<'a>, EscapedStr<'a>)],
 ) -> Result<CowStr<'a>>
     ensures { GivesBase result (base_by_key measurement.now (map tag_of tags.now)) }
 {
-    let names = sorted_names(alloc, tags)?;
-    if !names_rise(names.as_slice()) {
-        check_keys(alloc, tags)?;
+    let Some(first) = tags.first() else {
+        return base_by_ranks(alloc, measurement, tags, &mut []);
+    };
+    if tags.len() <= FEW_TAGS {
+        let mut few = [(0, first); FEW_TAGS];
+        return base_by_ranks(alloc, measurement, tags, &mut few[..tags.len()]);
     }
-    let base = base_of_names(alloc, measurement, names.as_slice())?;
-    Ok(CowStr::Owned(base))
+    let mut many = vec![in alloc; (0, first); tags.len()]?;
+    base_by_ranks(alloc, measurement, tags, many.as_mut_slice())
 }

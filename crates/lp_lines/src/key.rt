@@ -118,7 +118,7 @@ fn are_same(names: &[(&str, &str)], others: &[(&str, &str)]) -> bool
 }
 
 // The names of these tags, lent.
-pub(crate) fn names_in<'l, 'a>(
+fn names_in<'l, 'a>(
     alloc: Global,
     tags: &'l [(EscapedStr<'a>, EscapedStr<'a>)],
 ) -> Result<Names<'l>, AllocError>
@@ -143,7 +143,7 @@ fn sort_names(alloc: Global, names: &mut [(&str, &str)]) -> Result<(), AllocErro
 }
 
 // The names of these tags, lent, sorted by their keys.
-pub(crate) fn sorted_names<'l, 'a>(
+fn sorted_names<'l, 'a>(
     alloc: Global,
     tags: &'l [(EscapedStr<'a>, EscapedStr<'a>)],
 ) -> Result<Names<'l>, AllocError>

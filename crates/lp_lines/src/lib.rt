@@ -10,6 +10,7 @@ pub mod freeing;
 mod key;
 mod line;
 pub mod parsed;
+mod ranks;
 mod shown;
 mod unread;
 

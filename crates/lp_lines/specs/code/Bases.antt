@@ -1,8 +1,8 @@
 -- The base of a series, a text by which series can be grouped, and whether it is safe to do so.
 use Rattle.std.specs.Prelude.{◌≡◌, ℕ, ◌<◌, ◌==◌, ◌&&◌, ◌||◌, Bool, true, false, not, List, [], ◌∷◌, ◌++◌, length, take, map, slice_index_or}
 use Rattle.std.specs.Prelude.{if◌then◌else◌, Result, Ok, Err, string_bytes, flat_map, bytes_eq}
-use Rattle.std.specs.{Borrow.Bor, Cmp.Lexicographic.slice_cmp, List.list_all, List.list_any}
-use Rattle.std.specs.{List.position_or_len, List.range_with_len, Ordering.nat_cmp, declared.borrow.CowStr.CowStr}
+use Rattle.std.specs.{Borrow.Bor, List.list_all, List.list_any}
+use Rattle.std.specs.{List.position_or_len, List.range_with_len, declared.borrow.CowStr.CowStr}
 use Rattle.std.specs.{declared.borrow.CowStr.TheVariants.Borrowed, declared.borrow.CowStr.TheVariants.Owned}
 use Rattle.lp_values.specs.declared.{error.Error.Error, error.Error.TheVariants.DuplicateTag, error.Error.TheVariants.OutOfMemory}
 use Rattle.lp_format.specs.format.{comma, equals, is_one_of, a_measurement, a_tag_key, a_tag_value, escapable, Text, Pair}

@@ -82,7 +82,7 @@ pub all_single : (tags : List (EscapedStr × EscapedStr))
 all_single tags = list_all-map is_single_tag tag_of tags
 
 -- a base by key is a text of its own, or there is none
-not_borrowed : (measurement : List ℕ) (tags : List (Pair Text Text)) → is_borrowed (base_by_key measurement tags) ≡ false
+pub not_borrowed : (measurement : List ℕ) (tags : List (Pair Text Text)) → is_borrowed (base_by_key measurement tags) ≡ false
 unfolding base_by_key
 not_borrowed measurement tags = grind (arith, cases_Bool)
 

@@ -14,7 +14,7 @@ use Rattle.std.proofs.lemmas.{Cmp.nat_list_cmp_total, Cmp.tied_itself, List.From
 use Rattle.std.proofs.lemmas.{List.length-map}
 use Rattle.lp_format.specs.format.{Pair, Tag, Text, logical_tag}
 use Rattle.lp_format.proofs.lemmas.lists.Elements.{first_element, first_or_later, later_element}
-use Rattle.lp_lines.specs.code.Bases.{by_key, entry_bytes, in_order, first_repeated, is_repeated_at}
+use Rattle.lp_lines.specs.code.Bases.{base_by_key, base_text, owned, by_key, entry_bytes, in_order, first_repeated, is_repeated_at}
 use Rattle.lp_events.specs.code.OwnBases.{keys_of, is_strictly_sorted}
 use Rattle.lp_lines.specs.code.Keys.{lent_tag, placed_by, sorted_by}
 use Rattle.lp_lines.specs.laws.BaseLaws.{entry_keys}
@@ -272,3 +272,19 @@ by_key_same tags others once too moves =
     let two = by_key_placed others too in
     same_moved (by_key tags) (by_key others) one.1 two.1 (IsPermutation-trans (by_key tags) (in_order tags) (by_key others)
     (IsPermutation-sym (in_order tags) (by_key tags) one.0) (IsPermutation-trans (in_order tags) (in_order others) (by_key others) moves two.0))
+
+-- if the keys rise, none is repeated
+in_order_once : (tags : List (Pair Text Text)) → is_strictly_sorted (keys_of tags) ≡ true → first_repeated (keys_of tags) ≡ length tags
+in_order_once tags rise =
+    let distinct = rise_distinct (in_order tags) (passes_rise (in_order tags) (ap is_strictly_sorted (keys_in_order tags) ∙ rise)) in
+    let len = length-map tags (λ (t : Pair Text Text). t.key.bytes) in
+    first_repeated_is (keys_of tags) (length tags) (omega arith) (λ k l. distinct_none tags distinct k (omega arith)) (λ l. absurd (omega arith))
+
+-- if the keys rise, the base by the order of the keys is that in the tags' own order
+pub rising_by_key : (measurement : List ℕ) (tags : List (Pair Text Text)) → is_strictly_sorted (keys_of tags) ≡ true
+    → base_by_key measurement tags ≡ owned (base_text measurement (in_order tags))
+unfolding base_by_key
+rising_by_key measurement tags rise =
+    let once = in_order_once tags rise in
+    let same = by_key_in_order tags once rise in
+    grind (arith)
