@@ -16,7 +16,6 @@ use std::marker::PhantomData;
 
 mod buffer;
 mod lines;
-mod marks;
 mod texts;
 mod values;
 

@@ -6,6 +6,7 @@
 #![tactic(auto)]
 
 pub mod lanes;
+pub mod marks;
 pub mod newlines;
 pub mod scan;
 pub mod sets;

@@ -6,10 +6,12 @@ ghost use Rattle.lp_scan.specs.code.Tokens.{known_of};
 ghost use Rattle.lp_values.specs.code.ReadValues.{value_of};
 
 use crate::FieldValue;
+use lp_scan::marks::before_first;
 use lp_scan::sets::TokenKind;
 use std::fmt;
 
-/// Writes `text` with its backslashes. What is between two of them is written as one run.
+/// Writes `text` with its backslashes. What is between two of them is written as one run, and the first is looked for many bytes at a
+/// time.
 pub fn show_escaped<W: fmt::Write>(
     kind: TokenKind,
     text: &str,
@@ -19,7 +21,7 @@ pub fn show_escaped<W: fmt::Write>(
 {
     let bytes = text.as_bytes();
     let mut start = 0;
-    for at in 0..bytes.len() {
+    for at in before_first(kind.known(), bytes)..bytes.len() {
         // The bytes that a backslash escapes get one, but for the backslash.
         if bytes[at] != b'\\' && kind.is_known(bytes[at]) {
             f.write_str(&text[start..at])?;

@@ -13,8 +13,7 @@ ghost use Rattle.lp_lines.specs.code.Parsed.{field_of, parsed_point};
 ghost use Rattle.lp_build.specs.code.WrittenAgain.{fields_text, line_text, point_tag, tag_text, value_text};
 ghost use Rattle.lp_build.specs.code.Built.{Writes, buffer_of};
 
-use super::marks::is_free_of;
-use super::texts::{escaped_len, put_escaped};
+use super::texts::{escaped_len, is_free_of, put_escaped};
 use super::{
     BeforeMeasurement, BufMut, FieldValue, LineProtocolBuilder, Refused, field_len, put_field,
     put_tag, tag_len,

@@ -1,12 +1,22 @@
 //! Texts that are written with their backslashes, and how long they are so.
 
-ghost use Rattle.std.specs.Prelude.{◌≡◌, ◌+◌, ◌<◌, ◌≤◌, ◌∷◌, ◌++◌, ℕ, length, IfNone, IfSome};
+ghost use Rattle.std.specs.Prelude.{◌≡◌, ◌+◌, ◌<◌, ◌≤◌, ◌∷◌, ◌++◌, ℕ, length, not, IfNone, IfSome};
+ghost use Rattle.std.specs.List.{list_all};
 ghost use Rattle.lp_format.specs.format.{backslash, is_one_of, escaped};
 ghost use Rattle.lp_scan.specs.code.{known_of};
 
 use super::buffer::BufMut;
-use super::marks::before_first;
+use lp_scan::marks::before_first;
 use lp_scan::sets::TokenKind;
+
+// Whether the text holds none of these bytes.
+#[tactic(auto, using(crate::proofs::lemmas::builder::BuilderLemmas::first_decides))]
+#[inline(always)]
+pub(super) fn is_free_of(marks: [u8; 4], text: &[u8]) -> bool
+    ensures { result ≡ list_all (λ b. not (is_one_of marks b)) text.now }
+{
+    before_first(marks, text) == text.len()
+}
 
 // The first byte of `text` that gets a backslash: what comes before it, the byte, and what follows.
 #[tactic(auto, using(crate::proofs::lemmas::builder::BuilderLemmas::escaped_first))]

@@ -1,7 +1,7 @@
-use Rattle.std.proofs.Common.{◌≡◌, ℕ, ◌+◌, ◌-◌, ◌<◌, ◌≤◌, true, false, List, [], ◌∷◌, ◌++◌, length, get_or, slice_index, take}
+use Rattle.std.proofs.Common.{zero, suc, sym, ◌∙◌, ◌≡◌, ℕ, ◌+◌, ◌-◌, ◌<◌, ◌≤◌, true, false, List, [], ◌∷◌, ◌++◌, length, get_or, slice_index, take}
 use Rattle.std.proofs.Common.{drop, refl, rules, arith, append_assoc, append-nil, length-drop}
 use Rattle.std.proofs.{Math.Nat.sub_self, Output.has_written_append, Output.has_written_of_eq}
-use Rattle.std.proofs.lemmas.{Grind.common_steps, Grind.flat_map-append, List.take_more}
+use Rattle.std.proofs.lemmas.{Bool.not-true, Grind.common_steps, Grind.flat_map-append, List.take_more}
 use Rattle.std.proofs.lemmas.Str.{IsCharBoundary-start, IsCharBoundary-before_ascii}
 use Rattle.lp_format.specs.{format.backslash, format.is_one_of, format.escaped, format.escaped_byte, code.Shown.shown_escapes}
 use Rattle.lp_scan.specs.{code.known_of, declared.sets.TokenKind.TokenKind}
@@ -40,12 +40,37 @@ escape_byte : (bytes text done : List ℕ) (start at : ℕ) → at < length text
     → (done ++ (take (at - start) (drop start text) ++ backslash ∷ [])) ++ take (at + 1 - at) (drop at text) ≡ escaped bytes (take (at + 1) text)
 escape_byte bytes text done start at within special whole = grind (arith, sub_self, run_more, escaped_more, append_assoc)
 
+-- a front without such a byte is shown as it is
+free_front : (bytes text : List ℕ) (n : ℕ) → n ≤ length text → ((k : ℕ) → k < n → is_one_of bytes (slice_index text k) ≡ false)
+    → [] ++ take (n - 0) (drop 0 text) ≡ escaped bytes (take n text)
+free_front bytes text zero within free = escaped_nil bytes
+free_front bytes text (suc n) within free =
+    let before = free_front bytes text n (omega arith) (λ k l. free k (omega arith)) in
+    let next : n + 1 ≡ suc n = omega arith in
+    rw next at (keep_byte bytes text [] 0 n (omega arith) (omega arith) (free n (omega arith)) before)
+
+-- what is not escaped is not shown with a backslash
+not_shown : (kind : TokenKind) (b : ℕ) → is_one_of (known_of kind) b ≡ false → is_one_of (shown_escapes (known_of kind)) b ≡ false
+not_shown kind b h = grind arith
+
 -- bytes that are shown with a backslash are ASCII
 shown_ascii : (kind : TokenKind) (b : ℕ) → is_one_of (shown_escapes (known_of kind)) b ≡ true → b < 128
 shown_ascii kind b h = grind arith
 
 pub loop-at-init : goal.loop-at-init
-loop-at-init g c = (omega arith, IsCharBoundary-start c.args.text.now c.utf8.text, [], escaped_nil _, search rules)
+loop-at-init g c =
+    let text = c.args.text.now in
+    let first = c.before_first-at.result in
+    let run = rw c.as_bytes-bytes.ensures.value at c.before_first-at.ensures in
+    let free : (k : ℕ) → k < first → is_one_of (shown_escapes (known_of c.args.kind)) (slice_index text k) ≡ false = λ k l.
+    not_shown c.args.kind (slice_index text k)
+    (sym (c.known.ensures.bytes (slice_index text k)) ∙ not-true (is_one_of c.known.result (slice_index text k)) (run.passes k (omega arith) l)) in (
+      omega arith,
+      IsCharBoundary-start text c.utf8.text,
+      [],
+      free_front (shown_escapes (known_of c.args.kind)) text first (run.within) free,
+      search rules,
+    )
 
 pub loop-at-preserved : goal.loop-at-preserved
 loop-at-preserved g c =
@@ -69,5 +94,7 @@ loop-at-preserved g c =
                 has_written_of_eq _ _ _ _ _ (grind (arith, common_steps, append_assoc))
                 (has_written_append _ _ _ _ _ _ (has_written_append _ _ _ _ _ _ so_far one) two),
           )
-      | else-bytes-at-ne92 w ↦ grind (arith, common_steps, keep_byte)
+      | else-bytes-at-ne92 w ↦
+          let plain : is_one_of bytes (get_or text l.at 0) ≡ false = grind (arith, common_steps) in
+          rw (w.start-is, w.f-is) (omega arith, bound, done, keep_byte bytes text done l.start l.at low within plain whole, wrote)
     ]

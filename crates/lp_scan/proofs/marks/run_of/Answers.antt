@@ -2,7 +2,7 @@ use Rattle.std.proofs.Common.{ap, arith, ◌∙◌}
 use Rattle.lp_format.specs.format.Bytes.{is_one_of}
 use Rattle.lp_scan.{specs.code.first_set, proofs.lemmas.scan.MaskLemmas.run_is}
 use Rattle.lp_scan.proofs.lemmas.lanes.LaneLemmas.{mask_of_four}
-use Rattle.lp_build.proofs.builder.marks.run_of.Goals as goal
+use Rattle.lp_scan.proofs.marks.run_of.Goals as goal
 
 pub returns : goal.returns
 returns g c =

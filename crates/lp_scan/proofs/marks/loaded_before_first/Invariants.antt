@@ -1,6 +1,6 @@
 use Rattle.std.proofs.Common.{◌≡◌, ℕ, ◌-◌, ◌<◌, ◌≤◌, false, length, get_or}
 use Rattle.lp_format.specs.format.Bytes.{is_one_of}
-use Rattle.lp_build.proofs.builder.marks.loaded_before_first.Given as goal
+use Rattle.lp_scan.proofs.marks.loaded_before_first.Given as goal
 
 -- what was loaded holds no mark
 abbrev pub invariant-loop-at : goal.invariant-loop-at

@@ -1,10 +1,9 @@
 //! Searches of a text for one of a few bytes, many of its bytes at a time.
 ghost use Rattle.std.specs.Prelude.{◌≡◌, ◌+◌, ◌<◌, ◌≤◌, length, not};
-ghost use Rattle.std.specs.List.{list_all};
 ghost use Rattle.lp_format.specs.format.Bytes.{is_one_of};
 ghost use Rattle.lp_scan.specs.code.{IsRunAt, IsRunIn};
 
-use lp_scan::lanes::first_set;
+use crate::lanes::first_set;
 use std::simd::prelude::*;
 
 // Whether the byte is one of the marks, of which some may be the same.
@@ -59,9 +58,9 @@ fn loaded_before_first<const N: usize>(marks: [u8; 4], text: &[u8]) -> usize
     text.len() - N + run_of::<N>(marks, text, text.len() - N)
 }
 
-// How many bytes of the text come before the first mark, by the longest loads that it has room for.
+/// How many bytes of the text come before the first mark, by the longest loads that it has room for.
 #[inline(always)]
-pub(crate) fn before_first(marks: [u8; 4], text: &[u8]) -> usize
+pub fn before_first(marks: [u8; 4], text: &[u8]) -> usize
     ensures { IsRunAt (λ b. not (is_one_of marks b)) text.now 0 result }
 {
     match text.len() {
@@ -70,13 +69,4 @@ pub(crate) fn before_first(marks: [u8; 4], text: &[u8]) -> usize
         4.. => loaded_before_first::<4>(marks, text),
         _ => walked_before_first(marks, text),
     }
-}
-
-// Whether the text holds no mark.
-#[tactic(auto, using(crate::proofs::lemmas::builder::BuilderLemmas::first_decides))]
-#[inline(always)]
-pub(crate) fn is_free_of(marks: [u8; 4], text: &[u8]) -> bool
-    ensures { result ≡ list_all (λ b. not (is_one_of marks b)) text.now }
-{
-    before_first(marks, text) == text.len()
 }
