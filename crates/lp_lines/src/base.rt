@@ -13,16 +13,13 @@ ghost use Rattle.lp_values.specs.code.{Outcomes.IsNotOutOfMemory, Texts.is_singl
 ghost use Rattle.lp_scan.specs.code.{known_of};
 
 use crate::parsed::tags_in;
-use crate::ranks::{Ranked, put_sorted, ranks_rise};
+use crate::ranks::{FEW_TAGS, Ranked, put_sorted, ranks_rise};
 use crate::{Series, TagSet};
 use lp_scan::sets::TokenKind;
 use lp_values::{Error, EscapedStr, Result};
 use std::alloc::{AllocError, Global};
 use std::borrow::CowStr;
 use std::collections::BTreeMap;
-
-// How many tags are put in order without memory.
-const FEW_TAGS: usize = 16;
 
 impl<'a> Series<'a> {
     /// A text by which series can be grouped: the measurement, and the tags in the order of their keys, by bytes.
@@ -135,7 +132,10 @@ fn base<'a>(
     ensures value { GivesBase result (base_of raw_input.now (read_of measurement.now) (map tag_of tags.now)) }
     ensures memory { is_borrowed (base_of raw_input.now (read_of measurement.now) (map tag_of tags.now)) ≡ true → IsNotOutOfMemory result }
 {
-    if keys_rise(tags) && is_all_single(measurement, tags) {
+    if !keys_rise(tags) {
+        return base_by_key(alloc, measurement.as_str(), tags);
+    }
+    if is_all_single(measurement, tags) {
         return Ok(CowStr::Borrowed(raw_input));
     }
     base_by_key(alloc, measurement.as_str(), tags)

@@ -1,18 +1,21 @@
 //! Tags in the order of their keys, of which the first bytes are compared as numbers.
 
-ghost use Rattle.std.specs.Prelude.{◌≡◌, ◌<◌, ◌∷◌, IsOk, OnOk, length, map, slice_index};
+ghost use Rattle.std.specs.Prelude.{◌≡◌, ◌<◌, ◌≤◌, ◌∷◌, OnOk, length, map, slice_index, take};
 ghost use Rattle.std.specs.Cmp.Lexicographic.{slice_cmp};
 ghost use Rattle.std.specs.Ordering.{nat_cmp};
 ghost use Rattle.lp_events.specs.code.OwnBases.{is_strictly_sorted};
 ghost use Rattle.lp_lines.specs.code.Keys.{sorted_by};
-ghost use Rattle.lp_lines.specs.code.Ranks.{lent_rank, rank_of, ranked, ranked_key};
+ghost use Rattle.lp_lines.specs.code.Ranks.{AreSorted, IsFrontLen, lent_rank, rank_of, ranked, ranked_key};
 ghost use Rattle.lp_values.specs.code.Texts.{text_of};
 
 use lp_values::EscapedStr;
 use std::alloc::{AllocError, Global};
 use std::cmp::Ordering;
 
-/// A tag after the rank of its key, which is the number that the first 8 bytes spell.
+/// How many tags are few: these are put in order without memory.
+pub(crate) const FEW_TAGS: usize = 16;
+
+/// A tag after the rank of its key: the number that 8 bytes of it spell, past what the keys of all tags begin with.
 pub(crate) type Ranked<'l, 'a> = (u64, &'l (EscapedStr<'a>, EscapedStr<'a>));
 
 // The byte at this place, and zero after the end.
@@ -23,33 +26,63 @@ fn byte_at(text: &[u8], at: usize) -> u8
     if at < text.len() { text[at] } else { 0 }
 }
 
-// The rank of a key of any length.
-fn short_rank(key: &[u8]) -> u64
-    ensures { result ≡ rank_of key.now }
+// The rank of a text of any length.
+fn short_rank(text: &[u8]) -> u64
+    ensures { result ≡ rank_of text.now }
 {
     u64::from_be_bytes([
-        byte_at(key, 0),
-        byte_at(key, 1),
-        byte_at(key, 2),
-        byte_at(key, 3),
-        byte_at(key, 4),
-        byte_at(key, 5),
-        byte_at(key, 6),
-        byte_at(key, 7),
+        byte_at(text, 0),
+        byte_at(text, 1),
+        byte_at(text, 2),
+        byte_at(text, 3),
+        byte_at(text, 4),
+        byte_at(text, 5),
+        byte_at(text, 6),
+        byte_at(text, 7),
     ])
 }
 
-// The rank of a key.
+// The rank of a text.
 #[inline(always)]
-fn rank(key: &[u8]) -> u64
-    ensures { result ≡ rank_of key.now }
+fn rank(text: &[u8]) -> u64
+    ensures { result ≡ rank_of text.now }
 {
-    if key.len() < 8 {
-        return short_rank(key);
+    if text.len() < 8 {
+        return short_rank(text);
     }
     u64::from_be_bytes([
-        key[0], key[1], key[2], key[3], key[4], key[5], key[6], key[7],
+        text[0], text[1], text[2], text[3], text[4], text[5], text[6], text[7],
     ])
+}
+
+// How many bytes two texts begin with alike.
+fn alike_len(one: &[u8], other: &[u8]) -> usize
+    ensures alike { take result one.now ≡ take result other.now }
+    ensures bound { (result ≤ length one.now) × (result ≤ length other.now) }
+{
+    let mut at = 0;
+    while at < one.len() && at < other.len() && one[at] == other[at] {
+        at += 1;
+    }
+    at
+}
+
+// How many bytes all keys begin with; 0 if the tags are few, or these bytes fewer than a rank has.
+fn front_len<'a>(tags: &[(EscapedStr<'a>, EscapedStr<'a>)]) -> usize
+    ensures { IsFrontLen result tags.now }
+{
+    if tags.len() <= FEW_TAGS {
+        return 0;
+    }
+    let key = tags[0].0.as_str().as_bytes();
+    let mut len = key.len();
+    for tag in tags {
+        len = alike_len(&key[..len], tag.0.as_str().as_bytes());
+        if len < 8 {
+            return 0;
+        }
+    }
+    len
 }
 
 // The order of two tags by their ranks, and by their keys where these are equal.
@@ -63,25 +96,23 @@ fn order<'l, 'a>(one: &Ranked<'l, 'a>, other: &Ranked<'l, 'a>) -> Ordering
     one.1.0.as_str().cmp(other.1.0.as_str())
 }
 
-// Puts out each tag with its rank.
+// Puts out each tag after the rank of its key past so many bytes.
 fn rank_tags<'l, 'a>(
+    len: usize,
     tags: &'l [(EscapedStr<'a>, EscapedStr<'a>)],
     out: &mut [Ranked<'l, 'a>],
 )
-    requires { length out.old ≡ length tags.now }
-    ensures { map lent_rank out.new ≡ map ranked tags.now }
+    requires { (length out.old ≡ length tags.now) × IsFrontLen len tags.now }
+    ensures { map lent_rank out.new ≡ map (ranked len) tags.now }
 {
     for at in 0..tags.len() {
         let tag = &tags[at];
-        out[at] = (rank(tag.0.as_str().as_bytes()), tag);
+        out[at] = (rank(&tag.0.as_str().as_bytes()[len..]), tag);
     }
 }
 
 // Sorts ranked tags. Equal keys stay in their order.
-fn sort_ranked<'l, 'a>(
-    alloc: Global,
-    tags: &mut [Ranked<'l, 'a>],
-) -> Result<(), AllocError>
+fn sort_ranked<'l, 'a>(alloc: Global, tags: &mut [Ranked<'l, 'a>]) -> Result<(), AllocError>
     ensures { OnOk result (tags.new ≡ sorted_by (λ r. ranked_key (lent_rank r)) tags.old) }
 {
     tags.sort_by(alloc, |one, other| order(one, other))?;
@@ -97,9 +128,9 @@ pub(crate) fn put_sorted<'l, 'a>(
     out: &mut [Ranked<'l, 'a>],
 ) -> Result<(), AllocError>
     requires { length out.old ≡ length tags.now }
-    ensures { OnOk result (map lent_rank out.new ≡ map ranked (sorted_by (λ t. text_of t.0) tags.now)) }
+    ensures { OnOk result (AreSorted (map lent_rank out.new) tags.now) }
 {
-    rank_tags(tags, out);
+    rank_tags(front_len(tags), tags, out);
     sort_ranked(alloc, out)
 }
 

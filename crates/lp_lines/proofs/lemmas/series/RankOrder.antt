@@ -1,17 +1,19 @@
 -- Ranks go up with the texts, so tags that are sorted by ranks first are sorted by their keys.
-use Rattle.std.proofs.Common.{true, ◌≡◌, ℕ, zero, suc, ◌+◌, ◌-◌, ◌*◌, ◌^◌, ◌<◌, ◌≤◌, List, [], ◌∷◌, length, get_or, drop, map, refl, sym, ap, ◌∙◌, arith, min}
+use Rattle.std.proofs.Common.{true, ◌≡◌, ℕ, zero, suc, ◌+◌, ◌-◌, ◌*◌, ◌^◌, ◌<◌, ◌≤◌, List, [], ◌∷◌, length, get_or, drop, take, ◌++◌, map, refl, sym, ap, ◌∙◌, arith, min}
 use Rattle.std.proofs.Common.{Less, Equal, Greater, Ordering, nat_cmp, Bor}
+use Rattle.std.specs.List.{AllByRecursion}
+use Rattle.std.proofs.lemmas.List.{take-append-drop, Elements.recursion_from_All}
 use Rattle.std.specs.{Cmp.Lexicographic.slice_cmp, Ordering.ordering_then, Ordering.ordering_reverse}
 use Rattle.lp_values.specs.{declared.escaped.EscapedStr.EscapedStr, code.Texts.text_of}
 use Rattle.std.specs.Int.{w64, from_be_bytes}
 use Rattle.std.proofs.Math.Nat.{mul-le-mul_right}
 use Rattle.std.proofs.lemmas.{Bool.cases_Bool, Cmp.nat_list_cmp_total}
-use Rattle.lp_lines.specs.code.Ranks.{lent_of, lent_rank, rank_of, rank_within, ranked, ranked_key}
+use Rattle.lp_lines.specs.code.Ranks.{AreSorted, HasFront, IsFrontLen, lent_of, lent_rank, rank_of, rank_within, ranked, ranked_key}
 use Rattle.lp_lines.specs.code.{Keys.placed_by, Keys.sorted_by, Parsed.tag_of}
 use Rattle.lp_lines.specs.code.Bases.{by_key, first_repeated, in_order}
 use Rattle.lp_events.specs.code.OwnBases.{is_strictly_sorted, keys_of}
 use Rattle.lp_lines.specs.laws.BaseLaws.{entry_keys}
-use Rattle.lp_lines.proofs.lemmas.series.SortedByKey.{map_sorted}
+use Rattle.lp_lines.proofs.lemmas.series.SortedByKey.{all_sorted, map_sorted}
 use Rattle.lp_lines.proofs.lemmas.series.SortedTags.{passes_rise, rise_once}
 
 -- a power of 256 is not zero
@@ -84,27 +86,56 @@ by_number m n Less below above = grind (arith, cases_Bool)
 by_number m n Equal below above = grind (arith, cases_Bool)
 by_number m n Greater below above = grind (arith, cases_Bool)
 
--- texts after their ranks are in the order of the texts
-by_rank : (xs ys : List ℕ) → slice_cmp nat_cmp (rank_of xs ∷ xs) (rank_of ys ∷ ys) ≡ slice_cmp nat_cmp xs ys
-by_rank xs ys = by_number (rank_of xs) (rank_of ys) (slice_cmp nat_cmp xs ys) (less_by_rank 8 xs ys)
-    (λ above. sym (nat_list_cmp_total.antisymm ys xs) ∙ less_by_rank 8 ys xs above)
+-- texts that begin alike are in the order of what follows
+front_same : (front xs ys : List ℕ) → slice_cmp nat_cmp (front ++ xs) (front ++ ys) ≡ slice_cmp nat_cmp xs ys
+front_same [] xs ys = refl
+front_same (b ∷ front) xs ys = grind (arith, cases_Bool, front_same front xs ys)
 
-module _ {X : Type 0} (key other : X → List ℕ) (same : (x y : X) → slice_cmp nat_cmp (key x) (key y) ≡ slice_cmp nat_cmp (other x) (other y)) where
+-- such texts after the ranks of what follows are in their own order
+after_front : (front xs ys : List ℕ)
+    → slice_cmp nat_cmp (rank_of xs ∷ front ++ xs) (rank_of ys ∷ front ++ ys) ≡ slice_cmp nat_cmp (front ++ xs) (front ++ ys)
+after_front front xs ys = by_number (rank_of xs) (rank_of ys) (slice_cmp nat_cmp (front ++ xs) (front ++ ys))
+    (λ below. front_same front xs ys ∙ less_by_rank 8 xs ys below)
+    (λ above. sym (nat_list_cmp_total.antisymm (front ++ ys) (front ++ xs)) ∙ front_same front ys xs ∙ less_by_rank 8 ys xs above)
+
+-- a text that begins so is that and what follows
+front_and_rest : (front xs : List ℕ) → take (length front) xs ≡ front → xs ≡ front ++ drop (length front) xs
+front_and_rest front xs has = sym (take-append-drop (length front) xs) ∙ ap (λ (ys : List ℕ). ys ++ drop (length front) xs) has
+
+-- texts that begin so after their ranks are in their own order
+by_rank : (front xs ys : List ℕ) → take (length front) xs ≡ front → take (length front) ys ≡ front
+    → slice_cmp nat_cmp (rank_of (drop (length front) xs) ∷ xs) (rank_of (drop (length front) ys) ∷ ys) ≡ slice_cmp nat_cmp xs ys
+by_rank front xs ys has also =
+    let n = length front in
+    let one = front_and_rest front xs has in
+    let two = front_and_rest front ys also in
+    ap (λ zs. slice_cmp nat_cmp (rank_of (drop n xs) ∷ zs) (rank_of (drop n ys) ∷ ys)) one
+    ∙ ap (λ zs. slice_cmp nat_cmp (rank_of (drop n xs) ∷ front ++ drop n xs) (rank_of (drop n ys) ∷ zs)) two
+    ∙ after_front front (drop n xs) (drop n ys)
+    ∙ sym (ap (λ zs. slice_cmp nat_cmp zs ys) one ∙ ap (λ zs. slice_cmp nat_cmp (front ++ drop n xs) zs) two)
+
+module _ {X : Type 0} (P : X → Type 0) (key other : X → List ℕ)
+    (same : (x y : X) → P x → P y → slice_cmp nat_cmp (key x) (key y) ≡ slice_cmp nat_cmp (other x) (other y)) where
   -- one is placed alike by keys that are in the same order
-  placed_same : (x : X) (ys : List X) → placed_by key x ys ≡ placed_by other x ys
-  placed_same x [] = refl
-  placed_same x (y ∷ ys) = rw (same y x, placed_same x ys) refl
+  placed_same : (x : X) (ys : List X) → P x → AllByRecursion P ys → placed_by key x ys ≡ placed_by other x ys
+  placed_same x [] h all = refl
+  placed_same x (y ∷ ys) h all = rw (same y x all.0 h, placed_same x ys h all.1) refl
 
   -- these are sorted alike
-  sorted_same : (xs : List X) → sorted_by key xs ≡ sorted_by other xs
-  sorted_same [] = refl
-  sorted_same (x ∷ xs) = placed_same x (sorted_by key xs) ∙ ap (placed_by other x) (sorted_same xs)
+  sorted_same : (xs : List X) → AllByRecursion P xs → sorted_by key xs ≡ sorted_by other xs
+  sorted_same [] all = refl
+  sorted_same (x ∷ xs) all = placed_same x (sorted_by key xs) all.0 (all_sorted key P xs all.1) ∙ ap (placed_by other x) (sorted_same xs all.1)
 
 -- tags with their ranks, sorted, are the sorted tags with their ranks
-pub ranked_sorted : (rs : List (ℕ × Bor (EscapedStr × EscapedStr))) (tags : List (EscapedStr × EscapedStr)) → map lent_rank rs ≡ map ranked tags
-    → map lent_rank (sorted_by (λ r. ranked_key (lent_rank r)) rs) ≡ map ranked (sorted_by (λ t. text_of t.0) tags)
-ranked_sorted rs tags are = map_sorted lent_rank ranked_key rs ∙ ap (sorted_by ranked_key) are ∙ sym (map_sorted ranked ranked_key tags)
-    ∙ ap (map ranked) (sorted_same (λ t. ranked_key (ranked t)) (λ t. text_of t.0) (λ t u. by_rank (text_of t.0) (text_of u.0)) tags)
+pub ranked_sorted : (rs : List (ℕ × Bor (EscapedStr × EscapedStr))) (len : ℕ) (tags : List (EscapedStr × EscapedStr)) → IsFrontLen len tags
+    → map lent_rank rs ≡ map (ranked len) tags → AreSorted (map lent_rank (sorted_by (λ r. ranked_key (lent_rank r)) rs)) tags
+ranked_sorted rs len tags (front, is, all) are = (
+  len,
+  (front, is, all),
+  map_sorted lent_rank ranked_key rs ∙ ap (sorted_by ranked_key) are ∙ sym (map_sorted (ranked len) ranked_key tags) ∙ ap (map (ranked len))
+      (sorted_same (HasFront front) (λ t. ranked_key (ranked len t)) (λ t. text_of t.0)
+      (λ t u has also. rw is (by_rank front (text_of t.0) (text_of u.0) has also)) tags (recursion_from_All (HasFront front) tags all)),
+)
 
 -- the names of a tag
 abbrev names : EscapedStr × EscapedStr → List ℕ × List ℕ
@@ -116,9 +147,9 @@ lent_names [] = refl
 lent_names (r ∷ rs) = ap (λ (es : List (List ℕ × List ℕ)). names r.1.now ∷ es) (lent_names rs)
 
 -- ranked tags as entries
-ranked_names : (ts : List (EscapedStr × EscapedStr)) → map (λ p. names p.1) (map ranked ts) ≡ map names ts
-ranked_names [] = refl
-ranked_names (t ∷ ts) = ap (λ (es : List (List ℕ × List ℕ)). names t ∷ es) (ranked_names ts)
+ranked_names : (len : ℕ) (ts : List (EscapedStr × EscapedStr)) → map (λ p. names p.1) (map (ranked len) ts) ≡ map names ts
+ranked_names len [] = refl
+ranked_names len (t ∷ ts) = ap (λ (es : List (List ℕ × List ℕ)). names t ∷ es) (ranked_names len ts)
 
 -- tags as entries
 tag_names : (ts : List (EscapedStr × EscapedStr)) → in_order (map tag_of ts) ≡ map names ts
@@ -132,14 +163,17 @@ sorted_names tags = map_sorted names (λ e. e.0) tags ∙ ap (sorted_by (λ e. e
 
 -- lent tags that were sorted by their ranks are the tags in the order of their keys
 pub ranked_by_key : (rs : List (ℕ × Bor (EscapedStr × EscapedStr))) (tags : List (EscapedStr × EscapedStr))
-    → map lent_rank rs ≡ map ranked (sorted_by (λ t. text_of t.0) tags) → in_order (map lent_of rs) ≡ by_key (map tag_of tags)
-ranked_by_key rs tags are = lent_names rs ∙ ap (map (λ p. names p.1)) are ∙ ranked_names (sorted_by (λ t. text_of t.0) tags) ∙ sorted_names tags
+    → AreSorted (map lent_rank rs) tags → in_order (map lent_of rs) ≡ by_key (map tag_of tags)
+ranked_by_key rs tags (len, front, are) =
+    lent_names rs ∙ ap (map (λ p. names p.1)) are ∙ ranked_names len (sorted_by (λ t. text_of t.0) tags) ∙ sorted_names tags
 
 -- keys after their ranks rise if and only if the keys do
-rise_alike : (ts : List (EscapedStr × EscapedStr)) → is_strictly_sorted (map ranked_key (map ranked ts)) ≡ is_strictly_sorted (entry_keys (map names ts))
-rise_alike [] = refl
-rise_alike (t ∷ []) = refl
-rise_alike (t ∷ u ∷ ts) = rw (by_rank (text_of t.0) (text_of u.0), rise_alike (u ∷ ts)) refl
+rise_alike : (front : List ℕ) (ts : List (EscapedStr × EscapedStr)) → AllByRecursion (HasFront front) ts
+    → is_strictly_sorted (map ranked_key (map (ranked (length front)) ts)) ≡ is_strictly_sorted (entry_keys (map names ts))
+rise_alike front [] all = refl
+rise_alike front (t ∷ []) all = refl
+rise_alike front (t ∷ u ∷ ts) all =
+    rw (by_rank front (text_of t.0) (text_of u.0) all.0 all.1.0, rise_alike front (u ∷ ts) all.1) refl
 
 -- the keys of lent tags after their ranks
 lent_keys : (rs : List (ℕ × Bor (EscapedStr × EscapedStr))) → map (λ r. ranked_key (lent_rank r)) rs ≡ map ranked_key (map lent_rank rs)
@@ -148,8 +182,11 @@ lent_keys (r ∷ rs) = ap (λ (ks : List (List ℕ)). ranked_key (lent_rank r) �
 
 -- if they rise, no key is repeated
 pub ranked_once : (rs : List (ℕ × Bor (EscapedStr × EscapedStr))) (tags : List (EscapedStr × EscapedStr))
-    → map lent_rank rs ≡ map ranked (sorted_by (λ t. text_of t.0) tags) → is_strictly_sorted (map (λ r. ranked_key (lent_rank r)) rs) ≡ true
+    → AreSorted (map lent_rank rs) tags → is_strictly_sorted (map (λ r. ranked_key (lent_rank r)) rs) ≡ true
     → first_repeated (keys_of (map tag_of tags)) ≡ length (map tag_of tags)
-ranked_once rs tags are rise = rise_once (map tag_of tags) (passes_rise (by_key (map tag_of tags))
-    (sym (ap is_strictly_sorted (lent_keys rs ∙ ap (map ranked_key) are) ∙ rise_alike (sorted_by (λ t. text_of t.0) tags)
-    ∙ ap (λ es. is_strictly_sorted (entry_keys es)) (sorted_names tags)) ∙ rise))
+ranked_once rs tags (len, (front, is, all), are) rise =
+    let sorted = sorted_by (λ t. text_of t.0) tags in
+    let fronts = all_sorted (λ t. text_of t.0) (HasFront front) tags (recursion_from_All (HasFront front) tags all) in
+    let past = rw is at are in
+    rise_once (map tag_of tags) (passes_rise (by_key (map tag_of tags)) (sym (ap is_strictly_sorted (lent_keys rs ∙ ap (map ranked_key) past)
+    ∙ rise_alike front sorted fronts ∙ ap (λ es. is_strictly_sorted (entry_keys es)) (sorted_names tags)) ∙ rise))

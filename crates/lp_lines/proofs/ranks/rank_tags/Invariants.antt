@@ -4,4 +4,4 @@ use Rattle.lp_lines.proofs.ranks.rank_tags.Given as goal
 
 -- the tags so far are put out
 abbrev pub invariant-loop-at : goal.invariant-loop-at
-invariant-loop-at l = (map lent_rank (take l.at l.out) ≡ map ranked (take l.at l.tags)) × (length l.out ≡ length l.tags)
+invariant-loop-at l = (map lent_rank (take l.at l.out) ≡ map (ranked l.len) (take l.at l.tags)) × (length l.out ≡ length l.tags)

@@ -2,7 +2,7 @@ use Rattle.lp_lines.proofs.lemmas.series.RankOrder.{rank_is}
 use Rattle.lp_lines.proofs.ranks.short_rank.Goals as goal
 
 pub returns : goal.returns
-returns c = rank_is c.args.key.now (λ k. (c.type_inv.key k).fits) c.from_be_bytes.result
+returns c = rank_is c.args.text.now (λ k. (c.type_inv.text k).fits) c.from_be_bytes.result
     (rw (
       c.byte_at.ensures,
       c.byte_at-2.ensures,
