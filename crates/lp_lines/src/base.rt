@@ -29,7 +29,9 @@ impl<'a> Series<'a> {
     ///
     /// If each key is greater than the one before it and no name is a copy, it is `raw_input`,
     /// borrowed; that takes no memory and is never refused. Whether it is so, the events of a line tell at its end. Else it is a
-    /// text of its own, unescaped.
+    /// text of its own, unescaped. That takes one request, and more than 16 tags take one for their order and may take one to be
+    /// sorted.
+    ///
     /// It is made of the fields as they are: after a change of `measurement` or `tag_set`,
     /// `raw_input` is still that of the line.
     ///
