@@ -123,7 +123,7 @@ fn is_ambiguous<'a>(measurement: &EscapedStr<'a>, tags: &[(EscapedStr<'a>, Escap
     is_ambiguous_name(TokenKind::Measurement, b',', measurement) || is_some_ambiguous(tags)
 }
 
-// The base of a series with this raw text, measurement and tags.
+// The base of a series with this raw text, measurement and tags. If the keys rise, their order is that of the tags.
 #[tactic(auto, using(crate::proofs::lemmas::series::SortedTags::rising_by_key, crate::proofs::lemmas::series::BaseLemmas::not_borrowed), unfolding(crate::specs::code::Bases::base_of))]
 fn base<'a>(
     alloc: Global,
@@ -254,7 +254,7 @@ fn base_by_ranks<'l, 'a>(
     Ok(CowStr::Owned(base))
 }
 
-// The base with the tags in the order of their keys.
+// The base with the tags in the order of their keys. It stands apart, since the room for few tags is cleared first.
 #[inline(never)]
 fn base_by_key<'l, 'a>(
     alloc: Global,

@@ -1,7 +1,7 @@
 -- The base of a series, a text by which series can be grouped, and whether it is safe to do so.
 use Rattle.std.specs.Prelude.{◌≡◌, ℕ, ◌<◌, ◌==◌, ◌&&◌, ◌||◌, Bool, true, false, not, List, [], ◌∷◌, ◌++◌, length, take, map, slice_index_or}
 use Rattle.std.specs.Prelude.{if◌then◌else◌, Result, Ok, Err, string_bytes, flat_map, bytes_eq}
-use Rattle.std.specs.{Borrow.Bor, List.list_all, List.list_any}
+use Rattle.std.specs.{List.list_all, List.list_any}
 use Rattle.std.specs.{List.position_or_len, List.range_with_len, declared.borrow.CowStr.CowStr}
 use Rattle.std.specs.{declared.borrow.CowStr.TheVariants.Borrowed, declared.borrow.CowStr.TheVariants.Owned}
 use Rattle.lp_values.specs.declared.{error.Error.Error, error.Error.TheVariants.DuplicateTag, error.Error.TheVariants.OutOfMemory}
@@ -81,10 +81,6 @@ GivesBase (Err e) base = ⊥
 abbrev pub is_borrowed : Base → Bool
 is_borrowed (borrowed text) = true
 is_borrowed base = false
-
--- the bytes of an entry
-abbrev pub entry_bytes : Bor (List ℕ) × Bor (List ℕ) → List ℕ × List ℕ
-entry_bytes e = (e.0.now, e.1.now)
 
 -- the keys were looked through: none is repeated, or the code gives the first that is; `OutOfMemory` may be in its place
 abbrev pub TellsRepeated : {A : Type 0} → Result A Error → List (Pair Text Text) → Type 0

@@ -1,7 +1,7 @@
 -- Tags by their keys: one list for each set of tags without a repeated key.
 use Rattle.std.proofs.Common.{◌≡◌, ℕ, false, List, [], ◌∷◌, sym, ◌∙◌, ◌<◌, true, length, take, refl, zero, suc, Bool, cond}
 use Rattle.std.proofs.Common.{ap, arith, zero-add, Ordering, Less, Contains, All}
-use Rattle.std.proofs.Common.{IsPermutation, is_eq, nat_cmp, is_lt, bytes_eq, get_or, map, ◌⊎◌, Bor}
+use Rattle.std.proofs.Common.{IsPermutation, is_eq, nat_cmp, is_lt, bytes_eq, get_or, ◌⊎◌}
 use Rattle.std.specs.Ordering.{ordering_reverse}
 use Rattle.std.specs.{Cmp.Lexicographic.nat_list_eq_equiv, Cmp.Lexicographic.slice_cmp, List.AllByRecursion, List.IsDistinct, List.list_any}
 use Rattle.std.specs.List.{range_with_len}
@@ -12,14 +12,14 @@ use Rattle.std.proofs.lemmas.List.Sorted.{Contains-permutation}
 use Rattle.std.proofs.lemmas.{Map.Keys.IsDistinct-IsPermutation, Map.Text.is_eq-slice_cmp, Bool.and_parts, Bool.or_parts}
 use Rattle.std.proofs.lemmas.{Cmp.nat_list_cmp_total, Cmp.tied_itself, List.FromFn.get_or-range_with_len, List.Sums.fails_before_first}
 use Rattle.std.proofs.lemmas.{List.length-map}
-use Rattle.lp_format.specs.format.{Pair, Tag, Text, logical_tag}
+use Rattle.lp_format.specs.format.{Pair, Text}
 use Rattle.lp_format.proofs.lemmas.lists.Elements.{first_element, first_or_later, later_element}
-use Rattle.lp_lines.specs.code.Bases.{base_by_key, base_text, owned, by_key, entry_bytes, in_order, first_repeated, is_repeated_at}
+use Rattle.lp_lines.specs.code.Bases.{base_by_key, base_text, owned, by_key, in_order, first_repeated, is_repeated_at}
 use Rattle.lp_events.specs.code.OwnBases.{keys_of, is_strictly_sorted}
-use Rattle.lp_lines.specs.code.Keys.{lent_tag, placed_by, sorted_by}
+use Rattle.lp_lines.specs.code.Keys.{placed_by, sorted_by}
 use Rattle.lp_lines.specs.laws.BaseLaws.{entry_keys}
 use Rattle.lp_lines.proofs.lemmas.series.BaseLemmas.{first_repeated_is}
-use Rattle.lp_lines.proofs.lemmas.series.SortedByKey.{all_sorted, map_sorted}
+use Rattle.lp_lines.proofs.lemmas.series.SortedByKey.{all_sorted}
 
 -- an entry comes before all of these
 abbrev IsBefore : List ℕ × List ℕ → List (List ℕ × List ℕ) → Type 0
@@ -155,20 +155,6 @@ distinct_none (t ∷ tags) distinct (suc k) l =
     let later = distinct_none tags distinct.1 k (omega arith) in
     rw (here, later) refl
 
--- a tag as an entry
-abbrev tag_entry : Tag → List ℕ × List ℕ
-tag_entry t = (t.key, t.value)
-
--- the names of a tag, as an entry
-lent_entries : (names : List (Bor (List ℕ) × Bor (List ℕ))) → map entry_bytes names ≡ map tag_entry (map lent_tag names)
-lent_entries [] = refl
-lent_entries (t ∷ names) = ap (λ (es : List (List ℕ × List ℕ)). entry_bytes t ∷ es) (lent_entries names)
-
--- tags that were read, as entries
-logical_entries : (tags : List (Pair Text Text)) → map tag_entry (map logical_tag tags) ≡ in_order tags
-logical_entries [] = refl
-logical_entries (t ∷ tags) = ap (λ (es : List (List ℕ × List ℕ)). (t.key.bytes, t.value.bytes) ∷ es) (logical_entries tags)
-
 -- the tags by their keys are the tags in another order, and rise, if no key is repeated
 pub by_key_placed : (tags : List (Pair Text Text)) → first_repeated (keys_of tags) ≡ length tags
     → IsPermutation (in_order tags) (by_key tags) × Rise (by_key tags)
@@ -177,23 +163,6 @@ by_key_placed tags once = (
   sorted_moves (in_order tags),
   distinct_rise (in_order tags) (none_distinct tags (none_repeated (keys_of tags) (once ∙ sym (length-map tags (λ t. t.key.bytes))))),
 )
-
--- lent names that are those of tags, as entries
-pub lent_in_order : (names : List (Bor (List ℕ) × Bor (List ℕ))) (tags : List (Pair Text Text))
-    → map lent_tag names ≡ map logical_tag tags → map entry_bytes names ≡ in_order tags
-lent_in_order names tags are = lent_entries names ∙ ap (map tag_entry) are ∙ logical_entries tags
-
--- lent names that are those of tags in the order of their keys, as entries
-pub lent_by_key : (names : List (Bor (List ℕ) × Bor (List ℕ))) (tags : List (Pair Text Text))
-    → map lent_tag names ≡ sorted_by (λ t. t.key) (map logical_tag tags) → map entry_bytes names ≡ by_key tags
-unfolding by_key
-lent_by_key names tags are = lent_entries names ∙ ap (map tag_entry) are ∙ map_sorted tag_entry (λ e. e.0) (map logical_tag tags)
-    ∙ ap (sorted_by (λ e. e.0)) (logical_entries tags)
-
--- keys of names, as of entries
-names_keys : (names : List (Bor (List ℕ) × Bor (List ℕ))) → map (λ t. t.0.now) names ≡ entry_keys (map entry_bytes names)
-names_keys [] = refl
-names_keys (t ∷ names) = ap (λ (keys : List (List ℕ)). t.0.now ∷ keys) (names_keys names)
 
 -- if they rise, no key is repeated
 pub rise_once : (tags : List (Pair Text Text)) → Rise (by_key tags) → first_repeated (keys_of tags) ≡ length tags
@@ -243,13 +212,6 @@ pub passes_rise : (es : List (List ℕ × List ℕ)) → is_strictly_sorted (ent
 passes_rise [] h = tt
 passes_rise (e ∷ []) h = (All-nil (λ f. slice_cmp nat_cmp e.0 f.0 ≡ Less), tt)
 passes_rise (e ∷ f ∷ es) h = grind (arith, and_parts, less_from_test, before_all, passes_rise (f ∷ es))
-
--- if the keys of lent names rise that are those of tags in the order of their keys, no key is repeated
-pub names_once : (names : List (Bor (List ℕ) × Bor (List ℕ))) (tags : List (Pair Text Text))
-    → map lent_tag names ≡ sorted_by (λ t. t.key) (map logical_tag tags) → is_strictly_sorted (map (λ t. t.0.now) names) ≡ true
-    → first_repeated (keys_of tags) ≡ length tags
-names_once names tags are rise = rise_once tags (passes_rise (by_key tags)
-    (ap (λ es. is_strictly_sorted (entry_keys es)) (sym (lent_by_key names tags are)) ∙ ap is_strictly_sorted (sym (names_keys names)) ∙ rise))
 
 -- the keys of the tags as entries
 keys_in_order : (tags : List (Pair Text Text)) → entry_keys (in_order tags) ≡ keys_of tags
