@@ -9,5 +9,6 @@ pub use Rattle.lp_format.specs.laws.MeaningsOfAnswers
 pub use Rattle.lp_lines.specs.laws.BaseLaws
 pub use Rattle.lp_lines.specs.laws.KeyLaws
 pub use Rattle.lp_written.specs.laws.WrittenKeyLaws
+pub use Rattle.lp_portable.specs.laws.PortableLaws
 pub mod StopLaws
 pub mod StreamLaws

@@ -21,6 +21,9 @@ ghost use Rattle.lp_format.specs.laws.MeaningsOfAnswers.{AnswerIsByRows};
 ghost use Rattle.influxdb_line_protocol.specs.laws.StopLaws.{LinesAreReadWhole, StopsAreByRows, StopsAreInText};
 ghost use Rattle.influxdb_line_protocol.specs.laws.StreamLaws.{FrontsKeepTheirCuts, TakenIsFirst, RunsGivePieces, RunsEnd};
 ghost use Rattle.influxdb_line_protocol.specs.laws.StreamLaws.{StreamsAnswerAll, StreamsGiveAnswers, Utf8ByPieces};
+ghost use Rattle.lp_portable.specs.laws.PortableLaws.{LinesAreAnsweredAlike, VictoriaLinesAreReadAlike, InfluxNamesMeanTheSame};
+ghost use Rattle.lp_portable.specs.laws.PortableLaws.{PortableLinesAreReadAlike, EscapedBytesAreHeld, BareBytesAreHeld};
+ghost use Rattle.lp_portable.specs.laws.PortableLaws.{LinesAreSpelled, SpellingsAreUnique, SpellingsAreRead};
 ghost use Rattle.lp_format.specs.format.Lines.{tag, field};
 
 /// If memory and room suffice, a batch built from points, followed by any text, parses to exactly
@@ -250,4 +253,29 @@ pub fn keys_tell_series()
     ensures read { KeysReadBack }
     ensures begin { LinesBeginWithKeys }
     ensures stand { KeysStandInTexts }
+{}
+
+/// A line that is portable to all servers holds no newline, and in each dialect it is all that is answered for its text. Its names
+/// mean the same to readers that do not escape the same bytes: whether or not a backslash is escaped, whether or not a quote is in a
+/// measurement or a field key, and whether or not an equals sign is in a measurement.
+///
+/// The first is so of a line that is portable to VictoriaMetrics alone, and the second of one that is to InfluxDB 1.x. In the dialects
+/// of the crate and strict, each line has the same answer.
+pub fn portable_lines_are_read_alike()
+    ensures dialects { LinesAreAnsweredAlike }
+    ensures victoria { VictoriaLinesAreReadAlike }
+    ensures influx { InfluxNamesMeanTheSame }
+    ensures all { PortableLinesAreReadAlike }
+{}
+
+/// Each line that is read has exactly one spelling of its names, and their logical texts are the names that were read, in order.
+///
+/// A name means the same to readers that differ in what a backslash escapes exactly if it holds none of the bytes in which they
+/// differ escaped. What it holds bare is what is bare in it.
+pub fn spellings_are_read()
+    ensures some { LinesAreSpelled }
+    ensures one { SpellingsAreUnique }
+    ensures read { SpellingsAreRead }
+    ensures escaped { EscapedBytesAreHeld }
+    ensures bare { BareBytesAreHeld }
 {}

@@ -5,3 +5,8 @@ pub mod Lines
 pub mod LinesSpelled
 pub mod ByCode
 pub mod Once
+pub mod HeldBytes
+pub mod AnsweredAlike
+pub mod NamesAlike
+pub mod SpellingsRead
+pub mod WorkedPortable

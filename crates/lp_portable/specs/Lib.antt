@@ -1,2 +1,3 @@
 pub mod code
 pub mod format
+pub mod laws

@@ -1,0 +1,147 @@
+-- What bytes a name holds, escaped or bare.
+use Rattle.std.proofs.Common.{◌≡◌, ℕ, ◌<◌, ◌≤◌, List, [], ◌∷◌, ◌++◌, length, if◌then◌else◌, Bool, true, false, ◌||◌, ◌==◌, refl, sym, ap, ◌∙◌, arith, inl, inr, eqb-true, eq-eqb}
+use Rattle.std.specs.List.{list_any}
+use Rattle.std.proofs.lemmas.{Bool.cases_Bool, Bool.or_parts, Bool.eqb-false, Bool.false≢true}
+use Rattle.lp_format.specs.format.{NameKind, backslash, bare_after, escapable, is_escaped_after, is_one_of, without_escapes}
+use Rattle.lp_format.proofs.lemmas.tokens.EscapeLemmas.{is_escaped_push}
+use Rattle.lp_portable.specs.format.Spellings.{holds}
+use Rattle.lp_portable.specs.laws.PortableLaws.{BareBytesAreHeld, EscapedBytesAreHeld, MeansTheSame}
+
+-- two sets of escapes that differ only in bytes that are not escaped in a text give one logical text
+pub same_text : (some others xs ys text : List ℕ)
+    → ((b : ℕ) → is_one_of some b ≡ false → is_one_of others b ≡ false → is_one_of xs b ≡ is_one_of ys b)
+    → holds some [] text ≡ false → holds others [] text ≡ false → without_escapes xs text ≡ without_escapes ys text
+unfolding without_escapes holds
+same_text some others xs ys [] agree h k = refl
+same_text some others xs ys (b ∷ []) agree h k = refl
+same_text some others xs ys (b ∷ c ∷ rest) agree h k =
+    grind (arith, cases_Bool, or_parts, agree c, same_text some others xs ys rest agree, same_text some others xs ys (c ∷ rest) agree)
+
+-- a name without such escapes means the same
+pub without_marks : (marks : List ℕ) (kind : NameKind) (name : List ℕ) → holds marks [] name ≡ false → MeansTheSame marks kind name
+without_marks marks kind name h known agree = same_text marks marks known (escapable kind) name (λ b none _. agree b none) h h
+
+-- a disjunction by its second part
+or_second : (a b : Bool) → b ≡ true → (a || b) ≡ true
+or_second true b h = refl
+or_second false b h = h
+
+-- of some bytes that a text holds escaped it holds one
+one_mark : (marks text : List ℕ) → holds marks [] text ≡ true → (c : ℕ) × (is_one_of marks c ≡ true) × (holds (c ∷ []) [] text ≡ true)
+unfolding holds
+one_mark marks [] h = absurd (false≢true h)
+one_mark marks (b ∷ []) h = absurd (false≢true h)
+one_mark marks (b ∷ c ∷ rest) h = elim (cases_Bool (b == backslash)) [
+  | inl slash ↦ elim (cases_Bool (is_one_of marks c)) [
+    | inl here ↦ (c, here, rw (slash, eq-eqb c c refl) refl)
+    | inr other ↦
+        let later = one_mark marks rest (rw (slash, other) at h) in
+        (later.0, later.1, rw slash (or_second _ _ later.2))
+  ]
+  | inr plain ↦
+      let later = one_mark marks (c ∷ rest) (rw plain at h) in
+      (later.0, later.1, rw plain later.2)
+]
+
+-- one more byte that may be escaped leaves a text as long, or shorter if it is escaped there
+shorter : (c : ℕ) (xs ys text : List ℕ) → ((b : ℕ) → (b == c) ≡ false → is_one_of xs b ≡ is_one_of ys b)
+    → is_one_of xs c ≡ true → is_one_of ys c ≡ false
+    → (length (without_escapes xs text) ≤ length (without_escapes ys text))
+    × (holds (c ∷ []) [] text ≡ true → length (without_escapes xs text) < length (without_escapes ys text))
+unfolding without_escapes holds
+shorter c xs ys [] agree more less = (omega arith, λ h. absurd (false≢true h))
+shorter c xs ys (b ∷ []) agree more less = (omega arith, λ h. absurd (false≢true h))
+shorter c xs ys (b ∷ d ∷ rest) agree more less =
+    let two = shorter c xs ys rest agree more less in
+    let one = shorter c xs ys (d ∷ rest) agree more less in
+    elim (cases_Bool (b == backslash)) [
+      | inl slash ↦ elim (cases_Bool (d == c)) [
+        | inl here ↦ let is : d ≡ c = eqb-true d c here in grind arith
+        | inr other ↦ let same = agree d other in grind (arith, cases_Bool)
+      ]
+      | inr plain ↦ grind arith
+    ]
+
+-- some bytes without one
+abbrev without : ℕ → List ℕ → List ℕ
+without c [] = []
+without c (b ∷ bytes) = if b == c then without c bytes else b ∷ without c bytes
+
+-- it is none of these
+without_it : (c : ℕ) (bytes : List ℕ) → is_one_of (without c bytes) c ≡ false
+without_it c [] = refl
+without_it c (b ∷ bytes) = elim (cases_Bool (b == c)) [
+  | inl here ↦ rw here (without_it c bytes)
+  | inr other ↦ rw (other, other) (without_it c bytes)
+]
+
+-- and each other byte is, if it was
+without_other : (c : ℕ) (bytes : List ℕ) (b : ℕ) → (b == c) ≡ false → is_one_of (without c bytes) b ≡ is_one_of bytes b
+without_other c [] b h = refl
+without_other c (d ∷ bytes) b h = elim (cases_Bool (d == c)) [
+  | inl here ↦
+      let is = eqb-true d c here in
+      let more = without_other c bytes b h in
+      grind (arith, cases_Bool)
+  | inr other ↦ rw other (ap (λ (x : Bool). d == b || x) (without_other c bytes b h))
+]
+
+-- a byte that is not one of some is not the one that is
+not_it : (marks : List ℕ) (b c : ℕ) → is_one_of marks b ≡ false → is_one_of marks c ≡ true → (b == c) ≡ false
+not_it marks b c none some = elim (cases_Bool (b == c)) [
+  | inl is ↦ absurd (false≢true (sym none ∙ ap (is_one_of marks) (eqb-true b c is) ∙ some))
+  | inr other ↦ other
+]
+
+-- a name that holds one of these bytes escaped does not mean the same
+with_mark : (marks : List ℕ) (kind : NameKind) (name : List ℕ) → MeansTheSame marks kind name → ¬ (holds marks [] name ≡ true)
+with_mark marks kind name same held =
+    let (c, mark, here) = one_mark marks name held in
+    let known = escapable kind in
+    elim (cases_Bool (is_one_of known c)) [
+      | inl some ↦
+          let fewer = without c known in
+          let longer = (shorter c known fewer name (λ b other. sym (without_other c known b other)) some (without_it c known)).1 here in
+          omega (arith, longer, ap length (same fewer (λ b none. without_other c known b (not_it marks b c none mark))))
+      | inr none ↦
+          let more = c ∷ known in
+          let here_is : is_one_of more c ≡ true = rw (eq-eqb c c refl) refl in
+          let agree : (b : ℕ) → (b == c) ≡ false → is_one_of more b ≡ is_one_of known b = λ b other. grind (arith, cases_Bool, eqb-true, eqb-false, other) in
+          let longer = (shorter c more known name agree here_is none).1 here in
+          omega (arith, longer, ap length (same more (λ b absent. agree b (not_it marks b c absent mark))))
+    ]
+
+-- so a name means the same exactly if it holds none of them escaped
+pub escaped_bytes_are_held : EscapedBytesAreHeld
+escaped_bytes_are_held marks kind name = (
+  λ same. elim (cases_Bool (holds marks [] name)) [
+    | inl held ↦ absurd (with_mark marks kind name same held)
+    | inr none ↦ none
+  ],
+  without_marks marks kind name,
+)
+
+-- bytes that come after a bare place, in twos as they are walked over
+bare_held : (marks front text : List ℕ) → is_one_of marks backslash ≡ false → is_escaped_after front ≡ false
+    → holds [] marks text ≡ list_any (is_one_of marks) (bare_after front text)
+unfolding holds
+bare_held marks front [] other plain_here = refl
+bare_held marks front (b ∷ []) other plain_here = rw plain_here (grind arith)
+bare_held marks front (b ∷ c ∷ rest) other plain_here = elim (cases_Bool (b == backslash)) [
+  | inl slash ↦
+      let is = eqb-true b backslash slash in
+      let first : is_escaped_after (front ++ b ∷ []) ≡ true = is_escaped_push front b ∙ grind arith in
+      let second : is_escaped_after ((front ++ b ∷ []) ++ c ∷ []) ≡ false = is_escaped_push (front ++ b ∷ []) c ∙ grind arith in
+      let more = bare_held marks ((front ++ b ∷ []) ++ c ∷ []) rest other second in
+      let none : is_one_of marks b ≡ false = ap (is_one_of marks) is ∙ other in
+      rw (plain_here, first, slash, none) more
+  | inr plain ↦
+      let first : is_escaped_after (front ++ b ∷ []) ≡ false = is_escaped_push front b ∙ grind arith in
+      let more = bare_held marks (front ++ b ∷ []) (c ∷ rest) other first in
+      rw (plain_here, plain) (ap (λ (x : Bool). is_one_of marks b || x) more)
+]
+
+-- a name holds bytes bare exactly if they are among its bare bytes
+pub bare_bytes_are_held : BareBytesAreHeld
+unfolding is_escaped_after
+bare_bytes_are_held marks name other = bare_held marks [] name other refl
