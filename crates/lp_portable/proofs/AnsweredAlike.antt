@@ -18,6 +18,7 @@ use Rattle.lp_portable.specs.{format.Portable.IsOneLine, laws.PortableLaws.Lines
 pub no_newline : (text : List ℕ) → is_one_of text newline ≡ false → HasNoNewline text
 no_newline text h = All-from_recursion (λ b. b ≢ newline) text (each text h)
   where
+    -- byte by byte
     each : (text : List ℕ) → is_one_of text newline ≡ false → AllByRecursion (λ b. b ≢ newline) text
     each [] h = tt
     each (b ∷ text) h = grind (arith, cases_Bool, eqb-false, or_parts, each text)
@@ -47,6 +48,7 @@ no_comma (f ∷ g ∷ fields) rest h = refl
 pub read_by_crate : (text : List ℕ) (line : Line) → answer Strict text ≡ Ok line → answer Crate text ≡ Ok line
 read_by_crate text line h = (answer_is_by_rows Crate text (Ok line)).1 (by_row ((answer_is_by_rows Strict text (Ok line)).0 h))
   where
+    -- a row of a line that is read is one in both dialects
     by_row : IsAnswer Strict text (Ok line) → IsAnswer Crate text (Ok line)
     by_row (all_read _ rest r stamp) =
         let ends = stamp_begins rest line.timestamp stamp in

@@ -81,15 +81,17 @@ an_integer_is_portable = record {
   keeps = keeps;
 }
   where
+    -- clause by clause
     keeps : (clause : Clause) → concerns all clause ≡ true → breaks default_limits inside (line_with (integer (pos 1))) names clause ≡ false
     keeps portable.unsigned own = refl
     keeps other own = refl
 
--- one with an unsigned integer is a line, with these names
+-- one with an unsigned integer is a line
 outside_is_line : IsOneLine outside (line_with (unsigned 1))
 unfolding on_lines
 outside_is_line = record { piece = is_piece (unsigned 1) (omega arith); read = refl }
 
+-- with these names
 outside_is_spelled : IsSpelled (trimmed outside) (line_with (unsigned 1)) names
 unfolding on_lines
 outside_is_spelled = record {
@@ -114,6 +116,7 @@ an_unsigned_integer_is_for_victoria = record {
   keeps = keeps;
 }
   where
+    -- clause by clause, but for one that does not concern these servers
     keeps : (clause : Clause) → concerns victoria clause ≡ true → breaks default_limits outside (line_with (unsigned 1)) names clause ≡ false
     keeps portable.unsigned own = absurd (false≢true own)
     keeps other own = refl
