@@ -255,9 +255,11 @@ pub fn keys_tell_series()
     ensures stand { KeysStandInTexts }
 {}
 
-/// A line that is portable to all servers holds no newline, and in each dialect it is all that is answered for its text. Its names
-/// mean the same to readers that do not escape the same bytes: whether or not a backslash is escaped, whether or not a quote is in a
-/// measurement or a field key, and whether or not an equals sign is in a measurement.
+/// A line that is portable to all servers holds no newline, and in each dialect it is all that is answered for its text.
+///
+/// Its names mean the same to readers for which a backslash escapes other bytes than here. In any name a backslash may be one, in a
+/// measurement and a field key a quote, and in a measurement an equals sign. So they do to a reader that takes each backslash by
+/// itself, also after another.
 ///
 /// The first is so of a line that is portable to VictoriaMetrics alone, and the second of one that is to InfluxDB 1.x. In the dialects
 /// of the crate and strict, each line has the same answer.
@@ -270,8 +272,8 @@ pub fn portable_lines_are_read_alike()
 
 /// Each line that is read has exactly one spelling of its names, and their logical texts are the names that were read, in order.
 ///
-/// A name means the same to readers that differ in what a backslash escapes exactly if it holds none of the bytes in which they
-/// differ escaped. What it holds bare is what is bare in it.
+/// A name means the same to readers that differ in some bytes, of which the backslash is one, exactly if it holds none of these
+/// escaped. What it holds bare is what is bare in it.
 pub fn spellings_are_read()
     ensures some { LinesAreSpelled }
     ensures one { SpellingsAreUnique }

@@ -1,14 +1,19 @@
 -- What bytes a name holds, escaped or bare.
-use Rattle.std.proofs.Common.{◌≡◌, ℕ, ◌<◌, ◌≤◌, List, [], ◌∷◌, ◌++◌, length, if◌then◌else◌, Bool, true, false, ◌||◌, ◌==◌, refl, sym, ap, ◌∙◌, arith, inl, inr, eqb-true, eq-eqb}
+use Rattle.std.proofs.Common.{◌≡◌, ℕ, ◌<◌, ◌≤◌, List, [], ◌∷◌, ◌++◌, length, if◌then◌else◌, Bool, true, false, ◌||◌, ◌==◌, refl, sym, ap, ◌∙◌, arith, inl, inr, eqb-true, eq-eqb, ne_eqb}
 use Rattle.std.specs.List.{list_any}
 use Rattle.std.proofs.lemmas.{Bool.cases_Bool, Bool.or_parts, Bool.eqb-false, Bool.false≢true}
 use Rattle.lp_format.specs.format.{NameKind, backslash, bare_after, escapable, is_escaped_after, is_one_of, without_escapes}
 use Rattle.lp_format.proofs.lemmas.tokens.EscapeLemmas.{is_escaped_push}
 use Rattle.lp_portable.specs.format.Spellings.{holds}
-use Rattle.lp_portable.specs.laws.PortableLaws.{BareBytesAreHeld, EscapedBytesAreHeld, MeansTheSame}
+use Rattle.lp_portable.specs.laws.PortableLaws.{BareBytesAreHeld, EscapedBytesAreHeld, MeansTheSame, without_each}
+
+-- a disjunction that is false
+pub neither : (a b : Bool) → (a || b) ≡ false → (a ≡ false) × (b ≡ false)
+neither false b h = (refl, h)
+neither true b h = absurd (cc)
 
 -- two sets of escapes that differ only in bytes that are not escaped in a text give one logical text
-pub same_text : (some others xs ys text : List ℕ)
+same_text : (some others xs ys text : List ℕ)
     → ((b : ℕ) → is_one_of some b ≡ false → is_one_of others b ≡ false → is_one_of xs b ≡ is_one_of ys b)
     → holds some [] text ≡ false → holds others [] text ≡ false → without_escapes xs text ≡ without_escapes ys text
 unfolding without_escapes holds
@@ -17,9 +22,54 @@ same_text some others xs ys (b ∷ []) agree h k = refl
 same_text some others xs ys (b ∷ c ∷ rest) agree h k =
     grind (arith, cases_Bool, or_parts, agree c, same_text some others xs ys rest agree, same_text some others xs ys (c ∷ rest) agree)
 
--- a name without such escapes means the same
-pub without_marks : (marks : List ℕ) (kind : NameKind) (name : List ℕ) → holds marks [] name ≡ false → MeansTheSame marks kind name
-without_marks marks kind name h known agree = same_text marks marks known (escapable kind) name (λ b none _. agree b none) h h
+-- a byte that is no backslash stays, whatever follows it
+stays : (known : List ℕ) (b : ℕ) (text : List ℕ) → (b == backslash) ≡ false → without_each known (b ∷ text) ≡ b ∷ without_each known text
+stays known b [] plain = refl
+stays known b (c ∷ text) plain = rw plain refl
+
+-- a text without an escaped backslash has one logical text, whether or not a reader takes each backslash by itself
+each_alone : (known text : List ℕ) → holds (backslash ∷ []) [] text ≡ false → without_each known text ≡ without_escapes known text
+unfolding without_escapes holds
+each_alone known [] h = refl
+each_alone known (b ∷ []) h = refl
+each_alone known (b ∷ c ∷ rest) h = elim (cases_Bool (b == backslash)) [
+  | inl slash ↦
+      let both = neither _ _ (rw slash at h) in
+      let other : (c == backslash) ≡ false = ne_eqb c backslash (λ is. false≢true (sym (neither _ _ both.0).0 ∙ eq-eqb backslash c (sym is))) in
+      let more = each_alone known rest both.1 in
+      elim (cases_Bool (is_one_of known c)) [
+        | inl goes ↦ rw (slash, goes) (ap (λ (t : List ℕ). c ∷ t) more)
+        | inr kept ↦ rw (slash, kept) (ap (λ (t : List ℕ). b ∷ t) (stays known c rest other ∙ ap (λ (t : List ℕ). c ∷ t) more))
+      ]
+  | inr plain ↦ rw plain (ap (λ (t : List ℕ). b ∷ t) (each_alone known (c ∷ rest) (rw plain at h)))
+]
+
+-- a text that holds none of some bytes escaped does not hold one of them so
+not_one : (marks : List ℕ) (c : ℕ) (text : List ℕ) → is_one_of marks c ≡ true → holds marks [] text ≡ false → holds (c ∷ []) [] text ≡ false
+unfolding holds
+not_one marks c [] mark h = refl
+not_one marks c (b ∷ []) mark h = refl
+not_one marks c (b ∷ d ∷ rest) mark h = elim (cases_Bool (b == backslash)) [
+  | inl slash ↦
+      let both = neither _ _ (rw slash at h) in
+      let other : (c == d) ≡ false = ne_eqb c d (λ is. false≢true (sym both.0 ∙ ap (is_one_of marks) (sym is) ∙ mark)) in
+      rw (slash, other) (not_one marks c rest mark both.1)
+  | inr plain ↦ rw plain (not_one marks c (d ∷ rest) mark (rw plain at h))
+]
+
+-- a name without such escapes means the same, by two sets of them that hold the backslash
+pub without_both : (some others : List ℕ) (kind : NameKind) (name known : List ℕ) → is_one_of others backslash ≡ true
+    → ((b : ℕ) → is_one_of some b ≡ false → is_one_of others b ≡ false → is_one_of known b ≡ is_one_of (escapable kind) b)
+    → holds some [] name ≡ false → holds others [] name ≡ false
+    → (without_escapes known name ≡ without_escapes (escapable kind) name) × (without_each known name ≡ without_escapes (escapable kind) name)
+without_both some others kind name known slash agree h k =
+    let same = same_text some others known (escapable kind) name agree h k in
+    (same, each_alone known name (not_one others backslash name slash k) ∙ same)
+
+-- so it is by one
+pub without_marks : (marks : List ℕ) (kind : NameKind) (name : List ℕ) → is_one_of marks backslash ≡ true → holds marks [] name ≡ false
+    → MeansTheSame marks kind name
+without_marks marks kind name slash h known agree = without_both marks marks kind name known slash (λ b none _. agree b none) h h
 
 -- a disjunction by its second part
 or_second : (a b : Bool) → b ≡ true → (a || b) ≡ true
@@ -102,23 +152,23 @@ with_mark marks kind name same held =
       | inl some ↦
           let fewer = without c known in
           let longer = (shorter c known fewer name (λ b other. sym (without_other c known b other)) some (without_it c known)).1 here in
-          omega (arith, longer, ap length (same fewer (λ b none. without_other c known b (not_it marks b c none mark))))
+          omega (arith, longer, ap length (same fewer (λ b none. without_other c known b (not_it marks b c none mark))).0)
       | inr none ↦
           let more = c ∷ known in
           let here_is : is_one_of more c ≡ true = rw (eq-eqb c c refl) refl in
           let agree : (b : ℕ) → (b == c) ≡ false → is_one_of more b ≡ is_one_of known b = λ b other. grind (arith, cases_Bool, eqb-true, eqb-false, other) in
           let longer = (shorter c more known name agree here_is none).1 here in
-          omega (arith, longer, ap length (same more (λ b absent. agree b (not_it marks b c absent mark))))
+          omega (arith, longer, ap length (same more (λ b absent. agree b (not_it marks b c absent mark))).0)
     ]
 
 -- so a name means the same exactly if it holds none of them escaped
 pub escaped_bytes_are_held : EscapedBytesAreHeld
-escaped_bytes_are_held marks kind name = (
+escaped_bytes_are_held marks kind name slash = (
   λ same. elim (cases_Bool (holds marks [] name)) [
     | inl held ↦ absurd (with_mark marks kind name same held)
     | inr none ↦ none
   ],
-  without_marks marks kind name,
+  without_marks marks kind name slash,
 )
 
 -- bytes that come after a bare place, in twos as they are walked over

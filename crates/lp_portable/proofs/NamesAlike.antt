@@ -1,38 +1,33 @@
 -- Lines that break no clause of newlines and escapes are read alike, and their names mean the same.
-use Rattle.std.proofs.Common.{◌≡◌, ℕ, List, [], ◌∷◌, Bool, true, false, ◌||◌, refl, arith}
+use Rattle.std.proofs.Common.{◌≡◌, ℕ, List, [], ◌∷◌, false, refl, arith}
 use Rattle.std.specs.List.{AllByRecursion, list_any}
-use Rattle.lp_format.specs.format.{Pair, a_field_key, a_measurement, a_tag_key, a_tag_value, backslash, equals, escapable, is_one_of, quote}
+use Rattle.lp_format.specs.format.{Pair, a_field_key, a_measurement, a_tag_key, a_tag_value, backslash, equals, is_one_of, quote}
 use Rattle.lp_portable.specs.format.{Portable.has_escape, Portable.has_marked_escape, Spellings.holds}
 use Rattle.lp_portable.specs.laws.PortableLaws.{InfluxNamesMeanTheSame, IsReadAlike, MeansTheSame, NamesMeanTheSame, PortableLinesAreReadAlike, TagMeansTheSame, VictoriaLinesAreReadAlike}
 use Rattle.lp_portable.specs.format.{Portable.IsOneLine, Spellings.Spelling}
 use Rattle.lp_portable.specs.format.Portable as portable
 use Rattle.lp_format.specs.format.{Line, newline}
-use Rattle.lp_portable.proofs.{AnsweredAlike.lines_are_answered_alike, AnsweredAlike.no_newline, HeldBytes.same_text, HeldBytes.without_marks}
-
--- a disjunction that is false
-none_of : (a b : Bool) → (a || b) ≡ false → (a ≡ false) × (b ≡ false)
-none_of false b h = (refl, h)
-none_of true b h = absurd (cc)
+use Rattle.lp_portable.proofs.{AnsweredAlike.lines_are_answered_alike, AnsweredAlike.no_newline, HeldBytes.neither, HeldBytes.without_both, HeldBytes.without_marks}
 
 -- a measurement without such escapes means the same
 measurement_alike : (name : List ℕ) → holds (equals ∷ []) [] name ≡ false → has_marked_escape name ≡ false
     → MeansTheSame (backslash ∷ quote ∷ equals ∷ []) a_measurement name
 measurement_alike name signs marked known agree =
-    same_text (equals ∷ []) (backslash ∷ quote ∷ []) known (escapable a_measurement) name (λ b no none. agree b (grind arith)) signs marked
+    without_both (equals ∷ []) (backslash ∷ quote ∷ []) a_measurement name known refl (λ b no none. agree b (grind arith)) signs marked
 
 -- tags do
 tags_alike : (tags : List (Pair (List ℕ) (List ℕ))) → list_any has_escape tags ≡ false → AllByRecursion TagMeansTheSame tags
 tags_alike [] h = tt
 tags_alike (t ∷ tags) h =
-    let both = none_of _ _ h in
-    let names = none_of _ _ both.0 in
-    ((without_marks _ a_tag_key t.key names.0, without_marks _ a_tag_value t.value names.1), tags_alike tags both.1)
+    let both = neither _ _ h in
+    let names = neither _ _ both.0 in
+    ((without_marks _ a_tag_key t.key refl names.0, without_marks _ a_tag_value t.value refl names.1), tags_alike tags both.1)
 
 -- and field keys do
 keys_alike : (keys : List (List ℕ)) → list_any has_marked_escape keys ≡ false
     → AllByRecursion (MeansTheSame (backslash ∷ quote ∷ []) a_field_key) keys
 keys_alike [] h = tt
-keys_alike (key ∷ keys) h = let both = none_of _ _ h in (without_marks _ a_field_key key both.0, keys_alike keys both.1)
+keys_alike (key ∷ keys) h = let both = neither _ _ h in (without_marks _ a_field_key key refl both.0, keys_alike keys both.1)
 
 -- all names do, if no kind of them holds such an escape
 names_alike : (names : Spelling) → holds (equals ∷ []) [] names.measurement ≡ false → has_marked_escape names.measurement ≡ false

@@ -13,6 +13,7 @@ use Rattle.std.proofs.lemmas.Bool.{false≢true}
 use Rattle.lp_portable.specs.format.Portable as portable
 use Rattle.lp_portable.specs.format.Portable.{Clause, IsOneLine, IsPortable, all, breaks, concerns, default_limits, has_escape, influx1, victoria}
 use Rattle.lp_portable.specs.format.Spellings.{IsSpelled, Spelling, holds, name_text}
+use Rattle.lp_portable.specs.laws.PortableLaws.{without_each}
 
 -- what these lines unfold to be computed
 unfoldable on_lines : ⊤
@@ -136,16 +137,18 @@ abbrev others : List ℕ
 others = comma ∷ equals ∷ space ∷ []
 
 -- an escaped comma means the same to that reader
-a_comma_means_the_same : (has_escape (record { key = codes "t"; value = codes "x\\,y" }) ≡ false) × (without_escapes others (codes "x\\,y") ≡ codes "x,y")
+a_comma_means_the_same : (has_escape (record { key = codes "t"; value = codes "x\\,y" }) ≡ false)
+    × (without_escapes others (codes "x\\,y") ≡ codes "x,y") × (without_each others (codes "x\\,y") ≡ codes "x,y")
     × (logical a_tag_value (codes "x\\,y") ≡ codes "x,y")
 unfolding on_lines
-a_comma_means_the_same = (refl, refl, refl)
+a_comma_means_the_same = (refl, refl, refl, refl)
 
--- an escaped backslash does not
-a_backslash_does_not : (has_escape (record { key = codes "t"; value = codes "x\\\\y" }) ≡ true) × (without_escapes others (codes "x\\\\y") ≡ codes "x\\\\y")
-    × (logical a_tag_value (codes "x\\\\y") ≡ codes "x\\y")
+-- an escaped backslash does not: here it is one, and two there; and before a comma they differ also by whether each is taken by itself
+a_backslash_does_not : (has_escape (record { key = codes "t"; value = codes "x\\\\y" }) ≡ true)
+    × (without_escapes others (codes "x\\\\y") ≡ codes "x\\\\y") × (logical a_tag_value (codes "x\\\\y") ≡ codes "x\\y")
+    × (without_escapes others (codes "x\\\\,y") ≡ codes "x\\\\,y") × (without_each others (codes "x\\\\,y") ≡ codes "x\\,y")
 unfolding on_lines
-a_backslash_does_not = (refl, refl, refl)
+a_backslash_does_not = (refl, refl, refl, refl, refl)
 
 -- nor does an escaped equals sign of a measurement, to a reader that takes it for escaped
 an_equals_sign_does_not : (holds (equals ∷ []) [] (codes "m\\=n") ≡ true) × (without_escapes others (codes "m\\=n") ≡ codes "m=n")

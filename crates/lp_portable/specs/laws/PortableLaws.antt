@@ -1,5 +1,5 @@
 -- What portable lines are to each reader, and what the spelling of a line's names tells.
-use Rattle.std.specs.Prelude.{◌≡◌, ◌↔◌, ℕ, false, List, [], ◌∷◌, map, Ok}
+use Rattle.std.specs.Prelude.{◌≡◌, ◌↔◌, ◌&&◌, ◌==◌, if◌then◌else◌, ℕ, true, false, List, [], ◌∷◌, map, Ok}
 use Rattle.std.specs.List.{AllByRecursion, list_any}
 use Rattle.lp_format.specs.format.{Dialect, Strict, HasAnswers, HasNoNewline, Line, Pair, answer, backslash, bare, equals, quote, some_tags}
 use Rattle.lp_format.specs.format.{NameKind, a_field_key, a_measurement, a_tag_key, a_tag_value, is_escapable, is_one_of, logical, logical_tag}
@@ -23,19 +23,26 @@ pub record IsReadAlike (text : List ℕ) (line : Line) : Type 0 where
 abbrev pub VictoriaLinesAreReadAlike : Type 0
 VictoriaLinesAreReadAlike = (limits : Limits) (text : List ℕ) (portable : IsPortable victoria limits text) → IsReadAlike text portable.line
 
--- a name means the same to each reader for which a backslash escapes what it escapes here, but for these bytes, of which it may
--- escape any
+-- the logical text for a reader that takes each backslash by itself: one goes if a known byte follows it, and else it stays
+abbrev pub without_each : List ℕ → List ℕ → List ℕ
+without_each known [] = []
+without_each known (b ∷ []) = b ∷ []
+without_each known (b ∷ c ∷ rest) =
+    if b == backslash && is_one_of known c then c ∷ without_each known rest else b ∷ without_each known (c ∷ rest)
+
+-- A name means the same to each reader for which a backslash escapes what it escapes here, but for these bytes, of which it may
+-- escape any. It does so whether or not the reader takes each backslash by itself.
 abbrev pub MeansTheSame : List ℕ → NameKind → List ℕ → Type 0
 MeansTheSame marks kind spelling =
     (known : List ℕ) → ((b : ℕ) → is_one_of marks b ≡ false → is_one_of known b ≡ is_escapable kind b)
-    → without_escapes known spelling ≡ logical kind spelling
+    → (without_escapes known spelling ≡ logical kind spelling) × (without_each known spelling ≡ logical kind spelling)
 
 -- so do both names of a tag to readers that differ in a backslash
 abbrev pub TagMeansTheSame : Pair (List ℕ) (List ℕ) → Type 0
 TagMeansTheSame t = MeansTheSame (backslash ∷ []) a_tag_key t.key × MeansTheSame (backslash ∷ []) a_tag_value t.value
 
--- all names of a line mean the same to readers that differ in a backslash; a measurement and a field key, besides, to those that
--- differ in a quote, and a measurement to those that differ in an equals sign
+-- all names of a line mean the same to readers that differ in a backslash; besides, a measurement and a field key in a quote, and a
+-- measurement in an equals sign
 pub record NamesMeanTheSame (names : Spelling) : Type 0 where
   pub measurement : MeansTheSame (backslash ∷ quote ∷ equals ∷ []) a_measurement names.measurement
   pub tags : AllByRecursion TagMeansTheSame names.tags
@@ -75,9 +82,11 @@ abbrev pub SpellingsAreRead : Type 0
 SpellingsAreRead =
     (text : List ℕ) (line : Line) (names : Spelling) → answer Strict text ≡ Ok line → IsSpelled text line names → SpellsNamesOf line names
 
--- A name means the same to readers that differ in some bytes exactly if it holds none of these escaped.
+-- A name means the same to readers that differ in some bytes, of which the backslash is one, exactly if it holds none of these escaped.
 abbrev pub EscapedBytesAreHeld : Type 0
-EscapedBytesAreHeld = (marks : List ℕ) (kind : NameKind) (name : List ℕ) → MeansTheSame marks kind name ↔ (holds marks [] name ≡ false)
+EscapedBytesAreHeld =
+    (marks : List ℕ) (kind : NameKind) (name : List ℕ)
+    → is_one_of marks backslash ≡ true → MeansTheSame marks kind name ↔ (holds marks [] name ≡ false)
 
 -- A name holds one of some bytes bare exactly if one of its bare bytes is such; no backslash may be among these.
 abbrev pub BareBytesAreHeld : Type 0
