@@ -28,7 +28,7 @@ compare() {
     done
 }
 
-library=(lp_format lp_scan lp_split lp_values lp_events lp_lines lp_build lp_written influxdb_line_protocol)
+library=(lp_format lp_scan lp_split lp_values lp_events lp_lines lp_build lp_written lp_portable influxdb_line_protocol)
 mkdir -p "$made/to/crates/app/src"
 # The last line ends with the file.
 printf '# mine\napp: influxdb_line_protocol\nlp_lines_of_mine: app' >"$made/to/crates.txt"

@@ -116,6 +116,7 @@ none_first : (to : Servers) (broken : Broken) → ((c : Clause) → is_broken_fo
 unfolding first_broken
 none_first to broken none = each CLAUSES.now
   where
+    -- of any clauses none is
     each : (clauses : List Clause) → first_of (is_broken_for to broken) clauses ≡ None
     each [] = refl
     each (c ∷ clauses) = rw (none c) (each clauses)
@@ -125,6 +126,7 @@ pub portable_is : (to : Servers) (limits : Limits) (text : List ℕ) (broken : B
     → (first_broken to broken ≡ None) ↔ IsPortable (servers_of to) (limits_of limits) text
 portable_is to limits text broken h = (forth, back)
   where
+    -- if none is the first, each that concerns the servers is kept
     forth : first_broken to broken ≡ None → IsPortable (servers_of to) (limits_of limits) text
     forth none = record {
       line = h.line;
@@ -138,6 +140,7 @@ portable_is to limits text broken h = (forth, back)
           subst (λ (d : format.Clause). breaks (limits_of limits) text h.line h.names d ≡ false) is (sym (h.tells c) ∙ and_second asked kept);
     }
 
+    -- and if each is kept, none is the first
     back : IsPortable (servers_of to) (limits_of limits) text → first_broken to broken ≡ None
     back p =
         let line = line_once text h.line p.line h.is_line p.is_line in

@@ -59,6 +59,7 @@ repeats_snoc (x ∷ keys) k =
     rw (list_any-append (bytes_eq x) keys (k ∷ []), repeats_snoc keys k, nat_list_eq_equiv.symm x k)
     (four (list_any (bytes_eq x) keys) (bytes_eq k x) (list_any (bytes_eq k) keys) (has_repeats keys))
   where
+    -- of four in another order
     four : (a b c d : Bool) → ((a || (b || false)) || (c || d)) ≡ ((b || c) || (a || d))
     four true true c d = refl
     four true false true d = refl

@@ -2,6 +2,7 @@
 use Rattle.std.proofs.Common.{◌≡◌, refl}
 use Rattle.lp_portable.specs.declared.broken.Broken.{Broken}
 
+-- two tellings are the same if each clause is told alike
 pub same_broken : (x y : Broken)
     → x.leading_blank ≡ y.leading_blank
     → x.trailing_space ≡ y.trailing_space
