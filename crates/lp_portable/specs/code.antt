@@ -2,3 +2,4 @@ pub mod Clauses
 pub mod Walks
 pub mod Telling
 pub mod ByCode
+pub mod Bits

@@ -1,6 +1,7 @@
 //! What of a line is not portable.
 
-ghost use Rattle.std.specs.Prelude.{◌≡◌};
+ghost use Rattle.std.specs.Prelude.{◌≡◌, ◌≤◌, ◌<◌, ◌^◌};
+ghost use Rattle.lp_portable.specs.code.Bits.{bit_of, bits_of, place};
 ghost use Rattle.lp_portable.specs.{code.Clauses.clause_of, code.Clauses.first_broken, code.Clauses.first_of, code.Clauses.is_broken};
 ghost use Rattle.lp_portable.specs.{code.Clauses.is_broken_for, code.Clauses.servers_of, format.Portable.concerns};
 
@@ -220,6 +221,16 @@ fn concerns(to: Servers, clause: Clause) -> bool
     }
 }
 
+impl Clause {
+    // Its place among the clauses: that of the first is 0.
+    fn place(self) -> usize
+        ensures value { result ≡ place self }
+        ensures within { result < 32 }
+    {
+        self as usize
+    }
+}
+
 impl Broken {
     /// Whether a clause is broken.
     ///
@@ -296,5 +307,33 @@ impl Broken {
         ensures { result ≡ first_broken to self.now }
     {
         self.first_of(to, CLAUSES)
+    }
+
+    // The bit of a clause, if it is broken, or else 0.
+    fn bit(&self, clause: Clause) -> u64
+        ensures value { result ≡ bit_of self.now clause }
+        ensures within { result ≤ 2 ^ 32 }
+    {
+        if self.has(clause) {
+            2 << clause.place()
+        } else {
+            0
+        }
+    }
+
+    /// The clauses that are broken, as one number: of each the bit of its place in [`Clause`], where that of the first is 1. Bit 0 is left
+    /// for a text that is no line. It takes no memory.
+    ///
+    /// ```text
+    /// of   m f=1u   bits()  is  2 + 16384: leading_blank and unsigned
+    /// ```
+    pub fn bits(&self) -> u64
+        ensures { result ≡ bits_of self.now }
+    {
+        let mut bits = 0;
+        for at in 0..CLAUSES.len() {
+            bits += self.bit(CLAUSES[at]);
+        }
+        bits
     }
 }
