@@ -73,6 +73,46 @@ enum lp_fault_kind {
 /* On which side of its range a number lies. */
 enum lp_side { LP_NEITHER = 0, LP_ABOVE = 1, LP_BELOW = 2 };
 
+/* The clauses of what is portable, named by what breaks them: `verdict` of a row has the bit of each that its line breaks. */
+#define LP_CLAUSE_NOT_A_LINE         (UINT64_C(1) << 0)  /* what is there is not one line for the strict reader */
+#define LP_CLAUSE_LEADING_BLANK      (UINT64_C(1) << 1)  /* a space or a tab comes before the line */
+#define LP_CLAUSE_TRAILING_SPACE     (UINT64_C(1) << 2)  /* a space ends the line */
+#define LP_CLAUSE_NEWLINE            (UINT64_C(1) << 3)  /* the line holds a newline: in a string, or escaped */
+#define LP_CLAUSE_MEASUREMENT_EQUALS (UINT64_C(1) << 4)  /* an equals sign is escaped in the measurement */
+#define LP_CLAUSE_MEASUREMENT_ESCAPE (UINT64_C(1) << 5)  /* a backslash or a quote is escaped in the measurement */
+#define LP_CLAUSE_TAG_ESCAPE         (UINT64_C(1) << 6)  /* a backslash is escaped in a tag key or a tag value */
+#define LP_CLAUSE_TAG_KEY_COMMA      (UINT64_C(1) << 7)  /* a comma is bare in a tag key */
+#define LP_CLAUSE_TAG_VALUE_EQUALS   (UINT64_C(1) << 8)  /* an equals sign is bare in a tag value, and not its first byte */
+#define LP_CLAUSE_REPEATED_TAG       (UINT64_C(1) << 9)  /* two tags have one key */
+#define LP_CLAUSE_FIELD_KEY_ESCAPE   (UINT64_C(1) << 10) /* a backslash or a quote is escaped in a field key */
+#define LP_CLAUSE_FIELD_KEY_COMMA    (UINT64_C(1) << 11) /* a comma is bare in a field key */
+#define LP_CLAUSE_FIELD_KEY_QUOTE    (UINT64_C(1) << 12) /* a field key holds a quote */
+#define LP_CLAUSE_LONG_SERIES        (UINT64_C(1) << 13) /* the series, four bytes and a field key are longer than 65,535 bytes */
+#define LP_CLAUSE_UNSIGNED           (UINT64_C(1) << 14) /* a value is an unsigned integer */
+#define LP_CLAUSE_INFINITE_FLOAT     (UINT64_C(1) << 15) /* a float is too large for a finite number */
+#define LP_CLAUSE_EXPONENT           (UINT64_C(1) << 16) /* a float has an exponent */
+#define LP_CLAUSE_LEADING_NUL        (UINT64_C(1) << 17) /* the first field key begins with a byte 0 */
+#define LP_CLAUSE_TIME_OUT_OF_RANGE  (UINT64_C(1) << 18) /* the timestamp is the greatest of 64 bits, or one of the two least */
+#define LP_CLAUSE_TAG_COUNT          (UINT64_C(1) << 19) /* the tags are 100, 200, 400, 800 and so on */
+#define LP_CLAUSE_TIME_NAME          (UINT64_C(1) << 20) /* a tag key or a field key is `time` */
+#define LP_CLAUSE_SYSTEM_NAME        (UINT64_C(1) << 21) /* the measurement or a field key is a name of the server's own */
+#define LP_CLAUSE_REPEATED_FIELD     (UINT64_C(1) << 22) /* two fields have one key */
+#define LP_CLAUSE_KEY_SEPARATOR      (UINT64_C(1) << 23) /* the series holds `#!~` */
+#define LP_CLAUSE_CONTROL_BYTE       (UINT64_C(1) << 24) /* the measurement or a field key holds a byte 0 or a carriage return */
+#define LP_CLAUSE_NAME_LABEL         (UINT64_C(1) << 25) /* a tag key is `__name__` */
+#define LP_CLAUSE_LONG_TAG_KEY       (UINT64_C(1) << 26) /* a tag key is longer than 256 bytes */
+#define LP_CLAUSE_LONG_TAG_VALUE     (UINT64_C(1) << 27) /* a tag value is longer than 16,384 bytes */
+#define LP_CLAUSE_LONG_METRIC_NAME   (UINT64_C(1) << 28) /* the measurement, a byte and a field key are longer than 16,384 bytes */
+#define LP_CLAUSE_LONG_LABELS        (UINT64_C(1) << 29) /* the series, a byte and a field key are longer than 32,000 bytes */
+#define LP_CLAUSE_TOO_MANY_TAGS      (UINT64_C(1) << 30) /* there are more tags than the limit */
+#define LP_CLAUSE_LONG_LINE          (UINT64_C(1) << 31) /* the line is longer than the limit */
+#define LP_CLAUSE_TIME_NOT_KEPT      (UINT64_C(1) << 32) /* the timestamp is before or after what is kept */
+
+/* The clauses that concern a server, InfluxDB 1.x or VictoriaMetrics, and that of no line. Where a verdict has none of these bits, the
+ * server reads the line as the strict reader does; where it is 0, both do. */
+#define LP_OF_INFLUX1  UINT64_C(0x1feeff1)
+#define LP_OF_VICTORIA UINT64_C(0x1fe411a9f)
+
 /* Bytes: UTF-8, with no NUL after them. */
 typedef struct lp_text { const uint8_t *at; size_t len; } lp_text;
 
@@ -149,7 +189,7 @@ typedef struct lp_offset_row {
     uint64_t line;               /* the number of the line in which the piece begins */
     int64_t timestamp;           /* 0 where the line has none */
     uint64_t key;                /* 0, until lp_offsets_keys tells it: so many bytes from `line_at` on are the key of the series */
-    uint64_t verdict;            /* 0: kept for a later version */
+    uint64_t verdict;            /* 0, until lp_offsets_verdicts tells it: the bits of the clauses that the line breaks */
     lp_span piece;               /* the piece, without the newline that ends it */
     lp_span measurement;
     uint32_t line_at;            /* where the line begins in its piece, after blanks and comments; of what is not UTF-8 the piece */
@@ -173,6 +213,14 @@ typedef struct lp_block {
     uint32_t parts; /* so many parts they have */
     uint32_t room;  /* so many bytes of room their texts take */
 } lp_block;
+
+/* What the options of a server change. lp_limits_default fills it. */
+typedef struct lp_limits {
+    size_t line;      /* so many bytes a line may have */
+    size_t tags;      /* so many tags it may have */
+    int64_t earliest; /* the earliest timestamp that is kept */
+    int64_t latest;   /* the latest timestamp that is kept */
+} lp_limits;
 
 /* Where writing rows begins, and how far it came. */
 typedef struct lp_rows_written {
@@ -258,6 +306,22 @@ uint32_t lp_offsets_block(const uint8_t *text, size_t len, uint32_t dialect, boo
  * `text` is the one of which lp_offsets_block filled the rows. Of a row it looks at `answer`, `line_at` and `stop_at`, and writes `key` alone.
  * It asks for no memory. Rows that were made in another way are safe: where the text has no line at such a place, or no UTF-8, `key` is 0. */
 void lp_offsets_keys(const uint8_t *text, size_t len, lp_offset_row *rows, size_t rows_len);
+
+/* The limits of servers whose options are as they come: lines of 262,144 bytes, 29 tags, and timestamps from 1,000,000 on. It asks
+ * for no memory. */
+void lp_limits_default(lp_limits *limits);
+
+/* Tells each row whether servers read its line as the strict reader does: `verdict` has the bit LP_CLAUSE_.. of each clause that the
+ * line breaks, with these limits, and is 0 where it breaks none. Test it with LP_OF_INFLUX1 or LP_OF_VICTORIA. It is told of the whole
+ * piece, with the blanks before the line. It is LP_CLAUSE_NOT_A_LINE alone where the row has no line, or where the piece is not one line
+ * for the strict reader, whatever the dialect of the rows.
+ *
+ * `text` is the one of which lp_offsets_block filled the rows. Of a row it looks at `answer` and `piece`, and writes `verdict` alone.
+ * `told` is how many rows are told: the first ones. The others are as they were.
+ * LP_WRITTEN: all are told. LP_OUT_OF_MEMORY: a request for memory was refused. Hand in the rows after the first `told` again.
+ * Rows that were made in another way are safe: where the text has no UTF-8 at the place of a piece, that is no line. */
+uint32_t lp_offsets_verdicts(const uint8_t *text, size_t len, lp_offset_row *rows, size_t rows_len, const lp_limits *limits,
+                             size_t *told);
 
 /* Takes the next piece of the text, as the splitter cuts it, not parsed. False: none is left, and `lines` is as it was. */
 bool lp_lines_piece(lp_lines *lines, lp_view *piece);

@@ -1,10 +1,10 @@
 #!/usr/bin/env bash
 # Builds the static library of crates/lp_c, and programs over it, watched by the address and undefined behaviour sanitizers;
 # compares what the examples print with example.out and sums.out, and lets answers.c compare the table of answers, lending.c read with
-# little lent and no request for memory, offsets.c read by offsets, cuts.c cut texts that come in parts, writing.c write with little
-# lent and memory refused, numbers.c ask for the numbers of literals, and sizes.c hand over what is large. threads.c is watched
-# by the thread sanitizer, and by helgrind, which sees the library's own loads and stores too; and the archive must hold no
-# variable. The header goes through a C++ compiler too.
+# little lent and no request for memory, offsets.c read by offsets, verdicts.c ask which lines are portable, cuts.c cut texts that come in
+# parts, writing.c write with little lent and memory refused, numbers.c ask for the numbers of literals, and sizes.c hand over what is
+# large. threads.c is watched by the thread sanitizer, and by helgrind, which sees the library's own loads and stores too; and the archive
+# must hold no variable. The header goes through a C++ compiler too.
 #
 #     bindings/c/test.sh             makes the archive first
 #     bindings/c/test.sh ARCHIVE     takes one that was made before
@@ -55,6 +55,11 @@ if ! offsets=$("$built/offsets"); then
     echo "c: by offsets texts do not give what they should: $offsets" >&2
     exit 1
 fi
+build verdicts "${watched[@]}" -DLP_REFUSE
+if ! verdicts=$("$built/verdicts"); then
+    echo "c: verdicts on lines are not those that they should be: $verdicts" >&2
+    exit 1
+fi
 build cuts "${watched[@]}" -DLP_REFUSE
 if ! cut=$("$built/cuts"); then
     echo "c: texts that come in parts are not cut as they should be: $cut" >&2
@@ -75,7 +80,7 @@ if ! sizes=$("$built/sizes"); then
     echo "c: what should come of what is large did not come: $sizes" >&2
     exit 1
 fi
-said="the examples print what they should; $lent; $offsets; $cut; $written; $numbers; $sizes"
+said="the examples print what they should; $lent; $offsets; $verdicts; $cut; $written; $numbers; $sizes"
 
 # Runs threads.c, built with these flags, by this command.
 run_threads() {

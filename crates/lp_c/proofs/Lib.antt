@@ -10,6 +10,8 @@ pub mod RoomLemmas
 pub mod RowKeyLemmas
 pub mod RowLemmas
 pub mod RowsLemmas
+pub mod RowsTold
 pub mod TextLemmas
 pub mod ToldLemmas
+pub mod VerdictLemmas
 pub mod WritingLemmas

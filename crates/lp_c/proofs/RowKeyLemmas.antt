@@ -1,10 +1,8 @@
 -- The keys that rows tell are those of the series of their lines.
-use Rattle.std.proofs.Common.{◌≡◌, ◌∙◌, ℕ, ◌+◌, ◌<◌, List, [], ◌∷◌, ◌++◌, length, take, drop, refl, sym, ap, subst, arith, append_assoc, append-nil}
-use Rattle.std.proofs.Common.{Option, Ok, flat_map, get_or, set, true, inl, inr}
+use Rattle.std.proofs.Common.{◌≡◌, ◌∙◌, ℕ, List, [], ◌∷◌, ◌++◌, length, take, refl, sym, ap, subst, arith, append_assoc, append-nil}
+use Rattle.std.proofs.Common.{Option, Ok, flat_map, true, inl, inr}
 use Rattle.std.specs.List.{AllByRecursion, AllZip, list_all}
 use Rattle.std.proofs.Math.Seq.{take-append_seam}
-use Rattle.std.proofs.lemmas.List.{drop-set-lt, drop_more, get_or-drop, get_or_default, take_more_set}
-use Rattle.std.proofs.lemmas.List.Elements.{all_zip_more}
 use Rattle.lp_format.specs.format.{Dialect, Line, Pair, Read, Tag, Text, a_measurement, answer, built_tag, front_before, is_admitted_tag}
 use Rattle.lp_format.specs.format.{name, reads, some_tags, space, spelling, tag_set}
 use Rattle.lp_format.proofs.lemmas.read_back.NameReadsBack.{read_name, read_tags}
@@ -93,38 +91,6 @@ module _ (read_back : KeysReadBack) (stand : KeysStandInTexts) (are_parsed : Rea
   all_tell text (row ∷ rows) [] tell = absurd tell
   all_tell text (row ∷ rows) (one ∷ told) tell = (tells_key text row one tell.0.len (same_line text row one tell.0.others), all_tell text rows told tell.1)
 
--- a row more tells its key: the rows so far tell theirs, and those after it are as they were
-module _ (text : List ℕ) (old rows : List OffsetRow) (i : ℕ) (d : OffsetRow) (n : ℕ) (here : i < length rows)
-    (size : length rows ≡ length old) (others : drop i rows ≡ drop i old) (so_far : AllZip (TellsKey text) (take i old) (take i rows))
-    (is : IsKeyLen text (get_or rows i d) n) where
-  -- the row
-  abbrev row : OffsetRow
-  row = get_or rows i d
-
-  -- the row with its key
-  abbrev told : OffsetRow
-  told = record row { key = n }
-
-  -- the row is as it was
-  row_is : (e : OffsetRow) → get_or rows i e ≡ get_or old i e
-  row_is e =
-      let none : i + 0 ≡ i = omega arith in
-      let same : get_or rows (i + 0) e ≡ get_or old (i + 0) e =
-      sym (get_or-drop i rows 0 e) ∙ ap (λ (l : List OffsetRow). get_or l 0 e) others ∙ get_or-drop i old 0 e in
-      subst (λ (k : ℕ). get_or rows k e ≡ get_or old k e) none same
-
-  -- they tell theirs
-  pub tell_more : AllZip (TellsKey text) (take (i + 1) old) (take (i + 1) (set rows i told))
-  tell_more =
-      let one : TellsKey text row told = record { len = is; others = refl } in
-      let same : row ≡ get_or old i row = get_or_default rows i d row here ∙ row_is row in
-      rw (take_more_set rows i told here)
-      (all_zip_more (TellsKey text) old (take i rows) i row told (omega (arith, here, size)) same so_far one)
-
-  -- and the rows after it are as they were
-  pub others_stay : drop (i + 1) (set rows i told) ≡ drop (i + 1) old
-  others_stay =
-      let there : i < length old = omega (arith, here, size) in
-      let same : row ∷ drop (i + 1) rows ≡ get_or old i d ∷ drop (i + 1) old = sym (drop_more rows i d here) ∙ others ∙ drop_more old i d there in
-      let after : drop (i + 1) rows ≡ drop (i + 1) old = cc in
-      drop-set-lt (i + 1) rows i told (omega arith) ∙ after
+-- a row that tells so many bytes of its line
+pub tells_len : (text : List ℕ) (row : OffsetRow) (n : ℕ) → IsKeyLen text row n → TellsKey text row (record row { key = n })
+tells_len text row n is = record { len = is; others = refl }

@@ -13,5 +13,6 @@ pub mod Rebuilding
 pub mod Rooms
 pub mod RowKeys
 pub mod Telling
+pub mod Verdicts
 pub mod Writing
 pub mod WritingRows

@@ -20,6 +20,7 @@ mod reading;
 mod rebuilding;
 mod row_keys;
 mod telling;
+mod verdicts;
 mod views;
 mod writing;
 mod writing_rows;

@@ -32,7 +32,7 @@ pub struct OffsetRow {
     pub timestamp: i64,
     /// 0, until `lp_offsets_keys` tells it: how many bytes at the start of its line are the key of its series.
     pub key: u64,
-    /// 0: kept for a verdict on the line.
+    /// 0, until `lp_offsets_verdicts` tells it: the bits of the clauses of what is portable that its piece breaks.
     pub verdict: u64,
     /// Where its piece lies in the text.
     pub piece: Span,

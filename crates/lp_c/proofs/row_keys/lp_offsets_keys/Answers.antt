@@ -2,7 +2,7 @@ use Rattle.std.proofs.Common.{◌<◌, List, arith, length, subst, take, take_al
 use Rattle.std.specs.List.{AllZip}
 use Rattle.lp_c.specs.RowKeys.{TellsKey}
 use Rattle.lp_c.specs.declared.offsets.OffsetRow.{OffsetRow}
-use Rattle.lp_c.proofs.RowKeyLemmas.{all_tell, others_stay, tell_more}
+use Rattle.lp_c.proofs.{RowKeyLemmas.all_tell, RowKeyLemmas.tells_len, RowsTold.others_stay, RowsTold.tell_more}
 use Rattle.lp_c.proofs.row_keys.lp_offsets_keys.Goals as goal
 
 pub loop-at-preserved : goal.loop-at-preserved
@@ -12,10 +12,11 @@ loop-at-preserved c =
     let old = c.args.rows.now in
     let here : was.at < length was.rows = omega (arith, c.loop-at-test.true, was.auto.rows) in
     let step = was.invariant in
+    let tells = tells_len text _ _ c.key_len-len.ensures.len in
     record {
       portion = c.key_len-len.ensures.portion;
-      told = tell_more text old was.rows was.at _ c.key_len-len.result here was.auto.rows step.others step.told c.key_len-len.ensures.len;
-      others = others_stay text old was.rows was.at _ c.key_len-len.result here was.auto.rows step.others step.told c.key_len-len.ensures.len;
+      told = tell_more (TellsKey text) old was.rows was.at _ _ here was.auto.rows step.others step.told tells;
+      others = others_stay (TellsKey text) old was.rows was.at _ _ here was.auto.rows step.others step.told tells;
     }
 
 pub returns-clause-series : goal.returns-clause-series

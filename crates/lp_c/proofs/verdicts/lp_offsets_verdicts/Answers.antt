@@ -1,0 +1,19 @@
+use Rattle.std.proofs.Common.{◌<◌, arith, length}
+use Rattle.lp_c.specs.Verdicts.{TellsVerdict}
+use Rattle.lp_c.proofs.{RowsTold.others_stay, RowsTold.tell_more, VerdictLemmas.tells_bits}
+use Rattle.lp_c.proofs.verdicts.lp_offsets_verdicts.Goals as goal
+
+pub loop-at-preserved : goal.loop-at-preserved
+loop-at-preserved c =
+    let was = c.loop-at in
+    let limits = c.args.limits.now in
+    let text = c.args.text.now in
+    let old = c.args.rows.now in
+    let here : was.at < length was.rows = omega (arith, c.loop-at-test.true, was.auto.rows) in
+    let step = was.invariant in
+    let tells = tells_bits limits text _ c.in-Ok.bits c.in-Ok.ensures.bits in
+    record {
+      portion = c.in-Ok.ensures.portion;
+      told = tell_more (TellsVerdict limits text) old was.rows was.at _ _ here was.auto.rows step.others step.told tells;
+      others = others_stay (TellsVerdict limits text) old was.rows was.at _ _ here was.auto.rows step.others step.told tells;
+    }

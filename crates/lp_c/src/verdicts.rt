@@ -1,0 +1,145 @@
+//! Which clauses of what is portable the lines of rows by offsets break, told in the rows.
+
+ghost use Rattle.std.specs.Prelude.{◌≡◌, ◌≢◌, ◌↔◌, ◌≤◌, IfOk, drop, length, take};
+ghost use Rattle.std.specs.List.{AllZip};
+ghost use Rattle.lp_portable.specs.format.Portable.{default_limits};
+ghost use Rattle.lp_c.specs.Numbers.{answer_number};
+ghost use Rattle.lp_c.specs.Portions.{IsPortionOf};
+ghost use Rattle.lp_c.specs.Verdicts.{IsPieceOf, IsVerdict, TellsVerdict, limits_of};
+ghost use Rattle.lp_c.specs.declared.views.Answer.TheVariants as Answer;
+
+use crate::offsets::OffsetRow;
+use crate::portions::{Portion, no_portion};
+use crate::views::Answer;
+use lp_portable::{Limits as Most, broken_clauses};
+use std::alloc::{AllocError, Global};
+
+/// What the options of a server change.
+#[repr(C)]
+#[derive(Clone, Copy)]
+pub struct Limits {
+    /// The most bytes of a line.
+    pub line: usize,
+    /// The most tags of a line.
+    pub tags: usize,
+    /// The earliest timestamp that is kept.
+    pub earliest: i64,
+    /// The latest timestamp that is kept.
+    pub latest: i64,
+}
+
+// Limits as the library takes them.
+fn limits_of(limits: &Limits) -> Most
+    ensures { result ≡ limits_of limits.now }
+{
+    Most {
+        line: limits.line,
+        tags: limits.tags,
+        earliest: limits.earliest,
+        latest: limits.latest,
+    }
+}
+
+/// The limits of servers whose options are as they come: lines of 262,144 bytes, 29 tags, and timestamps from 1,000,000 on. It asks for no
+/// memory.
+///
+/// ```text
+/// limits.tags  is  29
+/// ```
+#[unsafe(no_mangle)]
+pub extern "C" fn lp_limits_default(limits: &mut Limits)
+    ensures { limits_of limits.new ≡ default_limits }
+{
+    let most = Most::new();
+    *limits = Limits {
+        line: most.line,
+        tags: most.tags,
+        earliest: most.earliest,
+        latest: most.latest,
+    };
+}
+
+// The piece of a row, if it has a line and the text has the piece at its place. So many rows are asked for, and so many were given.
+fn piece_of<'a>(
+    text: &'a [u8],
+    portion: &mut Portion<'a>,
+    row: &OffsetRow,
+    rows: usize,
+    given: usize,
+) -> Option<&'a str>
+    requires { IsPortionOf text.now portion.old }
+    ensures portion { IsPortionOf text.now portion.new }
+    ensures piece { IsPieceOf text.now row.now result }
+{
+    if row.answer != Answer::Line.number() {
+        return None;
+    }
+    let at = row.piece.at as usize;
+    let len = row.piece.len as usize;
+    if text.len() < at || text.len() - at < len {
+        return None;
+    }
+    portion.next_text(text, at, len, rows, given)
+}
+
+// The bits of the clauses that the piece of a row breaks, or 1 if it is no line.
+fn verdict<'a>(
+    alloc: Global,
+    limits: &Limits,
+    text: &'a [u8],
+    portion: &mut Portion<'a>,
+    row: &OffsetRow,
+    rows: usize,
+    given: usize,
+) -> Result<u64, AllocError>
+    requires { IsPortionOf text.now portion.old }
+    ensures portion { IsPortionOf text.now portion.new }
+    ensures bits { IfOk result (IsVerdict limits.now text.now row.now) }
+{
+    let Some(piece) = piece_of(text, portion, row, rows, given) else {
+        return Ok(1);
+    };
+    match broken_clauses(alloc, &limits_of(limits), piece)? {
+        Some(broken) => Ok(broken.bits()),
+        None => Ok(1),
+    }
+}
+
+/// Tells each row which clauses its piece breaks, with these limits: `verdict` is the sum of their bits, 0 if it breaks none. It is 1 if the
+/// piece is not one line for the strict reader, or the row has no line, or the text has no UTF-8 at the place of the piece.
+///
+/// `text` is the one of which `lp_offsets_block` filled the rows, by whatever rules: each piece is read again by the strict ones. Answers
+/// `Written`; or `OutOfMemory`, if memory was refused for a row. `told` is how many rows are told: the first ones. The rows after these
+/// are as they were, and so is all else in each row. Memory is taken as for `broken_clauses`, and given back.
+///
+/// ```text
+/// m f=1   ->  0
+/// m f=1u  ->  16384: an unsigned integer
+/// m 1     ->  1: no line
+/// ```
+#[unsafe(no_mangle)]
+pub extern "C" fn lp_offsets_verdicts(
+    alloc: Global,
+    text: &[u8],
+    rows: &mut [OffsetRow],
+    limits: &Limits,
+    told: &mut usize,
+) -> u32
+    ensures verdicts { AllZip (TellsVerdict limits.now text.now) (take told.new rows.old) (take told.new rows.new) }
+    ensures others { drop told.new rows.new ≡ drop told.new rows.old }
+    ensures size { (length rows.new ≡ length rows.old) × (told.new ≤ length rows.new) }
+    ensures all { result ≡ answer_number Answer.Written ↔ told.new ≡ length rows.new }
+    ensures answers { result ≢ answer_number Answer.Written → result ≡ answer_number Answer.OutOfMemory }
+{
+    let count = rows.len();
+    let mut portion = no_portion(0, 0, 0);
+    for at in 0..count {
+        let Ok(bits) = verdict(alloc, limits, text, &mut portion, &rows[at], count, at) else {
+            *told = at;
+            return Answer::OutOfMemory.number();
+        };
+        rows[at].verdict = bits;
+    }
+    *told = count;
+    Answer::Written.number()
+}
