@@ -44,6 +44,7 @@ beside_gate() {
     part checks/refusals.sh checks/refusals.sh
     part checks/events.sh checks/events.sh
     part checks/sizes.sh checks/sizes.sh
+    part checks/portable.sh checks/portable.sh "$made/liblp_c.a"
     part checks/differential.sh checks/differential.sh
     part bindings/c bindings/c/test.sh "$made/liblp_c.a"
     LP_LIB_DIR=$made part bindings/rust bindings/rust/test.sh

@@ -24,9 +24,9 @@ CLAUSES = [
     ("TagEscape", "i"), ("TagKeyComma", "iv"), ("TagValueEquals", "i"), ("RepeatedTag", "iv"), ("FieldKeyEscape", "i"),
     ("FieldKeyComma", "iv"), ("FieldKeyQuote", "v"), ("LongSeries", "i"), ("Unsigned", "i"), ("InfiniteFloat", "i"), ("Exponent", "v"),
     ("LeadingNul", "i"), ("TimeOutOfRange", "i"), ("TagCount", "i"),
-    ("TimeName", "i"), ("SystemName", "i"), ("RepeatedField", "iv"), ("KeySeparator", "i"), ("CarriageReturn", "i"),
-    ("NameLabel", "v"), ("LongTagKey", "v"), ("LongTagValue", "v"), ("LongMetricName", "v"), ("TooManyTags", "v"), ("LongLine", "v"),
-    ("TimeNotKept", "v"),
+    ("TimeName", "i"), ("SystemName", "i"), ("RepeatedField", "iv"), ("KeySeparator", "i"), ("ControlByte", "i"),
+    ("NameLabel", "v"), ("LongTagKey", "v"), ("LongTagValue", "v"), ("LongMetricName", "v"), ("LongLabels", "v"), ("TooManyTags", "v"),
+    ("LongLine", "v"), ("TimeNotKept", "v"),
 ]
 NAMES = [name for name, _ in CLAUSES]
 BIT = {name: 1 << place for place, name in enumerate(NAMES)}
@@ -36,18 +36,23 @@ PARSED = sum(BIT[name] for name in NAMES[:20])
 
 SYSTEM_MEASUREMENTS = {b"_fieldKeys", b"_measurements", b"_name", b"_series", b"_tagKey", b"_tagKeys", b"_tags"}
 SYSTEM_FIELDS = {b"_name", b"_tagKey", b"_tagValue", b"_fieldKey", b"_seriesKey"}
-# InfluxDB keeps a series, `#!~#` and a field key as one text, and ends the series at the first `#!~#` of that when it starts again.
-KEY_SEPARATOR = re.compile(rb"#!~(?:[#,]|\Z)")
+# InfluxDB keeps a series, `#!~#` and a field key as one text, and ends the series at the first `#!~#` of that when it starts again. It writes
+# the tags in the order of their keys, so what follows a `#!~` may be another byte there.
+KEY_SEPARATOR = b"#!~"
+# So many tags make InfluxDB panic. A series with more is too long.
+PANICS = {100 << power for power in range(8)}
+# What VictoriaMetrics keeps: bytes of a tag value or of a metric name, and bytes of a metric name with all its tags, of which bytes 0, 1 and 2
+# count twice. Of the latter it keeps 65,535, but a name of a database is among them.
+MOST_VALUE, MOST_LABELS = 16384, 32000
+# A clause that is never broken alone, with the one that is broken with it.
+WITHIN = {"LeadingNul": "ControlByte"}
 
 
 @dataclass(frozen=True)
 class Limits:
-    """What VictoriaMetrics keeps: tags of a line, bytes of a tag value or of a metric name, bytes of a metric name with all its tags, bytes of
-    a line, and times. The `series` leaves 505 bytes for the name of a database."""
+    """What options of VictoriaMetrics change: tags of a line, bytes of a line, and times."""
 
     tags: int = 29
-    label: int = 16384
-    series: int = 65000
     line: int = 262144
     earliest: int = 1000000
     latest: int = 2**63 - 1
@@ -220,19 +225,14 @@ def repeats(texts):
     return len(set(texts)) != len(texts)
 
 
-def stored(text):
-    """How many bytes VictoriaMetrics keeps for a text: of a byte 0, 1 or 2 it keeps two."""
-    return len(text) + sum(map(text.count, (b"\0", b"\1", b"\2")))
+def holds_control(text):
+    """Whether a text holds a byte 0 or a carriage return."""
+    return b"\0" in text or b"\r" in text
 
 
 def is_infinite(literal):
     """Whether the double that is nearest to a literal of a float is infinite."""
     return float(literal) in (float("inf"), float("-inf"))
-
-
-def is_doubled_hundred(count):
-    """Whether a number is 100, or 200, or 400, and so on."""
-    return count % 100 == 0 and (count // 100).bit_count() == 1
 
 
 def of_text(text):
@@ -249,7 +249,7 @@ def of_measurement(line):
     yield "MeasurementEquals", paired(spelled, b"=")
     yield "MeasurementEscape", paired(spelled, b"\\\"")
     yield "SystemName", measured in SYSTEM_MEASUREMENTS
-    yield "CarriageReturn", b"\r" in measured
+    yield "ControlByte", holds_control(measured)
 
 
 def of_tags(line, limits):
@@ -260,15 +260,15 @@ def of_tags(line, limits):
     yield "TagKeyComma", any(bare(key, b",") for key in spelled_keys)
     yield "TagValueEquals", any(bare(value.removeprefix(b"="), b"=") for value in spelled_values)
     yield "RepeatedTag", repeats(keys)
-    yield "TagCount", is_doubled_hundred(len(keys))
+    yield "TagCount", len(keys) in PANICS
     yield "TimeName", b"time" in keys
     yield "NameLabel", b"__name__" in keys
     yield "LongTagKey", any(len(key) > 256 for key in keys)
-    yield "LongTagValue", any(len(value) > limits.label for value in values)
+    yield "LongTagValue", any(len(value) > MOST_VALUE for value in values)
     yield "TooManyTags", len(keys) > limits.tags
 
 
-def of_field_keys(line, limits):
+def of_field_keys(line):
     """The clauses that field keys break, alone or with the series."""
     spelled = [key for key, _, _ in line.fields]
     keys, measurement = [key_of(key) for key in spelled], logical(line.measurement, b", \\")
@@ -279,11 +279,10 @@ def of_field_keys(line, limits):
     yield "LeadingNul", spelled[0].startswith(b"\0")
     yield "TimeName", b"time" in keys
     yield "SystemName", not SYSTEM_FIELDS.isdisjoint(keys)
-    yield "CarriageReturn", any(b"\r" in key for key in keys)
+    yield "ControlByte", any(map(holds_control, keys))
     yield "RepeatedField", repeats(keys)
-    yield "LongMetricName", any(len(measurement) + 1 + len(key) > limits.label for key in keys)
-    tags = sum(stored(key_of(key)) + stored(key_of(value)) + 2 for key, value in line.tags)
-    yield "LongMetricName", any(stored(measurement) + 1 + stored(key) + tags > limits.series for key in keys)
+    yield "LongMetricName", any(len(measurement) + 1 + len(key) > MOST_VALUE for key in keys)
+    yield "LongLabels", any(len(line.series) + 1 + len(key) > MOST_LABELS for key in keys)
 
 
 def of_values(line, limits):
@@ -302,9 +301,9 @@ def broken(text, line, limits):
     yield from of_text(text)
     yield from of_measurement(line)
     yield from of_tags(line, limits)
-    yield from of_field_keys(line, limits)
+    yield from of_field_keys(line)
     yield from of_values(line, limits)
-    yield "KeySeparator", KEY_SEPARATOR.search(line.series) is not None
+    yield "KeySeparator", KEY_SEPARATOR in line.series
     yield "LongLine", len(text) > limits.line
 
 
@@ -351,8 +350,8 @@ TIMES = [
     b"-9223372036854775806", b"-9223372036854775807", b"-9223372036854775808", b"9223372036854775808", b"0009223372036854775806",
     b"2900000000000000000", b"1000000000000000000000", b"5\r", b"5i", b"+5",
 ]
-SIZES = [255, 256, 257, 16381, 16382, 16383, 16384, 16385, 65524, 65525, 65526, 65527, 262130, 262140]
-COUNTS = [28, 29, 30, 31, 99, 100, 101, 199, 200, 201, 300, 400, 500, 600, 800, 1600]
+SIZES = [255, 256, 257, 15994, 15998, 16381, 16382, 16383, 16384, 16385, 31992, 31996, 65524, 65525, 65526, 65527, 262130, 262140]
+COUNTS = [28, 29, 30, 31, 99, 100, 101, 199, 200, 201, 300, 400, 500, 600, 800, 1600, 3200, 6400, 12800]
 
 
 def word(rng):
@@ -425,7 +424,7 @@ def large(rng):
     """A line near a border of a length or of a count."""
     size, count = rng.choice(SIZES) + rng.randrange(-1, 2), rng.choice(COUNTS)
     many = b"".join(b",t%04d=v" % place for place in range(count))
-    labels = b"".join(b"," + key + b"=" + b"v" * 16384 for key in (b"a", b"b", b"c")) + b",d=" + b"v" * (15833 + rng.randrange(-2, 3))
+    labels = b",a=" + b"v" * 16384 + b",b=" + b"v" * (15607 + rng.randrange(-2, 3))
     return rng.choice([
         b"m" * size + b" f=1", b"m,t=" + b"v" * size + b" f=1", b"m," + b"k" * size + b"=v f=1", b"m " + b"f" * size + b"=1",
         b"m s=\"" + b"x" * size + b"\"", b"m," + b"k\\=" * (size // 3) + b"=v f=1", b"m,t=" + b"\\ " * (size // 2) + b" f=1",
@@ -514,7 +513,7 @@ def faults_of(row):
         yield f"breaks {clauses(text)}, and not {row.bits}"
     bits = clauses(text, AS_MEASURED)
     for server in "iv":
-        if not bits & MASK[server] and not row.is_only(server, "same", "unnamed"):
+        if not bits & MASK[server] and not row.is_only(server, "same"):
             yield f"breaks no clause of {server}, and is not the same there"
 
 
@@ -522,8 +521,9 @@ def faults_of_clause(clause, servers, its):
     """What is wrong with the rows of a clause, in words."""
     if all(row.bits & BIT[clause] for row in its):
         yield "has no row inside"
+    alone = BIT[clause] | BIT.get(WITHIN.get(clause), 0)
     for server in servers:
-        if not any(row.bits & MASK[server] == BIT[clause] and not row.is_only(server, "same") for row in its):
+        if not any(row.bits & MASK[server] == alone and not row.is_only(server, "same") for row in its):
             yield f"has no row outside that {server} reads otherwise"
 
 
