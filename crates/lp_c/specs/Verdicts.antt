@@ -3,8 +3,10 @@ use Rattle.std.specs.Prelude.{◌≡◌, ◌⊎◌, ◌≤◌, ◌+◌, ℕ, Lis
 use Rattle.std.specs.Borrow.{Bor}
 use Rattle.lp_portable.specs.declared.broken.Broken.{Broken}
 use Rattle.lp_portable.specs.declared.limits.Limits as portable
-use Rattle.lp_portable.specs.format.Bits.{bits_of}
-use Rattle.lp_portable.specs.format.Portable.{Breaks}
+use Rattle.lp_portable.specs.code.Bits.{bits_of}
+use Rattle.lp_portable.specs.code.Clauses as code
+use Rattle.lp_portable.specs.code.Clauses.{Breaks}
+use Rattle.lp_portable.specs.format
 use Rattle.lp_c.specs.Numbers.{answer_number}
 use Rattle.lp_c.specs.declared.offsets.OffsetRow.{OffsetRow}
 use Rattle.lp_c.specs.declared.verdicts.Limits.{Limits}
@@ -13,6 +15,10 @@ use Rattle.lp_c.specs.declared.views.Answer.TheVariants as Answer
 -- limits as the library takes them
 abbrev pub limits_of : Limits → portable.Limits
 limits_of limits = record { line = limits.line; tags = limits.tags; earliest = limits.earliest; latest = limits.latest }
+
+-- the same as the format has them
+abbrev pub format_limits : Limits → format.Limits
+format_limits limits = code.limits_of (limits_of limits)
 
 -- the bytes of the piece of a row
 abbrev pub piece_there : List ℕ → OffsetRow → List ℕ

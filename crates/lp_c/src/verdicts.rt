@@ -5,7 +5,7 @@ ghost use Rattle.std.specs.List.{AllZip};
 ghost use Rattle.lp_portable.specs.format.Portable.{default_limits};
 ghost use Rattle.lp_c.specs.Numbers.{answer_number};
 ghost use Rattle.lp_c.specs.Portions.{IsPortionOf};
-ghost use Rattle.lp_c.specs.Verdicts.{IsPieceOf, IsVerdict, TellsVerdict, limits_of};
+ghost use Rattle.lp_c.specs.Verdicts.{IsPieceOf, IsVerdict, TellsVerdict, format_limits, limits_of};
 ghost use Rattle.lp_c.specs.declared.views.Answer.TheVariants as Answer;
 
 use crate::offsets::OffsetRow;
@@ -48,7 +48,7 @@ fn limits_of(limits: &Limits) -> Most
 /// ```
 #[unsafe(no_mangle)]
 pub extern "C" fn lp_limits_default(limits: &mut Limits)
-    ensures { limits_of limits.new ≡ default_limits }
+    ensures { format_limits limits.new ≡ default_limits }
 {
     let most = Most::new();
     *limits = Limits {

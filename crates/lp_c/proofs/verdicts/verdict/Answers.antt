@@ -6,5 +6,5 @@ use Rattle.lp_c.proofs.verdicts.verdict.Goals as goal
 pub returns-in-None-clause-bits : goal.returns-in-None-clause-bits
 returns-in-None-clause-bits c =
     let there = c.in-Some.ensures.piece in
-    let none = subst (TellsBroken c.limits_of.result c.in-Some.piece.now) c.in-None.is c.in_ok-broken.ensures in
+    let none = subst (TellsBroken c.limits_of.result c.in-Some.piece.now) c.in-None.is c.in_ok-broken.ensures.value in
     inr (λ broken told. none told.breaks.line (subst (λ t. IsOneLine t told.breaks.line) (sym there.1) told.breaks.is_line), refl)
