@@ -94,6 +94,7 @@ OTHER = [
     r"m,t=a\\\,b f=1",
     r"m a\b=1",
     r"m\=x f=1",
+    r'm\"x f=1',
     r'm f\"g=1',
     r"m,t=a\\ f=1",
     r"m\\,t=a f=1",
@@ -152,7 +153,7 @@ def raw(text):
 
 def spelled(text):
     """A text as the table spells it, as code."""
-    text = re.sub(r"(.)\1{999,}", lambda found: f"{found[1]}×{len(found[0])}", text, flags=re.S)
+    text = re.sub(r"(.)\1{99,}", lambda found: f"{found[1]}×{len(found[0])}", text, flags=re.S)
     for sign, char in SIGNS.items():
         if char != " ":
             text = text.replace(char, sign)
@@ -358,6 +359,10 @@ class Influx:
         return Reading(points, faults)
 
 
+# The time that checks/interop.go gives to a point without one.
+NO_TIME = 1234567890
+
+
 class Parser:
     """The parser of InfluxDB 1.x alone."""
 
@@ -368,7 +373,7 @@ class Parser:
         read = json.loads(subprocess.run([self.program], input=text, capture_output=True, check=True).stdout)
         points = []
         for found in read["Points"]:
-            stamp = None if found["Time"] == 1234567890 else found["Time"]
+            stamp = None if found["Time"] == NO_TIME else found["Time"]
             points.append(point(found["Name"], [tuple(tag) for tag in found["Tags"]], found["Fields"], stamp))
         return Reading(points, [f"refused: {spelled(cause)}" for cause in causes(read["Fault"])])
 
@@ -541,14 +546,14 @@ def page_text(parts, versions):
     return "\n".join(lines)
 
 
-def parts_of_page():
-    """The page before the mark, between the marks, and after them."""
+def parts_of_page(begin=BEGIN, end=END):
+    """The page before a mark, between two marks, and after them."""
     text = PAGE.read_text(encoding="utf-8")
-    if text.count(BEGIN + "\n") != 1 or text.count("\n" + END) != 1:
-        raise Fault(f"{PAGE.name} has not once each of the lines {BEGIN} and {END}")
-    before, rest = text.split(BEGIN + "\n")
-    between, after = rest.split("\n" + END)
-    return before + BEGIN + "\n", between, "\n" + END + after
+    if text.count(begin + "\n") != 1 or text.count("\n" + end) != 1:
+        raise Fault(f"{PAGE.name} has not once each of the lines {begin} and {end}")
+    before, rest = text.split(begin + "\n")
+    between, after = rest.split("\n" + end)
+    return before + begin + "\n", between, "\n" + end + after
 
 
 def rows_of_page():

@@ -1,6 +1,7 @@
 #!/usr/bin/env bash
 # Writes texts to servers of its own, and the lines that lp_relay makes of them, rebuilt, verbatim and canonical, and compares what is
-# stored with the tables of docs/INTEROP.md. The texts are in interop.py. Then posting.sh posts to the servers by the lines of the page.
+# stored with the tables of docs/INTEROP.md. The texts are in interop.py. Then batches.py writes texts with a line after each, also those
+# of portable_rows.txt; the servers are started again, and it asks what they have. Last, posting.sh posts by the lines of the page.
 #
 #   checks/interop.sh RELAY            compares with the page
 #   checks/interop.sh --write RELAY    writes the tables into the page
@@ -30,9 +31,10 @@ if ! python3 -c 'import sys; sys.exit(sys.version_info < (3, 10))' 2>/dev/null; 
     exit 0
 fi
 work=$(mktemp -d)
-pids=()
+declare -A pids=()
 readers=()
-servers=()
+places=()
+parser=()
 
 # Ends the servers, and removes what they stored.
 stop() {
@@ -56,22 +58,48 @@ read -r http backup metrics < <(python3 -c 'import socket
 sockets = [socket.create_server(("127.0.0.1", 0)) for _ in range(3)]
 print(*(each.getsockname()[1] for each in sockets))')
 
-# start READER PACKAGE PORT COMMAND..: starts a server, and waits until it listens.
-start() {
-    local reader=$1 package=$2 port=$3
-    shift 3
-    "$@" >"$work/$reader.log" 2>&1 &
-    pids+=($!)
-    until (: >"/dev/tcp/127.0.0.1/$port") 2>/dev/null; do
-        if ! kill -0 $! 2>/dev/null || [ "$SECONDS" -gt 60 ]; then
-            tail -n 5 "$work/$reader.log" >&2
+# Is a server: `influx` or `victoria`. VictoriaMetrics drops what is older than it keeps.
+serve() {
+    case $1 in
+    influx) exec influxd -config "$work/influxdb.conf" ;;
+    victoria)
+        exec victoria-metrics -httpListenAddr="127.0.0.1:$metrics" -storageDataPath="$work/victoria" -retentionPeriod=100y \
+            -memory.allowedBytes=64MB
+        ;;
+    esac
+}
+
+# listen READER PORT: starts a server, and waits until it listens.
+listen() {
+    local end=$((SECONDS + 60))
+    serve "$1" >>"$work/$1.log" 2>&1 &
+    pids[$1]=$!
+    until (: >"/dev/tcp/127.0.0.1/$2") 2>/dev/null; do
+        if ! kill -0 $! 2>/dev/null || [ "$SECONDS" -gt "$end" ]; then
+            tail -n 5 "$work/$1.log" >&2
             echo "interop: $1 does not listen" >&2
             exit 1
         fi
         sleep 0.1
     done
-    readers+=("$reader=$(version_of "$package")=http://127.0.0.1:$port")
-    servers+=("$reader=http://127.0.0.1:$port")
+}
+
+# start READER PACKAGE PORT: starts a server that the checks ask.
+start() {
+    listen "$1" "$3"
+    readers+=("$1=$(version_of "$2")=http://127.0.0.1:$3")
+    places+=("$1=http://127.0.0.1:$3")
+}
+
+# Ends the servers that the checks ask, and starts them again.
+start_again() {
+    local place reader
+    for place in "${places[@]}"; do
+        reader=${place%%=*}
+        kill "${pids[$reader]}"
+        wait "${pids[$reader]}" || true
+        listen "$reader" "${place##*:}"
+    done
 }
 
 # Builds the parser of InfluxDB.
@@ -83,6 +111,7 @@ build_parser() {
         exit 1
     }
     readers+=("parser=$(version_of golang-github-influxdb-influxdb-dev)=$work/parser")
+    parser=("parser=$work/parser")
 }
 
 cat >"$work/influxdb.conf" <<TEXT
@@ -101,7 +130,7 @@ bind-address = "127.0.0.1:$backup"
   store-enabled = false
 TEXT
 if command -v influxd >/dev/null; then
-    start influx influxdb "$http" influxd -config "$work/influxdb.conf"
+    start influx influxdb "$http"
 else
     left_out "InfluxDB of docs/INTEROP.md" "there is no influxd"
 fi
@@ -112,18 +141,18 @@ elif [ ! -d /usr/share/gocode/src/github.com/influxdata/influxdb/models ]; then
 else
     build_parser
 fi
-# It drops what is older than it keeps.
 if command -v victoria-metrics >/dev/null; then
-    start victoria victoria-metrics "$metrics" victoria-metrics -httpListenAddr="127.0.0.1:$metrics" \
-        -storageDataPath="$work/victoria" -retentionPeriod=100y -memory.allowedBytes=64MB
+    start victoria victoria-metrics "$metrics"
 else
     left_out "VictoriaMetrics of docs/INTEROP.md" "there is no victoria-metrics"
 fi
 python3 -B "$here/interop.py" "${mode[@]}" "$relay" "${readers[@]}"
-if [ ${#mode[@]} != 0 ] || [ ${#servers[@]} = 0 ]; then
+[ ${#places[@]} != 0 ] || exit 0
+if ! command -v curl >/dev/null; then
+    left_out "batches and lines of docs/INTEROP.md with servers" "there is no curl"
     exit 0
-elif ! command -v curl >/dev/null; then
-    left_out "lines of docs/INTEROP.md with servers" "there is no curl"
-else
-    "$here/posting.sh" "$relay" "${servers[@]}"
 fi
+python3 -B "$here/batches.py" --post "$work/state" "$relay" "${places[@]}" "${parser[@]}"
+start_again
+python3 -B "$here/batches.py" "${mode[@]}" "$work/state" "${places[@]}"
+[ ${#mode[@]} != 0 ] || "$here/posting.sh" "$relay" "${places[@]}"

@@ -19,7 +19,7 @@ cd "$work/batches"
 # The lines of the first block of the page after a heading, for a database and an address.
 lines_of() {
     # shellcheck disable=SC2016
-    sed -n "/^## $1\$/,\$p" "$top/docs/INTEROP.md" | sed -n '/^```sh$/,/^```$/ { /^```sh$/d; /^```$/q; p; }' |
+    sed -n "/^###* $1\$/,\$p" "$top/docs/INTEROP.md" | sed -n '/^```sh$/,/^```$/ { /^```sh$/d; /^```$/q; p; }' |
         sed -e "s|http://127.0.0.1:[0-9]*|$3|" -e "s|db=DB|db=$2|"
 }
 
@@ -73,7 +73,8 @@ posts() {
 # Posts batches, some of which cannot be relayed or posted, by the lines after a heading.
 post_batches() {
     local path=$work/bin:$PATH lines none="lp_relay: cannot read the input: batch.lp: No such file or directory (os error 2)"
-    local refused="A generic parsing error occurred: TakeWhile1"
+    local refused="A generic parsing error occurred: TakeWhile1" long=""
+    [ "$1" = "Before InfluxDB 1.x" ] || long="line 1: the line is too long"
     lines=$(lines_of "$1" "$DB" "$ADDRESS")
     rm -rf ./*
     printf 'm,t=u f=1\nx\nm f=2\n' >batch.lp
@@ -96,6 +97,19 @@ post_batches() {
     posts 0 "1 2 3 4" "" "the server answers again"
     printf 'x\n' >batch.lp
     posts 0 "1 2 3 4" "line 1: $refused" "no line of the batch is carried"
+    { printf 'm s="' && head -c 600000 /dev/zero | tr '\0' x && printf '"\nm f=5\n'; } >batch.lp
+    posts 0 "1 2 3 4 5" "$long" "a line is longer than VictoriaMetrics takes"
+}
+
+# Posts to VictoriaMetrics, after those batches, one with a line in a string, by the lines that hold it back.
+post_strings() {
+    local path=$work/bin:$PATH lines refused="A generic parsing error occurred: TakeWhile1"
+    lines=$(lines_of "Strings of more lines before VictoriaMetrics" "$DB" "$ADDRESS")
+    printf 'm s="\nm f=8\n"\nm f=6\n' >batch.lp
+    posts 1 "1 2 3 4 5" "line 1: No fields were provided
+line 3: $refused" "a string has a line in it"
+    printf 'm f=6\nx\n' >batch.lp
+    posts 0 "1 2 3 4 5 6" "line 2: $refused" "a line of the batch is refused"
 }
 
 runs=0
@@ -113,7 +127,9 @@ for shell in dash bash; do
         server=${server%%=*}
         [ "$server" != influx ] || "$CURL" -sS -f --data-urlencode "q=CREATE DATABASE $DB" "$ADDRESS/query" >/dev/null
         [ "$server" = victoria ] || post_batches "Before InfluxDB 1.x"
-        [ "$server" = influx ] || post_batches "Before VictoriaMetrics"
+        [ "$server" != influx ] || continue
+        post_batches "Before VictoriaMetrics"
+        post_strings
     done
 done
 echo "posting: the lines of docs/INTEROP.md post each line once, to ${names:-a stub}, in $runs runs"

@@ -1,0 +1,667 @@
+#!/usr/bin/env python3
+"""What servers store of a text and of the lines around it in one call, and what they have after a restart: the last tables of
+docs/INTEROP.md, and the rows of portable_rows.txt. checks/interop.sh calls it before and after it starts the servers again.
+
+    checks/batches.py --post STATE RELAY READER=PLACE..
+    checks/batches.py [--write | --print] STATE READER=PLACE..
+
+READER: `influx` or `victoria`, with the address of an empty server, or `parser`, with the program that checks/interop.go is built to.
+`--post` writes each text to the servers, and to STATE what they answered and stored. Without it the servers are asked what they have now;
+this and STATE are compared with the page and with portable_rows.txt, or with `--write` put into the page, or with `--print` printed. Of a
+reader that is not named nothing is compared. No parser of VictoriaMetrics is asked.
+"""
+
+import json
+import re
+import subprocess
+import sys
+import time
+import urllib.parse
+from dataclasses import dataclass
+from pathlib import Path
+
+import interop
+import portable
+from interop import Fault, spelled
+
+BEGIN, END = "<!-- what checks/interop.sh measured of batches -->", "<!-- the end of the batches -->"
+# The lines before and after each text of the page, and the line after each of portable_rows.txt, whose time is that of most rows: points
+# of one week are stored together.
+BEFORE, AFTER = b"before z=1 5\n", b"after z=1 5\n"
+AFTER_ROW = b"after z=1 1590488773254000000\n"
+AROUND = ("after", "before")
+LARGE = 1000000
+
+# The texts, as the page spells them. A text that begins with another one, and ` then `, is posted after that. `{TEXT}×9` is nine times
+# TEXT, with the number of each, from 0 on, in the place of an N. At a PAUSE, before the newline of a text, the call waits.
+PAUSE = "⏸"
+INFLUX = [
+    r"m f=1 5⏎m f=t 6",
+    r"m f=1 5 then m f=2 6⏎m f=t 7",
+    r"m f=1,f=t 5",
+    r"m f=1i,f=1 5",
+    r"m f=1,f=t 1590488773254420000",
+    r"m{,tN=v}×99 f=1 5",
+    r"m{,tN=v}×100 f=1 5",
+    r"m{,tN=v}×101 f=1 5",
+    r"m{,tN=v}×200 f=1 5",
+    r"m{,tN=v}×400 f=1 5",
+    r"{m f=1 N⏎}×999998",
+    r"{m f=1 N⏎}×999999",
+    r"m f=1 -1 then {m f=1 N⏎}×1000001",
+    r'{m s="x×8333319" N⏎}×3',
+    r'{m s="x×8333320" N⏎}×3',
+    r"m f=1u 5",
+    r"m,t=v,t=w f=1 5",
+    r"m,a,b=v f=1 5",
+    r"m time=1 5",
+    r"m ␀f=1 5",
+    r'm\"x f=1 5',
+    r"a␍b f=1 5",
+    r"m f␍g=1 5",
+    r"_series f=1 5",
+    r"_name f=1 5",
+    r"m _name=1 5",
+    r"m _tagKey=1 5",
+    r"m,t=a#!~#b f=1 5",
+    r"m#!~#x f=1 5",
+    r"m,t=a#!~ f=1 5",
+    r"m,t=a#!~b f=1 5",
+    r"m,t=a f#!~#g=1 5",
+]
+VICTORIA = [
+    r'm s="⏎o b=7⏎" 5',
+    r'm s="⏎o b=7 1590488773254420000⏎" 5',
+    r'm f=1,s="a⏎o b=7 5⏎b" 5',
+    r'm s="a␍b" 5',
+    r'm s="12" 5',
+    r'm s="inf" 5',
+    r'm s="nan" 5',
+    r'm k"=1 5',
+    r'm k"=1,l=2 5',
+    r"m k'=1,l=2 5",
+    r'm s="x×262136" 5⏸',
+    r'm s="x×262137" 5⏸',
+    r'm s="x×600000" 5',
+    r"m{,tN=v}×29 f=1 5",
+    r"m{,tN=v}×30 f=1 5",
+    r"m{,uN=v}×31 f=1 5",
+    r"m,k×256=v f=1 5",
+    r"m,k×257=v f=1 5",
+    r"m,t=v×16385 f=1 5",
+    r"m×16383 f=1 5",
+    r"m,__name__=x f=1 5",
+    r"m,db=x f=1 5",
+    r"m_a b=1 5⏎m a_b=2 5",
+    r"m f=1 0",
+    r"m f=1 -1000000",
+    r"m f=9007199254740993i 5",
+    r"m f=0.1234567890123456 5",
+    r"m f=5e-324 5",
+]
+# Of these lp_relay is asked in the dialect in which each newline ends a line, too.
+STRINGS = VICTORIA[:4]
+TEXTS = {"influx": INFLUX, "victoria": VICTORIA}
+WAYS = {"influx": interop.BOTH, "victoria": interop.STRICT}
+
+
+def raw(text):
+    """The bytes that a text of the tables stands for."""
+    def each(found):
+        return "".join(found[1].replace("N", str(place)) for place in range(int(found[2])))
+
+    return interop.raw(re.sub(r"\{([^{}]*)\}×(\d+)", each, text))
+
+
+def shown_text(text):
+    """A text as the tables show it."""
+    return ", then ".join(f"`{part}`" for part in text.split(" then "))
+
+
+# What is stored, and what is wanted: points of a name, sorted tags, sorted fields and a time.
+
+
+def typed(kind, value):
+    """A value of a line that lp_relay wrote."""
+    if kind == "float":
+        return float(value)
+    return value == "true" if kind == "boolean" else value if kind == "string" else int(value)
+
+
+def in_order(fields):
+    """Fields in the order of their keys."""
+    return tuple(sorted(fields, key=lambda field: (field[0], str(field[1]))))
+
+
+def written(lines):
+    """The points of lines that lp_relay wrote."""
+    found = interop.written_points(lines.decode())
+    return [(name, tags, in_order((key, typed(kind, value)) for key, kind, value in fields), at) for name, tags, fields, at in found]
+
+
+def typed_field(name, kind, value):
+    """A field of a line that the oracle of portable.py read."""
+    texts = {"f": float, "b": lambda text: text[:1] in b"tT", "s": lambda text: portable.logical(text, b'"\\').decode()}
+    return portable.key_of(name).decode(), texts.get(kind, int)(value)
+
+
+def wanted_of(text):
+    """The point of a text that the oracle reads as one line, or `None`."""
+    found = portable.read(text)
+    if not found:
+        return None
+    line = found[1]
+    tags = [(portable.key_of(key).decode(), portable.key_of(value).decode()) for key, value in line.tags]
+    fields = [typed_field(*each) for each in line.fields]
+    return portable.logical(line.measurement, b", \\").decode(), tuple(sorted(tags)), in_order(fields), line.time
+
+
+def is_value(wanted, found):
+    """Whether a value is this one, of the same type. InfluxDB's answers have no type for numbers."""
+    types = [bool, str]
+    return wanted == found and all(isinstance(wanted, one) == isinstance(found, one) for one in types)
+
+
+def is_now(nanoseconds):
+    return abs(nanoseconds - time.time_ns()) < 600e9
+
+
+def is_point(wanted, found):
+    """Whether a point of InfluxDB is this one."""
+    at = is_now(found[3]) if wanted[3] is None else wanted[3] == found[3]
+    pairs = [one[0] == other[0] and is_value(one[1], other[1]) for one, other in zip(wanted[2], found[2])]
+    return wanted[:2] == found[:2] and at and len(wanted[2]) == len(found[2]) and all(pairs)
+
+
+def shown_series(name, tags):
+    """A name and its tags as the tables show them. Many tags are counted."""
+    return f"{spelled(name)} with {len(tags)} of its tags" if len(tags) > 9 else interop.shown_series(name, tags)
+
+
+def shown_point(made):
+    """A point of InfluxDB as the tables show it."""
+    name, tags, fields, at = made
+    values = [spelled(f'"{value}"' if isinstance(value, str) else str(value).lower()) for _, value in fields]
+    text = ", ".join(f"{spelled(key)} = {value}" for (key, _), value in zip(fields, values))
+    return f"{shown_series(name, tags)}: {text}" + ("" if at == 5 or is_now(at) else f" at {at}")
+
+
+@dataclass
+class Stored:
+    """What a server answered, what it stored of a text, and the names of the lines around it that it stored. `note` is what is wrong
+    with points that are right."""
+
+    status: int
+    answer: str
+    points: list
+    count: int
+    around: list
+    note: str = ""
+
+    def shown_answer(self):
+        found = [spelled(cause) for cause in interop.causes(self.answer)] if self.answer else []
+        return ": ".join([str(self.status), *found])
+
+    def shown_around(self):
+        return {AROUND: "both", ("before",): "the first", ("after",): "the second", (): "none"}[tuple(self.around)]
+
+
+def answer_of(address, *chunks):
+    """The status and the text of an answer, as curl tells it. After each chunk that another one follows, the call waits."""
+    words = ["curl", "-sS", "-m", "300", "-w", "\\n%{http_code}", address]
+    words += ["--data-binary", "@-"] if len(chunks) == 1 else ["-X", "POST", "-T", "-"]
+    with subprocess.Popen(words, stdin=subprocess.PIPE, stdout=subprocess.PIPE, stderr=subprocess.DEVNULL) as curl:
+        for chunk in chunks[:-1]:
+            curl.stdin.write(chunk)
+            curl.stdin.flush()
+            time.sleep(0.5)
+        told = curl.communicate(chunks[-1])[0]
+    text, _, status = told.decode("utf-8", "surrogateescape").rpartition("\n")
+    return int(status), text
+
+
+def identifier(name):
+    """A name as a query spells it."""
+    return '"' + name.replace("\\", "\\\\").replace('"', '\\"').replace("\n", "\\n") + '"'
+
+
+def points_of(series):
+    """The points of a series that a query gave."""
+    tags = tuple(sorted((key, value) for key, value in series.get("tags", {}).items() if value))
+    for at, *values in series["values"]:
+        fields = [(key, value) for key, value in zip(series["columns"][1:], values) if value is not None]
+        yield series["name"], tags, in_order(fields), at
+
+
+EVERYTHING = "SELECT * FROM /.*/ GROUP BY *"
+
+
+class Influx:
+    """A server of InfluxDB 1.x. Each text has a database."""
+
+    def __init__(self, address):
+        self.address = address
+
+    def query(self, name, text):
+        """The series that a query gives."""
+        words = urllib.parse.urlencode({"q": text, "epoch": "ns", "db": name})
+        answer = json.loads(interop.ask(f"{self.address}/query?{words}", b""))
+        return answer.get("results", [{}])[0].get("series", [])
+
+    def points(self, name, query):
+        """The points that a query gives."""
+        return [point for series in self.query(name, query) for point in points_of(series)]
+
+    def count(self, name):
+        """How many points a text has, if its measurement is `m`."""
+        return sum(max(series["values"][0][1:]) for series in self.query(name, "SELECT count(*) FROM m"))
+
+    def has_field(self, name, point, key, value):
+        """Whether a query that names the measurement and a field finds the value."""
+        found = self.points(name, f"SELECT {identifier(key)}::field FROM {identifier(point[0])}")
+        return [[stored for _, stored in fields] for _, _, fields, _ in found] == [[value]]
+
+    def is_named(self, name, point):
+        """Whether queries that name the measurement and the fields find a point."""
+        whole = self.points(name, f"SELECT * FROM {identifier(point[0])} GROUP BY *")
+        return len(whole) == 1 and all(self.has_field(name, point, key, value) for key, value in point[2])
+
+    def stored(self, name, is_large):
+        """What is stored of a text, without the answer."""
+        found = self.points(name, "SELECT z FROM before, after" if is_large else EVERYTHING)
+        around = sorted({each[0] for each in found if each[0] in AROUND and each[2] == (("z", 1),)})
+        points = [each for each in found if each[0] not in AROUND or dict(each[2]).keys() not in ({"z"}, {"_name"})]
+        is_named = len(points) != 1 or self.is_named(name, points[0])
+        count = self.count(name) if is_large else len(points)
+        return Stored(0, "", points, count, around, "" if is_named else "which no query finds by its name")
+
+    def post(self, name, *texts):
+        """Posts texts, the last with the lines around it, and tells what is stored."""
+        self.query(name, f'CREATE DATABASE "{name}"')
+        answers = [answer_of(f"{self.address}/write?db={name}&precision=ns", text) for text in texts]
+        status, answer = answers[-1]
+        if status >= 400:
+            # What is stored apart from what was refused may come after the answer.
+            time.sleep(0.1)
+        made = self.stored(name, len(texts[-1]) > LARGE)
+        made.status = status
+        made.answer = json.loads(answer)["error"] if answer.startswith("{") else answer.strip()
+        return made
+
+
+def milliseconds(at):
+    """A time as VictoriaMetrics keeps it."""
+    return None if at is None else at // 1000000 if at >= 0 else -(-at // 1000000)
+
+
+@dataclass
+class Sample:
+    """A number of VictoriaMetrics: the names of measurement and field with `_` between them, the labels, the value, and the time, if it
+    is not now."""
+
+    name: str
+    tags: tuple
+    value: object
+    at: int | None
+
+    def key(self):
+        return self.name, self.tags, str(self.value), self.at or -1
+
+    def shown(self):
+        name = shown_series(self.name, self.tags)
+        at = {0: "", None: " at the time of arrival"}.get(self.at, f" at {self.at} ms")
+        return f"{name}: {spelled('%.17g' % self.value if isinstance(self.value, float) else str(self.value))}{at}"
+
+
+def samples_of(point):
+    """What VictoriaMetrics has of a point, if it reads what that says. Of a string it keeps 0."""
+    name, tags, fields, at = point
+    return [Sample(f"{name}_{key}", tags, 0 if isinstance(value, str) else value, milliseconds(at)) for key, value in fields]
+
+
+class Victoria:
+    """A server of VictoriaMetrics. Each text has a database, whose name is a label."""
+
+    def __init__(self, address):
+        self.address = address
+        self.asked = 0
+        self.seen = set()
+
+    def lines(self, label):
+        """What is stored of series of such a label. The question is another one each time, as answers are kept."""
+        self.asked += 1
+        interop.ask(f"{self.address}/internal/force_flush")
+        words = {"match[]": f'{{db{label},none!="{self.asked}"}}', "start": "0", "end": str(2**33)}
+        return interop.ask(f"{self.address}/api/v1/export?{urllib.parse.urlencode(words)}").splitlines()
+
+    def samples(self, line, name):
+        """The samples of a series, without the label of its database."""
+        series = json.loads(re.sub(r"\+?Inf\b(?=[],])", "Infinity", line))
+        labels = {key: value for key, value in series["metric"].items() if (key, value) != ("db", name)}
+        metric = labels.pop("__name__", "")
+        times = [None if is_now(at * 1000000) else at for at in series["timestamps"]]
+        return [Sample(metric, tuple(sorted(labels.items())), *each) for each in zip(series["values"], times)]
+
+    def unnamed(self):
+        """The new series that have no label of a database, or one that a text gave."""
+        found = set(self.lines('=~"|x"'))
+        new, self.seen = found - self.seen, self.seen | found
+        return new
+
+    def until_next(self, name):
+        """The series of a text, and those of the lines around it. The line after it is waited for."""
+        for _ in range(20):
+            found = self.lines(f'="{name}"')
+            if any('"__name__":"after_z"' in line for line in found):
+                break
+            time.sleep(0.1)
+        around = [line for line in found if re.search('"__name__":"(after|before)_z"', line)]
+        return [line for line in found if line not in around], around
+
+    def post(self, name, *chunks):
+        """Posts a text with the lines around it in one call, and tells what is stored."""
+        status, answer = answer_of(f"{self.address}/write?db={name}&precision=ns", *chunks)
+        lines, around = self.until_next(name)
+        unnamed = self.unnamed()
+        points = [sample for line in [*lines, *unnamed] for sample in self.samples(line, name)]
+        words = re.search(r"too long line: more than \d+ bytes|$", answer)[0] or answer[:200]
+        note = "without the label of its database" if unnamed else ""
+        names = sorted(json.loads(line)["metric"]["__name__"].removesuffix("_z") for line in around)
+        return Stored(status, words, sorted(points, key=Sample.key), len(points), names, note)
+
+
+# The tables of the page.
+
+
+@dataclass
+class Carried:
+    """The lines of the parts of a text that lp_relay lets out before a server: as they are. And the points that it reads."""
+
+    parts: list
+    points: list
+
+    def is_large(self):
+        return len(self.parts[-1]) > LARGE
+
+
+def carried(relay, reader, text):
+    """What goes out of a text. Of a large one no points are told."""
+    parts = [raw(part) for part in text.removesuffix(PAUSE).split(" then ")]
+    lines = [interop.relayed(relay, part, *interop.WAYS[WAYS[reader]]) for part in parts]
+    for part, (line, faults) in zip(parts, lines):
+        if faults or line.removesuffix(b"\n") != part.removesuffix(b"\n"):
+            raise Fault(f"lp_relay {WAYS[reader]} does not let out {text} as it is")
+    made = Carried([line for line, _ in lines], [])
+    if not made.is_large():
+        made.points = written(b"".join(interop.relayed(relay, part, "--strict")[0] for part in parts))
+    return made
+
+
+def shown_stored(made, points, is_same, shown):
+    """What is stored, as a cell."""
+    if not made.points:
+        return "nothing"
+    text = interop.SAME_POINT if is_same(made.points, points) else "; ".join(map(shown, made.points))
+    return f"{text}, {made.note}" if made.note else text
+
+
+def is_all(found, wanted):
+    """Whether InfluxDB has these points."""
+    return len(found) == len(wanted) and all(map(is_point, sorted(wanted, key=str), sorted(found, key=str)))
+
+
+def influx_cell(made, lines):
+    """What InfluxDB stores of lines, as a cell."""
+    if not lines.is_large():
+        return shown_stored(made, lines.points, is_all, shown_point)
+    count = sum(part.count(b"\n") for part in lines.parts)
+    return "all of it" if made.count == count else f"{made.count} points" if made.count else "nothing"
+
+
+def is_every(found, wanted):
+    """Whether VictoriaMetrics has the numbers of these points."""
+    return found == sorted((sample for point in wanted for sample in samples_of(point)), key=Sample.key)
+
+
+def victoria_cell(made, lines):
+    """What VictoriaMetrics stores of lines, as a cell."""
+    return shown_stored(made, lines.points, is_every, Sample.shown)
+
+
+CELLS = {"influx": influx_cell, "victoria": victoria_cell}
+
+
+def row(server, relay, reader, text, name):
+    """The row of a text, whose last part is posted with lines around it."""
+    lines = carried(relay, reader, text)
+    *parts, last = lines.parts
+    chunks = [BEFORE + last.removesuffix(b"\n"), b"\n" + AFTER] if text.endswith(PAUSE) else [BEFORE + last + AFTER]
+    made = server.post(name, *parts, *chunks)
+    return [shown_text(text), made.shown_answer(), CELLS[reader](made, lines), made.shown_around()]
+
+
+def rows_of(server, relay, reader):
+    return [row(server, relay, reader, text, f"page{place}") for place, text in enumerate(TEXTS[reader])]
+
+
+def strings_row(relay, text):
+    """What lp_relay writes of a text in the dialect in which each newline ends a line."""
+    data = raw(text)
+    return [shown_text(text), interop.shown_relay(data, *interop.relayed(relay, data, "--newline-delimited"))]
+
+
+def after_restart(server, relay, text, name, cells):
+    """The cell of what InfluxDB has of a text after a restart."""
+    lines = carried(relay, "influx", text)
+    now = influx_cell(server.stored(name, lines.is_large()), lines)
+    return "as before" if now == cells[2] else now
+
+
+def restarted(server, relay, rows):
+    """The rows of InfluxDB with that cell."""
+    return [[*cells, after_restart(server, relay, text, f"page{place}", cells)]
+            for place, (text, cells) in enumerate(zip(INFLUX, rows, strict=True))]
+
+
+# The rows of portable_rows.txt.
+
+
+def word_of(made, point, is_same):
+    """The word for what a server made of a text. A text that is not a line has no point."""
+    after = "" if "after" in made.around else "+"
+    if not made.points:
+        return ("refused" if 400 <= made.status < 500 else "dropped" if made.status == 204 else "panic") + after
+    if point is None:
+        return "taken" + after
+    return ("other" if not is_same(made, point) else "unnamed" if made.note else "same") + after
+
+
+def is_one(made, point):
+    """Whether InfluxDB has this point alone."""
+    return len(made.points) == 1 and is_point(point, made.points[0])
+
+
+def is_near(wanted, found):
+    """Whether a number is kept, but for its last digits."""
+    value = found.value == wanted.value or abs(found.value - wanted.value) <= 1e-11 * abs(wanted.value)
+    return value and (wanted.name, wanted.tags, wanted.at) == (found.name, found.tags, found.at)
+
+
+def is_kept(made, point):
+    """Whether VictoriaMetrics has each number of this point once, and of each string some number or none."""
+    texts = {f"{point[0]}_{key}" for key, value in point[2] if isinstance(value, str)}
+    wanted = sorted((each for each in samples_of(point) if each.name not in texts), key=Sample.key)
+    found = [each for each in made.points if each.name not in texts]
+    names, stored = ([each.name for each in some] for some in (samples_of(point), made.points))
+    is_sound = not made.note and len(set(names)) == len(names) and sorted(names) == sorted(stored)
+    return is_sound and all(each.tags == point[1] for each in made.points) and all(map(is_near, wanted, found))
+
+
+SAME = {"influx": is_one, "victoria": is_kept}
+
+
+def words_of(server, reader):
+    """The word for what a server makes of each row."""
+    texts = [each.text() for each in portable.rows()]
+    stored = [server.post(f"row{place}", text + b"\n" + AFTER_ROW) for place, text in enumerate(texts)]
+    return [word_of(made, wanted_of(text), SAME[reader]) for made, text in zip(stored, texts)]
+
+
+def word_after(server, name, text, before):
+    """The word for a row once the server was started again. What it answered is as before."""
+    made = server.stored(name, False)
+    made.status = {"refused": 400, "panic": 500}.get(before.rstrip("+"), 204)
+    now = word_of(made, wanted_of(text), is_one)
+    return before if now == before else "restart" if before == "same" else f"{before}, then {now}"
+
+
+def words_after(server, words):
+    """The words for all rows once InfluxDB was started again."""
+    return [word_after(server, f"row{place}", row.text(), word)
+            for place, (row, word) in enumerate(zip(portable.rows(), words, strict=True))]
+
+
+KINDS = {"float": float, "integer": int, "unsigned": int, "string": str, "boolean": lambda value: value == "true"}
+
+
+def parsed_point(read):
+    """A point that the parser of InfluxDB read."""
+    fields = [(key, KINDS[kind](value)) for key, kind, value in read["Fields"]]
+    at = time.time_ns() if read["Time"] == interop.NO_TIME else read["Time"]
+    return read["Name"], tuple(sorted(map(tuple, read["Tags"]))), in_order(fields), at
+
+
+def word_of_parser(program, text):
+    """The word for what the parser of InfluxDB alone makes of a text."""
+    ran = subprocess.run([program], input=text, capture_output=True, check=False)
+    if ran.returncode:
+        return "panic"
+    read = json.loads(ran.stdout)
+    points = [parsed_point(each) for each in read["Points"]]
+    return word_of(Stored(400 if read["Fault"] else 204, "", points, len(points), ["after"]), wanted_of(text), is_one)
+
+
+# What is asked of this program.
+
+COLUMNS = {"influx": "i server", "parser": "i parser", "victoria": "v server"}
+WORDS = ["same", "unnamed", "other", "restart", "refused", "dropped", "panic", "taken", "+"]
+TITLES = {"influx": "Texts among other lines, in InfluxDB 1.x", "victoria": "Texts among other lines, in VictoriaMetrics"}
+
+
+def post(relay, places):
+    """What is measured before the restart."""
+    state = {"relay": relay, "tables": {}, "words": {}, "strings": [strings_row(relay, text) for text in STRINGS]}
+    for reader, make in SERVERS.items():
+        if reader in places:
+            server = make(places[reader])
+            state["tables"][reader] = rows_of(server, relay, reader)
+            state["words"][reader] = words_of(server, reader)
+    if "parser" in places:
+        state["words"]["parser"] = [word_of_parser(places["parser"], row.text()) for row in portable.rows()]
+    if "victoria" in places:
+        state["series"] = every_series(places["victoria"])
+    return state
+
+
+def every_series(address):
+    return sorted(Victoria(address).lines('!="none"'))
+
+
+SERVERS = {"influx": Influx, "victoria": Victoria}
+
+
+def add_restart(state, places):
+    """Adds what is measured after the restart. VictoriaMetrics must have what it had."""
+    if "influx" in places:
+        server = Influx(places["influx"])
+        state["tables"]["influx"] = restarted(server, state["relay"], state["tables"]["influx"])
+        state["words"]["influx"] = words_after(server, state["words"]["influx"])
+    if "victoria" in places and every_series(places["victoria"]) != state["series"]:
+        raise Fault("VictoriaMetrics has other series after a restart")
+
+
+def counted(words):
+    """How many rows have each word. A `+` is a word beside another one."""
+    return [str(sum(word == "+" and made.endswith("+") or made.rstrip("+") == word for made in words)) for word in WORDS]
+
+
+def tables_of(state):
+    """The tables of each reader by their titles."""
+    heads = ["text", "answer", "stored of it", "stored of the lines around it"]
+    made = {TITLES[reader]: interop.table(heads + ["after a restart"] * (reader == "influx"), rows)
+            for reader, rows in state["tables"].items()}
+    made["Strings of more lines"] = interop.table(["text", "`lp_relay --newline-delimited` writes"], state["strings"])
+    counts = [[interop.READERS[reader], *counted(words)] for reader, words in state["words"].items()]
+    made["Texts on both sides of a border"] = interop.table(["reader", *WORDS[:-1], "the line after it lost"], counts)
+    return made
+
+
+def page_text(state):
+    """What is between the marks."""
+    return "\n" + "\n\n".join(f"### {title}\n\n" + "\n".join(lines) for title, lines in tables_of(state).items()) + "\n"
+
+
+def other_rows(page, lines):
+    """What the page has otherwise of the rows of a table, in words."""
+    was = {line.split(" | ")[0]: line for line in page}
+    for line in lines:
+        if line not in page:
+            yield f"the page has\n    {was.get(line.split(' | ')[0])}\nand here it is\n    {line}"
+
+
+def other_words(reader, words):
+    """What portable_rows.txt has otherwise, in words."""
+    for row, word in zip(portable.rows(), words, strict=True):
+        if row.told[COLUMNS[reader]] != word:
+            yield f"{row.cell[:80]} is `{word}` by {interop.READERS[reader]}, and portable_rows.txt has `{row.told[COLUMNS[reader]]}`"
+
+
+def compare(state):
+    """Refuses what differs from the page, or from portable_rows.txt."""
+    page, tables = interop.parts_of_page(BEGIN, END)[1].splitlines(), tables_of(state)
+    found = [fault for lines in tables.values() for fault in other_rows(page, lines)]
+    if len(state["words"]) == len(COLUMNS):
+        heads = {line.split(" | ")[0] for lines in tables.values() for line in lines}
+        found += [f"the page alone has\n    {line}" for line in page if line.startswith("| ") and line.split(" | ")[0] not in heads]
+    found += [fault for reader, words in state["words"].items() for fault in other_words(reader, words)]
+    if found:
+        raise Fault("\n".join([*found, "the tables of docs/INTEROP.md are written by checks/interop.sh --write RELAY"]))
+    count = sum(map(len, state["tables"].values()))
+    print(f"batches: {count} texts among other lines are stored, and kept over a restart, as docs/INTEROP.md says, and "
+          f"{len(list(portable.rows()))} as portable_rows.txt says: by {', '.join(interop.READERS[name] for name in state['words'])}")
+
+
+def run(mode, path, places):
+    """Measures, and does what is asked with that."""
+    state = json.loads(path.read_text(encoding="utf-8"))
+    add_restart(state, places)
+    if mode == "--print":
+        print(page_text(state))
+    elif mode == "--write":
+        before, _, after = interop.parts_of_page(BEGIN, END)
+        interop.PAGE.write_text(before + page_text(state) + after, encoding="utf-8")
+        print("batches: docs/INTEROP.md is written")
+    else:
+        compare(state)
+
+
+def main(words):
+    mode = words.pop(0) if words and words[0] in ("--post", "--write", "--print") else ""
+    if len(words) < 2 or words[0].startswith("-"):
+        print(__doc__, file=sys.stderr)
+        return 2
+    path, relay = Path(words.pop(0)), words.pop(0) if mode == "--post" else ""
+    places = dict(word.split("=", 1) for word in words)
+    try:
+        if mode == "--post":
+            path.write_text(json.dumps(post(relay, places)), encoding="utf-8")
+        else:
+            run(mode, path, places)
+    except Fault as fault:
+        print(f"batches: {fault}", file=sys.stderr)
+        return 1
+    return 0
+
+
+if __name__ == "__main__":
+    sys.exit(main(sys.argv[1:]))
