@@ -318,7 +318,8 @@ void lp_limits_default(lp_limits *limits);
  *
  * `text` is the one of which lp_offsets_block filled the rows. Of a row it looks at `answer` and `piece`, and writes `verdict` alone.
  * `told` is how many rows are told: the first ones. The others are as they were.
- * LP_WRITTEN: all are told. LP_OUT_OF_MEMORY: a request for memory was refused. Hand in the rows after the first `told` again.
+ * LP_WRITTEN: all are told. LP_OUT_OF_MEMORY: a request for memory was refused. Hand in the rows after the first `told` again. A line
+ * with at most eight tags and four fields takes none, where no name and no string has an escape.
  * Rows that were made in another way are safe: where the text has no UTF-8 at the place of a piece, that is no line. */
 uint32_t lp_offsets_verdicts(const uint8_t *text, size_t len, lp_offset_row *rows, size_t rows_len, const lp_limits *limits,
                              size_t *told);

@@ -1,6 +1,8 @@
 -- Rows that tell their verdicts.
-use Rattle.std.proofs.Common.{ℕ, List, refl}
-use Rattle.lp_c.specs.Verdicts.{IsVerdict, TellsVerdict}
+use Rattle.std.proofs.Common.{◌≡◌, ◌∙◌, ℕ, ◌<◌, true, List, length, drop, get_or, refl, subst, sym}
+use Rattle.std.proofs.lemmas.{Bool.false_from_ne_true, List.drop_more}
+use Rattle.lp_format.specs.{code.Light.is_light, format.Strict, format.trimmed}
+use Rattle.lp_c.specs.Verdicts.{IsVerdict, MayTakeMemory, TellsVerdict, piece_there}
 use Rattle.lp_c.specs.declared.offsets.OffsetRow.{OffsetRow}
 use Rattle.lp_c.specs.declared.verdicts.Limits.{Limits}
 
@@ -8,3 +10,9 @@ use Rattle.lp_c.specs.declared.verdicts.Limits.{Limits}
 pub tells_bits : (limits : Limits) (text : List ℕ) (row : OffsetRow) (n : ℕ) → IsVerdict limits text row n
     → TellsVerdict limits text row (record row { verdict = n })
 tells_bits limits text row n is = record { verdict = is; others = refl }
+
+-- the next row takes memory, if its piece is no light one
+pub takes_memory : (text : List ℕ) (old rows : List OffsetRow) (i : ℕ) (d : OffsetRow) → i < length rows → drop i rows ≡ drop i old
+    → ¬ (is_light Strict (trimmed (piece_there text (get_or rows i d))) ≡ true) → MayTakeMemory text (drop i old)
+takes_memory text old rows i d here same heavy =
+    subst (MayTakeMemory text) (sym (drop_more rows i d here) ∙ same) (false_from_ne_true _ heavy)

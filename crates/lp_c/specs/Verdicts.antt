@@ -1,6 +1,7 @@
 -- Which clauses of what is portable the lines of rows by offsets break, as rows tell them.
-use Rattle.std.specs.Prelude.{◌≡◌, ◌⊎◌, ◌≤◌, ◌+◌, ℕ, List, length, take, drop, Option, Some, None, IsUtf8}
+use Rattle.std.specs.Prelude.{◌≡◌, ◌⊎◌, ◌≤◌, ◌+◌, ℕ, List, [], ◌∷◌, length, take, drop, false, Option, Some, None, IsUtf8}
 use Rattle.std.specs.Borrow.{Bor}
+use Rattle.lp_format.specs.{code.Light.is_light, format.Strict, format.trimmed}
 use Rattle.lp_portable.specs.declared.broken.Broken.{Broken}
 use Rattle.lp_portable.specs.declared.limits.Limits as portable
 use Rattle.lp_portable.specs.code.Bits.{bits_of}
@@ -45,6 +46,11 @@ abbrev pub IsVerdict : Limits → List ℕ → OffsetRow → ℕ → Type 0
 IsVerdict limits text row n =
     ((broken : Broken) × BreaksThere limits text row broken × (n ≡ bits_of broken))
     ⊎ (((broken : Broken) → ¬ BreaksThere limits text row broken) × (n ≡ 1))
+
+-- telling the first of these rows may take memory: its piece is no light one
+abbrev pub MayTakeMemory : List ℕ → List OffsetRow → Type 0
+MayTakeMemory text [] = ⊥
+MayTakeMemory text (row ∷ rows) = is_light Strict (trimmed (piece_there text row)) ≡ false
 
 -- a row tells so of its piece, and is as it was else
 pub record TellsVerdict (limits : Limits) (text : List ℕ) (before after : OffsetRow) : Type 0 where

@@ -1,11 +1,12 @@
 //! Which clauses of what is portable the lines of rows by offsets break, told in the rows.
 
-ghost use Rattle.std.specs.Prelude.{◌≡◌, ◌≢◌, ◌↔◌, ◌≤◌, IfOk, drop, length, take};
+ghost use Rattle.std.specs.Prelude.{◌≡◌, ◌≢◌, ◌↔◌, ◌≤◌, IfOk, IsOk, drop, length, take, true};
 ghost use Rattle.std.specs.List.{AllZip};
+ghost use Rattle.lp_format.specs.{code.Light.is_light, format.Strict, format.trimmed};
 ghost use Rattle.lp_portable.specs.format.Portable.{default_limits};
 ghost use Rattle.lp_c.specs.Numbers.{answer_number};
 ghost use Rattle.lp_c.specs.Portions.{IsPortionOf};
-ghost use Rattle.lp_c.specs.Verdicts.{IsPieceOf, IsVerdict, TellsVerdict, format_limits, limits_of};
+ghost use Rattle.lp_c.specs.Verdicts.{IsPieceOf, IsVerdict, MayTakeMemory, TellsVerdict, format_limits, limits_of, piece_there};
 ghost use Rattle.lp_c.specs.declared.views.Answer.TheVariants as Answer;
 
 use crate::offsets::OffsetRow;
@@ -95,6 +96,7 @@ fn verdict<'a>(
     requires { IsPortionOf text.now portion.old }
     ensures portion { IsPortionOf text.now portion.new }
     ensures bits { IfOk result (IsVerdict limits.now text.now row.now) }
+    ensures memory { is_light Strict (trimmed (piece_there text.now row.now)) ≡ true → IsOk result }
 {
     let Some(piece) = piece_of(text, portion, row, rows, given) else {
         return Ok(1);
@@ -110,7 +112,8 @@ fn verdict<'a>(
 ///
 /// `text` is the one of which `lp_offsets_block` filled the rows, by whatever rules: each piece is read again by the strict ones. Answers
 /// `Written`; or `OutOfMemory`, if memory was refused for a row. `told` is how many rows are told: the first ones. The rows after these
-/// are as they were, and so is all else in each row. Memory is taken as for `broken_clauses`, and given back.
+/// are as they were, and so is all else in each row. No memory is taken for a line with at most 8 tags and 4 fields whose names and
+/// strings are no copies; else as for `broken_clauses`, and given back.
 ///
 /// ```text
 /// m f=1   ->  0
@@ -130,6 +133,7 @@ pub extern "C" fn lp_offsets_verdicts(
     ensures size { (length rows.new ≡ length rows.old) × (told.new ≤ length rows.new) }
     ensures all { result ≡ answer_number Answer.Written ↔ told.new ≡ length rows.new }
     ensures answers { result ≢ answer_number Answer.Written → result ≡ answer_number Answer.OutOfMemory }
+    ensures memory { result ≡ answer_number Answer.OutOfMemory → MayTakeMemory text.now (drop told.new rows.old) }
 {
     let count = rows.len();
     let mut portion = no_portion(0, 0, 0);

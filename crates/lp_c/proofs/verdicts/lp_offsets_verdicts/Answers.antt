@@ -1,6 +1,7 @@
 use Rattle.std.proofs.Common.{◌<◌, arith, length}
+use Rattle.std.proofs.lemmas.Bool.{false≢true}
 use Rattle.lp_c.specs.Verdicts.{TellsVerdict}
-use Rattle.lp_c.proofs.{RowsTold.others_stay, RowsTold.tell_more, VerdictLemmas.tells_bits}
+use Rattle.lp_c.proofs.{RowsTold.others_stay, RowsTold.tell_more, VerdictLemmas.takes_memory, VerdictLemmas.tells_bits}
 use Rattle.lp_c.proofs.verdicts.lp_offsets_verdicts.Goals as goal
 
 pub loop-at-preserved : goal.loop-at-preserved
@@ -17,3 +18,9 @@ loop-at-preserved c =
       told = tell_more (TellsVerdict limits text) old was.rows was.at _ _ here was.auto.rows step.others step.told tells;
       others = others_stay (TellsVerdict limits text) old was.rows was.at _ _ here was.auto.rows step.others step.told tells;
     }
+
+pub returns-in_default-clause-memory : goal.returns-in_default-clause-memory
+returns-in_default-clause-memory c refused =
+    let was = c.loop-at in
+    let here : was.at < length was.rows = omega (arith, c.loop-at-test.true, was.auto.rows) in
+    takes_memory c.args.text.now c.args.rows.now was.rows was.at _ here was.invariant.others (λ light. false≢true (c.in_default.ensures.memory light))
