@@ -194,12 +194,12 @@ static void other_limits(void) {
            "the narrowest limits are not broken");
 }
 
-/* A line of so many tags and fields. */
+/* A line of so many tags and fields, whose keys fall. */
 static size_t many(char *text, int count) {
     size_t len = 1;
     text[0] = 'm';
-    for (int at = 0; at < count; at++) len += (size_t)sprintf(text + len, ",t%03d=v", at);
-    for (int at = 0; at < count; at++) len += (size_t)sprintf(text + len, "%cf%03d=1", at ? ',' : ' ', at);
+    for (int left = count; left > 0; left--) len += (size_t)sprintf(text + len, ",t%03d=v", left);
+    for (int left = count; left > 0; left--) len += (size_t)sprintf(text + len, "%cf%03d=1", left == count ? ' ' : ',', left);
     return len;
 }
 
