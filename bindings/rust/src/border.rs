@@ -220,6 +220,88 @@ impl Cuts {
     }
 }
 
+/// So many bytes from a place on.
+#[repr(C)]
+struct Span {
+    at: u32,
+    len: u32,
+}
+
+/// An item by offsets.
+#[repr(C)]
+struct OffsetRow {
+    line: u64,
+    timestamp: i64,
+    key: u64,
+    verdict: u64,
+    piece: Span,
+    measurement: Span,
+    line_at: u32,
+    stop_at: u32,
+    parts_at: u32,
+    tags: u32,
+    fields: u32,
+    room_len: u32,
+    answer: u32,
+    fault: u32,
+    side: u32,
+    measurement_copied: u16,
+    has_timestamp: u16,
+}
+
+impl OffsetRow {
+    /// A row whose piece has so many bytes, and which says that there is a line.
+    fn of_line(len: u32) -> Self {
+        OffsetRow {
+            line: 1,
+            timestamp: 0,
+            key: 0,
+            verdict: 0,
+            piece: Span { at: 0, len },
+            measurement: Span { at: 0, len: 0 },
+            line_at: 0,
+            stop_at: 0,
+            parts_at: 0,
+            tags: 0,
+            fields: 0,
+            room_len: 0,
+            answer: answer::LINE,
+            fault: 0,
+            side: 0,
+            measurement_copied: 0,
+            has_timestamp: 0,
+        }
+    }
+}
+
+/// What the options of a server change. [`Default`] has those of servers whose options are as they come.
+///
+/// ```
+/// let limits = influxdb_line_protocol::Limits { tags: 40, ..Default::default() };
+/// assert_eq!((limits.line, limits.tags, limits.earliest, limits.latest), (262_144, 40, 1_000_000, i64::MAX));
+/// ```
+#[repr(C)]
+#[derive(Clone, Copy, Debug, PartialEq, Eq)]
+pub struct Limits {
+    /// The most bytes of a line.
+    pub line: usize,
+    /// The most tags of a line.
+    pub tags: usize,
+    /// The earliest timestamp that is kept, in nanoseconds.
+    pub earliest: i64,
+    /// The latest timestamp that is kept, in nanoseconds.
+    pub latest: i64,
+}
+
+impl Default for Limits {
+    fn default() -> Self {
+        let mut limits = Limits { line: 0, tags: 0, earliest: 0, latest: 0 };
+        // SAFETY: the one pointer is that of a local, which has the layout of `lp_limits` and is filled.
+        unsafe { lp_limits_default(&mut limits) };
+        limits
+    }
+}
+
 /// A call that puts a text out.
 pub(crate) type PutOut =
     unsafe extern "C" fn(*const Line<'_>, *const Part<'_>, usize, *mut u8, usize, *mut usize) -> u32;
@@ -257,6 +339,15 @@ extern "C" {
         room: usize,
         len: *mut usize,
     ) -> u32;
+    fn lp_limits_default(limits: *mut Limits);
+    fn lp_offsets_verdicts(
+        text: *const u8,
+        len: usize,
+        rows: *mut OffsetRow,
+        rows_len: usize,
+        limits: *const Limits,
+        told: *mut usize,
+    ) -> u32;
     fn lp_line_is_base_safe(line: *const Line<'_>, parts: *const Part<'_>, parts_len: usize, safe: *mut bool) -> u32;
 }
 
@@ -274,6 +365,15 @@ pub(crate) fn is_base_safe(line: &Line<'_>, parts: &[Part<'_>]) -> bool {
     // SAFETY: `line` and `parts` are borrows, of texts that are borrows too. What is written is a local, apart from these.
     granted(unsafe { lp_line_is_base_safe(line, parts.as_ptr(), parts.len(), &mut safe) });
     safe
+}
+
+/// The bits of the clauses that this text breaks. `None`: it has more bytes than a row may say.
+pub(crate) fn verdict(limits: &Limits, text: &str) -> Option<u64> {
+    let (mut row, mut told) = (OffsetRow::of_line(text.len().try_into().ok()?), 0);
+    // SAFETY: `text` has `len` bytes, and its pointer is not null, also if it is empty. `limits` is a borrow. What is written is two
+    // locals, the one row among them, so they are apart from these and from each other.
+    granted(unsafe { lp_offsets_verdicts(text.as_ptr(), text.len(), &mut row, 1, limits, &mut told) });
+    Some(row.verdict)
 }
 
 // What a call answers over this buffer, and the length that it tells.

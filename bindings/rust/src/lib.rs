@@ -4,6 +4,7 @@
 //! - [`parse_lines`] reads a text line by line, [`split_lines`] cuts it.
 //! - [`LineReader`] cuts what a reader gives, as it comes.
 //! - [`LineWriter`] writes lines that are read back as what was handed in, and refuses any other.
+//! - [`broken_clauses`] and [`is_portable`] tell whether other servers read a line as it is meant.
 //! - [`LineProtocolBuilder`] writes whatever it is given, as that of the original crate does.
 //!
 //! [InfluxDB line protocol]: https://docs.influxdata.com/influxdb/v2.0/reference/syntax/line-protocol
@@ -17,14 +18,17 @@ mod escaped;
 #[cfg(not(lp_heap))]
 mod heap;
 mod line;
+mod portable;
 mod reader;
 mod reading;
 mod writer;
 
+pub use border::Limits;
 pub use builder::LineProtocolBuilder;
 pub use error::{Error, Result};
 pub use escaped::EscapedStr;
 pub use line::{FieldSet, FieldValue, Measurement, ParsedLine, Series, TagSet};
+pub use portable::{broken_clauses, is_portable, Broken, Clause, Servers};
 pub use reader::{Dialect, LineError, LineReader};
 pub use reading::{parse_lines, split_lines};
 pub use writer::{LineWriter, NotAdmitted};
