@@ -181,4 +181,7 @@ PyObject *fast_key(PyObject *module, PyObject *line);
 PyObject *fast_is_base_safe(PyObject *module, PyObject *line);
 PyObject *fast_is_admitted(PyObject *module, PyObject *args);
 PyObject *fast_rebuild(PyObject *module, PyObject *args);
+PyObject *fast_limits(PyObject *module, PyObject *nothing);
+PyObject *fast_verdict(PyObject *module, PyObject *args);
+PyObject *fast_verdicts(PyObject *module, PyObject *args);
 #endif

@@ -132,6 +132,8 @@ static PyMethodDef functions[] = {
     { "write", fast_write, METH_VARARGS, NULL }, { "write_many", fast_write_many, METH_VARARGS, NULL }, { "show", fast_show, METH_O, NULL },
     { "base", fast_base, METH_O, NULL }, { "key", fast_key, METH_O, NULL }, { "is_base_safe", fast_is_base_safe, METH_O, NULL },
     { "is_admitted", fast_is_admitted, METH_VARARGS, NULL }, { "rebuild", fast_rebuild, METH_VARARGS, NULL },
+    { "limits", fast_limits, METH_NOARGS, NULL }, { "verdict", fast_verdict, METH_VARARGS, NULL },
+    { "verdicts", fast_verdicts, METH_VARARGS, NULL },
     { "version", fast_version, METH_NOARGS, NULL }, { "setup", fast_setup, METH_VARARGS, NULL }, { NULL, NULL, 0, NULL } };
 static struct PyModuleDef definition = {
     PyModuleDef_HEAD_INIT, "line_protocol._fast", "The library, as the package line_protocol calls it.", -1, functions, NULL, NULL, NULL,

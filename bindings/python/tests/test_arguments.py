@@ -9,8 +9,8 @@ from decimal import Decimal
 from fractions import Fraction
 
 from line_protocol import (
-    Builder, FloatText, Line, Unsigned, base, columns, is_admitted, is_base_safe, key, parse, part_ends, rebuild, show, split, write,
-    write_columns, write_many)
+    Builder, FloatText, Line, Unsigned, base, broken_clauses, columns, is_admitted, is_base_safe, key, parse, part_ends, rebuild,
+    show, split, verdicts, write, write_columns, write_many)
 
 from typed import typed
 
@@ -46,7 +46,7 @@ def build(line):
 class Texts(unittest.TestCase):
     def test_what_is_no_text(self):
         for text in (None, 3, 0, True, 1.5, [109, 32], [], ("m f=1i",), {"m": 1}, {109}, iter("m f=1i"), range(3)):
-            for call in (parse, split, rebuild):
+            for call in (parse, split, rebuild, verdicts, broken_clauses):
                 with self.subTest(text=text, call=call.__name__), self.assertRaises(TypeError):
                     call(text)
 
@@ -57,7 +57,7 @@ class Texts(unittest.TestCase):
                 self.assertEqual(list(split(kind(b"a\nb"))), ["a", "b"])
 
     def test_a_character_that_utf_8_has_not(self):
-        for call in (parse, split, rebuild):
+        for call in (parse, split, rebuild, verdicts, broken_clauses):
             with self.subTest(call=call.__name__), self.assertRaises(UnicodeEncodeError):
                 call("m f=1i\n\ud800")
 
@@ -76,7 +76,7 @@ class Dialects(unittest.TestCase):
     CALLS = {
         "parse": lambda **words: [*parse(Dialects.TEXT, **words)], "split": lambda **words: [*split(Dialects.TEXT, **words)],
         "columns": lambda **words: repr(columns(Dialects.TEXT, use_numpy=False, **words)),
-        "rebuild": lambda **words: rebuild(Dialects.TEXT, **words),
+        "rebuild": lambda **words: rebuild(Dialects.TEXT, **words), "verdicts": lambda **words: verdicts(Dialects.TEXT, **words),
         "part_ends": lambda **words: part_ends(__file__, 2, **words),
         "write": lambda **words: write(Dialects.LINE, **words), "write_many": lambda **words: write_many([Dialects.LINE], **words),
         "write_columns": lambda **words: write_columns(columns("m f=1i", use_numpy=False), **words),
@@ -90,7 +90,7 @@ class Dialects(unittest.TestCase):
                 by_crate, by_strict, by_line = call(), call(strict=True), call(dialect="newline-delimited")
                 self.assertEqual([call(strict=None, dialect=None), call(strict=False), call(dialect="crate")], 3 * [by_crate])
                 self.assertEqual(call(dialect="strict"), by_strict)
-                if name in ("parse", "split", "rebuild"):
+                if name in ("parse", "split", "rebuild", "verdicts"):
                     self.assertNotEqual(by_crate, by_strict)
                     self.assertNotEqual(by_strict, by_line)
 

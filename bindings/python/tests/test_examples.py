@@ -7,7 +7,7 @@ import unittest
 from pathlib import Path
 
 import line_protocol
-from line_protocol import checking, frames, items, parts, reading, rebuilding, rows, sources, tables, writing
+from line_protocol import checking, frames, items, parts, portable, reading, rebuilding, rows, sources, tables, writing
 
 try:
     import pandas
@@ -16,7 +16,7 @@ except ImportError:
 
 PAGE = Path(__file__).parents[3] / "docs" / "python.md"
 NAMES = {name: getattr(line_protocol, name) for name in line_protocol.__all__}
-MODULES = [line_protocol, checking, items, parts, reading, rebuilding, rows, sources, tables, writing]
+MODULES = [line_protocol, checking, items, parts, portable, reading, rebuilding, rows, sources, tables, writing]
 
 
 def examples_of(page):
@@ -46,6 +46,6 @@ class Documentation(unittest.TestCase):
     def test_the_page_names_each_call(self):
         page = PAGE.read_text(encoding="utf-8")
         for name in line_protocol.__all__:
-            if name not in ("Source", "Value", "Side", "FaultKind"):
+            if name not in ("Source", "Value", "Side", "FaultKind", "Servers"):
                 with self.subTest(name=name):
                     self.assertRegex(page, rf"[`.]{name}\b|\b{name}\(")

@@ -13,6 +13,7 @@ from line_protocol import _fast
 
 refused, requests = (ctypes.c_long.in_dll(ctypes.CDLL(_fast.__file__), name) for name in ("lp_refused", "lp_requests"))
 line = line_protocol.Line("m", [("t", "a b")], [("f", 1)])
+LONG = "m" + "".join(f",t{number}=a" for number in range(20)) + " f=1"
 builder = line_protocol.Builder().measurement("a").field("f", 1).close_line().measurement("b").field("g", 2)
 refused.value, requests.value = 0, 0
 assert len(list(line_protocol.parse('a\\ b,h\\ =x f=1i\nm f=99999999999999999999i\nlast f=1'))) == 3 and requests.value == 0
@@ -24,6 +25,8 @@ for call in (
     lambda: line_protocol.key(line_protocol.Line("m", [(f"t{99 - number}", "a") for number in range(40)])),
     lambda: line_protocol.is_base_safe(line_protocol.Line("m", 9 * [("t", "a")])),
     lambda: line_protocol.rebuild('m f=1i\nm f'),
+    lambda: line_protocol.broken_clauses(LONG),
+    lambda: line_protocol.verdicts(f"m f=1\n{LONG}\n{LONG}\n"),
     lambda: builder.close_line().measurement("b").field("g", 2),
 ):
     refused.value, requests.value = -1, 0

@@ -53,6 +53,8 @@ CALLS = {
     "key": lambda: len(key(FIELDS)),
     "is_admitted": lambda: is_admitted(FIELDS),
     "rebuild": lambda: rebuild(TEXT).carried,
+    "verdicts": lambda: verdicts(LONG, "influx1"),
+    "verdict": lambda: broken_clauses("m f=1u,g=1e3"),
 }
 
 def all_items(source):
@@ -102,7 +104,8 @@ print("refused", refused)
 class Refusals(unittest.TestCase):
     def test_each_request_refused_in_turn(self):
         calls = ["parse", "parse parts", "parse bad", "columns", "columns and series", "part_ends", "split", "write", "write_many",
-                 "write_columns", "refused names", "refused rows", "show", "base", "key", "is_admitted", "rebuild", "each item"]
+                 "write_columns", "refused names", "refused rows", "show", "base", "key", "is_admitted", "rebuild", "verdicts",
+                 "verdict", "each item"]
         for name in calls:
             with self.subTest(call=name):
                 said = subprocess.run(
