@@ -40,3 +40,25 @@ func look(d *Decoder) {
 	number, _ := d.Timestamp()
 	sum += uint64(number)
 }
+
+// BenchmarkVerdicts reads the file that LP_BENCH names, and asks for the verdict of each line.
+func BenchmarkVerdicts(b *testing.B) {
+	place := os.Getenv("LP_BENCH")
+	if place == "" {
+		b.Skip("LP_BENCH names no file")
+	}
+	text, err := os.ReadFile(place)
+	if err != nil {
+		b.Fatal(err)
+	}
+	b.SetBytes(int64(len(text)))
+	b.ReportAllocs()
+	d := NewDecoderWithBytes(nil)
+	for i := 0; i < b.N; i++ {
+		d.ResetBytes(text)
+		for d.Next() {
+			verdict, _ := d.Verdict()
+			sum += uint64(verdict)
+		}
+	}
+}

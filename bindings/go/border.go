@@ -64,14 +64,42 @@ type block struct {
 	parts  []C.lp_offset_part
 	room   []byte
 	filled C.lp_block
-	// The rows before keyed tell the keys of their series, if these were asked for. The last call was for run rows, of which so many keys
-	// were asked for.
-	keyed, run, asked int
+	// Which rows tell the keys of their series, and which tell verdicts, by these limits. told is what the library says of the latter.
+	keys, verdicts telling
+	limits         C.lp_limits
+	told           C.size_t
 }
+
+// The rows before upto tell what was asked for of them. The last call was for run rows, of which so many were asked for.
+type telling struct{ upto, run, asked int }
+
+// ahead gives how many rows of these are to tell next: twice as many as the last time, if half of those were asked for, or else one. So few are
+// told that no one asks for.
+func (t *telling) ahead(rows, most int) int {
+	if 2*t.asked < t.run {
+		t.run = 1
+	} else if t.run < most {
+		t.run *= 2
+	}
+	if rows > t.run {
+		return t.run
+	}
+	return rows
+}
+
+// came says that rows from this one on tell now. Those that the last call might have told too count as asked for.
+func (t *telling) came(at, rows int) { t.upto, t.asked = at+rows, t.run-rows }
 
 // The memory of a new block: a line with more parts, or more to copy, makes it grow.
 func newBlock() block {
-	return block{rows: make([]C.lp_offset_row, 512), parts: make([]C.lp_offset_part, 4096), room: make([]byte, 16<<10), run: 1}
+	return block{rows: make([]C.lp_offset_row, 512), parts: make([]C.lp_offset_part, 4096), room: make([]byte, 16<<10),
+		keys: telling{run: 1}, verdicts: telling{run: 1}, limits: defaultLimits()}
+}
+
+// The limits of servers whose options are as they come.
+func defaultLimits() (limits C.lp_limits) {
+	C.lp_limits_default(&limits)
+	return limits
 }
 
 // The greatest part of a text that one call is given. Offsets have 32 bits.
@@ -84,7 +112,7 @@ var errDialect = errors.New("lineprotocol: no dialect has the number")
 // rows were filled, and how many bytes they and blank pieces take. The next piece goes on in the text that comes if both are 0.
 func (b *block) read(text []byte, dialect Dialect, last bool, line uint64) (rows, taken int, err error) {
 	for {
-		b.filled, b.keyed = C.lp_block{line: C.uint64_t(line)}, 0
+		b.filled, b.keys.upto, b.verdicts.upto = C.lp_block{line: C.uint64_t(line)}, 0, 0
 		answer := C.lp_offsets_block(first(text), C.size_t(len(text)), C.uint32_t(dialect), C.bool(last), &b.filled, first(b.room),
 			C.size_t(len(b.room)), &b.rows[0], C.size_t(len(b.rows)), &b.parts[0], C.size_t(len(b.parts)))
 		if answer == C.LP_NOT_A_DIALECT || answer == C.LP_TOO_LONG {
@@ -105,20 +133,22 @@ func (b *block) read(text []byte, dialect Dialect, last bool, line uint64) (rows
 	return int(b.filled.rows), int(b.filled.at), nil
 }
 
-// tellKeys lets rows from this one on tell their keys: twice as many as the last time, if half of those were asked for, or else one. So
-// few are told that no one asks for.
+// tellKeys lets rows from this one on tell their keys.
 func (b *block) tellKeys(text []byte, at int) {
-	if 2*b.asked < b.run {
-		b.run = 1
-	} else if b.run < len(b.rows) {
-		b.run *= 2
-	}
-	rows := int(b.filled.rows) - at
-	if rows > b.run {
-		rows = b.run
-	}
+	rows := b.keys.ahead(int(b.filled.rows)-at, len(b.rows))
 	C.lp_offsets_keys(first(text), C.size_t(len(text)), &b.rows[at], C.size_t(rows))
-	b.keyed, b.asked = at+rows, b.run-rows
+	b.keys.came(at, rows)
+}
+
+// tellVerdicts lets rows from this one on tell their verdicts: an error if not even this one can.
+func (b *block) tellVerdicts(text []byte, at int) error {
+	rows := b.verdicts.ahead(int(b.filled.rows)-at, len(b.rows))
+	C.lp_offsets_verdicts(first(text), C.size_t(len(text)), &b.rows[at], C.size_t(rows), &b.limits, &b.told)
+	b.verdicts.came(at, int(b.told))
+	if b.told == 0 {
+		return errMemory
+	}
+	return nil
 }
 
 // appendKey appends the key of the series of a row, which was read from this text.

@@ -2,9 +2,9 @@
 // github.com/influxdata/line-protocol/v2/lineprotocol, so a program over that package changes its import.
 //
 // What it does otherwise: a line is read as a whole, so a line with a fault gives none of its tags and fields, but the fault; each line
-// after it is read as ever. The parts of a line may be asked for in any order. Raw gives a line as it came, Fault its fault, and
-// AppendSeriesKey the key of its series. A line that is too long costs no memory beyond MaxLine. A line is written only if it reads back as it
-// was given, and then whole.
+// after it is read as ever. The parts of a line may be asked for in any order. Raw gives a line as it came, Fault its fault, AppendSeriesKey
+// the key of its series, and Verdict whether other servers read it so too. A line that is too long costs no memory beyond MaxLine. A line is
+// written only if it reads back as it was given, and then whole.
 //
 // All that a Decoder gives are views of the memory of Go, as long as the next call of Next: copy what is to stay. No call takes memory once
 // a decoder or an encoder has what its longest lines need. One call of the library serves up to 512 lines. Each is for one goroutine;
@@ -96,7 +96,7 @@ func NewDecoder(r io.Reader) *Decoder {
 	return d
 }
 
-// Reset begins anew with another reader, in the memory that the decoder has, by its dialect and its greatest length of a line.
+// Reset begins anew with another reader, in the memory that the decoder has, by its dialect, its limits and its greatest length of a line.
 func (d *Decoder) Reset(r io.Reader) {
 	buf := d.buf
 	if d.reader == nil {
@@ -112,7 +112,7 @@ func NewDecoderWithBytes(buf []byte) *Decoder {
 	return d
 }
 
-// ResetBytes begins anew with other bytes, in the memory that the decoder has, by its dialect and its greatest length of a line.
+// ResetBytes begins anew with other bytes, in the memory that the decoder has, by its dialect, its limits and its greatest length of a line.
 func (d *Decoder) ResetBytes(buf []byte) {
 	*d = Decoder{dialect: d.dialect, most: d.most, line: 1, buf: buf, end: len(buf), ended: true, block: d.block, row: -1, spelled: d.spelled}
 }
@@ -392,10 +392,10 @@ func (d *Decoder) AppendSeriesKey(dst []byte) ([]byte, error) {
 	if err != nil {
 		return dst, err
 	}
-	if d.row >= d.block.keyed {
+	if d.row >= d.block.keys.upto {
 		d.block.tellKeys(d.text, d.row)
 	}
-	d.block.asked++
+	d.block.keys.asked++
 	if row.key != 0 {
 		return append(dst, d.text[row.line_at:uint64(row.line_at)+uint64(row.key)]...), nil
 	}

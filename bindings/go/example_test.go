@@ -105,3 +105,19 @@ func ExampleEncoder() {
 	// cpu,host=c\ d n=2i 1590488773
 	// line 2: lineprotocol: the line would not read back
 }
+
+func ExampleDecoder_Verdict() {
+	// [portable_in_go]
+	d := lineprotocol.NewDecoder(strings.NewReader("m f=1\nm f=1u\nm,a=x\\\\y f=1\nm f=1e3\n"))
+	d.SetDialect(lineprotocol.NewlineDelimited)
+	for d.Next() {
+		verdict, err := d.Verdict()
+		if clause, broken := verdict.First(lineprotocol.Influx1); broken {
+			fmt.Printf("%s: %v %v\n", d.Raw(), clause, err)
+		}
+	}
+	// [end]
+	// Output:
+	// m f=1u: a value is an unsigned integer <nil>
+	// m,a=x\\y f=1: a backslash is escaped in a tag key or a tag value <nil>
+}
