@@ -1,6 +1,7 @@
 #!/usr/bin/env python3
 """Whether the packages in Rust and Python declare the numbers, structs and calls that they use as
-include/influxdb_line_protocol.h has them. What a package does not use, or includes from the header, it need not declare.
+include/influxdb_line_protocol.h has them; and whether these and the package in Go have its clauses in their order, with their words, and
+the bits of each server. What a package does not use, or includes from the header, it need not declare.
 
     checks/bindings.py          prints each difference; status 1 where there is one
 """
@@ -8,10 +9,11 @@ include/influxdb_line_protocol.h has them. What a package does not use, or inclu
 import re
 import sys
 
-from header import SCALARS, TOP, WORDS, c_name, enumerator, of_header, plain
+from header import HEADER, SCALARS, TOP, WORDS, c_name, clauses_of_header, enumerator, of_header, plain
 
 RUST = TOP / "bindings" / "rust" / "src" / "border.rs"
 PYTHON = TOP / "bindings" / "python" / "src" / "line_protocol"
+GO = TOP / "bindings" / "go" / "portable.go"
 
 
 def rust_type(kind):
@@ -60,16 +62,64 @@ def differences(package, given, header):
                 yield f"{package}: {what} {name}: it has {declared}, the header {wanted.get(name)}"
 
 
+def masks_in(text):
+    """The bits of the clauses of each server, where a package says them."""
+    return {name.lower(): int(mask, 16) for name, mask in re.findall(r"\bOF_(\w+?)(?:: u64)? = (0x\w+)", text.replace("_OF_", " OF_"))}
+
+
+def clauses_of_rust():
+    """The clauses of the package, each with its place and its words; and the bits of each server."""
+    text = (RUST.parent / "portable.rs").read_text(encoding="utf-8")
+    rows = re.findall(r'^    (\w+) = (\d+), "(.*)";$', text, flags=re.M)
+    return [(enumerator(name), int(place), words) for name, place, words in rows], masks_in(text)
+
+
+def clauses_of_python():
+    """The same. There a clause has the place that it has in the dictionary, from 1 on."""
+    text = (PYTHON / "portable.py").read_text(encoding="utf-8")
+    rows = re.findall(r'^    "(\w+)": "(.*)",$', text, flags=re.M)
+    return [(enumerator(name), place, words) for place, (name, words) in enumerate(rows, 1)], masks_in(text)
+
+
+def clauses_of_go():
+    """The same, but the bits, which Go takes from the header. There a clause has the place that it has in the list of constants."""
+    text = GO.read_text(encoding="utf-8")
+    words = dict(re.findall(r'^\t(Clause\w+): +"(.*)",$', text, flags=re.M))
+    names = re.findall(r"^\t(Clause\w+)(?: Clause = iota)?$", text, flags=re.M)
+    masks = {name.lower(): clauses_of_header()[1].get(name.lower()) for name in re.findall(r"C\.LP_OF_(\w+)", text)}
+    return [(enumerator(name.removeprefix("Clause")), place, words.get(name)) for place, name in enumerate(names)], masks
+
+
+def clauses_in_words():
+    """The clauses of the header, each with its place and its words."""
+    rows = re.findall(r"#define LP_CLAUSE_(\w+) +\(UINT64_C\(1\) << (\d+)\) +/\* (.*) \*/", HEADER.read_text(encoding="utf-8"))
+    return [(enumerator(name), int(place), words) for name, place, words in rows]
+
+
+def clause_differences():
+    """Where a package has other clauses than the header, in words. Rust and Python have none for what is no line."""
+    wanted, masks = clauses_in_words(), clauses_of_header()[1]
+    if len(wanted) != len(clauses_of_header()[0]):
+        yield "a clause of the header has no words"
+    packages = {"Rust": (clauses_of_rust(), wanted[1:]), "Python": (clauses_of_python(), wanted[1:]), "Go": (clauses_of_go(), wanted)}
+    for package, ((clauses, its_masks), its_wanted) in packages.items():
+        for one in sorted(set(clauses) ^ set(its_wanted), key=str):
+            yield f"{package}: the clause {one} is not in both, the package and the header"
+        if its_masks != masks:
+            yield f"{package}: the bits of servers are {its_masks}, and in the header {masks}"
+
+
 def main():
     header = of_header()
     packages = {"Rust": of_rust(), "Python": of_python()}
     found = [one for package, given in packages.items() for one in differences(package, given, header)]
+    found += clause_differences()
     if found:
         print("\n".join(f"bindings: {one}" for one in found), file=sys.stderr)
         return 1
     counts = "; ".join(
         "{} has {} enums, {} structs and {} calls".format(package, *map(len, given)) for package, given in packages.items())
-    print(f"bindings: {counts}, as the header has them")
+    print(f"bindings: {counts}, as the header has them; and these and Go have its {len(clauses_in_words())} clauses")
     return 0
 
 
