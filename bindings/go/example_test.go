@@ -53,6 +53,7 @@ func ExampleDecoder() {
 		fmt.Printf("%s %v\n", name, err)
 	}
 	// [end]
+
 	// Output:
 	// cpu <nil>
 	//  at line 2:4: No fields were provided
@@ -75,6 +76,7 @@ func ExampleDecoder_AppendSeriesKey() {
 	}
 	fmt.Println(sums, d.Err())
 	// [end]
+
 	// Output:
 	// map[cpu:4 cpu,az=b,host=a:3] <nil>
 }
@@ -117,6 +119,7 @@ func ExampleDecoder_Verdict() {
 		}
 	}
 	// [end]
+
 	// Output:
 	// m f=1u: a value is an unsigned integer <nil>
 	// m,a=x\\y f=1: a backslash is escaped in a tag key or a tag value <nil>

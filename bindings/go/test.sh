@@ -37,6 +37,10 @@ fi
 try go vet .
 try go test -v .
 tests=$(grep -c '^--- PASS' "$built/log")
+if [ "$(grep -c '^--- PASS: Example' "$built/log")" != "$(cat ./*_test.go | grep -c '^func Example')" ]; then
+    echo "go: an example was not run: a blank line comes before what it prints" >&2
+    exit 1
+fi
 answers=$(sed -n 's/.*\(answers.tsv: .*\)/\1/p' "$built/log")
 try env GODEBUG=cgocheck=2 go test .
 watched="cgocheck"
