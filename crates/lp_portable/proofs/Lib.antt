@@ -10,3 +10,7 @@ pub mod AnsweredAlike
 pub mod NamesAlike
 pub mod SpellingsRead
 pub mod WorkedPortable
+pub mod PlainEvents
+pub mod FieldEnds
+pub mod PlainNames
+pub mod PlainClauses

@@ -3,3 +3,4 @@ pub mod Walks
 pub mod Telling
 pub mod ByCode
 pub mod Bits
+pub mod Sure

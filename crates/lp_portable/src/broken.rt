@@ -181,6 +181,42 @@ pub struct Broken {
     pub time_not_kept: bool,
 }
 
+// What a line breaks that breaks no clause.
+pub(crate) const NOTHING: Broken = Broken {
+    leading_blank: false,
+    trailing_space: false,
+    newline: false,
+    measurement_equals: false,
+    measurement_escape: false,
+    tag_escape: false,
+    tag_key_comma: false,
+    tag_value_equals: false,
+    repeated_tag: false,
+    field_key_escape: false,
+    field_key_comma: false,
+    field_key_quote: false,
+    long_series: false,
+    unsigned: false,
+    infinite_float: false,
+    exponent: false,
+    leading_nul: false,
+    time_out_of_range: false,
+    tag_count: false,
+    time_name: false,
+    system_name: false,
+    repeated_field: false,
+    key_separator: false,
+    control_byte: false,
+    name_label: false,
+    long_tag_key: false,
+    long_tag_value: false,
+    long_metric_name: false,
+    long_labels: false,
+    too_many_tags: false,
+    long_line: false,
+    time_not_kept: false,
+};
+
 // Whether a clause concerns servers: one of them reads a line that breaks it otherwise.
 fn concerns(to: Servers, clause: Clause) -> bool
     ensures { result ≡ concerns (servers_of to) (clause_of clause) }

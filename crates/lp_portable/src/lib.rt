@@ -9,6 +9,7 @@ mod broken;
 mod keys;
 mod limits;
 mod names;
+mod plain;
 mod portable;
 mod values;
 

@@ -1,6 +1,7 @@
 //! Which clauses of what is portable a text breaks.
 //!
-//! The text is read into a line, whose names, values and timestamp are looked at; and walked over for how its names are spelled.
+//! Most lines break none, and are told by one reading: see `plain`. The text of any other is read into a line, whose names, values and
+//! timestamp are looked at; and walked over for how its names are spelled.
 
 ghost use Rattle.std.specs.Prelude.{◌≡◌, ◌↔◌, ◌≤◌, true, IfOk, IsOk, IsTrue, MatchOption, length};
 ghost use Rattle.lp_format.specs.{code.Light.is_light, format.IsCutPiece, format.Line, format.Strict, format.some_tags, format.trimmed};
@@ -10,10 +11,11 @@ ghost use Rattle.lp_portable.specs.format.Portable.{is_outside};
 ghost use Rattle.lp_portable.specs.code.{ByCode.ArePartsOf, ByCode.broken_by_code, Walks.most_compared, Walks.repeats_of};
 ghost use Rattle.lp_portable.specs.code.Telling.{IsNoLine, IsTrimmedPiece, TellsBroken, TellsRead};
 
-use crate::broken::Broken;
+use crate::broken::{Broken, NOTHING};
 use crate::keys::has_repeats;
 use crate::limits::{Limits, Servers};
 use crate::names::{NameBreaks, name_breaks};
+use crate::plain::breaks_nothing;
 use crate::values;
 use lp_lines::parsed::tags_in;
 use lp_lines::{ParsedLine, Unread, read_spelled_into};
@@ -190,8 +192,9 @@ fn broken_by<'a>(
 /// without its newline.
 ///
 /// [`Broken::first`] tells the first that concerns a server; if there is none, the server reads the line as this reader does. The text
-/// is read once more for that. Memory is taken as for a line that is read, and for a map of more than 32 tags or fields: none for a
-/// line with at most 8 tags and 4 fields whose names and strings are no copies.
+/// is read once for that, and once more if it may break a clause, or has a string, an escape, a `#`, more than 29 tags or 8,000 bytes.
+/// Then memory is taken as for a line that is read, and for a map of more than 32 tags or fields: none for a line with at most 8 tags
+/// and 4 fields whose names and strings are no copies.
 ///
 /// # Errors
 ///
@@ -210,6 +213,9 @@ pub fn broken_clauses(
     ensures value { IfOk result (TellsBroken limits.now text.now) }
     ensures no_memory { is_light Strict (trimmed text.now) ≡ true → IsOk result }
 {
+    if breaks_nothing(limits, text) {
+        return Ok(Some(NOTHING));
+    }
     let Some(line) = one_line(text) else {
         return Ok(None);
     };

@@ -6,7 +6,8 @@ ghost use Rattle.lp_format.specs.format.{is_one_of, quote, space, tab};
 ghost use Rattle.lp_values.specs.code.{ReadValues.value_of, Texts.literal_of, Texts.text_of};
 ghost use Rattle.lp_lines.specs.code.Parsed.{field_of, tag_of};
 ghost use Rattle.lp_portable.specs.format.Portable.{begins_with_nul, has_control, has_exponent, holds_text, is_finite, is_outside, is_system_key};
-ghost use Rattle.lp_portable.specs.format.Portable.{is_system_measurement, is_unsigned, is_hundreds};
+ghost use Rattle.lp_portable.specs.format.Portable.{is_finite_number, is_hundreds, is_system_measurement, is_unsigned};
+ghost use Rattle.std.specs.{Float.Parse.parse_float, Float.binary64};
 
 use lp_values::{EscapedStr, FieldValue};
 
@@ -75,16 +76,23 @@ pub(crate) fn has_unsigned<'a>(fields: &[Field<'a>]) -> bool
         .any(|(_, value)| matches!(value, FieldValue::U64(_)))
 }
 
+// Whether no finite number is nearest to a literal.
+pub(crate) fn is_infinite_text(literal: &str) -> bool
+    ensures { result ≡ not (is_finite_number (parse_float binary64 literal.now)) }
+{
+    match fast_float::parse::<f64, &str>(literal) {
+        Ok(number) => !number.is_finite(),
+        Err(_) => true,
+    }
+}
+
 // Whether a value is a float that has no finite number.
 fn is_infinite<'a>(value: &FieldValue<'a>) -> bool
     ensures { result ≡ not (is_finite (value_of value.now)) }
 {
-    let FieldValue::F64(literal) = value else {
-        return false;
-    };
-    match fast_float::parse::<f64, &str>(literal.as_str()) {
-        Ok(number) => !number.is_finite(),
-        Err(_) => true,
+    match value {
+        FieldValue::F64(literal) => is_infinite_text(literal.as_str()),
+        _ => false,
     }
 }
 
@@ -96,7 +104,7 @@ pub(crate) fn has_infinite<'a>(fields: &[Field<'a>]) -> bool
 }
 
 // Whether a text holds an `e` or an `E`.
-fn has_power(literal: &str) -> bool
+pub(crate) fn has_power(literal: &str) -> bool
     ensures { result ≡ list_any (is_one_of (codes "eE")) literal.now }
 {
     literal

@@ -28,7 +28,7 @@ use Rattle.lp_lines.proofs.lemmas.read_back.LinePieces.{AdmittedField, AdmittedT
 use Rattle.lp_lines.proofs.lemmas.read_back.LinePieces.{simple_decimal, simple_number, simple_signed}
 use Rattle.lp_format.proofs.lemmas.read_back.NameReadsBack.{admitted_parts, may_hold}
 use Rattle.lp_written.proofs.lemmas.points.LinesArePoints.{lines_are_points}
-use Rattle.influxdb_line_protocol.proofs.lemmas.laws.StopEnds.{field_ends}
+use Rattle.lp_portable.proofs.FieldEnds.{field_ends}
 
 -- a text without a newline, as a test
 abbrev pub OnOne : List ℕ → Type 0

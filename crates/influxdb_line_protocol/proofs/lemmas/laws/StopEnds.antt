@@ -13,62 +13,10 @@ use Rattle.lp_events.specs.code.Stops.{Place, reading_stop}
 use Rattle.lp_events.specs.declared.stops.LinePart.{LinePart}
 use Rattle.lp_events.proofs.lemmas.fields.ManyLemmas.{series_ends}
 use Rattle.lp_lines.proofs.lemmas.meanings.AnswerMeaning.{answer_is_by_rows, series_parts}
+use Rattle.lp_portable.proofs.FieldEnds.{field_ends, value_left}
 use Rattle.influxdb_line_protocol.specs.laws.StopLaws.{IsStopByRow, IsStopInField, IsStopInNext, IsStopInPair, IsStopInPair.at_key, IsStopInPair.at_sign}
 use Rattle.influxdb_line_protocol.specs.laws.StopLaws.{IsStopInPair.at_value, IsStopInTag, StopsAreInText}
 use Rattle.influxdb_line_protocol.proofs.lemmas.laws.StopRows.{lines_are_read_whole, stops_are_by_rows}
-
--- what a reading leaves is an end of the text
-record LeavesEnd {A : Type 0} (text : List ℕ) (r : Reading A) : Type 0 where
-  holds : (x : A) (rest : List ℕ) → r ≡ reads x rest → EndsIn text rest
-
--- a miss leaves nothing
-none_left : {A : Type 0} (text : List ℕ) → LeavesEnd {A = A} text miss
-none_left text = record { holds = λ x rest e. absurd (cc) }
-
--- a fault leaves nothing
-fault_left : {A : Type 0} (text : List ℕ) (f : Fault) → LeavesEnd {A = A} text (fatal f)
-fault_left text f = record { holds = λ x rest e. absurd (cc) }
-
--- an end is left
-end_left : {A : Type 0} (text : List ℕ) (x : A) (rest : List ℕ) → EndsIn text rest → LeavesEnd text (reads x rest)
-end_left text x rest h = record { holds = λ y after e. let same : rest ≡ after = cc in rw (sym same) h }
-
--- what follows a front is left
-drop_left : {A : Type 0} (text : List ℕ) (n : ℕ) (x : A) → LeavesEnd text (reads x (drop n text))
-drop_left text n x = end_left text x (drop n text) (EndsIn-drop n text (drop n text) refl)
-
--- either of two
-either : {A : Type 0} (text : List ℕ) (b : Bool) (r s : Reading A) → LeavesEnd text r → LeavesEnd text s → LeavesEnd text (cond b r s)
-either text b r s h k = grind arith
-
--- the first of two that does not miss
-one_of_two : {A : Type 0} (text : List ℕ) (r s : Reading A) → LeavesEnd text r → LeavesEnd text s → LeavesEnd text (r otherwise s)
-one_of_two text r s h k = grind arith
-
--- after a quote
-after_quote : (b : ℕ) (after : List ℕ) (n : ℕ) → EndsIn (b ∷ after) (drop n after)
-after_quote b after n =
-    EndsIn-end (b ∷ after) after (drop n after) (record { front = b ∷ []; is = refl }) (EndsIn-drop n after (drop n after) refl)
-
--- a string
-string_left : (text : List ℕ) → LeavesEnd text (string_at text)
-unfolding string_at
-string_left [] = none_left []
-string_left (b ∷ after) = either (b ∷ after) _ _ _ (end_left (b ∷ after) _ _ (after_quote b after _)) (none_left (b ∷ after))
-
--- a value
-value_left : (text : List ℕ) → LeavesEnd text (value text)
-unfolding value integer_at unsigned_at float_at boolean_at
-value_left text = grind (arith, either, none_left, drop_left, fault_left, one_of_two, string_left)
-
--- a text ends in what is left after a field
-pub field_ends : (text : List ℕ) (x : Pair Text (Value Text)) (rest : List ℕ) → field text ≡ reads x rest → EndsIn text rest
-unfolding field
-field_ends text x rest e =
-    let p = pair_parts a_field_key value text x rest e in
-    let after_key = name_ends a_field_key text x.key (equals ∷ p.mid) p.key in
-    let after_mark = EndsIn-end text (equals ∷ p.mid) p.mid after_key (record { front = equals ∷ []; is = refl }) in
-    EndsIn-end text p.mid rest after_mark ((value_left p.mid).holds x.value rest p.value)
 
 -- after a comma
 comma_ends : (text place rest : List ℕ) → text ≡ comma ∷ place → EndsIn place rest → EndsIn text rest
