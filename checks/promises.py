@@ -47,7 +47,7 @@ STANDS_FOR_ANY = re.compile(r"NAME|CRATE")
 OTHERS = {
     r"/.*": "it is of the machine",
     r"(.*/)?out/.*|crates/lp_c/out|dist/.*|lib\w+\.a": "it is made",
-    r"again\.lp|batch\.lp|\./-x": "it is a file of the reader's",
+    r"again\.lp|batch\.lp|(a/b|lines)-000001\.lp|\./-x": "it is a file of the reader's",
     r"proofs/m/f/": "it stands for those of each function `m::f`",
     r".*\b(MODULE|TYPE)": "it stands for each type",
     r"_in": "it is the end of names",

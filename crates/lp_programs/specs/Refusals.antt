@@ -1,12 +1,13 @@
 -- What is refused before anything is opened.
 use Rattle.std.specs.Prelude.{ℕ, ◌==◌, ◌&&◌, ◌||◌, nat_lt, decimal, Bool, false, List, ◌++◌, bytes_eq, codes, find, Option, Some, None, if◌then◌else◌}
-use Rattle.std.specs.Prelude.{option_and_then, option_map, unwrap_or}
+use Rattle.std.specs.Prelude.{is_none, option_and_then, option_map, unwrap_or}
 use Rattle.std.specs.Option.{option_map_or, option_or}
 use Rattle.std.specs.Borrow.{Bor}
 use Rattle.lp_programs.specs.declared.refusals.{FileId.FileId, Located.Located, Refusal.Refusal}
-use Rattle.lp_programs.specs.declared.refusals.Refusal.TheVariants.{OutputIsInput, RefusedIsInput, RefusedIsOutput}
+use Rattle.lp_programs.specs.declared.refusals.Refusal.TheVariants.{BatchIsThere, BatchesUnnamed, OutputIsInput, RefusedIsBatch, RefusedIsInput, RefusedIsOutput}
 use Rattle.lp_programs.specs.declared.refusals.Refusal.TheVariants.{PartsOutOfRange, RangeIsBackwards, RangeIsPastEnd, RangeOfNoFile}
 use Rattle.lp_programs.specs.declared.options.Range.{Range}
+use Rattle.lp_programs.specs.Batches.{batch_names}
 
 -- whether both are files, and one
 abbrev pub are_one : Option FileId → Option FileId → Bool
@@ -52,6 +53,10 @@ most_parts = 1000000
 abbrev pub parts_refusal : ℕ → Option Refusal
 parts_refusal parts = if parts == 0 || nat_lt most_parts parts then Some (PartsOutOfRange parts) else None
 
+-- whether there is no word that says the names of batches
+abbrev pub are_unnamed : (output : Option (Bor (List ℕ))) → Bool
+are_unnamed output = is_none (option_and_then (λ word. batch_names word.now) output)
+
 -- the path of an input
 abbrev pub input_path : List ℕ → List ℕ
 input_path name = if bytes_eq name (codes "-") then codes "/proc/self/fd/0" else name
@@ -70,4 +75,7 @@ refusal_text (RangeIsBackwards range) =
 refusal_text (RangeIsPastEnd name len) =
     codes "the range goes past the " ++ decimal len ++ codes " bytes of " ++ input_text name.now
 refusal_text (RangeOfNoFile name) = codes "--range reads a regular file, which this is not: " ++ input_text name.now
+refusal_text BatchesUnnamed = codes "batches need an --output with one %0Nd in the name of the file, as lines-%06d.lp"
+refusal_text (BatchIsThere name) = codes "a batch is there already: " ++ name.now
+refusal_text (RefusedIsBatch name) = codes "the file of --refused is named as a batch: " ++ name.now
 refusal_text (PartsOutOfRange parts) = codes "--cut takes from 1 to 1000000 parts, not " ++ decimal parts

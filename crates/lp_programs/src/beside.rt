@@ -1,7 +1,8 @@
 //! Where the lines and the refused pieces go: to standard output, to a file that comes to its place whole or not at all, or nowhere.
-ghost use Rattle.std.specs.Prelude.{◌≡◌, None, Ok, is_none, length, true, IsOk};
+ghost use Rattle.std.specs.Prelude.{◌≡◌, ◌≢◌, None, Ok, false, is_none, length, true, IfOk, IsOk};
 ghost use Rattle.std.specs.Io.{WritesAtMost};
 ghost use Rattle.std.specs.Io.KnownBytes.{Keeps, WriteAppends};
+ghost use Rattle.lp_programs.specs.Files.{new_file};
 ghost use Rattle.lp_programs.specs.Destinations.{GoesTo, is_nowhere};
 
 use crate::files::{FileState, Files, Maker, Output, Stage};
@@ -21,6 +22,8 @@ pub struct FileBeside<'a, 'n> {
     beside: String,
     // Which of the names that are tried the file beside has.
     turn: u32,
+    // Whether it comes to its place only if nothing is there.
+    is_new: bool,
     file: File,
 }
 
@@ -55,6 +58,9 @@ impl<'a, 'n> Output<'n> for FileBeside<'a, 'n> {
     }
 
     fn put(&mut self) -> io::Result<()> {
+        if self.is_new {
+            check_free(self.rt, self.place.as_str())?;
+        }
         fs::rename(self.rt, self.beside.as_str(), self.place.as_str())?;
         self.state.stage = Stage::InPlace;
         Ok(())
@@ -74,6 +80,7 @@ impl<'a, 'n> Output<'n> for FileBeside<'a, 'n> {
             place: _place,
             beside: _beside,
             turn: _turn,
+            is_new: _is_new,
             file: _file,
         } = self;
     }
@@ -97,25 +104,66 @@ impl<'a, 'n> Maker<'n> for &'a HostRuntime {
             Ok(old) => Some(old.permissions()),
             Err(_) => None,
         };
-        let (beside, turn, file) = create_beside(rt, place.as_str())?;
+        let mut file = make_beside(rt, name, place, false)?;
         if let Some(permissions) = old {
-            if let Err(error) = file.set_permissions(permissions) {
-                let _ = fs::remove_file(rt, beside.as_str());
+            if let Err(error) = file.file.set_permissions(permissions) {
+                file.remove();
+                file.let_go();
                 return Err(error);
             }
         }
-        Ok(FileBeside {
-            rt,
-            state: FileState {
-                name,
-                stage: Stage::Beside,
-                is_synced: false,
-            },
-            place,
-            beside,
-            turn,
-            file,
-        })
+        Ok(file)
+    }
+}
+
+/// Makes a file for this place, which comes there only if nothing is there, if that is asked for. Messages have this name for it.
+pub(crate) fn make_beside<'a, 'n>(
+    rt: &'a HostRuntime,
+    name: &'n str,
+    place: String,
+    is_new: bool,
+) -> io::Result<FileBeside<'a, 'n>>
+    ensures { IfOk result (λ file. file.state ≡ new_file name.entry) }
+{
+    let (beside, turn, file) = create_beside(rt, place.as_str())?;
+    Ok(FileBeside {
+        rt,
+        state: FileState {
+            name,
+            stage: Stage::Beside,
+            is_synced: false,
+        },
+        place,
+        beside,
+        turn,
+        is_new,
+        file,
+    })
+}
+
+impl<'a, 'n> FileBeside<'a, 'n> {
+    /// Whether it is beside its place.
+    pub(crate) fn is_beside(&self) -> bool
+        ensures yes { result ≡ true → self.now.state.stage ≡ Stage.Beside }
+        ensures no { result ≡ false → self.now.state.stage ≢ Stage.Beside }
+    {
+        matches!(self.state.stage, Stage::Beside)
+    }
+
+    /// Writes all of these bytes.
+    pub(crate) fn write_all(&mut self, bytes: &[u8]) -> io::Result<()>
+        ensures { self.new.state ≡ self.old.state }
+    {
+        self.file.write_all(bytes)
+    }
+}
+
+// Sees that nothing is in a place.
+fn check_free(rt: &HostRuntime, place: &str) -> io::Result<()> {
+    match fs::symlink_metadata(rt, place) {
+        Ok(_) => Err(io::Error::from(ErrorKind::AlreadyExists)),
+        Err(error) if error.kind() == ErrorKind::NotFound => Ok(()),
+        Err(error) => Err(error),
     }
 }
 

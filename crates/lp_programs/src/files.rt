@@ -143,8 +143,8 @@ fn remove_file<'n, F: Output<'n>>(file: &mut Option<F>)
     }
 }
 
-// Lets a file go, if there is one.
-fn let_file_go<'n, F: Output<'n>>(file: Option<F>)
+/// Lets a file go, if there is one.
+pub(crate) fn let_file_go<'n, F: Output<'n>>(file: Option<F>)
     requires { IfSome (option_map F.state file) IsSettled }
 {
     if let Some(file) = file {

@@ -4,6 +4,8 @@
 #![tactic(auto)]
 
 pub mod asked;
+pub mod batch_names;
+pub mod batches;
 mod beside;
 mod counted;
 pub mod endings;

@@ -2,11 +2,12 @@
 ghost use Rattle.std.specs.Prelude.{◌≡◌, IfOk, map};
 ghost use Rattle.lp_programs.specs.Refusals.{input_path};
 
+use crate::batch_names::BatchNames;
 use crate::options::Range;
 use crate::refusals::{FileId, Located, Refusal, refusal_of, refusal_of_range};
 use std::alloc::AllocError;
 use std::fs::{self, File, OpenOptions};
-use std::io::ErrorKind;
+use std::io::{self, ErrorKind};
 use std::os::unix::fs::MetadataExt;
 
 // Where the system has standard input.
@@ -106,6 +107,26 @@ pub fn refusal_at<'a>(
         None => None,
     };
     Ok(refusal_of(inputs.as_slice(), output, refused))
+}
+
+/// The name of a file that is there, and is named as a batch.
+///
+/// # Errors
+///
+/// What the system says if it cannot tell which files are there.
+pub fn batch_at(rt: &HostRuntime, names: BatchNames<'_>) -> io::Result<Option<String>> {
+    for entry in fs::read_dir(&rt, names.folder())? {
+        match entry {
+            Ok(entry) if names.is_one(entry.file_name()) => {
+                return Ok(Some(String::from_str(rt.alloc(), entry.file_name())?));
+            }
+            Ok(_) => {}
+            // A name that is not UTF-8 is none of a batch.
+            Err(error) if error.kind() == ErrorKind::InvalidFilename => {}
+            Err(error) => return Err(error),
+        }
+    }
+    Ok(None)
 }
 
 /// How many bytes the regular file has to which a path leads. Where nothing is found, it may have any number: that is told once it is

@@ -1,8 +1,9 @@
 //! What is refused before anything is opened: an output that is an input, a file of refused pieces that is one of these, a range that
-//! its file does not have, and parts that are none or too many.
-ghost use Rattle.std.specs.Prelude.{◌≡◌, ◌<◌, ◌-◌, [], ◌∷◌, codes, drop, length, map};
-ghost use Rattle.lp_programs.specs.Refusals.{are_one, input_at, input_text, is_backwards, parts_refusal, range_refusal, refusal, refused_refusal};
+//! its file does not have, batches that have no names of their own, and parts that are none or too many.
+ghost use Rattle.std.specs.Prelude.{◌≡◌, ◌≢◌, Some, false, true, ◌<◌, ◌-◌, [], ◌∷◌, codes, drop, length, map};
+ghost use Rattle.lp_programs.specs.Refusals.{are_one, are_unnamed, input_at, input_text, is_backwards, parts_refusal, range_refusal, refusal, refused_refusal};
 
+use crate::batch_names::batch_names_of;
 use crate::options::{MOST_PARTS, Range};
 use std::fmt;
 
@@ -38,6 +39,12 @@ pub enum Refusal<'a> {
     RangeIsPastEnd(&'a str, usize),
     /// A range of what is no regular file.
     RangeOfNoFile(&'a str),
+    /// The output does not say how batches are named.
+    BatchesUnnamed,
+    /// A file is there already that is named as a batch.
+    BatchIsThere(&'a str),
+    /// The file of the refused pieces is named as a batch.
+    RefusedIsBatch(&'a str),
     /// No part is asked for, or so many that their ends are not held.
     PartsOutOfRange(usize),
 }
@@ -119,6 +126,32 @@ pub fn refusal_of_range<'a>(range: Range, name: &'a str, len: Option<usize>) -> 
     }
 }
 
+// The name of a file in its folder.
+fn file_name(name: &str) -> &str {
+    match name.rsplit_once('/') {
+        Some((_, file)) => file,
+        None => name,
+    }
+}
+
+/// Why lines cannot go to batches that this word names, and the refused pieces to that file, if they do.
+pub fn refusal_of_batches<'a>(output: Option<&str>, refused: Option<&'a str>) -> Option<Refusal<'a>>
+    ensures unnamed { are_unnamed output.entry ≡ true → result ≡ Some Refusal.BatchesUnnamed }
+    ensures named { are_unnamed output.entry ≡ false → result ≢ Some Refusal.BatchesUnnamed }
+{
+    let names = match output {
+        Some(word) => batch_names_of(word),
+        None => None,
+    };
+    match (names, refused) {
+        (None, _) => Some(Refusal::BatchesUnnamed),
+        (Some(names), Some(name)) if names.is_one(file_name(name)) => {
+            Some(Refusal::RefusedIsBatch(name))
+        }
+        _ => None,
+    }
+}
+
 /// Why a cut into so many parts is refused.
 pub fn refusal_of_parts<'a>(parts: usize) -> Option<Refusal<'a>>
     ensures { result ≡ parts_refusal parts }
@@ -137,7 +170,6 @@ fn input_text<'a>(name: &'a str) -> &'a str
 }
 
 impl<'a> fmt::Display for Refusal<'a> {
-    ghost use Rattle.std.specs.Prelude.{Some};
     ghost use Rattle.lp_programs.specs.Refusals.{refusal_text};
 
     ghost output = { λ refusal. Some (refusal_text refusal) };
@@ -170,6 +202,13 @@ impl<'a> fmt::Display for Refusal<'a> {
             Refusal::RangeOfNoFile(name) => {
                 let name = input_text(name);
                 write!(f, "--range reads a regular file, which this is not: {name}")
+            }
+            Refusal::BatchesUnnamed => f.write_str(
+                "batches need an --output with one %0Nd in the name of the file, as lines-%06d.lp",
+            ),
+            Refusal::BatchIsThere(name) => write!(f, "a batch is there already: {name}"),
+            Refusal::RefusedIsBatch(name) => {
+                write!(f, "the file of --refused is named as a batch: {name}")
             }
             Refusal::PartsOutOfRange(parts) => {
                 write!(f, "--cut takes from 1 to 1000000 parts, not {parts}")

@@ -2,7 +2,9 @@
 ghost use Rattle.std.specs.Prelude.{◌≡◌, IfSome};
 
 use crate::asked::{ReadsOn, relay_each};
-use crate::beside::Destinations;
+use crate::batch_names::batch_names_of;
+use crate::batches::{Batches, Limits};
+use crate::beside::{Destination, Destinations, FileBeside};
 use crate::counted::CountedSource;
 use crate::endings::{Ending, Failure, ending_of_relay};
 use crate::errors::{LastErrors, Watched};
@@ -10,8 +12,8 @@ use crate::files::{Files, failure_of};
 use crate::inputs::{Inputs, SystemOpener};
 use crate::meter::{Counted, Meter, MeteredSink, MeteredSource};
 use crate::options::Range;
-use crate::places::{range_refusal_at, refusal_at, relayed_len};
-use crate::refusals::Refusal;
+use crate::places::{batch_at, range_refusal_at, refusal_at, relayed_len};
+use crate::refusals::{Refusal, refusal_of_batches};
 use crate::summary::Totals;
 use crate::watched::{Unwatched, WatchedSource, Watcher};
 use lp_rebuild::{Reading, RunFault, Source, Writing};
@@ -32,6 +34,8 @@ pub struct Request<'a> {
     pub output: Option<&'a str>,
     /// The file that the refused pieces go to, if they go out.
     pub refused: Option<&'a str>,
+    /// How large the batches are to which the lines go, if they go to batches. `output` says the names of these then.
+    pub batches: Option<Limits>,
     /// The part of the input that is relayed, if it is not all. There is one input then.
     pub range: Option<Range>,
     /// How many words name inputs: so many of the last. 0: standard input.
@@ -56,13 +60,22 @@ fn relay_over<R: Source + Drop, W: Watcher + Drop, O: ThreeWriters + Drop>(
     (answer, inputs.reader.into_inner().into_watcher())
 }
 
+// Where the lines and the refused pieces of a relay go.
+#[derive(Drop)]
+struct Outs<'d, L> {
+    lines: L,
+    // Whether the lines go to a terminal.
+    is_shown: bool,
+    refused: Destination<'d>,
+}
+
 // Relays the inputs of these names, one after another, and shows on the terminal how far it is, if that is asked for.
-fn relay_inputs<'n, W: Watcher + Drop>(
+fn relay_inputs<'n, W: Watcher + Drop, L: Write + Drop>(
     rt: &HostRuntime,
     request: Request<'_>,
     names: &'n [&'n str],
     watcher: W,
-    destinations: Destinations<'_>,
+    outs: Outs<'_, L>,
     errors: &LastErrors<'n>,
 ) -> (Result<Totals, RunFault>, W) {
     let counted = if request.check {
@@ -76,22 +89,75 @@ fn relay_inputs<'n, W: Watcher + Drop>(
         None
     };
     let shown = meter.as_ref();
-    let is_out_shown = destinations.is_on_terminal();
     let inputs = Inputs::new(SystemOpener::new(rt, &errors.input, request.range), names);
     let reader = Reading::new(Watched::new(&errors.input, inputs));
     let reader = MeteredSource::new(shown, reader);
-    let lines = Writing::new(Watched::new(&errors.output, destinations.lines));
+    let lines = Writing::new(Watched::new(&errors.output, outs.lines));
     let faults = Writing::new(Watched::new(&errors.faults, rt.stderr()));
     let outputs = Outputs {
-        lines: MeteredSink::new(shown, counted, is_out_shown, lines),
+        lines: MeteredSink::new(shown, counted, outs.is_shown, lines),
         faults: MeteredSink::new(shown, Counted::Faults, true, faults),
-        refused: Writing::new(Watched::new(&errors.refused, destinations.refused)),
+        refused: Writing::new(Watched::new(&errors.refused, outs.refused)),
     };
     let answer = relay_over(rt.alloc(), request, names, reader, watcher, outputs);
     if let Some(meter) = shown {
         meter.finish();
     }
     answer
+}
+
+// The batches that a request asks for.
+fn open_batches<'a, 'n>(
+    rt: &'a HostRuntime,
+    request: Request<'n>,
+) -> Result<Option<Batches<'a, 'n>>, Failure<'n>> {
+    let (Some(limits), Some(word)) = (request.batches, request.output) else {
+        return Ok(None);
+    };
+    match batch_names_of(word) {
+        Some(names) => {
+            let batches = Batches::open(rt, word, names, request.relay.dialect, limits)?;
+            Ok(Some(batches))
+        }
+        None => Ok(None),
+    }
+}
+
+// Relays the inputs of these names to files, or to batches.
+fn relay_into<'a, 'n, W: Watcher + Drop>(
+    rt: &HostRuntime,
+    request: Request<'n>,
+    names: &'n [&'n str],
+    watcher: W,
+    files: &Files<FileBeside<'a, 'n>>,
+    batches: &mut Option<Batches<'a, 'n>>,
+) -> (Result<Totals, Failure<'n>>, W) {
+    let errors = LastErrors::unfailed(request.output, request.refused);
+    let destinations = files.destinations(rt, request.check);
+    let is_shown = destinations.is_on_terminal();
+    let Destinations { lines, refused } = destinations;
+    let (answer, watcher) = match batches {
+        Some(lines) => {
+            let outs = Outs {
+                lines,
+                is_shown: false,
+                refused,
+            };
+            relay_inputs(rt, request, names, watcher, outs, &errors)
+        }
+        None => {
+            let outs = Outs {
+                lines,
+                is_shown,
+                refused,
+            };
+            relay_inputs(rt, request, names, watcher, outs, &errors)
+        }
+    };
+    match answer {
+        Ok(totals) => (Ok(totals), watcher),
+        Err(fault) => (Err(errors.now().failure(fault)), watcher),
+    }
 }
 
 /// Relays the inputs of these names to the files that a request names, and puts these in their places. A watcher takes all bytes that
@@ -106,20 +172,32 @@ pub fn relay_to_files<'n, W: Watcher + Drop>(
     names: &'n [&'n str],
     watcher: W,
 ) -> (Result<Totals, Failure<'n>>, W) {
-    let mut files = match Files::open(&rt, request.output, request.refused) {
-        Ok(files) => files,
+    let mut batches = match open_batches(rt, request) {
+        Ok(batches) => batches,
         Err(failure) => return (Err(failure), watcher),
     };
-    let errors = LastErrors::unfailed(request.output, request.refused);
-    let destinations = files.destinations(rt, request.check);
-    let (answer, watcher) = relay_inputs(rt, request, names, watcher, destinations, &errors);
-    let answer = match answer {
-        Ok(totals) => Ok(totals),
-        Err(fault) => Err(errors.now().failure(fault)),
+    let output = if batches.is_some() {
+        None
+    } else {
+        request.output
     };
-    let answer = files.finish(answer);
-    files.let_go();
-    (answer, watcher)
+    let (answer, watcher) = match Files::open(&rt, output, request.refused) {
+        Ok(mut files) => {
+            let (answer, watcher) = relay_into(rt, request, names, watcher, &files, &mut batches);
+            let answer = match batches {
+                Some(batches) => batches.finish(answer),
+                None => answer,
+            };
+            let answer = files.finish(answer);
+            files.let_go();
+            return (answer, watcher);
+        }
+        Err(failure) => (Err(failure), watcher),
+    };
+    match batches {
+        Some(batches) => (batches.finish(answer), watcher),
+        None => (answer, watcher),
+    }
 }
 
 // Writes all of a text.
@@ -197,6 +275,30 @@ pub fn refuse_files(
     }
 }
 
+// Says why lines cannot go to batches that this word names, if they cannot.
+fn refuse_batches(
+    rt: &HostRuntime,
+    program: &str,
+    output: Option<&str>,
+    refused: Option<&str>,
+) -> Option<u8>
+    ensures { IfSome result (λ status. status ≡ 2) }
+{
+    if let Some(status) = refuse(rt, program, refusal_of_batches(output, refused)) {
+        return Some(status);
+    }
+    let word = output?;
+    match batch_at(rt, batch_names_of(word)?) {
+        Ok(Some(name)) => refuse(rt, program, Some(Refusal::BatchIsThere(name.as_str()))),
+        Ok(None) => None,
+        Err(error) => {
+            let failure = failure_of(word, error);
+            let _ = eprintln!(rt; "{program}: {failure}");
+            Some(2)
+        }
+    }
+}
+
 /// Says why the relay of a request is refused, if it is: for its range, or for its files.
 pub fn refuse_request(
     rt: &HostRuntime,
@@ -210,8 +312,14 @@ pub fn refuse_request(
         (Some(range), [name]) => range_refusal_at(rt, range, name),
         _ => None,
     };
-    match refuse(rt, program, refusal) {
-        Some(status) => Some(status),
-        None => refuse_files(rt, program, names, request.output, request.refused),
+    if let Some(status) = refuse(rt, program, refusal) {
+        return Some(status);
+    }
+    if let Some(status) = refuse_files(rt, program, names, request.output, request.refused) {
+        return Some(status);
+    }
+    match request.batches {
+        Some(_) => refuse_batches(rt, program, request.output, request.refused),
+        None => None,
     }
 }

@@ -13,7 +13,7 @@ use Rattle.lp_relay.specs.declared.taking.LineForm.TheVariants.{Rebuilt, Verbati
 use Rattle.lp_relay.specs.declared.taking.Numbering.TheVariants as named
 use Rattle.lp_relay.specs.declared.taking.Settings.{Settings}
 use Rattle.lp_relay_program.specs.declared.words.Given.{Given}
-use Rattle.lp_programs.specs.declared.{relays.Request.Request}
+use Rattle.lp_programs.specs.declared.{relays.Request.Request, batches.Limits.Limits}
 use Rattle.lp_programs.specs.Options.{are_inputs, asked_range, decimal, default_max_line, faults_form, first_number, is_one_if, names_file}
 use Rattle.lp_relay_program.specs.declared.words.Task.{Task}
 use Rattle.lp_relay_program.specs.declared.words.Task.TheVariants.{Relay, Cut, Help, Version}
@@ -35,6 +35,8 @@ nothing_given = record {
   faults = None;
   output = None;
   refused = None;
+  batch_lines = None;
+  batch_bytes = None;
   range = None;
 }
 
@@ -84,11 +86,17 @@ given_settings given = record {
   first_offset = first_offset given;
 }
 
--- whether two options exclude each other: a check has no file for lines, the number of the first item is none of a line, lines go
--- out in one way, and the rules are those of one dialect
+-- how large batches are, if the lines go to batches
+abbrev pub given_batches : Given → Option Limits
+given_batches given =
+    if is_some given.batch_lines || is_some given.batch_bytes
+    then Some (record { lines = given.batch_lines; bytes = given.batch_bytes }) else None
+
+-- whether two options exclude each other: a check has no file for lines, and no batches, the number of the first item is none of a line,
+-- lines go out in one way, and the rules are those of one dialect
 abbrev pub are_at_odds : Given → Bool
 are_at_odds given =
-    (given.check && is_some given.output) || (is_some given.first_item && names_lines given) || (given.verbatim && given.canonical)
+    (given.check && (is_some given.output || is_some given.batch_lines || is_some given.batch_bytes)) || (is_some given.first_item && names_lines given) || (given.verbatim && given.canonical)
     || (given.strict && given.newline_delimited)
 
 -- the relay of the options that were given and of the inputs that words name, if each names an input, just one does if a part of it is
@@ -102,6 +110,7 @@ request_of given words =
       check = given.check;
       output = given.output;
       refused = given.refused;
+      batches = given_batches given;
       range = given.range;
       inputs = length words;
     })
@@ -136,8 +145,12 @@ with_value given word value =
     then Some (record given { output = Some value })
     else (if bytes_eq word (codes "--refused") && is_none given.refused && names_file value.now
     then Some (record given { refused = Some value })
+    else (if bytes_eq word (codes "--batch-lines") && is_none given.batch_lines
+    then option_map (λ most. record given { batch_lines = Some most }) (first_number value.now)
+    else (if bytes_eq word (codes "--batch-bytes") && is_none given.batch_bytes
+    then option_map (λ most. record given { batch_bytes = Some most }) (first_number value.now)
     else (if bytes_eq word (codes "--range") && is_none given.range
-    then option_map (λ range. record given { range = Some range }) (asked_range value.now) else None))))))
+    then option_map (λ range. record given { range = Some range }) (asked_range value.now) else None))))))))
 
 -- the relay that words ask for after the options given: each option is one that was not given before it, and inputs come last
 abbrev mutual

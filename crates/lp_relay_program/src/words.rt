@@ -1,10 +1,11 @@
 //! What the words after the program's name ask for.
 ghost use Rattle.std.specs.Prelude.{◌≡◌};
 ghost use Rattle.lp_relay_program.specs.Words.{are_at_odds, asked_cut, asked_dialect, asked_request, asked_task, cut_task};
-ghost use Rattle.lp_relay_program.specs.Words.{first_named, first_offset, given_settings, is_json, names_lines, told_form};
+ghost use Rattle.lp_relay_program.specs.Words.{first_named, first_offset, given_batches, given_settings, is_json, names_lines, told_form};
 ghost use Rattle.lp_relay_program.specs.Words.{nothing_given, request_of, with_flag, with_value};
 
 use influxdb_line_protocol::Dialect;
+use lp_programs::batches::Limits;
 use lp_programs::options::{
     DEFAULT_MAX_LINE, Range, are_inputs, decimal_of, faults_form_of, first_number_of, is_file,
     is_one_if, range_of,
@@ -16,7 +17,8 @@ use lp_relay::{Faults, LineForm, Numbering, Settings};
 pub const USAGE: &str = "usage: lp_relay [--strict | --newline-delimited] [--verbatim | --canonical]
                 [--faults line|raw|json] [--max-line BYTES]
                 [--first-item N | [--lines] [--first-line N]] [--progress] [--summary]
-                [--check | --output FILE] [--refused FILE] [--range FROM..TO] [FILE..]
+                [--check | [--output FILE] [--batch-lines N] [--batch-bytes N]] [--refused FILE]
+                [--range FROM..TO] [FILE..]
        lp_relay [--strict | --newline-delimited] --cut PARTS [FILE..]
        lp_relay --help | --version";
 
@@ -59,6 +61,12 @@ FILE that is - is standard input; ./-x names a file -x.
   --check            writes no line, but the faults and the status are as ever
   --output FILE, -o  writes the lines to FILE, which is there, and whole, once the status is 0 or 1;
                      until then a FILE that was there stays as it was
+  --batch-lines N    writes the lines to batches of at most N lines, a file each; --output has one
+                     %0Nd in the name of the file, in whose place the number of the batch stands
+                     with N digits, 1 to 9, as in lines-%06d.lp; each is there, whole, once no line
+                     more goes to it, and stays if the run fails later
+  --batch-bytes N    the same, of at most N bytes; a longer line is a batch of its own. With
+                     --batch-lines a batch has at most so many lines and at most so many bytes
   --refused FILE     writes each piece that is refused to FILE as it came, with its newline, and of a
                      line that is too long its first BYTES; FILE is there as that of --output is
   --range FROM..TO   relays a part of one FILE, a regular file: its bytes from place FROM on, counted
@@ -70,9 +78,10 @@ FILE that is - is standard input; ./-x names a file -x.
   --help, -h         prints this
   --version          prints the version
 
-The options of a relay come in any order, each at most once, before the files; not both --check
-and --output, not both --verbatim and --canonical, not both --strict and --newline-delimited, nor
---first-item with --lines or --first-line, but with --faults json, which names items and lines.
+The options of a relay come in any order, each at most once, before the files; not --check with
+--output, --batch-lines or --batch-bytes, not both --verbatim and --canonical, not both --strict
+and --newline-delimited, nor --first-item with --lines or --first-line, but with --faults json,
+which names items and lines. --batch-lines and --batch-bytes need --output.
 --cut PARTS comes first, or after --strict or --newline-delimited.
 
 Status 0: every item was carried; 1: some item was not; 2: the input could not be read, memory
@@ -109,6 +118,8 @@ pub(crate) struct Given<'a> {
     faults: Option<Faults>,
     output: Option<&'a str>,
     refused: Option<&'a str>,
+    batch_lines: Option<usize>,
+    batch_bytes: Option<usize>,
     range: Option<Range>,
 }
 
@@ -131,6 +142,8 @@ impl<'a> Given<'a> {
             faults: None,
             output: None,
             refused: None,
+            batch_lines: None,
+            batch_bytes: None,
             range: None,
         }
     }
@@ -185,6 +198,19 @@ impl<'a> Given<'a> {
             Some(range) => range.from,
             None => 0,
         }
+    }
+
+    // How large batches are, if the lines go to batches.
+    fn batches(self) -> Option<Limits>
+        ensures { result ≡ given_batches self.entry }
+    {
+        if self.batch_lines.is_none() && self.batch_bytes.is_none() {
+            return None;
+        }
+        Some(Limits {
+            lines: self.batch_lines,
+            bytes: self.batch_bytes,
+        })
     }
 
     fn settings(self) -> Settings<'a>
@@ -251,18 +277,24 @@ impl<'a> Given<'a> {
                 self.output = Some(value);
             }
             "--refused" if self.refused.is_none() && is_file(value) => self.refused = Some(value),
+            "--batch-lines" if self.batch_lines.is_none() => {
+                self.batch_lines = Some(first_number_of(value)?);
+            }
+            "--batch-bytes" if self.batch_bytes.is_none() => {
+                self.batch_bytes = Some(first_number_of(value)?);
+            }
             "--range" if self.range.is_none() => self.range = Some(range_of(value)?),
             _ => return None,
         }
         Some(self)
     }
 
-    // Whether two options exclude each other: a check has no file for lines, the number of the first item is none of a line, lines
+    // Whether two options exclude each other: a check has no file for lines, and no batches, the number of the first item is none of a line, lines
     // go out in one way, and the rules are those of one dialect.
     fn are_at_odds(self) -> bool
         ensures { result ≡ are_at_odds self.entry }
     {
-        self.check && self.output.is_some()
+        self.check && (self.output.is_some() || self.batches().is_some())
             || self.first_item.is_some() && self.names_lines()
             || self.verbatim && self.canonical
             || self.strict && self.newline_delimited
@@ -282,6 +314,7 @@ impl<'a> Given<'a> {
             check: self.check,
             output: self.output,
             refused: self.refused,
+            batches: self.batches(),
             range: self.range,
             inputs: words.len(),
         })

@@ -72,6 +72,7 @@ given_relay given inputs = record {
   check = not (is_relay given);
   output = None;
   refused = None;
+  batches = None;
   range = None;
   inputs = inputs;
 }

@@ -201,6 +201,7 @@ impl<'a> Given<'a> {
             check: !self.is_relay(),
             output: None,
             refused: None,
+            batches: None,
             range: None,
             inputs,
         }

@@ -1,0 +1,270 @@
+//! Lines that go to batches: files of a few lines each, each of which comes to its place whole or not at all.
+ghost use Rattle.std.specs.Prelude.{◌≡◌, ◌≤◌, None, Ok, OnOk, length, true};
+ghost use Rattle.std.specs.Io.{WritesAtMost};
+ghost use Rattle.std.specs.Io.KnownBytes.{Keeps, WriteAppends};
+ghost use Rattle.lp_programs.specs.Batches.{may_be};
+ghost use Rattle.lp_programs.specs.Files.{IsBeside, IsInPlace, IsWhole};
+
+use crate::batch_names::BatchNames;
+use crate::beside::{FileBeside, make_beside};
+use crate::endings::Failure;
+use crate::files::{Output, failure_of, let_file_go};
+use influxdb_line_protocol::{Dialect, split_lines_in};
+use std::io::{self, ErrorKind, Write};
+use std::str;
+
+/// How large a batch may be, in lines and in bytes, if that is limited.
+#[derive(Clone, Copy)]
+pub struct Limits {
+    pub lines: Option<usize>,
+    pub bytes: Option<usize>,
+}
+
+/// How large a batch is, or some lines are.
+#[derive(Clone, Copy)]
+pub struct Size {
+    pub lines: usize,
+    pub bytes: usize,
+}
+
+impl Size {
+    // The size of no lines.
+    const NONE: Size = Size { lines: 0, bytes: 0 };
+
+    // The size of both.
+    fn and(self, other: Size) -> Size {
+        Size {
+            lines: self.lines.saturating_add(other.lines),
+            bytes: self.bytes.saturating_add(other.bytes),
+        }
+    }
+}
+
+impl Limits {
+    // Whether a batch may be so large.
+    fn allow(self, size: Size) -> bool
+        ensures { result ≡ may_be self size }
+    {
+        let has_few_lines = match self.lines {
+            Some(most) => size.lines <= most,
+            None => true,
+        };
+        let has_few_bytes = match self.bytes {
+            Some(most) => size.bytes <= most,
+            None => true,
+        };
+        has_few_lines && has_few_bytes
+    }
+
+    // Whether a batch is so large that no line more can go to it.
+    fn are_reached(self, size: Size) -> bool {
+        !self.allow(size.and(Size { lines: 1, bytes: 1 }))
+    }
+}
+
+// How many of the first lines of a text still go to a batch of this size, by the rules of a dialect. The first one goes to an empty
+// batch, however long it is.
+fn lines_that_fit(dialect: Dialect, limits: Limits, size: Size, text: &str) -> Size
+    ensures { result.bytes ≤ length text.now }
+{
+    let mut pieces = split_lines_in(dialect, text);
+    let mut fit = Size::NONE;
+    while let Some(_) = pieces.next() {
+        // The last piece has no newline.
+        let Some(rest) = pieces.remainder() else {
+            return fit;
+        };
+        let more = Size {
+            lines: fit.lines.saturating_add(1),
+            bytes: text.len().saturating_sub(rest.len()),
+        };
+        let all = size.and(more);
+        if all.lines > 1 && !limits.allow(all) {
+            return fit;
+        }
+        fit = more;
+    }
+    fit
+}
+
+// Puts a file in its place, once all of it is on the device.
+fn put_whole<'n, F: Output<'n>>(file: &mut F) -> io::Result<()>
+    requires beside { IsBeside (F.state file.old) }
+    ensures placed { OnOk result (IsInPlace (F.state file.new)) }
+    ensures whole { IsInPlace (F.state file.new) → (F.state file.new).is_synced ≡ true }
+{
+    file.sync()?;
+    file.put()
+}
+
+// Puts a file in its place, once all of it is on the device, or removes it.
+fn put_or_remove<'n, F: Output<'n>>(mut file: F) -> io::Result<()>
+    requires { IsBeside (F.state file) }
+{
+    let answer = put_whole(&mut file);
+    file.remove();
+    file.let_go();
+    answer
+}
+
+// Removes a file.
+fn remove<'n, F: Output<'n>>(mut file: F)
+    requires { IsBeside (F.state file) }
+{
+    file.remove();
+    file.let_go();
+}
+
+/// Files for lines, one after another, each with a number in its name.
+pub(crate) struct Batches<'a, 'n> {
+    rt: &'a HostRuntime,
+    // The word that says their names, which messages have.
+    word: &'n str,
+    names: BatchNames<'n>,
+    dialect: Dialect,
+    limits: Limits,
+    // The number of the next file.
+    next: u64,
+    // The file that is written, and what it has so far.
+    file: Option<FileBeside<'a, 'n>>,
+    size: Size,
+}
+
+// The file of the batch of this number.
+fn file_of<'a, 'n>(
+    rt: &'a HostRuntime,
+    word: &'n str,
+    names: BatchNames<'n>,
+    number: u64,
+) -> io::Result<FileBeside<'a, 'n>> {
+    match names.name_of(rt.alloc(), number)? {
+        Some(place) => make_beside(rt, word, place, true),
+        None => Err(io::Error::new(
+            ErrorKind::InvalidInput,
+            "the numbers of the batches are used up",
+        )),
+    }
+}
+
+impl<'a, 'n> Batches<'a, 'n> {
+    /// Batches of these names, of lines by the rules of a dialect. The file of the first one is made.
+    ///
+    /// # Errors
+    ///
+    /// `Write` if that cannot be made.
+    pub(crate) fn open(
+        rt: &'a HostRuntime,
+        word: &'n str,
+        names: BatchNames<'n>,
+        dialect: Dialect,
+        limits: Limits,
+    ) -> Result<Self, Failure<'n>> {
+        match file_of(rt, word, names, 1) {
+            Ok(file) => Ok(Batches {
+                rt,
+                word,
+                names,
+                dialect,
+                limits,
+                next: 2,
+                file: Some(file),
+                size: Size::NONE,
+            }),
+            Err(error) => Err(failure_of(word, error)),
+        }
+    }
+
+    // The file of the next batch.
+    fn next_file(&mut self) -> io::Result<FileBeside<'a, 'n>>
+        ensures { self.new.file ≡ self.old.file }
+    {
+        let file = file_of(self.rt, self.word, self.names, self.next)?;
+        self.next = self.next.saturating_add(1);
+        Ok(file)
+    }
+
+    // Ends the batch that is written: it comes to its place.
+    fn end(&mut self) -> io::Result<()> {
+        self.size = Size::NONE;
+        let Some(file) = self.file.take() else {
+            return Ok(());
+        };
+        if file.is_beside() {
+            return put_or_remove(file);
+        }
+        file.let_go();
+        Ok(())
+    }
+
+    // Writes lines, which fit, to the batch.
+    fn add(&mut self, lines: &[u8], size: Size) -> io::Result<()> {
+        let mut file = match self.file.take() {
+            Some(file) => file,
+            None => self.next_file()?,
+        };
+        let written = file.write_all(lines);
+        let_file_go(self.file.replace(file));
+        written?;
+        self.size = self.size.and(size);
+        if self.limits.are_reached(self.size) {
+            return self.end();
+        }
+        Ok(())
+    }
+
+    /// Ends a run that gave this answer: the last batch comes to its place if the run succeeded and it has a line, else it is removed.
+    ///
+    /// # Errors
+    ///
+    /// The failure of the run; `Write` if the batch cannot be put in its place.
+    pub(crate) fn finish<T: Drop>(self, answer: Result<T, Failure<'n>>) -> Result<T, Failure<'n>> {
+        let Batches {
+            rt: _rt,
+            word,
+            names: _names,
+            dialect: _dialect,
+            limits: _limits,
+            next: _next,
+            file,
+            size,
+        } = self;
+        let Some(file) = file else {
+            return answer;
+        };
+        if !file.is_beside() {
+            file.let_go();
+            return answer;
+        }
+        if answer.is_err() || size.bytes == 0 {
+            remove(file);
+            return answer;
+        }
+        match put_or_remove(file) {
+            Ok(()) => answer,
+            Err(error) => Err(failure_of(word, error)),
+        }
+    }
+}
+
+/// Bytes come as whole lines. Each write takes those that go to one batch.
+impl<'a, 'n> Write for Batches<'a, 'n> {
+    fn write(&mut self, buf: &[u8]) -> io::Result<usize>
+        ensures bound { WritesAtMost result buf.now }
+        ensures bytes { WriteAppends None None result buf.now }
+    {
+        let text = str::from_utf8(buf).unwrap_or("");
+        let mut fit = lines_that_fit(self.dialect, self.limits, self.size, text);
+        if fit.bytes == 0 && !buf.is_empty() {
+            self.end()?;
+            fit = lines_that_fit(self.dialect, self.limits, self.size, text);
+        }
+        self.add(&buf[..fit.bytes], fit)?;
+        Ok(fit.bytes)
+    }
+
+    fn flush(&mut self) -> io::Result<()>
+        ensures bytes { Keeps None None }
+    {
+        Ok(())
+    }
+}
