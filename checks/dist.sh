@@ -375,7 +375,10 @@ complete_all() {
     offered "--strict --newline-delimited --help --version" lp_relay --strict --
     offered "--strict --newline-delimited --help --version" lp_relay --newline-delimited --
     offered "--lines --first-item $others" lp_relay --lines ""
-    offered "--check --output $others" lp_relay --check --
+    offered "--check --output --batch-lines --batch-bytes $others" lp_relay --check --
+    offered "--check --batch-lines $others" lp_relay --batch-lines 7 --
+    offered "--check --batch-lines --batch-bytes --output $others" lp_relay -o x --batch-bytes 7 --batch-lines 7 --
+    completed "" lp_relay --batch-bytes ""
     offered "--first-line --first-item $others" lp_relay --first-line 7 --
     offered "--first-item --lines --first-line $others" lp_relay --first-item 7 --
     offered "--check --output $others" lp_relay -o x --
