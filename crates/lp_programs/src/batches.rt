@@ -1,15 +1,17 @@
 //! Lines that go to batches: files of a few lines each, each of which comes to its place whole or not at all.
-ghost use Rattle.std.specs.Prelude.{◌≡◌, ◌≤◌, None, Ok, OnOk, length, true};
+ghost use Rattle.std.specs.Prelude.{◌≡◌, List, ℕ, None, OnOk, true};
 ghost use Rattle.std.specs.Io.{WritesAtMost};
 ghost use Rattle.std.specs.Io.KnownBytes.{Keeps, WriteAppends};
-ghost use Rattle.lp_programs.specs.Batches.{may_be};
+ghost use Rattle.influxdb_line_protocol.specs.code.Rules.{rules_of};
+ghost use Rattle.influxdb_line_protocol.specs.format.Pieces.{Pieces};
+ghost use Rattle.lp_programs.specs.Batches.{both, fitting, line_size, may_be, no_lines, takes_line};
 ghost use Rattle.lp_programs.specs.Files.{IsBeside, IsInPlace, IsWhole};
 
 use crate::batch_names::BatchNames;
 use crate::beside::{FileBeside, make_beside};
 use crate::endings::Failure;
 use crate::files::{Output, failure_of, let_file_go};
-use influxdb_line_protocol::{Dialect, split_lines_in};
+use influxdb_line_protocol::{Dialect, laws, split_lines_in};
 use std::io::{self, ErrorKind, Write};
 use std::str;
 
@@ -32,10 +34,22 @@ impl Size {
     const NONE: Size = Size { lines: 0, bytes: 0 };
 
     // The size of both.
-    fn and(self, other: Size) -> Size {
+    fn and(self, other: Size) -> Size
+        ensures { result ≡ both self other }
+    {
         Size {
             lines: self.lines.saturating_add(other.lines),
             bytes: self.bytes.saturating_add(other.bytes),
+        }
+    }
+
+    // The size of a line of so many bytes, with its newline.
+    fn of_line(len: usize) -> Size
+        ensures { result ≡ line_size len }
+    {
+        Size {
+            lines: 1,
+            bytes: len.saturating_add(1),
         }
     }
 }
@@ -56,33 +70,31 @@ impl Limits {
         has_few_lines && has_few_bytes
     }
 
-    // Whether a batch is so large that no line more can go to it.
-    fn are_reached(self, size: Size) -> bool {
-        !self.allow(size.and(Size { lines: 1, bytes: 1 }))
+    // Whether a line goes to a batch of this size: to an empty one, however long it is.
+    fn take_line(self, batch: Size, line: Size) -> bool
+        ensures { result ≡ takes_line self batch line }
+    {
+        batch.lines == 0 || self.allow(batch.and(line))
     }
 }
 
-// How many of the first lines of a text still go to a batch of this size, by the rules of a dialect. The first one goes to an empty
-// batch, however long it is.
-fn lines_that_fit(dialect: Dialect, limits: Limits, size: Size, text: &str) -> Size
-    ensures { result.bytes ≤ length text.now }
+// The size of the first lines of a text, by the rules of a dialect, that go to a batch of this size.
+fn lines_that_fit(dialect: Dialect, limits: Limits, batch: Size, text: &str) -> Size
+    ensures { (pieces : List (List ℕ)) → Pieces (rules_of dialect) text.now pieces → result ≡ fitting limits batch no_lines pieces }
 {
+    laws::pieces_join();
     let mut pieces = split_lines_in(dialect, text);
     let mut fit = Size::NONE;
-    while let Some(_) = pieces.next() {
+    while let Some(piece) = pieces.next() {
+        let line = Size::of_line(piece.len());
         // The last piece has no newline.
-        let Some(rest) = pieces.remainder() else {
-            return fit;
-        };
-        let more = Size {
-            lines: fit.lines.saturating_add(1),
-            bytes: text.len().saturating_sub(rest.len()),
-        };
-        let all = size.and(more);
-        if all.lines > 1 && !limits.allow(all) {
+        if pieces.remainder().is_none() {
             return fit;
         }
-        fit = more;
+        if !limits.take_line(batch.and(fit), line) {
+            return fit;
+        }
+        fit = fit.and(line);
     }
     fit
 }
@@ -206,10 +218,11 @@ impl<'a, 'n> Batches<'a, 'n> {
         let_file_go(self.file.replace(file));
         written?;
         self.size = self.size.and(size);
-        if self.limits.are_reached(self.size) {
-            return self.end();
+        // A line has a byte or more.
+        if self.limits.take_line(self.size, Size::of_line(0)) {
+            return Ok(());
         }
-        Ok(())
+        self.end()
     }
 
     /// Ends a run that gave this answer: the last batch comes to its place if the run succeeded and it has a line, else it is removed.
@@ -258,8 +271,11 @@ impl<'a, 'n> Write for Batches<'a, 'n> {
             self.end()?;
             fit = lines_that_fit(self.dialect, self.limits, self.size, text);
         }
-        self.add(&buf[..fit.bytes], fit)?;
-        Ok(fit.bytes)
+        let Some(lines) = buf.get(..fit.bytes) else {
+            return Err(io::Error::from(ErrorKind::InvalidData));
+        };
+        self.add(lines, fit)?;
+        Ok(lines.len())
     }
 
     fn flush(&mut self) -> io::Result<()>
