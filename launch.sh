@@ -83,6 +83,20 @@ start_jobs() {
     done
 }
 
+# Keeps what rt said of `crate`, if it proved it now. What it did not prove again it says nothing of.
+keep_verdict() {
+    local said
+    said=$(grep -a '^logic=proved ' "$rooms/$crate.log" | tail -n 1) || true
+    [ -z "$said" ] || echo "$said" >"$top/crates/$crate/out/launcher.verdict"
+}
+
+# Prints what rt said of these crates and of those on which they stand, a line `CRATE: VERDICT` each.
+verdicts() {
+    local crate below=()
+    for crate in "$@"; do add_below "$crate"; done
+    for crate in "${below[@]}"; do sed "s/^/$crate: /" "$top/crates/$crate/out/launcher.verdict" 2>/dev/null || true; done
+}
+
 # Takes note of the jobs that have ended. If one failed, what rt said is shown, and all end.
 end_jobs() {
     local crate
@@ -95,6 +109,7 @@ end_jobs() {
             exit 1
         fi
         unset "jobs[$crate]"
+        keep_verdict
         took[$crate]=$((SECONDS - began[$crate])) share[$crate]=100
         rm -rf "${rooms:?}/$crate"
         [ ! -t 2 ] || printf '\r\033[K%s: %s: done in %s s\n' "$name" "$crate" "${took[$crate]}" >&2
@@ -171,3 +186,7 @@ launch() {
 
 # The version of this state: the newest that CHANGELOG.md names.
 version() { sed -n '/^## [0-9]*\.[0-9]*\.[0-9]*$/ { s/^## //p; q; }' "$top/CHANGELOG.md"; }
+# The kit that the programs tell they are built by.
+told_kit() { sed -n 's/^pub const KIT: &str = "\(.*\)";$/\1/p' "$top/crates/lp_programs/src/version.rt"; }
+# The commit of these sources, with `-dirty` if a file was changed since.
+commit() { printf '%s' "${SOURCE_COMMIT:-$(git -C "$top" describe --always --dirty --abbrev=40 --exclude '*' 2>/dev/null || echo unknown)}"; }

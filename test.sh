@@ -3,7 +3,7 @@
 # takes nothing that other commands proved.
 #
 #   1. The checks of documents and scripts. If one fails, nothing else is run.
-#   2. The archives of lp_c and lp_checks are built; beside that, the checks of bin/take and of the launchers.
+#   2. The archives of lp_c and lp_checks are built; beside that, the checks of bin/take, of the launchers and of completion.
 #   3. The misuses, which begin with what was proved for the archives. The gate sets that aside, so they come before it.
 #   4. The gate, and beside it the checks that link the archives.
 #   5. The checks of the programs that the gate made, and beside them that of Python, which runs one of them too.
@@ -39,12 +39,14 @@ stop() {
 beside_archives() {
     part checks/take.sh checks/take.sh
     part checks/launch.sh checks/launch.sh
+    part checks/completion.sh checks/completion.sh
 }
 beside_gate() {
     part checks/refusals.sh checks/refusals.sh
     part checks/events.sh checks/events.sh
     part checks/sizes.sh checks/sizes.sh
     part checks/portable.sh checks/portable.sh "$made/liblp_c.a"
+    part checks/influx.sh checks/influx.sh --fast
     part checks/differential.sh checks/differential.sh
     part bindings/c bindings/c/test.sh "$made/liblp_c.a"
     LP_LIB_DIR=$made part bindings/rust bindings/rust/test.sh
@@ -68,6 +70,8 @@ check_programs() {
     part checks/losses.sh checks/losses.sh "$made/lp_relay_program"
     part checks/inputs.sh checks/inputs.sh "$made/lp_rebuild_program" "$made/lp_relay_program"
     part checks/posting.sh checks/posting.sh "$made/lp_relay_program"
+    part checks/sending.sh checks/sending.sh "$made/lp_relay_program"
+    part checks/systemd.sh checks/systemd.sh "$made/lp_relay_program"
 }
 
 # Hands on the lines of the gate but the last, which comes to a file.

@@ -20,7 +20,7 @@ version=$(version)
 shared=libinfluxdb_line_protocol.so
 "${CC:-cc}" -O2 -shared -fPIC -I"$top/include" "$here/c/heap.c" "$here/c/empty.c" \
     -Wl,--whole-archive "$archive" -Wl,--no-whole-archive \
-    -Wl,-soname,"$shared.${version%%.*}" -Wl,--version-script,"$here/c/shown.map" -o "$folder/$shared.$version"
+    -Wl,-z,relro,-z,now -Wl,-soname,"$shared.${version%%.*}" -Wl,--version-script,"$here/c/shown.map" -o "$folder/$shared.$version"
 # `rt ci` takes no symbolic links in the repository.
 how=-f
 [ $# -lt 2 ] || how=-sf

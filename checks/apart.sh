@@ -291,7 +291,7 @@ seed=${SEED:-$RANDOM}
 compare() {
     local input=$1 counts=$2 parts status_wanted=0
     shift 2
-    "$relay" "$@" <"$input" >wanted 2>wanted_err || status_wanted=$?
+    "$relay" "$@" "$(readlink -f "$input")" >wanted 2>wanted_err || status_wanted=$?
     for parts in $counts; do
         LP_RELAY=$relay "$apart" "$input" "$parts" "$@" >out 2>err && status=0 || status=$?
         if [ "$status" != "$status_wanted" ] || ! cmp out wanted || ! cmp err wanted_err; then

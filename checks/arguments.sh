@@ -38,6 +38,7 @@ wanted() {
     shift 3
     printf '%b' "$text" >"$work/input"
     run "$@"
+    [ "$(cat "$work/err_wanted")" != "${usage%?}" ] || ! tells_words || cp "$work/err" "$work/err_wanted"
     if [ "$status" != "$status_wanted" ] || ! cmp -s "$work/out" "$work/out_wanted" || ! cmp -s "$work/err" "$work/err_wanted"; then
         echo "arguments: with the arguments ($*) the status of $crate is $status, where $status_wanted is wanted, and"
         diff "$work/out_wanted" "$work/out" && diff "$work/err_wanted" "$work/err"
@@ -52,6 +53,14 @@ wanted() {
 
 newline='
 '
+# Where `usage` is wanted of lp_relay, it says what is wrong with its words, whatever that is, and where its help is.
+usage=
+tells_words() {
+    [ "$crate" = lp_relay_program ] && [ "$(wc -l <"$work/err")" = 2 ] && ! grep -qx 'lp_relay: these words ask for nothing' "$work/err" &&
+        [[ $(cat "$work/err") == "lp_relay: "*"${newline}try lp_relay --help" ]]
+}
+# refused MESSAGE WORD..: the words of lp_relay ask for nothing, and this is said of them.
+refused() { wanted 2 "" "lp_relay: $1${newline}try lp_relay --help$newline" "${@:2}"; }
 loose="m a=1i$newline"
 strict_fault="item 1: Could not parse entire line. Found trailing content: ','$newline"
 lists=0
@@ -88,7 +97,7 @@ wanted 0 "$loose" "" --progress
 wanted 1 "" "$strict_fault" --strict --progress
 wanted 2 "" "$usage" --progress --progress
 wanted 2 "" "$usage" --help --strict
-wanted 0 "lp_relay $(version)$newline" "" --version
+wanted 0 "lp_relay $(version) ($(told_kit))$newline" "" --version
 wanted 2 "" "$usage" --version --strict
 # The line of the input has seven bytes.
 wanted 0 "$loose" "" --max-line 7
@@ -108,7 +117,11 @@ text='m a=1i,\n'
 if [ -n "$program" ]; then
     # An option is not given twice, in another spelling, or with one of another task; and what it takes is a word of its own.
     for option in $(options '^option: --[a-z-]*\n'); do
-        wanted 2 "" "$usage" "$option" "$option"
+        case $option in
+        --help | --version) told="$option comes alone" ;;
+        *) told="$option is given twice" ;;
+        esac
+        refused "$told" "$option" "$option"
         name=${option#--}
         wanted 2 "" "$usage" "--${name^}"
         wanted 2 "" "$usage" "$option" --help
@@ -116,12 +129,64 @@ if [ -n "$program" ]; then
         [ "$option" = --strict ] || [ "$option" = --newline-delimited ] || wanted 2 "" "$usage" "$option" --cut 2
     done
     for option in $(options '^option: --[a-z-]* '); do
-        wanted 2 "" "$usage" "$option"
+        refused "$option needs a value" "$option"
     done
-    for option in $(options); do
-        wanted 2 "" "$usage" "$option=1"
+    for option in $(options '^option: --[a-z-]*\n'); do
+        refused "$option takes no value" "$option=1"
     done
+    # What is said of words.
+    refused "unknown option --sumary; did you mean --summary?" --strict --sumary
+    refused "unknown option --hlep; did you mean --help?" --hlep
+    refused "unknown option -strict; did you mean --strict?" -strict
+    refused "unknown option --max_line; did you mean --max-line?" --max_line 7
+    refused "unknown option --max_line=7; did you mean --max-line?" --max_line=7
+    refused "unknown option --verbatim-lines" --verbatim-lines
+    refused "unknown option -x" -x
+    refused 'unknown option --no\nsuch\x1b[31m\\x' $'--no\nsuch\e[31m\\x'
+    refused '\xffa\n is not UTF-8' --lines $'\377a\n'
+    refused "a word is not UTF-8" "$(printf '\377%05000d' 0)"
+    refused "an empty word is no name of a file" x ""
+    refused "--output is given twice" -o x --output y
+    refused "--max-line: 10k is no number" --max-line 10k
+    refused "--max-line: an empty word is no number" --max-line ""
+    refused "--max-line: 18446744073709551616 is out of range" --max-line 18446744073709551616
+    refused "--first-item: 0 is out of range" --first-item 0
+    refused "--faults takes line, raw or json, not yaml" --faults yaml
+    refused "--faults takes line, raw or json, not an empty word" --faults ""
+    refused "--types takes strict, not loose" --types loose
+    refused "--output: --lines is no name of a file" --output --lines
+    refused "--refused: an empty word is no name of a file" --refused ""
+    refused "--range: 7 is no FROM..TO" --range 7 x
+    refused "--range takes one FILE, not 0" --range 0..7
+    refused "--range takes one FILE, not 2" --range 0..7 x y
+    refused "--check cannot be given with --output" --check -o x
+    refused "--batch-lines cannot be given with --check" --check --batch-lines 7
+    refused "--first-item cannot be given with --lines" --lines --first-item 7
+    refused "--canonical cannot be given with --verbatim" --verbatim --canonical --first-item 7 --lines --faults json
+    refused "--max-fields needs --types" --max-fields 7
+    refused "--cut: x is no number" --cut x
+    refused "--cut comes first, or after --strict or --newline-delimited alone" --lines --cut 2
+    refused "--help comes alone" --strict --help
+    refused "--help comes alone" --help x
+    refused "--max-line: 10k is no number" --max-line=10k
+    refused "--max-line: an empty word is no number" --max-line=
+    refused "--max-line is given twice" --max-line=7 x --max-line 7
+    refused "--max-line needs a value" x --max-line
+    refused "--output: -x is no name of a file" --output=-x
+    refused "an empty word is no name of a file" -- ""
+    # Options and files in any order.
+    wanted 0 "$loose" "" --
+    wanted 1 "" "$strict_fault" --strict --
+    wanted 1 "" "$strict_fault" - --strict
+    wanted 0 "$loose" "" --max-line=7 -- -
+    wanted 1 "" "item 1: the line is too long$newline" - --max-line=6
+    wanted 0 "8${newline}8$newline" "" --cut=2 --
+    wanted 2 "" "${unread}--strict: $none$newline" -- --strict
+    wanted 2 "" "${unread}--: $none$newline" --lines -- --
     wanted 1 "" "$strict_fault" --progress --strict
+    # Refused pieces go to standard output if no line does.
+    wanted 1 "m a=1i,$newline" "$strict_fault" --strict --check --refused -
+    wanted 1 "m a=1i,$newline" "$strict_fault" --refused - --append --check --strict
     wanted 2 "" "$usage" --progress --strict --progress
     wanted 2 "" "$usage" --strict --progress --strict
     wanted 2 "" "$usage" --progress --loose
@@ -140,7 +205,7 @@ if [ -n "$program" ]; then
     wanted 2 "" "$usage" --first-item 1 --lines
     wanted 2 "" "$usage" --lines --first-item 1
     wanted 2 "" "$usage" --first-line 1 --strict --first-item 1
-    for form in "" lines Line raw=1; do
+    for form in "" lines Line raw=1 text json+ text+json; do
         wanted 2 "" "$usage" --faults "$form"
     done
     wanted 2 "" "$usage" --faults raw --faults line
@@ -155,13 +220,23 @@ if [ -n "$program" ]; then
     wanted 1 "" "line 7: ${told#item 1: }$newline" --first-line 7
     wanted 1 "" "$raw$newline" --faults raw
     wanted 1 "" "line 7: ${raw#item 1: }$newline" --faults raw --first-line 7
-    object='{"item":1,"line":1,"offset":0,"piece_line":1,"piece_offset":0,"kind":"cannot_parse_entire_line","text":"'"$found"' \"x\u000a\u0009item 9: \\ ü\"'"'"'"'
+    object='{"item":1,"line":1,"offset":0,"piece_line":1,"piece_offset":0,"length":23,"kind":"cannot_parse_entire_line","text":"'"$found"' \"x\u000a\u0009item 9: \\ ü\"'"'"'"'
     object+=',"stop_line":1,"stop_column":6}'
     wanted 1 "" "$object$newline" --faults json
     wanted 1 "" "${object//line\":1/line\":7}$newline" --faults json --first-line 7 --strict
     wanted 1 "" "${object/\"item\":1/\"item\":5}$newline" --first-item 5 --faults json --lines
     object=${object/\"item\":1/\"item\":5}
     wanted 1 "" "${object//line\":1/line\":7}$newline" --first-item 5 --first-line 7 --faults json
+    piece=',"piece":"m a=1 \"x\u000a\u0009item 9: \\ ü\""}'
+    wanted 1 "" "${object%\}}$piece$newline" --first-item 5 --faults json+text
+    # Another fault than the first one, and the counts, as lines and as objects.
+    wanted 1 "" "1 faults were not told$newline" --max-faults 0
+    wanted 1 "" "$object${newline}" --max-faults 1 --faults json --first-item 5
+    wanted 1 "" '{"faults_not_told":1}'"$newline" --faults json --max-faults 0
+    counts="24 bytes, 2 lines, 1 items: 0 carried, 1 refused: 1 cannot_parse_entire_line"
+    wanted 1 "" "1 faults were not told$newline$counts$newline" --summary --max-faults 0
+    counts='{"summary":{"bytes":24,"lines":2,"items":1,"carried":0,"refused":1,"kinds":{"cannot_parse_entire_line":1}}}'
+    wanted 1 "" "$object$newline$counts$newline" --summary --max-faults 1 --faults json --check --first-item 5
     wanted 2 "" "$usage" --first-item 5 --first-line 7 --faults raw
     told="item 1: $found "
     long=$(printf '%*s' "$((200 - ${#told} - 1))" "" | tr ' ' y)
@@ -216,7 +291,7 @@ if [ -n "$program" ]; then
     wanted 2 "" "${unread}7: $none$newline" --lines --strict --progress --max-line 7 7
     wanted 0 "8${newline}8${newline}8$newline" "" --cut 3
     wanted 2 "" "$usage" --cut -- 2
-    for file in "" -- -x --strict; do
+    for file in "" -x; do
         wanted 2 "" "$usage" - "$file"
         wanted 2 "" "$usage" --lines x "$file" x
         wanted 2 "" "$usage" --cut 2 - "$file"
@@ -224,7 +299,6 @@ if [ -n "$program" ]; then
     done
     for option in -o --output; do
         wanted 2 "" "$usage" "$option"
-        wanted 2 "" "$usage" x "$option" y
         wanted 2 "" "$usage" "$option" x -o y
         wanted 2 "" "$usage" --output x --lines "$option" x
         wanted 2 "" "$usage" "$option" --lines
@@ -236,12 +310,18 @@ if [ -n "$program" ]; then
         wanted 2 "" "$usage" --lines --check --strict "$option" x
         wanted 2 "" "$usage" --cut 2 "$option" x
     done
-    wanted 2 "" "$usage" x --refused y
     wanted 2 "" "$usage" --refused x --refused y
     wanted 2 "" "$usage" --refused --lines
     wanted 2 "" "$usage" --refused -
     wanted 2 "" "$usage" --refused ""
     wanted 2 "" "$usage" --refused x --cut 2
+    wanted 2 "" "$usage" --refused - --lines
+    wanted 2 "" "$usage" --append
+    wanted 2 "" "$usage" --replace x
+    wanted 2 "" "$usage" --check --append --lines
+    wanted 2 "" "$usage" --refused x --append --replace
+    wanted 2 "" "$usage" --replace --refused x --lines --append
+    wanted 2 "" "$usage" --refused x --append --append
     wanted 2 "" "$usage" -ox
     wanted 2 "" "$usage" --out x
     text='# c\n\nm s="a\nb"\nx\n'
@@ -273,6 +353,64 @@ if [ -n "$program" ]; then
     lines="1: not as written: the comma after the fields|2: not as written: the spaces|3: not as written: the spaces|"
     lines="${lines}4: not as written: the spaces|5: not as written: the timestamp|6: ${missing}"
     wanted 1 "" "line ${lines//|/"${newline}line "}" --canonical --lines --check
+    # What is not portable depends on the servers, and is looked at as it goes out: the second line is not portable rebuilt alone, and the
+    # fourth verbatim alone.
+    text='m a=1i\nm,t=C:\\W a=1i\nm a=1u\n\tm a=1\nm a=1,a=2\nm a=1e3\n'
+    unsigned="an unsigned integer" twice="two fields of one key" power="a float with an exponent, or of more than 310 bytes"
+    named="line 3: not portable to InfluxDB 1.x: $unsigned${newline}line 5: not portable to InfluxDB 1.x: $twice$newline"
+    wanted 1 "m a=1i${newline}m a=1${newline}m a=1e3$newline" \
+        "line 2: not portable to InfluxDB 1.x: an escaped backslash in a tag$newline$named" --lines --portable influx1
+    wanted 1 "m a=1i${newline}m,t=C:\\W a=1i$newline${tab}m a=1${newline}m a=1e3$newline" "$named" --lines --verbatim --portable influx1
+    named="line 5: not portable to VictoriaMetrics: $twice${newline}line 6: not portable to VictoriaMetrics: $power$newline"
+    wanted 1 "m a=1i${newline}m,t=C:\\W a=1i${newline}m a=1u$newline" \
+        "line 4: not portable to VictoriaMetrics: a blank before the line$newline$named" --lines --portable victoria --verbatim --strict
+    lines="3: not portable to all servers: ${unsigned}|4: not portable to all servers: a blank before the line|"
+    lines="${lines}5: not portable to all servers: ${twice}|6: not portable to all servers: $power"
+    wanted 1 "" "line ${lines//|/"${newline}line "}$newline" --lines --check --verbatim --portable all
+    wanted 2 "" "$usage" --portable influx2
+    wanted 2 "" "$usage" --portable
+    # The types of fields stay, also those that rebuilding writes otherwise; what is not portable gives none.
+    text='m a=1i\nm a=1\nm b=1u\nm b=t\n'
+    other="item 2: field type conflict: field 1 is a float, and was an integer before$newline"
+    wanted 1 "m a=1i${newline}m b=1u$newline" "${other}item 4: field type conflict: field 1 is a Boolean, and was an unsigned integer before$newline" \
+        --types strict
+    wanted 1 "m a=1i${newline}m b=t$newline" "${other}item 3: not portable to InfluxDB 1.x: $unsigned$newline" \
+        --types strict --portable influx1 --verbatim
+    wanted 1 "m a=1i$newline" "${other}item 3: too many fields: field 1 is new${newline}item 4: too many fields: field 1 is new$newline" \
+        --max-fields 1 --types strict
+    wanted 1 "" "${other}item 4: field type conflict: field 1 is a Boolean, and was an unsigned integer before$newline" --check --types strict
+    wanted 2 "" "$usage" --types loose
+    wanted 2 "" "$usage" --types
+    wanted 2 "" "$usage" --max-fields 1
+    wanted 2 "" "$usage" --types strict --max-fields
+    # The times of lines: all else of a line stays, and what is asked of it is asked of it as it goes out.
+    text='m a=1  07 \nm s="at 5\nb" -7\nn,t=u b=2i\nm a=1,b=t 9223372036854776\n'
+    over="item 4: time overflow: 9223372036854776 milliseconds do not fit 64 bits in nanoseconds$newline"
+    wanted 1 "m a=1  7000000 ${newline}m s=\"at 5${newline}b\" -7000000${newline}n,t=u b=2i$newline" "$over" --time-unit ms --verbatim
+    wanted 1 "m a=1 7000000${newline}m s=\"at 5${newline}b\" -7000000${newline}n,t=u b=2i -3$newline" "$over" --time-unit ms --default-time -3
+    wanted 1 "m s=\"at 5${newline}b\" -7000000${newline}n,t=u b=2i$newline" "item 1: not as written: the spaces$newline$over" \
+        --canonical --time-unit ms
+    wanted 0 "m a=1  07 ${newline}m s=\"at 5${newline}b\" -7${newline}n,t=u b=2i 5${newline}m a=1,b=t 9223372036854776$newline" "" \
+        --default-time 5 --verbatim --time-unit ns
+    wanted 1 "m a=1 7${newline}m a=1,b=t 9223372036854776$newline" \
+        "item 2: time out of range: -7${newline}item 3: time missing: the line has no timestamp$newline" --times 7..
+    wanted 1 "m s=\"at 5${newline}b\" -7000${newline}n,t=u b=2i 6$newline" \
+        "item 1: time out of range: 7000${newline}item 4: time overflow: 9223372036854776 microseconds do not fit 64 bits in nanoseconds$newline" \
+        --times ..7000 --time-unit us --default-time 6
+    wanted 1 "n,t=u b=2i 1000000000${newline}m a=1,b=t 9223372036854776$newline" "item 1: not portable to VictoriaMetrics: a space at its end
+item 2: not portable to VictoriaMetrics: a newline in the line
+" --strict --verbatim --portable victoria --default-time 1000000000
+    wanted 2 "" "$usage" --time-unit h
+    wanted 2 "" "$usage" --time-unit
+    wanted 2 "" "$usage" --default-time +1
+    wanted 2 "" "$usage" --default-time 9223372036854775808
+    wanted 2 "" "$usage" --times ..
+    wanted 2 "" "$usage" --times 5
+    wanted 2 "" "$usage" --times 1..2..3
+    # A comment and a line that follows it are one piece in the dialect of the crate, and no one line to a server.
+    text='# it a="\nm a=1'
+    wanted 1 "" "item 1: not portable to all servers: it is not one line$newline" --verbatim --portable all
+    wanted 0 "m a=1$newline" "" --portable all
     text='m a=1i,\n'
 fi
 run --help
@@ -360,6 +498,25 @@ devices=0
 [ -z "$rebuild" ] || fail_devices lp_rebuild "" "$rebuild"
 fail_devices lp_relay ": ?*" "$relay"
 fail_devices lp_relay ": ?*" "$relay" --cut 2
+# A call that a signal interrupts, as where a process is stopped and goes on, is tried again.
+if strace -o "$work/trace" true 2>"$work/err"; then
+    printf 'm a=1i\nx\nm b=2i\n' >"$work/three"
+    for program in ${rebuild:+"$rebuild"} "$relay"; do
+        for call in read write; do
+            # shellcheck disable=SC2094
+            strace -qq -o "$work/trace" -P "$work/three" -P "$work/out" -e trace="$call" -e inject="$call:error=EINTR:when=1..3" \
+                "$program" <"$work/three" >"$work/out" 2>"$work/err" && status=0 || status=$?
+            if [ "$status $(cat "$work/out")" != "1 m a=1i${newline}m b=2i" ] || [ "$(cat "$work/err")" != "item 2: $x" ] ||
+                [ "$(grep -c EINTR "$work/trace")" != 3 ]; then
+                echo "arguments: where a $call of $program is interrupted, the status is $status, and it says: $(cat "$work/err")"
+                exit 1
+            fi
+            devices=$((devices + 1))
+        done
+    done
+else
+    left_out "calls that a signal interrupts" "there is no strace, or it may not watch, for checks/arguments.sh"
+fi
 for program in ${rebuild:+"$rebuild"} "$relay"; do
     printf 'm a=1i\nx\n' | "$program" 2>/dev/full >"$work/out" && status=0 || status=$?
     stopped "" "standard error is full, and $program has a fault to write"
@@ -419,8 +576,9 @@ given 1 'm a=1i\nm b=2i\n' "b: line 2: $x\n" --lines e a e e b e
 given 1 'm b=2i\nm b=2i\n' "b: item 11: $x\nb: item 13: $x\n" --first-item 10 b b
 given 1 'm b=2i\nm b=2i\n' "b: line 11: $x\nb: line 2: $x\n" --first-line 10 b b
 given 1 'm a=1i\nm b=2i\n' "item 3: $x\n" --faults raw a b
-kind='"offset":7,"piece_line":2,"piece_offset":7,"kind":"generic_parsing_error","text":"'"$x"'","stop_line":2,"stop_column":2}\n'
-given 1 'm b=2i\n' '{"item":2,"line":2,'"$kind" --faults json b
+kind='"offset":7,"piece_line":2,"piece_offset":7,"length":1,"kind":"generic_parsing_error","text":"'"$x"'","stop_line":2,"stop_column":2}\n'
+given 1 'm b=2i\n' '{"file":"b","item":2,"line":2,'"$kind" --faults json b
+given 1 'm b=2i\n' '{"file":"b","item":2,"line":2,'"${kind%\}\\n},\"piece\":\"x\"}\n" --faults json+text b
 given 1 'm a=1i\nm b=2i\n' '{"file":"b","item":3,"line":2,'"$kind" --faults json a b
 given 1 'm b=2i\nm b=2i\n' '{"file":"b","item":2,"line":11,'"${kind//_line\":2/_line\":11}"'{"file":"b","item":4,"line":2,'"$kind" --faults json --first-line 10 b b
 given 1 '' '{"file":"b","item":8,"line":2,'"$kind"'{"file":"b","item":10,"line":2,'"$kind" --check --first-item 7 --faults json b b
@@ -429,10 +587,23 @@ odd=$work/$'o"\n\\\x01'
 cp b "$odd"
 given 1 'm a=1i\nm b=2i\n' "$work"'/o"\\n\\\\\\x01: item 3: '"$x\n" a "$odd"
 given 1 'm a=1i\nm b=2i\n' '{"file":"'"$work"'/o\\"\\u000a\\\\\\u0001","item":3,"line":2,'"$kind" --faults json a "$odd"
+# In a message it is on one line too.
+told=$work'/o"\\n\\\\\\x01'
+given 2 '' "${unread}$work"'/\\xc3\\xb6\\n\\x1b[31m\\x7f: '"$none\n" "$work/"$'ö\n\e[31m\x7f'
+given 2 '' "lp_relay: the output is an input too: $told\n" -o "$odd" "$odd"
+given 2 '' "lp_relay: the file of --refused is an input too: $told\n" --refused "$odd" "$odd"
+given 2 '' "lp_relay: the file of --refused is the output too: $told\n" --refused "$odd" -o "$odd" a
+given 2 '' "lp_relay: the range goes past the 9 bytes of $told\n" --range 10.. "$odd"
+given 2 '' 'lp_relay: the file of --refused is named as a batch: \\t1\n' --refused $'\t1' -o $'\t%01d' --batch-lines 1 a
 given 0 'm a=1i\nm a=1i\n' '' a a
 given 0 '' '' e
 given 0 '' '' e e
 given 0 'm c=3i\nm a=1i\n' '' ./-c a
+given 0 'm c=3i\nm a=1i\nm s=4i\n' '' -- -c a -
+given 1 'm b=2i\n' "line 2: $x\n" b --lines
+given 1 'm b=2i\nm a=1i\n' "b: line 2: $x\n" e --first-line=11 b --max-line 6 -- a
+given 2 '' "lp_relay: unknown option -c\ntry lp_relay --help\n" a -c
+given 0 '0\n6\n' '' --cut=2 a
 given 0 'm s=4i\n' '' -
 given 0 'm s=4i\n' '' - -
 given 0 'm a=1i\nm s=4i\nm c=3i\n' '' a - c
@@ -454,10 +625,18 @@ given 2 '' "b: item 2: $x\n${unread}none: $none\n" --check b none
 given 0 '' '0 bytes, 0 lines, 0 items: 0 carried, 0 refused\n' --summary e
 given 1 'm a=1i\nm b=2i\n' "b: line 2: $x\n15 bytes, 3 lines, 3 items: 2 carried, 1 refused: 1 generic_parsing_error\n" --summary --lines a b
 given 1 '' "b: line 2: $x\n15 bytes, 3 lines, 3 items: 2 carried, 1 refused: 1 generic_parsing_error\n" --check --summary --lines a b
+given 1 'm b=2i\nm b=2i\n' "b: item 2: $x\n2 faults were not told\n" --max-faults 1 b q b
 given 1 'm b=2i\nm b=2i\n' "b: item 2: $x\nq: item 3: No fields were provided\nb: item 5: $x
 24 bytes, 5 lines, 5 items: 2 carried, 3 refused: 1 field_set_missing, 2 generic_parsing_error\n" --summary b q b
 given 0 'm a=1i\nm a=1i\n' '12 bytes, 2 lines, 2 items: 2 carried, 0 refused\n' --summary a a
 given 2 'm b=2i\n' "b: item 2: $x\n${unread}none: $none\n" --summary b none
+# Objects alone: why a run fails, or is refused, and the counts.
+error='{"run_error":{"kind":"read","file":"none","text":"cannot read the input: none: '"$none"'"}}\n'
+given 2 '' "$error" --faults json --summary none
+given 2 'm b=2i\n' '{"file":"b","item":2,"line":2,'"$kind$error" --faults json --summary b none
+given 2 '' '{"run_error":{"kind":"refused","text":"the output is an input too: a"}}\n' --faults json -o a a
+given 2 '' '{"run_error":{"kind":"refused","text":"the range 7..6 ends before it begins"}}\n' --faults json+text --range 7..6 b
+given 0 'm a=1i\n' '{"summary":{"bytes":6,"lines":1,"items":1,"carried":1,"refused":0,"kinds":{}}}\n' --faults json --summary a
 given 0 '14\n16\n' '' --cut 2 a b
 given 0 '7\n14\n' '' --strict --cut 2 - c
 given 2 '' "${unread}none: $none\n" --cut 2 a none
@@ -471,7 +650,7 @@ given 2 '' "lp_relay: --cut takes from 1 to 1000000 parts, not 1000001\n" --stri
 given 0 'm b=2i\n' '' --range 0..7 b
 given 1 '' "item 1: $x\n" --range 7.. b
 given 1 '' "line 12: $x\n" --range 7..9 --first-line 12 b
-given 1 '' '{"item":1,"line":1,"offset":7,"piece_line":1,"piece_offset":7,"kind":"generic_parsing_error","text":"'"$x"'","stop_line":1,"stop_column":2}\n' \
+given 1 '' '{"file":"b","item":1,"line":1,"offset":7,"piece_line":1,"piece_offset":7,"length":1,"kind":"generic_parsing_error","text":"'"$x"'","stop_line":1,"stop_column":2}\n' \
     --faults json --range 7.. b
 given 1 'm d=5i\n' "item 2: $x\n" --newline-delimited --range 7.. open
 given 0 '' '' --range 9..9 b
@@ -485,12 +664,13 @@ given 2 '' "lp_relay: the range goes past the 9 bytes of b\n" --range 10.. b
 given 2 '' "lp_relay: the range goes past the 7 bytes of standard input\n" --range 8.. -
 given 2 '' "lp_relay: --range reads a regular file, which this is not: d\n" --range 0.. d
 given 2 '' "${unread}none: $none\n" --range 0..7 none
+try='\ntry lp_relay --help\n'
 for range in "" 7 7. . .. ..7 7...8 7..x x..7 7..-1 +1..2 7..18446744073709551616; do
-    given 2 '' "$usage" --range "$range" b
+    given 2 '' "lp_relay: --range: ${range:-an empty word} is no FROM..TO$try" --range "$range" b
 done
-given 2 '' "$usage" --range 0..
-given 2 '' "$usage" --range 0..7 a b
-given 2 '' "$usage" --range 0..7 --range 0..7 b
+given 2 '' "lp_relay: --range takes one FILE, not 0$try" --range 0..
+given 2 '' "lp_relay: --range takes one FILE, not 2$try" --range 0..7 a b
+given 2 '' "lp_relay: --range is given twice$try" --range 0..7 --range 0..7 b
 for name in $(seq 300); do printf 'm f=%si' "$name" >"$work/many-$name"; printf 'm f=%si\n' "$name"; done >"$work/many"
 given 0 "$(cat "$work/many")\\n" '' $(seq -f "$work/many-%g" 300)
 given 0 "$(cat "$work/many")\\n" '' --max-line 8 $(seq -f "$work/many-%g" 300)
@@ -509,6 +689,7 @@ for option in -o --output; do
     put 0 'm a=1i\n' '' "$option" out a
     put 1 'm a=1i\nm b=2i\n' "b: line 2: $x\n" --lines "$option" out --progress a b
     put 0 'm s=4i\n' '' "$option" out
+    put 0 'm c=3i\n' '' c "$option" out
     put 0 '' '' "$option" out e
     put 0 "$(cat "$work/many")\\n" '' "$option" "$work/files/out" "$work/many"
 done
@@ -534,7 +715,7 @@ given 2 '' "${unwritten}a/x: Not a directory (os error 20)\n" -o a/x a
 # The refused pieces, each as it came, with its newline, and of a line that is too long its front; `kept STATUS REFUSED FAULTS WORD..`.
 kept() {
     local wanted=$2
-    given "$1" "$lines" "$3" --refused refused "${@:4}"
+    given "$1" "$lines" "$3" --refused refused --replace "${@:4}"
     printf '%b' "$wanted" | cmp refused -
 }
 printf 'm a=1i\n  x \n# c\n\nw\\\t a=1i\nm a=1i\r\nm a=\377\nm  a=2i\nm a=123456789i\ny' >bad
@@ -558,13 +739,80 @@ lines='m a=1i\nm b=2i\n'
 kept 1 'x\n' '{"file":"b","item":3,"line":2,'"$kind" --faults json a b
 # A refused piece of 9 MB, and its object, which is told whole, and what comes after them.
 { printf 'm a=1i '; head -c 9000000 /dev/zero | tr '\0' x; printf '\ny\n'; } >large
-"$relay" --faults json --refused refused large >"$work/out" 2>"$work/err" && exit 1
+"$relay" --faults json --replace --refused refused large >"$work/out" 2>"$work/err" && exit 1
 if ! cmp refused large || [ -s "$work/out" ] || [ "$(wc -l <"$work/err")" != 2 ] || [ "$(wc -c <"$work/err")" -lt 9000000 ]; then
     echo "arguments: a refused piece of 9 MB does not go out, or is not told, whole"
     exit 1
 fi
+# What the file of refused pieces holds stays, unless an option says what becomes of it: not one byte is read then.
+printf 'old\n' >refused
+lines='m b=2i\n'
+given 2 '' "lp_relay: the file of --refused needs --append or --replace: refused\n" --refused refused none
+given 2 '' "lp_relay: the file of --refused needs --append or --replace: ./refused\n" -o out --refused ./refused a none
+printf 'old\n' | cmp refused -
+# pieces WANTED STATUS FAULTS WORD..: what `refused` holds after a relay by these words.
+pieces() {
+    given "$2" "$lines" "$3" --refused refused "${@:4}"
+    printf '%b' "$1" | cmp refused -
+}
+pieces 'old\nx\n' 1 "item 2: $x\n" --append b
+pieces 'old\nx\nx\n' 1 "item 2: $x\n" --append b
+# They stay if the run fails later, and so does a file that was not there.
+pieces 'old\nx\nx\nx\n' 2 "b: item 2: $x\n${unread}none: $none\n" --append b none
+rm refused
+pieces 'x\n' 1 "item 2: $x\n" --append b
+# A line that has not ended, as a full device leaves it.
+printf 'y' >refused
+pieces 'y\nx\n' 1 "item 2: $x\n" --append b
+: >refused
+pieces 'x\n' 1 "item 2: $x\n" b
+pieces 'x\n' 1 "item 2: $x\n" --replace b
+lines='m a=1i\n'
+pieces 'x\n' 0 '' --append a
+pieces '' 0 '' --replace a
+# One file by two names, of which none is there before.
+for words in "-o ./refused b" "b ./refused"; do
+    rm refused
+    # shellcheck disable=SC2086
+    given 2 '' "${unwritten}refused: it is an input or the output too\n" --append --refused refused $words
+done
+# Another run may not put its pieces between.
+exec 3>>refused
+flock 3
+given 2 '' "${unwritten}refused: another run appends to it\n" --refused refused --append b
+exec 3>&-
 rm bad refused large
 names >"$work/names"
+# Pieces go out as they come: to a process, a FIFO, a device, and standard error.
+for option in "" --append --replace; do
+    want 1 'm b=2i\n' "item 2: $x\n"
+    # shellcheck disable=SC2086
+    "$relay" $option --refused >(cat >"$work/taken") b >"$work/out" 2>"$work/err" && status=0 || status=$?
+    wait "$!"
+    same "refused pieces to a process, $option"
+    printf 'x\n' | cmp "$work/taken" -
+done
+given 1 'm b=2i\n' "item 2: $x\n" --refused /dev/null b
+given 2 'm b=2i\n' "item 2: $x\n${unwritten}/dev/full: No space left on device (os error 28)\n" --refused /dev/full b
+given 1 'x\n' "item 2: $x\n" --check --refused - b
+mkfifo "$work/pieces"
+"$relay" --check --refused "$work/pieces" <"$work/fifo" >"$work/out" 2>"$work/err" &
+process=$!
+exec 3>"$work/fifo" 4<"$work/pieces"
+printf 'x\n' >&3
+if ! read -r -t 10 piece <&4 || [ "$piece" != x ]; then
+    echo "arguments: a refused piece does not come out of a FIFO while the relay goes on: $piece"
+    exit 1
+fi
+exec 3>&- 4<&-
+wait "$process" && status=0 || status=$?
+want 1 '' "item 1: $x\n"
+same "refused pieces to a FIFO"
+# Standard output is the output too where it is a pipe; nothing reads it where its reader has ended.
+"$relay" --refused /dev/stdout b 2>"$work/err" | cat >"$work/out"
+status=${PIPESTATUS[0]}
+want 2 '' "lp_relay: the file of --refused is the output too: /dev/stdout\n"
+same "refused pieces to the pipe of the lines"
 # The file of the refused pieces may be neither an input nor the output, by whatever name.
 given 2 '' "${unwritten}d: it is no regular file\n" --refused d a
 one="lp_relay: the file of --refused is "
@@ -597,6 +845,59 @@ for name in a link hard ./a d/../a "$work/files/a"; do
 done
 "$relay" </dev/null >/dev/null
 "$relay" - /dev/null </dev/null >/dev/null
+# Standard error that is an input, or a file that is named for the lines or the pieces. What is there gets the message, and no fault.
+# faults_in FILE MESSAGE REDIRECTION WORD..: FILE is as it was, with the message after it.
+faults_in() {
+    local file=$1 message=$2
+    { [ "$3" = new ] || cat "$file"; echo "lp_relay: $message"; } >"$work/err_wanted"
+    if [ "$3" = new ]; then
+        "$relay" "${@:4}" <std >"$work/out" 2>"$file" && status=0 || status=$?
+    else
+        "$relay" "${@:4}" <std >"$work/out" 2>>"$file" && status=0 || status=$?
+    fi
+    cp "$file" "$work/err"
+    printf '' >"$work/out_wanted"
+    status_wanted=2
+    same "the words (${*:4}) and standard error in $file"
+}
+cp b fault
+names >"$work/names"
+faults_in fault "standard error is an input too: ./fault" old --lines a ./fault
+faults_in fault "standard error is an input too: fault" old --check fault
+faults_in fault "standard error is an input too: fault" old --cut 2 fault
+faults_in std "standard error is an input too: standard input" old a -
+printf 'm s=4i\n' >std
+faults_in fault "the output is standard error too: ./fault" new -o ./fault b
+faults_in fault "the file of --refused is standard error too: fault" new --refused fault b
+faults_in fault "the file of --refused is standard error too: fault" old --append --refused fault b
+faults_in fault "the file of --refused is standard error too: /dev/stderr" new --refused /dev/stderr b
+rm fault
+names >"$work/names"
+# Pieces may go where faults go if that is a pipe, and lines where faults go.
+"$relay" --refused /dev/stderr b 2>&1 >"$work/out" | cat >"$work/err"
+status=${PIPESTATUS[0]}
+want 1 'm b=2i\n' "item 2: $x\nx\n"
+same "refused pieces to the pipe of the faults"
+"$relay" b >"$work/out" 2>&1 && status=0 || status=$?
+: >"$work/err"
+want 1 "m b=2i\nitem 2: $x\n" ''
+same "the lines and the faults in one file"
+# Where /proc is not mounted no standard stream can be looked at.
+blind() { unshare --mount sh -c 'mount -t tmpfs none /proc && exec "$@"' sh "$relay" "$@"; }
+if unshare --mount mount -t tmpfs none /proc 2>/dev/null; then
+    for words in a "--cut 2 a" "-o ./a" "--refused a" "--refused a -"; do
+        want 2 '' "lp_relay: without /proc it cannot be seen whether a standard stream is this file: ${words##*[ ]}\n"
+        [ "$words" != "--refused a -" ] || want 2 '' "lp_relay: without /proc it cannot be seen whether a standard stream is this file: a\n"
+        # shellcheck disable=SC2086
+        blind $words <std >"$work/out" 2>"$work/err" && status=0 || status=$?
+        same "the words ($words), without /proc"
+    done
+    want 0 'm s=4i\n' ''
+    blind <std >"$work/out" 2>"$work/err" && status=0 || status=$?
+    same "standard streams, without /proc"
+else
+    left_out "runs without /proc" "it cannot be hidden, for checks/arguments.sh"
+fi
 # A device that fails while the file is written: a file that may not grow, and standard error that is full, closed or not read.
 printf 'old\n' >out
 (trap '' XFSZ && ulimit -f 1 && exec "$relay" -o out "$work/long") >"$work/out" 2>"$work/err" && status=0 || status=$?

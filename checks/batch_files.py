@@ -199,7 +199,7 @@ def words(relay):
         for bad in (["--check", option, "1", "-o", NAME], [option, "0", "-o", NAME], [option, "-o", NAME], [option, "1", option, "1", "-o", NAME],
                     [option, "-1", "-o", NAME], [option, "1", "--cut", "2"], ["--check", option, "1"], [option, "1", "-o", NAME, "--check"]):
             status, _, said = relay.run(bad, b"m a=1i\n")
-            same(f"the words {bad}", (status, said[:7]), (2, "usage: "))
+            same(f"the words {bad}", (status, said.split("\n")[1:]), (2, ["try lp_relay --help", ""]))
     same("refused words: the names", os.listdir(relay.room), [])
     for name in ("%01d", "a%09db", ".%02d", "b-%03d%".rstrip("%")):
         relay.clear()
@@ -290,7 +290,7 @@ def pauses(relay):
 
 
 def synced(relay):
-    """All of a batch is on the device before it comes to its place."""
+    """All of a batch is on the device before it comes to its place, and that it is there after it."""
     trace = relay.top / "trace"
     relay.clear()
     if not shutil.which("strace") or subprocess.run(["strace", "-o", trace, "true"], capture_output=True, check=False).returncode:
@@ -300,7 +300,7 @@ def synced(relay):
     subprocess.run(["strace", "-f", "-e", "trace=fsync,rename", "-o", trace, relay.program, "--batch-lines", "1", "-o", NAME],
                    input=b"m a=1i\nm a=2i\n", cwd=relay.room, check=True)
     calls = [call for call in trace.read_text().replace("(", " ").split() if call in ("fsync", "rename")]
-    same("what the system is asked for", calls, ["fsync", "rename"] * 2)
+    same("what the system is asked for", calls, ["fsync", "rename", "fsync"] * 2)
 
 
 def main(arguments):

@@ -245,7 +245,7 @@ class Influx:
     def query(self, name, text):
         """The series that a query gives."""
         words = urllib.parse.urlencode({"q": text, "epoch": "ns", "db": name})
-        answer = json.loads(interop.ask(f"{self.address}/query?{words}", b""))
+        answer = json.loads(interop.ask(f"{self.address}/query", words.encode()))
         return answer.get("results", [{}])[0].get("series", [])
 
     def points(self, name, query):
@@ -256,15 +256,12 @@ class Influx:
         """How many points a text has, if its measurement is `m`."""
         return sum(max(series["values"][0][1:]) for series in self.query(name, "SELECT count(*) FROM m"))
 
-    def has_field(self, name, point, key, value):
-        """Whether a query that names the measurement and a field finds the value."""
-        found = self.points(name, f"SELECT {identifier(key)}::field FROM {identifier(point[0])}")
-        return [[stored for _, stored in fields] for _, _, fields, _ in found] == [[value]]
-
     def is_named(self, name, point):
         """Whether queries that name the measurement and the fields find a point."""
         whole = self.points(name, f"SELECT * FROM {identifier(point[0])} GROUP BY *")
-        return len(whole) == 1 and all(self.has_field(name, point, key, value) for key, value in point[2])
+        keys = ", ".join(f"{identifier(key)}::field" for key, _ in point[2])
+        named = self.points(name, f"SELECT {keys} FROM {identifier(point[0])}")
+        return len(whole) == 1 and [fields for _, _, fields, _ in named] == [point[2]]
 
     def stored(self, name, is_large):
         """What is stored of a text, without the answer."""
@@ -332,7 +329,7 @@ class Victoria:
         self.asked += 1
         interop.ask(f"{self.address}/internal/force_flush")
         words = {"match[]": f'{{db{label},none!="{self.asked}"}}', "start": "0", "end": str(2**33)}
-        return interop.ask(f"{self.address}/api/v1/export?{urllib.parse.urlencode(words)}").splitlines()
+        return interop.ask(f"{self.address}/api/v1/export?{urllib.parse.urlencode(words)}").split("\n")[:-1]
 
     def samples(self, line, name):
         """The samples of a series, without the label of its database."""

@@ -20,7 +20,7 @@ from clauses import surface, texts
 TOP = Path(__file__).resolve().parent.parent
 DOCS = TOP / "docs"
 LIBRARIES = [
-    "lp_format", "lp_scan", "lp_split", "lp_values", "lp_events", "lp_lines", "lp_build", "lp_written", "lp_portable",
+    "lp_format", "lp_scan", "lp_split", "lp_values", "lp_events", "lp_lines", "lp_build", "lp_written", "lp_portable", "lp_influx",
     "influxdb_line_protocol", "lp_rebuild", "lp_relay", "lp_series", "lp_programs", "lp_relay_program", "lp_series_program", "lp_c",
 ]
 

@@ -3,7 +3,7 @@
 # docs/RATTLE.md and docs/BINDINGS.md with the examples, and each list of options with packaging/options.txt, as the code of the programs
 # too; each link with what it leads to; imports, and files of definitions and lemmas, with the map in docs/ARCHITECTURE.md and the pages of
 # the crates; the licences of the crates with those at the top; the header for C with crates/lp_c; the packages of bindings/ with the
-# header; and the version that lp_relay and lp_series tell with CHANGELOG.md. And sees that each lemma has a line on what it means, that each wrong body
+# header; the version that lp_relay and lp_series tell with CHANGELOG.md, and the kit with the one that is here. And sees that each lemma has a line on what it means, that each wrong body
 # of checks/bodies/ can be planted, that each public call with a body has one or an edit of must-fail/, that docs/TRUST.md names each public
 # call with a clause and each condition, that CONTRIBUTING.md has a row for each file that names a fault, and that what pages name in code
 # is there. Needs Python 3.10, and no package.
@@ -18,13 +18,18 @@ for copy in "$here"/../crates/*/LICENSE-*; do
     cmp "$copy" "$here/../$(basename "$copy")"
 done
 . "$here/../launch.sh"
-for program in lp_relay lp_series; do
-    told=$(sed -n 's/^pub const VERSION: &str = "\(.*\)";$/\1/p' "$here/../crates/${program}_program/src/words.rt")
-    if [ "$told" != "$(version)" ]; then
-        echo "documents: $program --version tells $told, where CHANGELOG.md has $(version)"
-        exit 1
-    fi
-done
+told=$(sed -n 's/^pub const VERSION: &str = "\(.*\)";$/\1/p' "$top/crates/lp_programs/src/version.rt")
+if [ "$told" != "$(version)" ]; then
+    echo "documents: lp_relay --version tells $told, where CHANGELOG.md has $(version)"
+    exit 1
+fi
+if ! rt=$(PATH=$PATH:/opt/rattle/bin command -v rt); then
+    . "$here/left_out.sh"
+    left_out "the kit that lp_relay --version tells" "there is no rt, for checks/documents.sh"
+elif [ "$("$rt" version | head -n 1 | cut -d ' ' -f 1)" != "$(told_kit)" ]; then
+    echo "documents: lp_relay --version tells $(told_kit), where the kit is $("$rt" version | head -n 1)"
+    exit 1
+fi
 python3 -B "$here/definitions.py"
 python3 -B "$here/blocks.py"
 python3 -B "$here/options.py"

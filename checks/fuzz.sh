@@ -43,6 +43,7 @@ for crate in "${below[@]}"; do
 done
 (cd "$top/crates/lp_checks" && "$kit/bin/rattle" build --crate-name lp_checks src/lib.rt --crate-type staticlib \
     --extern "std=$kit/rlibs/std.rlib" -L "dependency=$kit/rlibs" \
+    --extern "lp_influx=$top/crates/lp_influx/out/rlib/lp_influx.rlib" \
     --extern "influxdb_line_protocol=$top/crates/influxdb_line_protocol/out/rlib/influxdb_line_protocol.rlib" \
     --extern "lp_rebuild=$top/crates/lp_rebuild/out/rlib/lp_rebuild.rlib" \
     --extern "lp_relay=$top/crates/lp_relay/out/rlib/lp_relay.rlib" \

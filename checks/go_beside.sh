@@ -1,7 +1,8 @@
 #!/usr/bin/env bash
 # Compares what the Go package of bindings/go reads with what InfluxDB 1.x's ParsePoints reads, line by line and in each dialect. What they
 # read differently is of a kind in bindings/go/testdata/differences.tsv, or this fails. The texts are the examples of that table, those of
-# the table of answers, lines of the bench's corpora, and 20,000 random ones.
+# the table of answers, lines of the bench's corpora, and 20,000 random ones. It also sees that each of 100,000 hostile lines that is portable
+# to InfluxDB 1.x is read alike (checks/golang/portable_test.go).
 #
 #   checks/go_beside.sh [ARCHIVE]                     these texts
 #   checks/go_beside.sh --fuzz SECONDS [ARCHIVE]      then, for so long, also what Go's fuzzer makes of them, on GOMAXPROCS processors
@@ -18,44 +19,28 @@ if [ "${1-}" = --fuzz ]; then
     seconds=$2
     shift 2
 fi
-sources=/usr/share/gocode:/usr/local/share/gocode
-if ! command -v go >/dev/null; then
-    left_out checks/go_beside.sh "there is no go"
-    exit 0
-elif [ ! -d /usr/share/gocode/src/github.com/influxdata/influxdb/models ] &&
-    [ ! -d /usr/local/share/gocode/src/github.com/influxdata/influxdb/models ]; then
-    left_out checks/go_beside.sh "there is no golang-github-influxdb-influxdb-dev"
+. "$here/golang.sh"
+lacking=$(golang_lacks)
+if [ -n "$lacking" ]; then
+    left_out checks/go_beside.sh "$lacking"
     exit 0
 fi
 [ $# != 0 ] || "$top/bindings/build.sh" >/dev/null
 archive=${1:-$top/crates/lp_c/out/liblp_c.a}
 built=$(mktemp -d)
 trap 'chmod -R u+w "$built"; rm -rf "$built"' EXIT
-cp "$archive" "$built/liblp_c.a"
-mkdir -p "$built/path/src/influxdb_line_protocol"
-cp -r "$top/bindings/go" "$built/path/src/influxdb_line_protocol/lineprotocol"
-cp -r "$here/golang" "$built/path/src/beside"
 if command -v python3 >/dev/null; then
     python3 -B "$top/bench/corpora.py" --seed beside --size 4000 --out "$built/corpora" \
         telegraf iot escapes strings faulty short booleans u64 quotes negatives >/dev/null
 else
     left_out "corpora of checks/go_beside.sh" "there is no python3"
 fi
-export GO111MODULE=off GOFLAGS=-tags=lp_lib_dir GOPATH=$built/path:$sources GOCACHE=${GOCACHE:-$built/cache} CGO_ENABLED=1
-export CGO_CFLAGS="-O2 -I$top/include -I$top/bindings/c" CGO_LDFLAGS="-L$built" LP_TOP=$top LP_CORPORA=$built/corpora
-cd "$built/path/src/beside"
-
-# Runs a test, and shows what it says only if it fails.
-try() {
-    if ! go "$@" >"$built/log" 2>&1; then
-        grep -a -v -e '--- PASS' -e '=== RUN' "$built/log" | head -n 40 | cut -c 1-2000 >&2
-        echo "go_beside: go $* failed" >&2
-        exit 1
-    fi
-}
+export LP_CORPORA=$built/corpora
+prepare_golang "$archive"
 try vet .
 try test -v .
 echo "go_beside: $(sed -n 's/.*\(differences.tsv: .*\)/\1/p' "$built/log"); nothing else differs from ParsePoints"
+echo "go_beside: $(sed -n 's/.*portable: \(.* random texts, .*\)/\1/p' "$built/log")"
 if [ "$seconds" != 0 ]; then
     try test -run '^$' -fuzz FuzzBesideParsePoints -fuzztime "${seconds}s" .
     echo "go_beside: nor in $(grep -o 'execs: [0-9]*' "$built/log" | tail -n 1 | cut -d ' ' -f 2) texts of the fuzzer"

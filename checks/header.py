@@ -1,7 +1,7 @@
 #!/usr/bin/env python3
 """Whether include/influxdb_line_protocol.h says what crates/lp_c exports: the enums with their numbers, the structs with
-their fields, and the calls with their types; whether its clauses and their servers are those of crates/lp_portable; and whether
-bindings/c/empty.c has the constants of the header.
+their fields, and the calls with their types; whether its clauses and their servers are those of crates/lp_portable; whether
+bindings/c/empty.c has the constants of the header; and whether packaging/symbols.in has its calls and constants.
 
     checks/header.py            prints each difference; status 1 where there is one
 """
@@ -15,6 +15,7 @@ SOURCE = TOP / "crates" / "lp_c" / "src"
 HEADER = TOP / "include" / "influxdb_line_protocol.h"
 PORTABLE = TOP / "crates" / "lp_portable" / "src" / "broken.rt"
 EMPTY = TOP / "bindings" / "c" / "empty.c"
+SYMBOLS = TOP / "packaging" / "symbols.in"
 
 SCALARS = {"u8": "uint8_t", "u16": "uint16_t", "u32": "uint32_t", "u64": "uint64_t", "i64": "int64_t", "usize": "size_t", "bool": "bool",
            "f64": "double"}
@@ -145,6 +146,9 @@ def main():
         found.append(f"crates/lp_portable has the clauses and masks {clauses_of_source()}, the header {clauses_of_header()}")
     wanted, made = of_empty()
     found += [f"{name} is not {initializer} in the header and in {EMPTY.name}" for _, name, initializer in set(wanted) ^ set(made)]
+    symbols = re.findall(r"^ (\w+)@Base \d+\.\d+\.\d+$", SYMBOLS.read_text(encoding="utf-8"), flags=re.M)
+    shown = [name for _, name, _ in wanted] + [*header[2]]
+    found += [f"{name} is not in both of the header and {SYMBOLS.name}" for name in sorted(set(shown) ^ set(symbols))]
     if found:
         print("\n".join(f"header: {one}" for one in found), file=sys.stderr)
         return 1

@@ -392,7 +392,7 @@ class Victoria:
         ask(f"{self.address}/internal/force_flush")
         words = urllib.parse.urlencode({"match[]": f'{{db="{name}"}}', "start": "0", "end": str(2**33)})
         points = []
-        for line in ask(f"{self.address}/api/v1/export?{words}").splitlines():
+        for line in ask(f"{self.address}/api/v1/export?{words}").split("\n")[:-1]:
             series = json.loads(line.replace("[+Inf]", "[Infinity]"))
             labels = series["metric"]
             del labels["db"]

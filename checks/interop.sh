@@ -1,7 +1,8 @@
 #!/usr/bin/env bash
 # Writes texts to servers of its own, and the lines that lp_relay makes of them, rebuilt, verbatim and canonical, and compares what is
 # stored with the tables of docs/INTEROP.md. The texts are in interop.py. Then batches.py writes texts with a line after each, also those
-# of portable_rows.txt; the servers are started again, and it asks what they have. Last, posting.sh posts by the lines of the page.
+# of portable_rows.txt; the servers are started again, and it asks what they have. Last, posting.sh posts by the lines of the page, and
+# sending.sh by examples/send.sh.
 #
 #   checks/interop.sh RELAY            compares with the page
 #   checks/interop.sh --write RELAY    writes the tables into the page
@@ -14,6 +15,7 @@
 set -euo pipefail
 here=$(cd "$(dirname "$0")" && pwd)
 . "$here/left_out.sh"
+. "$here/golang.sh"
 mode=()
 case ${1:-} in
 --write | --print)
@@ -31,80 +33,39 @@ if ! python3 -c 'import sys; sys.exit(sys.version_info < (3, 10))' 2>/dev/null; 
     exit 0
 fi
 work=$(mktemp -d)
-declare -A pids=()
 readers=()
 places=()
 parser=()
 
-# Ends the servers, and removes what they stored.
-stop() {
-    local pid
-    for pid in "${pids[@]}"; do
-        kill "$pid" 2>/dev/null || true
-        wait "$pid" || true
-    done
-    rm -rf "$work"
-}
-trap stop EXIT
+. "$here/serving.sh"
+trap 'stop; rm -rf "$work"' EXIT
 
-# The version of one of Debian's packages.
+# The version of one of Debian's packages: as it is installed, or else as setup.sh unpacks it.
 version_of() {
     # shellcheck disable=SC2016
-    dpkg-query -W -f '`${Package}` ${Version}' "$1" 2>/dev/null || echo "not of Debian's \`$1\`"
+    dpkg-query -W -f '`${Package}` ${Version}' "$1" 2>/dev/null ||
+        apt-cache show --no-all-versions "$1" 2>/dev/null | awk '/^Package: /{ name = $2 } /^Version: /{ print "`" name "` " $2 }' | grep . ||
+        echo "not of Debian's \`$1\`"
 }
 
-# Ports that nothing listens on.
-read -r http backup metrics < <(python3 -c 'import socket
-sockets = [socket.create_server(("127.0.0.1", 0)) for _ in range(3)]
-print(*(each.getsockname()[1] for each in sockets))')
-
-# Is a server: `influx` or `victoria`. VictoriaMetrics drops what is older than it keeps.
-serve() {
-    case $1 in
-    influx) exec influxd -config "$work/influxdb.conf" ;;
-    victoria)
-        exec victoria-metrics -httpListenAddr="127.0.0.1:$metrics" -storageDataPath="$work/victoria" -retentionPeriod=100y \
-            -memory.allowedBytes=64MB
-        ;;
-    esac
-}
-
-# listen READER PORT: starts a server, and waits until it listens.
-listen() {
-    local end=$((SECONDS + 60))
-    serve "$1" >>"$work/$1.log" 2>&1 &
-    pids[$1]=$!
-    until (: >"/dev/tcp/127.0.0.1/$2") 2>/dev/null; do
-        if ! kill -0 $! 2>/dev/null || [ "$SECONDS" -gt "$end" ]; then
-            tail -n 5 "$work/$1.log" >&2
-            echo "interop: $1 does not listen" >&2
-            exit 1
-        fi
-        sleep 0.1
-    done
-}
-
-# start READER PACKAGE PORT: starts a server that the checks ask.
+# start READER PACKAGE: starts a server that the checks ask.
 start() {
-    listen "$1" "$3"
-    readers+=("$1=$(version_of "$2")=http://127.0.0.1:$3")
-    places+=("$1=http://127.0.0.1:$3")
+    listen "$1"
+    readers+=("$1=$(version_of "$2")=http://127.0.0.1:${ports[$1]}")
+    places+=("$1=http://127.0.0.1:${ports[$1]}")
 }
 
 # Ends the servers that the checks ask, and starts them again.
 start_again() {
-    local place reader
+    local place
     for place in "${places[@]}"; do
-        reader=${place%%=*}
-        kill "${pids[$reader]}"
-        wait "${pids[$reader]}" || true
-        listen "$reader" "${place##*:}"
+        listen_again "${place%%=*}"
     done
 }
 
 # Builds the parser of InfluxDB.
 build_parser() {
-    local go=(env GO111MODULE=off GOPROXY=off GOFLAGS= GOPATH=/usr/share/gocode GOCACHE="$work/cache" go)
+    local go=(env GO111MODULE=off GOPROXY=off GOFLAGS= GOPATH="$sources" GOCACHE="$work/cache" go)
     "${go[@]}" build -o "$work/parser" "$here/interop.go" >"$work/log" 2>&1 || {
         tail -n 20 "$work/log" >&2
         echo "interop: checks/interop.go was not built" >&2
@@ -114,35 +75,20 @@ build_parser() {
     parser=("parser=$work/parser")
 }
 
-cat >"$work/influxdb.conf" <<TEXT
-reporting-disabled = true
-bind-address = "127.0.0.1:$backup"
-[meta]
-  dir = "$work/influx/meta"
-[data]
-  dir = "$work/influx/data"
-  wal-dir = "$work/influx/wal"
-  query-log-enabled = false
-[http]
-  bind-address = "127.0.0.1:$http"
-  log-enabled = false
-[monitor]
-  store-enabled = false
-TEXT
 if command -v influxd >/dev/null; then
-    start influx influxdb "$http"
+    start influx influxdb
 else
     left_out "InfluxDB of docs/INTEROP.md" "there is no influxd"
 fi
 if ! command -v go >/dev/null; then
     left_out "the parser of docs/INTEROP.md" "there is no go"
-elif [ ! -d /usr/share/gocode/src/github.com/influxdata/influxdb/models ]; then
+elif ! source_of github.com/influxdata/influxdb/models >/dev/null; then
     left_out "the parser of docs/INTEROP.md" "there is no golang-github-influxdb-influxdb-dev"
 else
     build_parser
 fi
 if command -v victoria-metrics >/dev/null; then
-    start victoria victoria-metrics "$metrics"
+    start victoria victoria-metrics
 else
     left_out "VictoriaMetrics of docs/INTEROP.md" "there is no victoria-metrics"
 fi
@@ -155,4 +101,6 @@ fi
 python3 -B "$here/batches.py" --post "$work/state" "$relay" "${places[@]}" "${parser[@]}"
 start_again
 python3 -B "$here/batches.py" "${mode[@]}" "$work/state" "${places[@]}"
-[ ${#mode[@]} != 0 ] || "$here/posting.sh" "$relay" "${places[@]}"
+[ ${#mode[@]} = 0 ] || exit 0
+"$here/posting.sh" "$relay" "${places[@]}"
+"$here/sending.sh" "$relay" "${places[@]}"

@@ -69,12 +69,12 @@ given 1 "$(grep -v open note)\\n" 'item 11: No fields were provided\n' --newline
 given 1 "$(grep -v open note)\\n" 'item 11: the line is too long\n' --newline-delimited --max-line 8 note
 
 # The refused pieces, if the lines go to a file too; and the counts.
-given 1 '' "item 2: $x\n9 bytes, 2 lines, 2 items: 1 carried, 1 refused: 1 generic_parsing_error\n" --summary -o out --refused refused b
+given 1 '' "item 2: $x\n9 bytes, 2 lines, 2 items: 1 carried, 1 refused: 1 generic_parsing_error\n" --summary -o out --replace --refused refused b
 holds out 'm b=2i\n'
 holds refused 'x\n'
 printf 'old\n' | tee out >refused
 # Both files of the run before, or room on the device, if a run fails with both named.
-given 2 '' "b: item 2: $x\n${unread}none: $none\n" -o out --refused refused b none
+given 2 '' "b: item 2: $x\n${unread}none: $none\n" -o out --refused refused --replace b none
 are_old
 given 2 '' "${unwritten}none/refused: $none\n" -o out --refused none/refused b
 are_old
@@ -86,12 +86,12 @@ exec 4>&-
 want 2 '' "lp_relay: the file of --refused is the output too: empty\n"
 same "the words (--refused empty b) and the output >empty"
 holds empty ''
-"$relay" --refused refused b >&- 2>"$work/err" && status=0 || status=$?
+"$relay" --replace --refused refused b >&- 2>"$work/err" && status=0 || status=$?
 fails 2 "$unwritten*" "standard output is closed, and pieces are refused"
 are_old
 # Which device is full: it would be looked for elsewhere.
 limited() { (trap '' XFSZ && ulimit -f 1 && exec "$@"); }
-run limited "$relay" --check --refused refused piece
+run limited "$relay" --check --replace --refused refused piece
 fails 2 "${unwritten}refused: File too large (os error 27)" "the file of --refused may not grow"
 are_old
 # What a program has of the old file, if it has that open: it would read some of the new one.
@@ -113,16 +113,165 @@ printf 'm a=1i\n' >&3
 exec 3>&-
 wait "$process" && status=0 || status=$?
 fails 2 "${unwritten}out: $none" "the file is removed while it is written"
+# Room on the device, which runs that are ended take: the next one for the place removes what they left, and says so.
+# begin WORD..: a relay of the FIFO by these words runs, and is `process`; 3 leads to it, and a file is beside the place `out`.
+begin() {
+    "$relay" "$@" <fifo >"$work/began_out" 2>"$work/began_err" 3>&- &
+    process=$!
+    exec 3>fifo
+    for ((tries = 0; tries < 400; tries++)); do
+        ! compgen -G "out.lp_relay-$process-*" >"$work/beside" || return 0
+        sleep 0.05
+    done
+}
+begin -o out
+kill -KILL "$process"
+wait "$process" && status=0 || status=$?
+exec 3>&-
+left=$(cat "$work/beside")
+touch out.lp_relay-1-x out.lp_relay-1 x.out.lp_relay-1-1 out.lp_relay-1-1~ out.lp_relay-8-8 out.lp_relay-9-9
+mkdir out.lp_relay-7-7
+ln -s a out.lp_relay-6-6
+names | grep -v -x -F -e "$left" -e out.lp_relay-9-9 >"$work/names_after"
+exec 5<out.lp_relay-8-8
+flock 5
+run "$relay" -o out a
+holds out 'm a=1i\n'
+names | cmp - "$work/names_after" || lost "what an ended run left is not removed, or something else is"
+printf 'lp_relay: removed %s, which an ended run had left\n' "$left" out.lp_relay-9-9 | sort | cmp - <(sort "$work/err") ||
+    lost "it is not said what was removed"
+exec 5<&-
+rm -r out.lp_relay-* x.out*
+printf 'old\n' >out
+# The lines of a run that goes on, if another one for the place begins.
+begin -o out
+run "$relay" -o out a
+[ "$status $(cat "$work/err")" = "0 " ] || lost "a run beside another one for the place"
+holds out 'm a=1i\n'
+printf 'm b=2i\n' >&3
+exec 3>&-
+wait "$process" && status=0 || status=$?
+[ "$status" = 0 ] || lost "the lines of a run, since another one for the place began"
+holds out 'm b=2i\n'
+printf 'old\n' >out
+# Who may read the file that is replaced; what a link leads to; and all that is read, if something is mounted in the place.
+if [ "$(id -u)" = 0 ] && command -v setpriv >/dev/null; then
+    chown 65534:65533 out
+    chmod 640 out
+    put 0 'm a=1i\n' '' -o out a
+    [ "$(stat -c '%u:%g %a' out)" = "65534:65533 640" ] || lost "a file that is replaced is of $(stat -c '%u:%g %a' out)"
+    chown 0:0 out
+    chmod 644 out
+    chmod 777 . && chmod 711 "$work" && cp "$relay" "$work/relay"
+    run setpriv --reuid 65534 --regid 65534 --clear-groups "$work/relay" -o out a
+    want 0 '' 'lp_relay: out: the new file has another owner or group than the old one: Operation not permitted (os error 1)\n'
+    same "a file of another owner"
+    [ "$(stat -c '%u:%g %a' out)" = "65534:65534 644" ] || lost "a file that is replaced is of $(stat -c '%u:%g %a' out)"
+    chmod 755 .
+    rm out
+else
+    left_out "owners of files" "this is not root, or there is no setpriv, for checks/losses.sh"
+fi
+ln -s deep/../new link
+ln -s link link2
+ln -s loop loop
+mkdir deep
+: >new
+names >"$work/names"
+rm new
+given 0 '' '' -o link2 a
+holds new 'm a=1i\n'
+[ "$(readlink link2) $(readlink link)" = "link deep/../new" ] || lost "a link is replaced"
+given 2 '' "${unwritten}loop: filesystem loop or indirection limit (e.g. symlink loop)\n" -o loop none
+rm -r new link link2 loop deep
+printf 'old\n' >out
+names >"$work/names"
+if unshare --mount mount --bind a out 2>/dev/null; then
+    run unshare --mount sh -c 'mount --bind a out && exec "$@"' sh "$relay" -o out none
+    want 2 '' "${unwritten}out: it is a mount point, which no file can replace\n"
+    same "a mount point"
+else
+    left_out "a mount point as output" "nothing can be mounted, for checks/losses.sh"
+fi
 # Both files, if the machine stops after the run: all of both is on the device before either comes to its place.
 if strace -o "$work/trace" true 2>"$work/err"; then
-    run strace -f -e trace=fsync,rename -o "$work/trace" "$relay" -o out --refused refused b
+    run strace -f -e trace=fsync,rename -o "$work/trace" "$relay" -o out --replace --refused refused b
     calls=$(grep -o -e 'fsync(.*= 0$' -e 'rename(.*= 0$' "$work/trace" | cut -d '(' -f 1 | paste -sd ' ')
-    [ "$status $calls" = "1 fsync fsync rename rename" ] || lost "both files come to their places by: $calls"
+    [ "$status $calls" = "1 fsync fsync rename rename fsync fsync" ] || lost "both files come to their places by: $calls"
     printf 'old\n' | tee out >refused
+    # The ends of parts, if a signal interrupts a read at a place.
+    run strace -qq -o "$work/trace" -e trace=pread64 -e inject=pread64:error=EINTR:when=1 "$relay" --cut 2 b
+    [ "$status $(paste -sd ' ' "$work/out")" = "0 7 9" ] || lost "a read at a place that is interrupted ends the run"
 else
     left_out "files on the device" "there is no strace, or it may not watch, for checks/losses.sh"
 fi
 echo "losses: lp_relay loses nothing of its files, in $files ways"
+
+# Packed lines, of which each scrap would be refused for itself, by whatever reads they come; and the first line after a byte order mark.
+printf 'm c=3i\nm d=4i\n' | gzip >packed
+printf '\x28\xb5\x2f\xfd\x04\x58\n' >zstd
+printf '\xef\xbb\xbfm c=3i\nx\n' >marked
+printf 'm a=1i\n\xef\xbb\xbfm c=3i\n' >later
+names >"$work/names"
+gzip='the input is gzip: use zcat\n'
+mark='the input begins with a byte order mark, which is part of its first line\n'
+# by_parts AT FILE: the file as it comes if its first bytes are read alone.
+by_parts() { head -c "$1" "$2"; sleep 0.3; tail -c +"$(($1 + 1))" "$2"; }
+given 2 '' "${unread}packed: $gzip" packed
+given 2 'm a=1i\n' "${unread}packed: $gzip" a packed b
+given 2 '' "${unread}packed: $gzip" --refused refused packed
+given 2 '' "${unread}zstd: the input is zstd: use zstdcat\n" zstd
+given 1 '\xef\xbb\xbfm c=3i\n' "lp_relay: marked: ${mark}item 2: $x\n" marked
+given 1 'm a=1i\n\xef\xbb\xbfm c=3i\n' "lp_relay: marked: ${mark}marked: item 3: $x\n" a marked
+given 1 '\xef\xbb\xbfm c=3i\n\xef\xbb\xbfm c=3i\n' \
+    "lp_relay: marked: ${mark}marked: item 2: $x\nlp_relay: marked: ${mark}marked: item 4: $x\n" marked marked
+given 0 'm a=1i\n\xef\xbb\xbfm c=3i\n' '' later
+given 0 '\xef\xbb\xbfm c=3i\n' '' --range 7.. later
+given 0 '\xef\xbb\xbfm c=3i\n' "lp_relay: marked: $mark" --range 0..10 marked
+for at in 1 2 3; do
+    run "$relay" < <(by_parts "$at" packed)
+    want 2 '' "$unread$gzip"
+    same "packed lines, of which $at bytes come first"
+    run "$relay" < <(by_parts "$at" zstd)
+    want 2 '' "${unread}the input is zstd: use zstdcat\n"
+    same "lines that zstd packed, of which $at bytes come first"
+    run "$relay" < <(by_parts "$at" marked)
+    want 1 '\xef\xbb\xbfm c=3i\n' "lp_relay: ${mark}item 2: $x\n"
+    same "a byte order mark, of which $at bytes come first"
+done
+# What begins as they do, and is no such input.
+for text in '\x1f a=1i\n' '\x28 a=1i\n' '\x28\x28 a=1i\n' 'm a=1i\n'; do
+    printf '%b' "$text" >begun
+    run "$relay" < <(by_parts 1 begun)
+    rm begun
+    want 0 "$text" ''
+    same "an input that is not packed"
+done
+rm packed zstd marked later
+names >"$work/names"
+
+# The last byte of each line, if a newline is not all that ends it; no other carriage return is dropped.
+seq 1000 | sed 's/.*/m,t=x a=&i,s="&" &/' >unix
+sed 's/$/\r/' unix >crlf
+printf 'm s="a\r\nb"\r\n\r\n# c\r\n x\r\nm a=1i\r\r\nn f=1i\r' >mixed
+printf 'm a=1i\r\n' >wide
+names >"$work/names"
+for form in "" --verbatim --canonical --newline-delimited; do
+    given 0 "$(cat unix)\\n" '' --crlf ${form:+"$form"} crlf
+    given 0 "$(cat unix)\\n" '' --crlf ${form:+"$form"} unix
+done
+trailing="Could not parse entire line. Found trailing content: '"
+given 1 'm s="a\r\nb"\nn f=1i\n' "line 5: $x\nline 6: $trailing\\\\r'\n" --crlf --lines --refused refused mixed
+holds refused ' x\r\nm a=1i\r\r\n'
+told='{"item":2,"line":5,"offset":20,"piece_line":5,"piece_offset":19,"kind":"generic_parsing_error"'
+told="$told,\"text\":\"$x\",\"stop_line\":5,\"stop_column\":3}\\n"
+told=$told'{"item":3,"line":6,"offset":23,"piece_line":6,"piece_offset":23,"kind":"cannot_parse_entire_line"'
+told="$told,\"text\":\"$trailing\\\\u000d'\",\"stop_line\":6,\"stop_column\":7}\\n"
+given 1 'm s="a\r\nb"\nn f=1i\n' "$told" --crlf --faults json mixed
+given 0 'm a=1i\n' '' --crlf --max-line 7 wide
+given 1 '' 'item 1: the line is too long\n' --crlf --max-line 6 wide
+rm unix crlf mixed wide
+names >"$work/names"
 
 # Lines after so many of them, or a line for its length: as long as it may be.
 { yes 'm a=1i' | head -n 70000; printf 'm s="'; head -c 16777210 /dev/zero | tr '\0' x; printf '"\n'; } >large
@@ -133,22 +282,24 @@ for form in "" --verbatim --canonical; do
     run "$relay" --summary ${form:+"$form"} large
     same "70,001 lines, $form"
 done
+run "$relay" --summary --verbatim --portable influx1 large
+same "70,001 lines that are to be portable"
 # What can be mended of a line that is longer, and the lines after it.
 { printf 'm s="'; head -c 16777211 /dev/zero | tr '\0' x; printf '"\nm a=1i\n'; } >large
-given 1 'm a=1i\n' 'item 1: the line is too long: its first 16777216 bytes are kept\n' --refused refused large
+given 1 'm a=1i\n' 'item 1: the line is too long: its first 16777216 bytes are kept\n' --replace --refused refused large
 cmp refused <(head -c 16777216 large; echo)
 # A file that is larger than the memory, and its faults far on.
 { yes 'm a=1i' | head -n 6000000; echo x; } >large
 (ulimit -v 32000 && exec "$relay" --faults json large) 2>"$work/err" | cmp - <(head -n 6000000 large) ||
     lost "in 32 MB of memory 42 MB of a file are not relayed"
 status=${PIPESTATUS[0]}
-[[ "$status $(cat "$work/err")" = '1 {"item":6000001,"line":6000001,"offset":42000000,'*',"stop_line":6000001,"stop_column":2}' ]] ||
+[[ "$status $(cat "$work/err")" = '1 {"file":"large","item":6000001,"line":6000001,"offset":42000000,'*',"stop_line":6000001,"stop_column":2}' ]] ||
     lost "after 42 MB of a file a fault is not told so"
 # What comes after an item whose fault is 70,000 lines below its start.
 { printf 'm s="'; head -c 70000 /dev/zero | tr '\0' '\n'; printf '" x\nm a=1i\n'; } >large
 run "$relay" --faults json large
 holds "$work/out" 'm a=1i\n'
-[[ "$status $(cat "$work/err")" = '1 {"item":1,"line":1,'*',"stop_line":70001,"stop_column":2}' ]] ||
+[[ "$status $(cat "$work/err")" = '1 {"file":"large","item":1,"line":1,'*',"stop_line":70001,"stop_column":2}' ]] ||
     lost "a fault 70,000 lines below the start of its item is not told so"
 # What comes after so many faults of a kind.
 count=70000
@@ -164,6 +315,29 @@ kinds="$kinds, $count not_utf8, $count tag_set_malformed, $count timestamp_value
 status=${PIPESTATUS[0]}
 [ "$status $(cat "$work/err")" = "1 $(wc -c <large) bytes, $items lines, $items items: 0 carried, $items refused: $kinds" ] ||
     lost "$count faults of each kind are not counted so"
+# So many lines that are not portable.
+{ yes 'm a=1u' | head -n "$count"; echo 'm a=1i'; } >large
+"$relay" --portable influx1 --summary large >"$work/out" 2>"$work/err" && lost "$count lines that are not portable end with status 0"
+items=$((count + 1))
+[ "$(cat "$work/out")" = 'm a=1i' ] || lost "the line after $count that are not portable"
+[ "$(tail -n 1 "$work/err")" = \
+    "$(wc -c <large) bytes, $items lines, $items items: 1 carried, $count refused: $count not_portable" ] ||
+    lost "$count lines that are not portable are not counted so"
+# The types of 200,000 fields, which the next input gives others, and a line with one field more than may have a type.
+seq 0 199999 | sed 's/.*/m f&=1i/' >large
+{ printf 'm f%s=t\nm f%s=2i\n' 0 0 65536 65536 199999 199999; printf 'n x=1,y=2\nn x=1\n'; } >other
+"$relay" --types strict --max-fields 200001 --summary large other >"$work/out" 2>"$work/err" && lost "fields of other types end with status 0"
+cmp "$work/out" <(cat large; printf 'm f0=2i\nm f65536=2i\nm f199999=2i\nn x=1\n') || lost "the lines whose fields have the types of before"
+[ "$(tail -n 1 "$work/err")" = \
+    "$(cat large other | wc -c) bytes, 200008 lines, 200008 items: 200004 carried, 4 refused: 3 field_type_conflict, 1 too_many_fields" ] ||
+    lost "fields of other types, and one too many, are not counted so"
+# The times of 200,000 lines, of which some have none, some are out of range and some do not fit. What is refused goes out as it came.
+{ seq 0 199999 | sed 's/.*/m,t=a\\ b s="x  &" 1700000&/'; printf ' m a=1 \nm a=2\nm a=3 9223372036854775807  \nm a=4 -1\n'; } >large
+"$relay" --verbatim --time-unit ms --times 0.. --refused left --summary large >"$work/out" 2>"$work/err" && lost "times that do not fit end with status 0"
+cmp "$work/out" <(head -n 200000 large | sed 's/$/000000/') || lost "the lines with times in milliseconds"
+cmp left <(tail -n 4 large) || lost "the lines that are refused for their times"
+[ "$(tail -n 1 "$work/err")" = "$(wc -c <large) bytes, 200004 lines, 200004 items: 200000 carried, 4 refused: 1 cannot_parse_entire_line, \
+1 time_missing, 1 time_out_of_range, 1 time_overflow" ] || lost "the lines that are refused for their times are not counted so"
 # The lines after one of 100,000 that leaves a quote open, as README.md shows it. In the strict dialect all of them are in its string.
 seq 100000 | sed 's/.*/m value=&i/; 11s/.*/m note="open/' >large
 told="item 11: No fields were provided\n1488896 bytes, 100000 lines"

@@ -24,6 +24,7 @@ uint64_t lp_checks_bases(const uint8_t *text, size_t len, uint8_t *out, size_t r
 uint64_t lp_checks_keys(const uint8_t *text, size_t len, uint8_t *out, size_t room, uint64_t *ends, size_t entries);
 uint64_t lp_checks_shown(const uint8_t *text, size_t len, uint8_t *out, size_t room, uint64_t *ends, size_t entries);
 uint64_t lp_checks_copies(const uint8_t *text, size_t len, uint8_t *out, size_t room, uint64_t *ends, size_t entries);
+uint64_t lp_checks_influx(const uint8_t *text, size_t len, uint8_t *out, size_t room, uint64_t *ends, size_t entries);
 uint64_t lp_checks_written(const uint8_t *text, size_t len, const uint8_t *start, size_t start_len, bool again,
                            uint64_t *refused_at, uint8_t *out, size_t room, uint64_t *ends, size_t entries);
 uint64_t lp_checks_build(const uint8_t *program, size_t len, uint64_t reserved, bool again, uint64_t *refused_at,
@@ -34,7 +35,7 @@ uint8_t lp_checks_run(uint32_t dialect, const uint8_t *input, size_t len, uint8_
                       size_t err_room, uint64_t lens[2]);
 uint8_t lp_checks_relay(const uint8_t *letters, size_t letters_len, size_t limit, const uint8_t *input, size_t len, size_t part,
                         uint8_t *out, size_t room, uint8_t *err, size_t err_room, uint8_t *refused, size_t refused_room,
-                        uint64_t lens[3], uint64_t kinds[13]);
+                        uint64_t lens[3], uint64_t kinds[19]);
 uint8_t lp_checks_stepped(bool is_relay, const uint8_t *letters, size_t letters_len, const uint8_t *input, size_t len,
                           const size_t *steps, size_t steps_len, uint64_t *reads, uint8_t *out, size_t room, const size_t *out_steps,
                           size_t out_steps_len, uint64_t out_told[3], uint8_t *err, size_t err_room, const size_t *err_steps,

@@ -1,13 +1,16 @@
 #!/usr/bin/env python3
 """Whether `lp_relay --faults json` writes JSON, as Python reads it, and says in it what fault lines say: over hostile texts, the
-items and texts of the objects are, byte for byte, the fault lines of `--faults raw`; their lines and offsets, of text and piece, are
-those that section 3 of docs/FORMAT.md gives, by which the text is split here too; the kind of each fits its text; where reading stopped there is what the text says of it; and `--summary` counts them by their kinds.
+items and texts of the objects are, byte for byte, the fault lines of `--faults raw`, but for what is cut of a text of more than 200 bytes;
+their lines and offsets, of text and piece, and the length of the piece are those that section 3 of docs/FORMAT.md gives, by which the text
+is split here too; the kind of each fits its text; where reading stopped there is what the text says of it; and `--summary` counts them by
+their kinds. With `--faults json+text` the objects are the same, and have the bytes of their pieces.
 
     checks/objects.py RELAY..
 
 RELAY: a built lp_relay, or a command that runs it, as `rt try --` in the folder of its crate.
 """
 
+import base64
 import collections
 import json
 import random
@@ -27,12 +30,19 @@ KINDS = {
     "generic_parsing_error": "A generic parsing error occurred: TakeWhile1",
     "name_not_admitted": "a name cannot be written again",
     "not_as_written": "not as written: ",
+    "not_portable": "not portable to ",
+    "field_type_conflict": "field type conflict: field ",
+    "too_many_fields": "too many fields: field ",
+    "time_overflow": "time overflow: ",
+    "time_out_of_range": "time out of range: ",
+    "time_missing": "time missing: the line has no timestamp",
     "not_utf8": "the line is not UTF-8",
     "too_long": "the line is too long",
 }
 
 # Kinds of items in which reading does not stop.
-NO_STOPS = ("name_not_admitted", "not_as_written", "not_utf8", "too_long")
+NO_STOPS = ("name_not_admitted", "not_as_written", "not_portable", "field_type_conflict", "too_many_fields", "time_overflow",
+            "time_out_of_range", "time_missing", "too_long")
 
 # Kinds whose text ends in what is at the stop, between quotes.
 NUMBERS = ("integer_value_invalid", "uinteger_value_invalid", "timestamp_value_invalid")
@@ -42,15 +52,19 @@ LINES = [
     b",t=u a=1i", b"m", b"m ", b"m a=9223372036854775808i", b"m a=18446744073709551616u", b"m a=1i 9223372036854775808",
     b"m a=1i x", b"m, a=1i", b"w\\\t a=1i", b"m  a=1i", b"m a=\xff", b"m a=1i", b"# c", b" # \"c\n\"x", b"m\\", b"",
     b"m a=1i " + b"y" * 90, b"m,t=v,u=w\\\\ a=1i", b"m,t=v,k\\\\=w a=1i", b"m,t a=1i", b"m a=1i,b=18446744073709551616u", b"m s=\"a\nb\",v=9i9",
-    b" \tm,t=v", b"#\\\n  m a=",
+    b" \tm,t=v", b"#\\\n  m a=", b"m a=1i " + "ü".encode() * 90, b"m a=1i  " + "ü".encode() * 90, b"m a=1i " + b"\1" * 145,
 ]
 PARTS = [bytes([b]) for b in range(256)] + [
     "ü".encode(), "\u2028".encode(), "\U0001f600".encode(), b"\xed\xa0\x80", b"\\u0000", b"\\\"", b"\"}", b"{\"", b"\x7f", b"\r",
 ]
 
+# What tells that a text is cut.
+CUT = re.compile(r"\.\. \[(\d+) bytes\]\Z")
+
 # So many texts are relayed, each with some of these words.
 TEXTS = 20
-WORDS = [[], ["--strict"], ["--newline-delimited"], ["--canonical"], ["--verbatim", "--max-line", "70"]]
+WORDS = [[], ["--strict"], ["--newline-delimited"], ["--canonical"], ["--verbatim", "--max-line", "70"],
+         ["--verbatim", "--portable", "all"]]
 
 
 def text_of(rng):
@@ -88,7 +102,7 @@ def piece_end(text, start, words):
 
 
 def items_of(text, words):
-    """Where each item begins: its piece, and its text after blanks and comments, if the piece is UTF-8 and not too long."""
+    """Where each item begins: its piece, and its text after blanks and comments, if the piece is UTF-8 and not too long; and its piece."""
     limit = int(words[words.index("--max-line") + 1]) if "--max-line" in words else 1 << 24
     items, start = [], 0
     while start <= len(text):
@@ -96,9 +110,9 @@ def items_of(text, words):
         piece = text[start:end]
         front = re.match(rb"(?:[ \t\n]|#[^\n]*)*", piece).end()
         if len(piece) > limit or not is_utf8(piece):
-            items.append((start, start))
+            items.append((start, start, piece))
         elif front < len(piece):
-            items.append((start, start + front))
+            items.append((start, start + front, piece))
         start = end + 1
     return items
 
@@ -127,6 +141,8 @@ def place_of(told, text):
 def stops_rightly(told, text):
     """Whether the stop is where the kind of the fault says, in the text of the item or at its end."""
     kind, begin, at = told["kind"], told["offset"], place_of(told, text)
+    if kind == "not_utf8":
+        return is_utf8(text[begin:at]) and not any(is_utf8(text[begin:at + n]) for n in range(1, 5))
     end = text.find(b"\n", at) if b"\n" in text[at:] else len(text)
     if not begin <= at <= len(text) or end < at:
         return False
@@ -135,7 +151,10 @@ def stops_rightly(told, text):
     if kind in NUMBERS:
         return text[at:].startswith(told["text"].encode().split(b"'")[1])
     if kind == "cannot_parse_entire_line":
-        rest = told["text"].encode().split(b"'", 1)[1][:-1]
+        rest, is_cut = CUT.subn("", told["text"])
+        rest = rest.encode().split(b"'", 1)[1][:None if is_cut else -1]
+        if is_cut:
+            return text[at:].startswith(rest)
         return text[at:].startswith(rest) and text[at + len(rest):][:1] in (b"", b"\n")
     if kind == "ends_with_backslash":
         return b"\\" in text[at:end]
@@ -144,33 +163,94 @@ def stops_rightly(told, text):
     return at > begin
 
 
+def whole_text(told, text):
+    """The text of a fault, also if its object has a part of it, and whether it is that part that is to be told."""
+    cut = CUT.search(told["text"])
+    if not cut:
+        return told["text"], len(told["text"].encode()) <= 200
+    shown = told["text"][:cut.start()]
+    at = place_of(told, text)
+    begin = KINDS[told["kind"]]
+    whole = begin.encode() + text[at:at + int(cut[1]) - len(begin) - 1] + b"'"
+    front = whole[:200].decode(errors="ignore")
+    return whole.decode(), int(cut[1]) > 200 and shown == front
+
+
+def members(told, piece, limit):
+    """The members that an object is to have, in order, and the value of that which tells the length of its piece."""
+    stop = [] if told["kind"] in NO_STOPS else ["stop_line", "stop_column"]
+    is_long = told["kind"] == "too_long"
+    names = ["item", "line", "offset", "piece_line", "piece_offset", "longer_than" if is_long else "length", "kind", "text"] + stop
+    return names, limit if is_long else len(piece)
+
+
+def piece_of(told):
+    """The piece that an object has, and the name of that member."""
+    name = list(told)[-1]
+    return (base64.b64decode(told[name], validate=True) if name.endswith("_base64") else told[name].encode()), name
+
+
+def compare_pieces(command, text, words, objects, items, limit):
+    """The objects with pieces are the same, and have the bytes of their pieces."""
+    lines = faults_of(command, text, "--faults", "json+text", *words).split(b"\n")[:-1]
+    if len(lines) != len(objects):
+        sys.exit(f"objects: there are {len(lines)} objects with pieces, not {len(objects)}, over {text!r}")
+    for line, told in zip(lines, objects):
+        both = json.loads(line.decode())
+        piece, name = piece_of(both)
+        wanted = items[told["item"] - 1][2]
+        is_long = told["kind"] == "too_long"
+        if is_long:
+            wanted = wanted[:limit]
+        if name != ("piece_start" if is_long else "piece") + ("" if is_utf8(wanted) else "_base64") or piece != wanted:
+            sys.exit(f"objects: {line!r} has not the piece {wanted!r}")
+        del both[name]
+        if both != told:
+            sys.exit(f"objects: {line!r} is another object with its piece")
+
+
 def compare(command, text, words):
     """How many objects there are, if they say what the fault lines say."""
     objects, items = [], items_of(text, words)
+    limit = int(words[words.index("--max-line") + 1]) if "--max-line" in words else 1 << 24
+    texts = []
     for line in faults_of(command, text, "--faults", "json", *words).split(b"\n")[:-1]:
         told = json.loads(line.decode())
-        stop = [] if told["kind"] in NO_STOPS else ["stop_line", "stop_column"]
-        if list(told) != ["item", "line", "offset", "piece_line", "piece_offset", "kind", "text"] + stop or json.dumps(told["text"], ensure_ascii=False).encode() not in line.replace(
+        names, length = members(told, items[told["item"] - 1][2], limit)
+        if list(told) != names or json.dumps(told["text"], ensure_ascii=False).encode() not in line.replace(
                 b"\\u000a", b"\\n").replace(b"\\u000d", b"\\r").replace(b"\\u0009", b"\\t").replace(b"\\u0008", b"\\b").replace(
                 b"\\u000c", b"\\f").replace(b"\\u007f", b"\x7f"):
             sys.exit(f"objects: {line!r} is no object of a fault as it is to be spelled")
         if not told["text"].startswith(KINDS[told["kind"]]):
             sys.exit(f"objects: {line!r} has a kind that is not its own")
-        places = [text[:at].count(b"\n") + 1 for at in items[told["item"] - 1]]
-        if (told["piece_offset"], told["offset"]) != items[told["item"] - 1] or [told["piece_line"], told["line"]] != places:
+        places = [text[:at].count(b"\n") + 1 for at in items[told["item"] - 1][:2]]
+        if (told["piece_offset"], told["offset"]) != items[told["item"] - 1][:2] or [told["piece_line"], told["line"]] != places:
             sys.exit(f"objects: {line!r} has a piece or a text that does not begin there, over {text!r}")
-        if stop and not stops_rightly(told, text):
+        if told[names[5]] != length:
+            sys.exit(f"objects: {line!r} has a piece that is not so long, over {text!r}")
+        if "stop_line" in names and not stops_rightly(told, text):
             sys.exit(f"objects: {line!r} tells a stop that is none, over {text!r}")
+        whole, is_right = whole_text(told, text)
+        if not is_right:
+            sys.exit(f"objects: {line!r} has a text that is not cut as it is to be")
         objects.append(told)
-    raw = "".join(f"item {told['item']}: {told['text']}\n" for told in objects).encode()
+        texts.append(whole)
+    raw = "".join(f"item {told['item']}: {whole}\n" for told, whole in zip(objects, texts)).encode()
     if raw != faults_of(command, text, "--faults", "raw", *words):
         sys.exit(f"objects: the texts are not those of the fault lines, over {text!r}")
+    compare_pieces(command, text, words, objects, items, limit)
     kinds = collections.Counter(told["kind"] for told in objects)
     counted = ", ".join(f"{kinds[kind]} {kind}" for kind in sorted(kinds))
     summary = faults_of(command, text, "--summary", "--check", *words).splitlines()[-1].decode()
     if not summary.endswith(f" carried, {len(objects)} refused" + (f": {counted}" if counted else "")):
         sys.exit(f"objects: the summary {summary!r} does not count {counted}")
-    lines = "".join(f"line {told['piece_line']}: {told['text']}\n" for told in objects).encode()
+    told = json.loads(faults_of(command, text, "--summary", "--check", "--faults", "json", *words).splitlines()[-1])["summary"]
+    shown = ", ".join(f"{told['kinds'][kind]} {kind}" for kind in sorted(told["kinds"]))
+    if list(told) != ["bytes", "lines", "items", "carried", "refused", "kinds"] or list(told["kinds"]) != sorted(told["kinds"]) or (
+            f"{told['bytes']} bytes, {told['lines']} lines, {told['items']} items: {told['carried']} carried, {told['refused']} refused"
+            + (f": {shown}" if shown else "")) != summary:
+        sys.exit(f"objects: the summary {told} is not {summary!r}")
+    lines = "".join(f"line {told['piece_line']}: {whole}\n" for told, whole in zip(objects, texts)).encode()
     if lines != faults_of(command, text, "--faults", "raw", "--lines", *words):
         sys.exit(f"objects: the pieces are not on the lines that the fault lines name, over {text!r}")
     return len(objects)

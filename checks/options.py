@@ -15,7 +15,7 @@ from typing import NamedTuple
 
 TOP = Path(__file__).resolve().parent.parent
 DATA = "packaging/options.txt"
-FIELDS = ("option", "short", "values", "not with", "unless", "place", "usage after", "does", "format", "lp_rebuild", "man")
+FIELDS = ("option", "short", "values", "not with", "unless", "needs", "place", "usage after", "does", "brief", "format", "lp_rebuild", "man")
 DIALECTS = "--strict", "--newline-delimited"
 FIRST, ALONE = "first or after a dialect", "alone"
 PLACES_TOLD = {"": "", FIRST: f", first or after `{'` or `'.join(DIALECTS)}`", ALONE: ", alone"}  # as docs/FORMAT.md has them
@@ -98,6 +98,8 @@ def options():
         raise Fault(f"{DATA}: {twice[0]} is there twice")
     known = {option.word: option for option in relays(found)}
     for option in found:
+        if option.get("needs") and option.get("needs") not in known:
+            raise Fault(f"{DATA}: {option.word} needs {option.get('needs')}: that is no option of a relay")
         for other in option.get("not with").split():
             if option.word not in known or other not in known:
                 raise Fault(f"{DATA}: {option.word} is not with {other}: not both are options of a relay")
@@ -292,6 +294,30 @@ class Place(NamedTuple):
         return "\n".join([*lines[:start], *self.lines, *lines[at - 1:]])
 
 
+def valued(found):
+    """The options that have a value after them, as a constant of the code."""
+    words = [word for option in found if option.argument for word in option.words()]
+    return ["pub(crate) const VALUED: &[&str] = &[", *(f'    "{word}",' for word in words), "];"]
+
+
+def odds(found):
+    """The options that exclude each other, as a constant of the code."""
+    pairs = [(option.word, other, option.get("unless")) for option in found for other in option.get("not with").split()]
+    return pairs_constant("ODDS", 3, pairs)
+
+
+def needs(found):
+    """The options that need another one, as a constant of the code."""
+    return pairs_constant("NEEDS", 2, [(option.word, option.get("needs")) for option in found if option.get("needs")])
+
+
+def pairs_constant(name, width, pairs):
+    """Words that go together as a constant of the code, as `rt fmt` lays out several."""
+    words = ["(" + ", ".join(f'"{word}"' for word in pair) + ")," for pair in pairs]
+    kind = ", ".join(["&str"] * width)
+    return [f"pub(crate) const {name}: &[({kind})] = &[", *(f"    {pair}" for pair in words), "];"]
+
+
 def places():
     """Each stretch that lists options."""
     found = options()
@@ -303,6 +329,9 @@ def places():
     return [
         Place(CODE["lp_relay"][0], ("/// How the program is called",), "", usage_constant(usage(found))),
         Place(CODE["lp_relay"][0], ("pub const HELP", ""), "", as_code(help_lines(found))),
+        Place(CODE["lp_relay"][0], ("/// Options that have a value after them",), "", valued(found)),
+        Place(CODE["lp_relay"][0], ("/// Options that exclude each other",), "", odds(found)),
+        Place(CODE["lp_relay"][0], ("/// Options, each with one that it needs",), "", needs(found)),
         Place(CODE["lp_rebuild"][0], ("/// How the program is called",), "", usage_constant([usage_of_rebuild])),
         Place(page, (begin,), end, list(synopsis(found))),
         Place(page, (begin, begin), end, list(page_lines(relays(found)))),
@@ -312,7 +341,7 @@ def places():
         Place(relay, (mark,), last, list(offers(found))),
         Place(relay, (mark, mark), last, list(after_words(found))),
         Place(rebuild, (mark,), last, [f'    local options="{" ".join(option.word for option in rebuilds)}"']),
-        Place("docs/FORMAT.md", ("| arguments of a program", "| none |"), "| after these, files", list(rows(found))),
+        Place("docs/FORMAT.md", ("| arguments of a program", "| none |"), "| files, also before these", list(rows(found))),
         Place("README.md", ("<!-- the usage of lp_relay -->", "```text"), "```", usage(found)),
     ]
 

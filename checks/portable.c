@@ -46,17 +46,22 @@ static uint64_t verdict_on(struct text text, size_t line) {
     return row.verdict;
 }
 
-/* Whether the strict reader takes a text and a newline for just one line. */
-static bool is_line(struct text text) {
+/* Whether the strict reader takes a text and a newline for just one line. If so, the verdict that is told as it is read must be this. */
+static bool is_line(struct text text, uint64_t verdict, size_t line) {
     size_t most = text.len / 4 + 2;
     lp_offset_part *parts = malloc(most * sizeof *parts);
     uint8_t *room = malloc(text.len + 1);
     lp_offset_row rows[2];
     lp_block block = { 1, 0, 0, 0, 0 };
+    lp_limits limits;
+    size_t told = 0;
+    lp_limits_default(&limits);
     text.at[text.len] = '\n';
-    lp_offsets_block(text.at, text.len + 1, LP_STRICT, true, &block, room, text.len, rows, 2, parts, most);
+    lp_offsets_block_verdicts(text.at, text.len + 1, LP_STRICT, true, &block, room, text.len, rows, 2, parts, most, &limits, &told);
     free(parts), free(room);
-    return block.rows == 1 && block.at == text.len + 1 && rows[0].answer == LP_LINE && rows[0].piece.at == 0 && rows[0].piece.len == text.len;
+    bool is = block.rows == 1 && block.at == text.len + 1 && rows[0].answer == LP_LINE && rows[0].piece.at == 0 && rows[0].piece.len == text.len;
+    if (is && (told != 1 || rows[0].verdict != verdict)) stop("another verdict is told as it is read", line);
+    return is;
 }
 
 int main(void) {
@@ -65,7 +70,7 @@ int main(void) {
     for (size_t line = 1; getline(&digits, &size, stdin) > 0; line++) {
         struct text text = text_of(digits, line);
         uint64_t verdict = verdict_on(text, line);
-        if (is_line(text) != ((verdict & LP_CLAUSE_NOT_A_LINE) == 0)) stop("the verdict is not what the strict reader says", line);
+        if (is_line(text, verdict, line) != ((verdict & LP_CLAUSE_NOT_A_LINE) == 0)) stop("the verdict is not what the strict reader says", line);
         printf("%" PRIu64 "\n", verdict);
     }
     free(digits);

@@ -23,7 +23,7 @@ from dataclasses import dataclass
 CLAUSES = [
     ("NotALine", "iv"), ("LeadingBlank", "v"), ("TrailingSpace", "v"), ("Newline", "v"), ("MeasurementEquals", "iv"), ("MeasurementEscape", "i"),
     ("TagEscape", "i"), ("TagKeyComma", "iv"), ("TagValueEquals", "i"), ("RepeatedTag", "iv"), ("FieldKeyEscape", "i"),
-    ("FieldKeyComma", "iv"), ("FieldKeyQuote", "v"), ("LongSeries", "i"), ("Unsigned", "i"), ("InfiniteFloat", "i"), ("Exponent", "v"),
+    ("FieldKeyComma", "iv"), ("FieldKeyQuote", "v"), ("LongSeries", "i"), ("Unsigned", "i"), ("InfiniteFloat", "i"), ("RoundedFloat", "v"),
     ("LeadingNul", "i"), ("TimeOutOfRange", "i"), ("TagCount", "i"),
     ("TimeName", "i"), ("SystemName", "i"), ("RepeatedField", "iv"), ("KeySeparator", "i"), ("ControlByte", "i"),
     ("NameLabel", "v"), ("LongTagKey", "v"), ("LongTagValue", "v"), ("LongMetricName", "v"), ("LongLabels", "v"), ("TooManyTags", "v"),
@@ -259,7 +259,7 @@ def of_tags(line, limits):
     keys, values = [key_of(key) for key in spelled_keys], [key_of(value) for value in spelled_values]
     yield "TagEscape", any(paired(spelled, b"\\") for spelled in spelled_keys + spelled_values)
     yield "TagKeyComma", any(bare(key, b",") for key in spelled_keys)
-    yield "TagValueEquals", any(bare(value.removeprefix(b"="), b"=") for value in spelled_values)
+    yield "TagValueEquals", any(bare(value, b"=") for value in spelled_values)
     yield "RepeatedTag", repeats(keys)
     yield "TagCount", len(keys) in PANICS
     yield "TimeName", b"time" in keys
@@ -291,7 +291,7 @@ def of_values(line, limits):
     literals = [value for _, kind, value in line.fields if kind == "f"]
     yield "Unsigned", any(kind == "u" for _, kind, _ in line.fields)
     yield "InfiniteFloat", any(map(is_infinite, literals))
-    yield "Exponent", any(b"e" in value.lower() for value in literals)
+    yield "RoundedFloat", any(b"e" in value.lower() or len(value) > 310 for value in literals)
     if line.time is not None:
         yield "TimeOutOfRange", not -2**63 + 2 <= line.time <= 2**63 - 2
         yield "TimeNotKept", not limits.earliest <= line.time <= limits.latest

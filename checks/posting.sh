@@ -74,7 +74,7 @@ posts() {
 post_batches() {
     local path=$work/bin:$PATH lines none="lp_relay: cannot read the input: batch.lp: No such file or directory (os error 2)"
     local refused="A generic parsing error occurred: TakeWhile1" long=""
-    [ "$1" = "Before InfluxDB 1.x" ] || long="line 1: the line is too long"
+    [ "$1" = "Before InfluxDB 1.x" ] || long="line 1: not portable to VictoriaMetrics: too long a line"
     lines=$(lines_of "$1" "$DB" "$ADDRESS")
     rm -rf ./*
     printf 'm,t=u f=1\nx\nm f=2\n' >batch.lp
@@ -101,15 +101,13 @@ post_batches() {
     posts 0 "1 2 3 4 5" "$long" "a line is longer than VictoriaMetrics takes"
 }
 
-# Posts to VictoriaMetrics, after those batches, one with a line in a string, by the lines that hold it back.
+# Posts to VictoriaMetrics, after those batches, one with a line in a string, which is refused alone.
 post_strings() {
     local path=$work/bin:$PATH lines refused="A generic parsing error occurred: TakeWhile1"
-    lines=$(lines_of "Strings of more lines before VictoriaMetrics" "$DB" "$ADDRESS")
-    printf 'm s="\nm f=8\n"\nm f=6\n' >batch.lp
-    posts 1 "1 2 3 4 5" "line 1: No fields were provided
-line 3: $refused" "a string has a line in it"
-    printf 'm f=6\nx\n' >batch.lp
-    posts 0 "1 2 3 4 5 6" "line 2: $refused" "a line of the batch is refused"
+    lines=$(lines_of "Before VictoriaMetrics" "$DB" "$ADDRESS")
+    printf 'm s="\nm f=8\n"\nm f=6\nx\n' >batch.lp
+    posts 0 "1 2 3 4 5 6" "line 1: not portable to VictoriaMetrics: a newline in the line
+line 5: $refused" "a string has a line in it"
 }
 
 runs=0

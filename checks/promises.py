@@ -27,7 +27,7 @@ TOP = Path(__file__).resolve().parent.parent
 TRUST = TOP / "docs" / "TRUST.md"
 CONDITIONS = "## Conditions"
 UNPROMISED = "### Functions of `lp_programs`, `lp_relay_program` and `lp_series_program` without a clause"
-PAGES = ["*.md", "docs/*.md", "bench/*.md", "bindings/**/*.md", "crates/*/*.md"]
+PAGES = ["*.md", "docs/*.md", "bench/*.md", "bindings/**/*.md", "examples/**/*.md", "crates/*/*.md"]
 # The crates that hand names on, and the crates whose code these are in.
 ROOTS = {
     "influxdb_line_protocol": LIBRARIES[:LIBRARIES.index("influxdb_line_protocol") + 1],

@@ -50,7 +50,7 @@ def without_numbers(objects):
 def relayed(relay, dialect, folder, words):
     """The lines, the refused pieces and the objects of a relay of these words."""
     refused = os.path.join(folder, "refused")
-    ended = run(relay, [*dialect, "--faults", "json", "--max-line", "40", "--refused", refused, *words])
+    ended = run(relay, [*dialect, "--faults", "json", "--max-line", "40", "--refused", refused, "--replace", *words])
     with open(refused, "rb") as file:
         return ended.stdout, file.read(), without_numbers(ended.stderr)
 

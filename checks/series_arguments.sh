@@ -62,16 +62,15 @@ unwritten="lp_series: cannot write the output: "
 none="No such file or directory (os error 2)"
 taken="2 bytes, 1 lines, 1 items: 0 carried, 1 refused: 1 generic_parsing_error"
 
-# The usage is what comes before the first line of the help, and is said of words that ask for nothing. Then the input stays unread.
+# Words that ask for nothing. Then the input stays unread.
 refuse_words() {
     local option value
     run --help
-    usage=$(sed '/^Reads lines/,$d' "$work/out")
     [ "$status" = 0 ] && [ ! -s "$work/err" ] && [ "$(tail -n 1 "$work/out")" = "wrong; 141: nothing reads the output, which is said by no message." ] ||
         fail "--help does not print all of its text"
     cp "$work/out" "$work/help"
     wanted 0 "$(sed 's/\\/&&/g' "$work/help")\n" "" -h
-    wanted 0 "lp_series $(version)\n" "" --version
+    wanted 0 "lp_series $(version) ($(told_kit))\n" "" --version
     printf 'x\n' >"$work/in"
     while IFS= read -r option; do
         case $option in
@@ -83,18 +82,33 @@ refuse_words() {
         esac
         refused "$option" ${value:+"$value"} "$option" ${value:+"$value"}
         refused "$option" ${value:+"$value"} --help
-        refused "$option=1"
         refused "--${option:2:1}"
         refused "--$(tr "[:lower:]" "[:upper:]" <<<"${option#--}")"
         if [ -n "$value" ]; then
             refused "$option"
             refused "$option" --strict
             refused "$option" ""
-            refused a "$option" "$value"
+        else
+            said "$option takes no value" "$option=1"
         fi
     done < <(sed -n 's/^  \(--[a-z-]*\).*/\1/p' "$work/help")
-    refused --loose
     refused -
+    said "unknown option --loose" --loose
+    said "unknown option --josn; did you mean --json?" --strict --josn
+    said "--json is given twice" --json --json
+    said "--json takes no value" --json=1
+    said "--every needs a value" --every
+    said "--every: 0 is out of range" --every 0
+    said "--every: 7s is no number" --every 7s
+    said "--shard: 4/4 is no K/N" --shard 4/4
+    said "--faults takes line, raw or json, not Line" --faults Line
+    said "--prometheus: --json is no name of a file" --prometheus --json
+    said "--strict cannot be given with --key" --key --strict
+    said "--shard cannot be given with --every" --every 7 --shard 0/2
+    said "--version comes alone" --version --json
+    said "--every: 7s is no number" a --every=7s
+    said 'unknown option --\x1b[31m\n' $'--\e[31m\n'
+    said '\xff is not UTF-8' "$(printf '\377')"
     refused "$(printf '\377')"
 }
 # refused WORD..: the words ask for nothing. Only `-` alone is an input.
@@ -102,8 +116,14 @@ refused() {
     [ "$*" != - ] || { wanted 1 "$nothing" "item 1: $x\n$taken\n" -; return; }
     runs=$((runs + 1))
     { "$series" "$@" >"$work/out" 2>"$work/err" && status=0 || status=$?; cat >"$work/left"; } <"$work/in"
-    [ "$status" = 2 ] && [ ! -s "$work/out" ] && [ "$(cat "$work/err")" = "$usage" ] || fail "the words ($*) are taken"
+    [ "$status" = 2 ] && [ ! -s "$work/out" ] && [[ $(cat "$work/err") == "lp_series: "*$'\n'"try lp_series --help" ]] || fail "the words ($*) are taken"
+    [ "$(wc -l <"$work/err")" = 2 ] && ! grep -qx 'lp_series: these words ask for nothing' "$work/err" || fail "what is wrong with the words ($*) is not said"
     cmp -s "$work/in" "$work/left" || fail "with the words ($*) some of the input is read"
+}
+# said MESSAGE WORD..: the same, and this is said of them.
+said() {
+    refused "${@:2}"
+    [ "$(head -n 1 "$work/err")" = "lp_series: $1" ] || fail "of the words (${*:2}) something else is said"
 }
 # What a count of `x` tells.
 nothing='2 bytes, 1 lines\n0 points, 0 of them without a time\n0 series\n0 measurements
@@ -132,7 +152,7 @@ refuse_values() {
         # shellcheck disable=SC2086
         refused $option --shard 0/2
     done
-    for word in "" -- -x --strict; do refused - "$word"; done
+    for word in "" -x; do refused - "$word"; done
 }
 
 # What it gives for the words that it takes.
@@ -145,7 +165,7 @@ take_words() {
     wanted 1 "" "item 1: $x\n" --key
     wanted 1 "" "item 1: $x\n" --key --newline-delimited --faults raw
     wanted 1 "" "item 1: $x\n" --strict --shard 0/1
-    wanted 1 "" '{"item":1,"line":1,"offset":0,"piece_line":1,"piece_offset":0,"kind":"too_long","text":"the line is too long"}\n' \
+    wanted 1 "" '{"item":1,"line":1,"offset":0,"piece_line":1,"piece_offset":0,"longer_than":0,"kind":"too_long","text":"the line is too long"}\n' \
         --shard 18446744073709551614/18446744073709551615 --faults json --max-line 0
     # A string of two lines: by which rules --key, and each other task, reads.
     printf 'm s="a\nb"\n' >"$work/in"
@@ -189,7 +209,7 @@ report() {
     ends 0 "105 bytes, *" --prometheus metrics
     [ ! -s "$work/out" ] || fail "--prometheus writes to standard output"
     stays "after --prometheus"
-    [ "$(grep -c '^lp_series_refused_total{kind="[a-z_0-9]*"} 0$' metrics)" = 13 ] || fail "the metrics have not 13 kinds of faults"
+    [ "$(grep -c '^lp_series_refused_total{kind="[a-z_0-9]*"} 0$' metrics)" = 19 ] || fail "the metrics have not 19 kinds of faults"
     metrics=$(grep -v -e '^#' -e refused metrics | sed 's/^lp_series_//' | paste -sd '|')
     [ "$metrics" = 'bytes_total 105|lines_total 7|points_total 7|points_without_time_total 4|series 3|points_beyond_total 0|measurement_points_total{measurement="a\"\\b"} 2|measurement_points_total{measurement="ü"} 5|measurement_series{measurement="a\"\\b"} 2|measurement_series{measurement="ü"} 1|measurement_fields{measurement="a\"\\b"} 5|measurement_fields{measurement="ü"} 1|measurement_mixed_fields{measurement="a\"\\b"} 1|measurement_mixed_fields{measurement="ü"} 1|tag_values{tag="t\",1"} 1' ] ||
         fail "the metrics are $metrics"
@@ -223,13 +243,24 @@ take_files() {
     wanted 1 'm,t=a\tm,t=a v=1i\nm,t=b\tm,t=b v=2i\n' "b: item 3: $x\n" --key a b
     wanted 2 'm,t=a\tm,t=a v=1i\n' "${unread}none: $none\n" --key a none b
     wanted 2 'm,t=a v=1i\n' "${unread}none: $none\n" --shard 0/1 a none b
+    wanted 0 'm,t=a\tm,t=a v=1i\n' '' a --key
+    wanted 0 'm,t=a v=1i\n' '' a --shard=0/1 --
+    wanted 2 '' "${unread}--key: $none\n" --key -- --key
+    # A name that would begin a line of its own, and colour a terminal.
+    wanted 2 '' "${unread}"'no\\nsuch\\x1b[31m: '"$none\n" --key $'no\nsuch\e[31m'
     # What was counted until then is told.
     wanted 2 '10 bytes, 1 lines\n1 points, 1 of them without a time\n1 series\n1 measurements\n  m: 1 points, 1 series, 1 fields
 0 fields with values of more than one type\n1 tag keys\n  t: 1 values\n' "${unread}none: $none\n" a none b
     ends 2 "${unread}d: Is a directory (os error 21)" --json d
     [[ $(cat "$work/out") = *'"tag_values":{},"items_refused":0,"refused":null}' ]] || fail "what is refused is told of an input that fails"
+    # What an ended run has left beside the file is removed, and that is said.
+    touch m.lp_relay-4520-0
     ends 1 "*" --prometheus m b
+    [ "$(head -n 1 "$work/err")" = "lp_series: removed m.lp_relay-4520-0, which an ended run had left" ] || fail "it is not said what is removed"
     grep -qxF 'lp_series_items_refused_total 1' m && grep -qxF 'lp_series_refused_total{kind="generic_parsing_error"} 1' m || fail "the metrics do not tell what is refused"
+    # shellcheck disable=SC2094
+    "$series" --prometheus m a 2>m >"$work/out" && status=0 || status=$?
+    [ "$status $(cat m)" = "2 lp_series: the output is standard error too: m" ] || fail "the faults go to the file of --prometheus"
     rm m
     # A file of metrics that is an input, by whatever name, that cannot be made, or that is no file.
     for name in a ./a link hard d/../a "$work/files/a"; do

@@ -5,11 +5,12 @@ docs/FORMAT.md, what comes of it.
 
     checks/settings.py RELAY
 
-RELAY: a built lp_relay. The 216 settings are: lines rebuilt, verbatim or canonical; each dialect; faults as lines, raw or as objects,
-by items or by lines; with and without --summary and --refused. Each reads standard input and two files, and writes its lines to
-standard output, to a file, and nowhere: 1296 runs.
+RELAY: a built lp_relay. The 288 settings are: lines rebuilt, verbatim or canonical; each dialect; faults as lines, raw, or as objects
+without or with their pieces, by items or by lines; with and without --summary and --refused. Each reads standard input and two files, and writes its lines to
+standard output, to a file, and nowhere: 1728 runs.
 """
 
+import base64
 import collections
 import itertools
 import json
@@ -22,7 +23,7 @@ from pathlib import Path
 
 LINES = {"rebuilt": [], "verbatim": ["--verbatim"], "canonical": ["--canonical"]}
 DIALECTS = {"crate": [], "strict": ["--strict"], "newline-delimited": ["--newline-delimited"]}
-FAULTS = {"line": [], "raw": ["--faults", "raw"], "json": ["--faults", "json"]}
+FAULTS = {"line": [], "raw": ["--faults", "raw"], "json": ["--faults", "json"], "json+text": ["--faults", "json+text"]}
 NUMBERS = {"item": [], "line": ["--lines"]}
 SUMMARY = {False: [], True: ["--summary"]}
 REFUSED = {False: [], True: ["--refused", "refused"]}
@@ -88,7 +89,7 @@ BEGIN = [
     refused(b"m a=1i  9223372036854775808", "timestamp_value_invalid", "Unable to parse timestamp value '9223372036854775808'", 8),
     refused(b"m,t=v,u=w\\\\ a=1i", "ends_with_backslash", BACKSLASH, 8),
     refused(b"m,t a=1i", "tag_set_malformed", "Tag Set Malformed", 3),
-    refused(b"m a=\xff", "not_utf8", "the line is not UTF-8"),
+    refused(b"m a=\xff", "not_utf8", "the line is not UTF-8", 4),
     trailing(b"m a=1i " + b"y" * 190, " " + "y" * 190, 6),
     refused(b"m" * 201, "too_long", "the line is too long"),
     differing(b"m f=1.50,s=\"C:\\W\"", b"m f=1.50,s=\"C:\\\\W\"", "the value of field 2"),
@@ -187,8 +188,10 @@ class Wanted:
             text += f": its first {LIMIT} bytes are kept"
         self.kinds[fault.kind] += 1
         self.refused += (piece.came[:LIMIT] if fault.kind == "too_long" else piece.came) + b"\n"
-        if self.settings.faults == "json":
+        if self.settings.faults.startswith("json"):
             self.faults.append(fault_object(name, self.items, piece, fault, text, offset, line))
+            if self.settings.faults == "json+text":
+                self.faults[-1] |= piece_members(piece.came[:LIMIT] if fault.kind == "too_long" else piece.came, fault.kind)
             return
         told = f"{self.settings.number} {self.items if self.settings.number == 'item' else line}: {text}".encode()
         if self.settings.faults == "line":
@@ -198,6 +201,10 @@ class Wanted:
     def counts(self, inputs):
         """The last line, of so many inputs."""
         refused_items = self.kinds.total()
+        if self.settings.faults.startswith("json"):
+            told = {"bytes": inputs * len(TEXT), "lines": inputs * (TEXT.count(10) + 1), "items": self.items}
+            told |= {"carried": self.items - refused_items, "refused": refused_items, "kinds": dict(sorted(self.kinds.items()))}
+            return json.dumps({"summary": told}, separators=(",", ":")).encode()
         kinds = ", ".join(f"{self.kinds[kind]} {kind}" for kind in sorted(self.kinds))
         return (f"{inputs * len(TEXT)} bytes, {inputs * (TEXT.count(10) + 1)} lines, {self.items} items: "
                 f"{self.items - refused_items} carried, {refused_items} refused: {kinds}").encode()
@@ -208,11 +215,27 @@ def fault_object(name, item, piece, fault, text, offset, line):
     made = {"file": name} if name else {}
     made |= {"item": item, "line": line + piece.came[:piece.front].count(b"\n"), "offset": offset + piece.front}
     made |= {"piece_line": line, "piece_offset": offset}
-    made |= {"kind": fault.kind, "text": text}
+    made |= {"longer_than": LIMIT} if fault.kind == "too_long" else {"length": len(piece.came)}
+    made |= {"kind": fault.kind, "text": cut(text)}
     if fault.read is not None:
         read = piece.came[:piece.front + fault.read]
         made |= {"stop_line": line + read.count(b"\n"), "stop_column": len(read) - read.rfind(b"\n")}
     return made
+
+
+def cut(text):
+    """The text of an object: of more than 200 bytes the characters that end within the first 200, and how many it has."""
+    told = text.encode()
+    return text if len(told) <= 200 else f"{told[:200].decode(errors='ignore')}.. [{len(told)} bytes]"
+
+
+def piece_members(came, kind):
+    """The member that has a piece, or its first bytes."""
+    name = "piece_start" if kind == "too_long" else "piece"
+    try:
+        return {name: came.decode()}
+    except UnicodeDecodeError:
+        return {name + "_base64": base64.b64encode(came).decode()}
 
 
 def on_one_line(told):
@@ -232,7 +255,7 @@ def compare_faults(settings, wanted, err):
     lines = err.split(b"\n")[:-1]
     if wanted.summary is not None and (not lines or lines.pop() != wanted.summary):
         lost(settings, "the last line", wanted.summary, err[-300:])
-    if settings.faults == "json":
+    if settings.faults.startswith("json"):
         faults = [list(each.items()) for each in wanted.faults]
         told = [list(json.loads(line).items()) for line in lines]
     else:

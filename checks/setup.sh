@@ -1,25 +1,40 @@
 #!/usr/bin/env bash
 # Installs from Debian what the checks use and this machine lacks, and says what is lacking then. The checks leave out what needs it.
 #
-#   checks/setup.sh [--engines]               installs if CI is `true`, and else says what to install; its status is 0
-#   checks/setup.sh [--engines] --install     installs; its status is 1 if something is still lacking
+#   checks/setup.sh [--engines] [--servers]               installs if CI is `true`, and else says what to install; its status is 0
+#   checks/setup.sh [--engines] [--servers] --install     installs; its status is 1 if something is still lacking
 #
-# --engines: also what checks/engines.sh and checks/dask.sh use, which the test command does not run.
+# --engines: also what checks/engines.sh and checks/dask.sh use, which the test command does not run. --servers: also what checks/servers.sh
+# and checks/interop.sh do.
 # It takes root and apt-get to install. The crates, of packages librust-*, are for bindings/rust/test.sh where crates.io is out of
-# reach. Of golang-github-influxdb-influxdb-dev the sources alone are unpacked, for checks/go_beside.sh: they take 8 MB, and what the
-# package depends on, and their parser does not use, takes 450.
+# reach. Of the packages golang-github-* the sources alone are unpacked, for checks/golang: they take 23 MB, and what they depend on, and
+# their parsers do not use, takes 450.
 set -eu
 PATH=$PATH:/usr/sbin
-packages=(gcc g++ git valgrind strace bsdutils dash python3 python3-dev python3-venv python3-numpy python3-pandas mypy cargo librust-bytes-dev
+packages=(gcc g++ git valgrind strace bsdutils dash curl python3 python3-dev python3-venv python3-numpy python3-pandas mypy cargo librust-bytes-dev
     librust-nom-dev librust-smallvec-dev golang-go golang-github-influxdb-influxdb-dev shellcheck man-db groff
-    mandoc)
+    mandoc zsh fish systemd logrotate)
 if [ "${1-}" = --engines ]; then
     packages+=(slurm-wlm munge parallel openssh-client openssh-server python3-distributed)
     shift
 fi
+if [ "${1-}" = --servers ]; then
+    packages+=(influxdb victoria-metrics curl golang-github-victoriametrics-{victoriametrics,metrics,metricsql}-dev
+        golang-github-valyala-{fastjson,fastrand,histogram}-dev)
+    shift
+fi
 
-# Where the parser of InfluxDB 1.x is, within /usr/share or /usr/local/share.
-parser=gocode/src/github.com/influxdata/influxdb/models
+# Tells whether the Go sources of a package are here, installed or unpacked. Its folder is that of its name, but for three.
+has_sources() {
+    local folder=${1#golang-github-}
+    case ${folder%-dev} in
+    influxdb-influxdb) folder=influxdata/influxdb/models ;;
+    victoriametrics-victoriametrics) folder=VictoriaMetrics/VictoriaMetrics/lib ;;
+    victoriametrics-*) folder=VictoriaMetrics/${folder#*-} ;;
+    *) folder=${folder/-//} ;;
+    esac
+    compgen -G "/usr/share/gocode/src/github.com/${folder%-dev}" || compgen -G "/usr/local/share/gocode/src/github.com/${folder%-dev}"
+}
 
 # Tells whether a Python that bindings/python/test.sh runs can import a module.
 can_import() {
@@ -37,8 +52,10 @@ is_here() {
     gcc) command -v cc ;;
     bsdutils) command -v script ;;
     golang-go) command -v go ;;
-    golang-github-influxdb-influxdb-dev) compgen -G "/usr/share/$parser" || compgen -G "/usr/local/share/$parser" ;;
+    golang-github-*) has_sources "$1" ;;
+    influxdb) command -v influxd ;;
     man-db) command -v man ;;
+    systemd) command -v systemd-analyze && command -v systemd-socket-activate ;;
     slurm-wlm) command -v slurmctld && command -v slurmd && command -v sbatch ;;
     munge) command -v munged ;;
     parallel) parallel --version | grep GNU ;;
@@ -90,7 +107,7 @@ install() {
     get update || true
     for package in "${lacking[@]}"; do
         case $package in
-        golang-github-influxdb-influxdb-dev) unpack "$package" ;;
+        golang-github-*) unpack "$package" ;;
         *) rest+=("$package") ;;
         esac
     done
@@ -106,7 +123,7 @@ trap 'rm -f "$log"' EXIT
 case "$*" in
 "" | --install) ;;
 *)
-    echo "usage: checks/setup.sh [--engines] [--install]" >&2
+    echo "usage: checks/setup.sh [--engines] [--servers] [--install]" >&2
     exit 2
     ;;
 esac

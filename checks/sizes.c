@@ -6,16 +6,16 @@
 #include <stdarg.h>
 #include <stdio.h>
 
-enum { KINDS = 13, NONE = -1, SHORT_LIMIT = 30, LONG = 17 << 20, MANY = 100001 };
+enum { KINDS = 19, NONE = -1, SHORT_LIMIT = 30, LONG = 17 << 20, MANY = 100001 };
 
 /* The kinds of faults, in their order. */
-enum kind { TRAILING, BACKSLASH, NO_FIELDS, GENERIC, INTEGER, MEASUREMENT, NAME, NOT_AS_WRITTEN, NOT_UTF8, TAGS, TIMESTAMP, TOO_LONG,
-            UNSIGNED };
+enum kind { TRAILING, BACKSLASH, NO_FIELDS, TYPE, GENERIC, INTEGER, MEASUREMENT, NAME, NOT_AS_WRITTEN, NOT_PORTABLE, NOT_UTF8, TAGS,
+            NO_TIME, TIME_OUT_OF_RANGE, TIME_OVERFLOW, TIMESTAMP, TOO_LONG, FIELDS, UNSIGNED };
 
 static const char *const NAMES[KINDS] = {
-    "cannot_parse_entire_line", "ends_with_backslash", "field_set_missing", "generic_parsing_error", "integer_value_invalid",
-    "measurement_value_invalid", "name_not_admitted", "not_as_written", "not_utf8", "tag_set_malformed", "timestamp_value_invalid",
-    "too_long", "uinteger_value_invalid",
+    "cannot_parse_entire_line", "ends_with_backslash", "field_set_missing", "field_type_conflict", "generic_parsing_error", "integer_value_invalid",
+    "measurement_value_invalid", "name_not_admitted", "not_as_written", "not_portable", "not_utf8", "tag_set_malformed",
+    "time_missing", "time_out_of_range", "time_overflow", "timestamp_value_invalid", "too_long", "too_many_fields", "uinteger_value_invalid",
 };
 
 /* How lines go out. */

@@ -66,6 +66,14 @@ printf '#!/bin/sh\ncase "$*" in *-xf*/lp_values) cat >/dev/null; exit 1 ;; esac\
 chmod +x "$made/broken/tar"
 PATH=$made/broken:$PATH take 1 "$made/half"
 [ -z "$(ls -A "$made/half/crates")" ] && [ ! -e "$made/half/crates.txt" ]
+# A crate whose folder changes while tar reads it, as where its out/ is made beside.
+mkdir -p "$made/copy/crates" "$made/changing" "$made/beside"
+cp -r "$top/bin" "$top/launch.sh" "$top/crates.txt" "$made/copy"
+cp -r "$top/crates/lp_format" "$made/copy/crates"
+printf '#!/usr/bin/env bash\nset -o pipefail\ncase "$*" in *-cf*) %s "$@" | { sleep 0.1; mkdir out.beside; rmdir out.beside; cat; } ;; *) exec %s "$@" ;; esac\n' \
+    "$(command -v tar)" "$(command -v tar)" >"$made/changing/tar"
+chmod +x "$made/changing/tar"
+top=$made/copy PATH=$made/changing:$PATH take 0 "$made/beside" lp_format
 take 1 "$made/nowhere"
 take 1 "$made/to" no_such_crate
 take 1 "$made/to" lp_relay no_such_crate

@@ -10,6 +10,15 @@ fail() {
     exit 2
 }
 
+# Prints the counts that a relay told on the last line of a file as it tells them in a text, also if they are an object.
+counts_of() {
+    local n='([0-9]+)' counts
+    counts="\\{\"bytes\":$n,\"lines\":$n,\"items\":$n,\"carried\":$n,\"refused\":$n,\"kinds\":\\{(.*)\\}\\}"
+    tail -n 1 "$1" | sed -E "s/^\\{\"summary\":$counts\\}\$/\\1 bytes, \\2 lines, \\3 items: \\4 carried, \\5 refused: \\6/; T
+        s/: \$//; s/\"([a-z0-9_]+)\":$n/\\2 \\1/g; s/,([0-9])/, \\1/g"
+}
+export -f counts_of
+
 # Sets, from `FILE PARTS [OPTION..]`: file, parts, the program, the options of the relay of a part, the ends of the parts, waiting,
 # a folder that goes at the end, and whether the counts of the whole are asked for.
 take_parts() {
@@ -23,6 +32,7 @@ take_parts() {
     [[ $parts =~ ^[1-9][0-9]{0,2}$ ]] || fail "$parts is not a number of parts, which is from 1 to 999"
     shift 2
     program=${LP_RELAY:-$(dirname "$(readlink -f "${BASH_SOURCE[0]}")")/../lp_relay}
+    [ -n "${LP_RELAY-}" ] || [ -e "$program" ] || program=lp_relay
     # Each part is an input of its own, and has an output of its own.
     for word in "$@"; do
         if [[ $word = --output || $word = -o || ($word != --* && $before != --max-line && $before != --faults) ]]; then
@@ -38,7 +48,7 @@ take_parts() {
         echo "$said" >&2 || true
         fail "with the options ($*) the status of $program is $status"
     }
-    [ "$said" = "0 bytes, 0 lines, 0 items: 0 carried, 0 refused" ] || fail "the options ($*) are not those of a relay"
+    [ "$(counts_of /dev/stdin <<<"$said")" = "0 bytes, 0 lines, 0 items: 0 carried, 0 refused" ] || fail "the options ($*) are not those of a relay"
     for word in --strict --newline-delimited; do
         case " $* " in *" $word "*) dialect=("$word") ;; esac
     done
@@ -90,7 +100,7 @@ why_not() {
         echo "its status is not known"
     elif [ "$status" -gt 1 ]; then
         echo "the status of the relay is $status"
-    elif ! [[ $(tail -n 1 "$waiting/$number.err") =~ $counts_line ]]; then
+    elif ! [[ $(counts_of "$waiting/$number.err") =~ $counts_line ]]; then
         echo "its counts are not known"
     fi
 }
@@ -100,7 +110,7 @@ why_not() {
 with_numbers() {
     local items=$1 lines=$2 start=$3 told rest LC_ALL=C n='([0-9]{1,18})' fault object stop
     fault="^(item|line) $n(: .*)$"
-    object="^\\{\"item\":$n,\"line\":$n,\"offset\":$n,\"piece_line\":$n,\"piece_offset\":$n,(.*)\\}$"
+    object="^\\{((\"file\":\"([^\"\\\\]|\\\\.)*\",)?)\"item\":$n,\"line\":$n,\"offset\":$n,\"piece_line\":$n,\"piece_offset\":$n,(.*)\\}$"
     stop="^(.*\",\"stop_line\":)$n(,\"stop_column\":[0-9]+)$"
     while IFS= read -r told; do
         [ ${#told} -le 2000 ] || return
@@ -108,9 +118,10 @@ with_numbers() {
             local -n before=${BASH_REMATCH[1]}s
             printf '%s %s%s\n' "${BASH_REMATCH[1]}" $((BASH_REMATCH[2] + before)) "${BASH_REMATCH[3]}" || return
         elif [[ $told =~ $object ]]; then
-            told="{\"item\":$((BASH_REMATCH[1] + items)),\"line\":$((BASH_REMATCH[2] + lines)),\"offset\":$((BASH_REMATCH[3] + start))"
-            told+=",\"piece_line\":$((BASH_REMATCH[4] + lines)),\"piece_offset\":$((BASH_REMATCH[5] + start))"
-            rest=${BASH_REMATCH[6]}
+            told="{${BASH_REMATCH[1]}\"item\":$((BASH_REMATCH[4] + items)),\"line\":$((BASH_REMATCH[5] + lines))"
+            told+=",\"offset\":$((BASH_REMATCH[6] + start)),\"piece_line\":$((BASH_REMATCH[7] + lines))"
+            told+=",\"piece_offset\":$((BASH_REMATCH[8] + start))"
+            rest=${BASH_REMATCH[9]}
             if [[ $rest =~ $stop ]]; then rest=${BASH_REMATCH[1]}$((BASH_REMATCH[2] + lines))${BASH_REMATCH[3]}; fi
             printf '%s,%s}\n' "$told" "$rest" || return
         else
@@ -126,14 +137,14 @@ number_faults() {
     local number start count word items refused lines first item=1 line=1 by=item few=10000 checks=("$program")
     # An object names its item and its line, also with --lines; a fault line names its item, or with --lines its line.
     case " ${options[*]} " in
-    *" --faults json "*) by=both ;;
+    *" --faults json "* | *" --faults json+text "*) by=both ;;
     *" --lines "*) by=line ;;
     esac
     for word in "${options[@]}"; do
         if [ "$word" != --lines ] && [ "$word" != --check ]; then checks+=("$word"); fi
     done
     while read -r number start count; do
-        read -r _ _ lines _ items _ _ _ refused _ <<<"$(tail -n 1 "$waiting/$number.err")"
+        read -r _ _ lines _ items _ _ _ refused _ <<<"$(counts_of "$waiting/$number.err")"
         case $by in
         item) first="--first-item $item" ;;
         line) first="--first-line $line" ;;
@@ -141,7 +152,7 @@ number_faults() {
         esac
         if [ "$refused" != 0 ] && [ "$start" != 0 ]; then
             few=$((few - refused))
-            if [ "$few" -lt 0 ] || [[ " ${options[*]} " = *" --faults raw "* ]] || ! head -n -1 "$waiting/$number.err" |
+            if [ "$few" -lt 0 ] || [[ " ${options[*]} " =~ " --faults "(raw|json\+text)" " ]] || ! head -n -1 "$waiting/$number.err" |
                 with_numbers $((item - 1)) $((line - 1)) "$((${is_sent:-0} * start))" >"$waiting/$number.numbered"; then
                 rm -f "$waiting/$number.numbered"
                 again[number]="$number.again $start $count $first"
@@ -227,11 +238,11 @@ put_lines() {
 # Puts out the faults of the part of a number, and adds its counts to those of the whole.
 put_faults() {
     local number=$1 told=$1 counts count word bytes_here lines_here carried_here refused_here
-    counts=$(tail -n 1 "$waiting/$number.err")
+    counts=$(counts_of "$waiting/$number.err")
     if [ -n "${again[number]-}" ]; then
         told=$number.again
         want_relayed "$told"
-        [ "$(tail -n 1 "$waiting/$told.err")" = "$counts" ] || fail "part $number: a second relay counts otherwise"
+        [ "$(counts_of "$waiting/$told.err")" = "$counts" ] || fail "part $number: a second relay counts otherwise"
     fi
     if [ -e "$waiting/$number.numbered" ]; then
         cat "$waiting/$number.numbered" >&2 || fail "the faults cannot be written"
@@ -249,14 +260,28 @@ put_faults() {
     done
 }
 
-# Prints how many items all parts refused for each kind of fault, as one relay tells it.
+# Prints how many items all parts refused for each kind of fault, as one relay tells it in a text, or in an object.
 list_kinds() {
-    local mark=': ' kind
+    local before=': ' kind mark=''
     [ ${#kinds[@]} != 0 ] || return 0
     while IFS= read -r kind; do
-        printf '%s%s %s' "$mark" "${kinds[$kind]}" "$kind"
-        mark=', '
+        case $1 in
+        object) printf '%s"%s":%s' "$mark" "$kind" "${kinds[$kind]}" ;;
+        text) printf '%s%s %s' "$before" "${kinds[$kind]}" "$kind" ;;
+        esac
+        before=', ' mark=,
     done < <(printf '%s\n' "${!kinds[@]}" | LC_ALL=C sort)
+}
+
+# Prints the counts of the whole, as one relay tells them.
+put_counts() {
+    local items=$((carried + refused))
+    case " ${options[*]} " in
+    *" --faults json "* | *" --faults json+text "*)
+        echo "{\"summary\":{\"bytes\":$bytes,\"lines\":$lines,\"items\":$items,\"carried\":$carried,\"refused\":$refused,\"kinds\":{$(list_kinds object)}}}"
+        ;;
+    *) echo "$bytes bytes, $lines lines, $items items: $carried carried, $refused refused$(list_kinds text)" ;;
+    esac
 }
 
 # Puts out what all parts gave, the lines first, and the faults with the numbers of the whole, and ends with the status of the whole.
@@ -269,7 +294,6 @@ put_parts() {
     move_output || fail "the output cannot be written"
     number_faults
     for ((number = 1; number <= parts; number++)); do put_faults "$number"; done
-    [ -z "$counts_asked" ] ||
-        echo "$bytes bytes, $lines lines, $((carried + refused)) items: $carried carried, $refused refused$(list_kinds)" >&2 || true
+    [ -z "$counts_asked" ] || put_counts >&2 || true
     exit "$((refused > 0))"
 }

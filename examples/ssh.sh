@@ -8,9 +8,9 @@
 # run fails. A host that says nothing for 30 seconds is lost. What a host's shell writes by itself would be taken for faults, so it
 # must write nothing.
 #
-# LP_RELAY: the program of this machine, which says where to cut; by default ../lp_relay of this script. LP_RELAY_THERE: the program
-# of the hosts, by default `lp_relay`. LP_SSH: the command, by default `ssh`; it must ask for nothing. TMPDIR: where the outputs wait
-# for their turn.
+# LP_RELAY: the program of this machine, which says where to cut; by default ../lp_relay of this script, or else lp_relay of
+# the path. LP_RELAY_THERE: the program of the hosts, by default `lp_relay`. LP_SSH: the command, by default `ssh`; it must ask for
+# nothing. TMPDIR: where the outputs wait for their turn.
 set -eu -o pipefail
 . "$(dirname "$(readlink -f "$0")")/parts.sh"
 

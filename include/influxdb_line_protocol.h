@@ -82,7 +82,7 @@ enum lp_side { LP_NEITHER = 0, LP_ABOVE = 1, LP_BELOW = 2 };
 #define LP_CLAUSE_MEASUREMENT_ESCAPE (UINT64_C(1) << 5)  /* a backslash or a quote is escaped in the measurement */
 #define LP_CLAUSE_TAG_ESCAPE         (UINT64_C(1) << 6)  /* a backslash is escaped in a tag key or a tag value */
 #define LP_CLAUSE_TAG_KEY_COMMA      (UINT64_C(1) << 7)  /* a comma is bare in a tag key */
-#define LP_CLAUSE_TAG_VALUE_EQUALS   (UINT64_C(1) << 8)  /* an equals sign is bare in a tag value, and not its first byte */
+#define LP_CLAUSE_TAG_VALUE_EQUALS   (UINT64_C(1) << 8)  /* an equals sign is bare in a tag value */
 #define LP_CLAUSE_REPEATED_TAG       (UINT64_C(1) << 9)  /* two tags have one key */
 #define LP_CLAUSE_FIELD_KEY_ESCAPE   (UINT64_C(1) << 10) /* a backslash or a quote is escaped in a field key */
 #define LP_CLAUSE_FIELD_KEY_COMMA    (UINT64_C(1) << 11) /* a comma is bare in a field key */
@@ -90,7 +90,7 @@ enum lp_side { LP_NEITHER = 0, LP_ABOVE = 1, LP_BELOW = 2 };
 #define LP_CLAUSE_LONG_SERIES        (UINT64_C(1) << 13) /* the series, four bytes and a field key are longer than 65,535 bytes */
 #define LP_CLAUSE_UNSIGNED           (UINT64_C(1) << 14) /* a value is an unsigned integer */
 #define LP_CLAUSE_INFINITE_FLOAT     (UINT64_C(1) << 15) /* a float is too large for a finite number */
-#define LP_CLAUSE_EXPONENT           (UINT64_C(1) << 16) /* a float has an exponent */
+#define LP_CLAUSE_ROUNDED_FLOAT      (UINT64_C(1) << 16) /* a float has an exponent, or takes over 310 bytes */
 #define LP_CLAUSE_LEADING_NUL        (UINT64_C(1) << 17) /* the first field key begins with a byte 0 */
 #define LP_CLAUSE_TIME_OUT_OF_RANGE  (UINT64_C(1) << 18) /* the timestamp is the greatest of 64 bits, or one of the two least */
 #define LP_CLAUSE_TAG_COUNT          (UINT64_C(1) << 19) /* the tags are 100, 200, 400, 800 and so on */
@@ -323,6 +323,16 @@ void lp_limits_default(lp_limits *limits);
  * Rows that were made in another way are safe: where the text has no UTF-8 at the place of a piece, that is no line. */
 uint32_t lp_offsets_verdicts(const uint8_t *text, size_t len, lp_offset_row *rows, size_t rows_len, const lp_limits *limits,
                              size_t *told);
+
+/* Reads items into rows as lp_offsets_block does, and tells each filled row its verdict as lp_offsets_verdicts does. By the rules of
+ * LP_STRICT it looks at most lines where their names and values lie, and does not read them again: so it takes far less than both calls.
+ * In another dialect each line is read again.
+ *
+ * It answers as lp_offsets_block, which never says LP_OUT_OF_MEMORY. `told` is how many of the filled rows tell their verdicts: all, or
+ * fewer where a request for memory was refused. Hand in those after the first `told` to lp_offsets_verdicts then; their `verdict` is 0. */
+uint32_t lp_offsets_block_verdicts(const uint8_t *text, size_t len, uint32_t dialect, bool last, lp_block *block, uint8_t *room,
+                                   size_t room_len, lp_offset_row *rows, size_t rows_len, lp_offset_part *parts, size_t parts_len,
+                                   const lp_limits *limits, size_t *told);
 
 /* Takes the next piece of the text, as the splitter cuts it, not parsed. False: none is left, and `lines` is as it was. */
 bool lp_lines_piece(lp_lines *lines, lp_view *piece);

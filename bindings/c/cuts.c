@@ -15,8 +15,11 @@ static const char *const TEXTS[] = {
 };
 
 // [cuts_in_c]
-/* Hands on each piece of a file that has less than `room` bytes, read into the buffer of so many; the others are passed over. */
-static void each_piece(FILE *file, uint8_t *buffer, size_t room, void (*take)(const uint8_t *piece, size_t len)) {
+typedef void taker(void *user, const uint8_t *piece, size_t len);
+
+/* Hands on each piece of a file that has less than `room` bytes, read into the buffer of so many, with a pointer of the caller's; the
+ * others are passed over. */
+static void each_piece(FILE *file, uint8_t *buffer, size_t room, taker *take, void *user) {
     lp_cuts cuts = LP_NO_CUTS;
     size_t held = 0, cut = 0, got; /* so many bytes of the piece that goes on are at the start of the buffer */
     lp_cuts_begin(LP_CRATE, room - 1, &cuts);
@@ -25,29 +28,31 @@ static void each_piece(FILE *file, uint8_t *buffer, size_t room, void (*take)(co
         while (at < end) {
             uint32_t answer = lp_cuts_next(&cuts, buffer + at, end - at, &cut);
             at += cut;
-            if (answer == LP_PIECE) take(buffer + start, at - start);
+            if (answer == LP_PIECE) take(user, buffer + start, at - start);
             if (at < end) start = ++at; /* after the newline */
             else if (answer == LP_TOO_LONG) start = at; /* nothing of it is kept */
         }
         held = end - start;
         memmove(buffer, buffer + start, held);
     }
-    if (cuts.len < room) take(buffer, held); /* the last one, which no newline ends */
+    if (cuts.len < room) take(user, buffer, held); /* the last one, which no newline ends */
 }
 // [end]
 
-static size_t pieces_taken, bytes_taken;
+struct taken { size_t pieces, bytes; };
 
-static void count_piece(const uint8_t *piece, size_t len) {
+static void count_piece(void *user, const uint8_t *piece, size_t len) {
+    struct taken *taken = user;
     (void)piece;
-    pieces_taken++;
-    bytes_taken += len;
+    taken->pieces++;
+    taken->bytes += len;
 }
 
 /* Whether a buffer of so many bytes gives each piece of a file that is shorter, and no other. */
 static bool reads_file(const char *text, size_t room) {
     lp_lines lines = LP_NO_LINES;
     lp_view piece = LP_NO_VIEW;
+    struct taken taken = { 0, 0 };
     size_t pieces = 0, bytes = 0;
     uint8_t *buffer = malloc(room);
     FILE *file = tmpfile();
@@ -58,11 +63,10 @@ static bool reads_file(const char *text, size_t room) {
     }
     fputs(text, file);
     rewind(file);
-    pieces_taken = bytes_taken = 0;
-    each_piece(file, buffer, room, count_piece);
+    each_piece(file, buffer, room, count_piece, &taken);
     fclose(file);
     free(buffer);
-    return pieces_taken == pieces && bytes_taken == bytes;
+    return taken.pieces == pieces && taken.bytes == bytes;
 }
 
 /* Finds the place of each cut of a text that is handed in by so many bytes at once, and gives how many there are. Each part is a

@@ -1,5 +1,11 @@
 /* The three functions that the archive needs of its program: the heap, over malloc. With -DLP_REFUSE the request number
- * lp_refused, counted from 0, is refused. */
+ * lp_refused, counted from 0, is refused.
+ *
+ * Who brings another heap owes: `ok` is 1, and `at` has `size` bytes at an address that `least` divides, which is 1, 2, 4, 8 or 16; at size
+ * 0 `at` is not NULL, and is given back too, so here it has `least` bytes. Or `ok` is 0, the request is refused, and `at` is not looked at.
+ * rattle_realloc keeps the first `old_size` bytes, or `size` if that is less: `old_size` are in use, and the block may have more. Refused, it
+ * leaves the block as it was. All three are called within the calls of the library, on their thread: calls side by side need a heap
+ * that threads may share. bindings/c/arena.c is such a heap. */
 #include <stddef.h>
 #include <stdint.h>
 #include <stdlib.h>

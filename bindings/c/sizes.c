@@ -414,6 +414,21 @@ static void call_verdicts(const uint8_t *text, size_t len) {
     }
 }
 
+/* Reads rows that tell their verdicts at once. */
+static void call_block_verdicts(const uint8_t *text, size_t len) {
+    lp_offset_row rows[4];
+    lp_offset_part parts[4];
+    lp_limits limits;
+    lp_block block = { 1, 0, 0, 0, 0 };
+    uint32_t answer = LP_LINE;
+    lp_limits_default(&limits);
+    for (items = 0; answer == LP_LINE;) {
+        size_t told = 0;
+        answer = lp_offsets_block_verdicts(text, len, LP_STRICT, true, &block, (uint8_t *)parts, 0, rows, 4, parts, 4, &limits, &told);
+        for (size_t at = 0; at < told; at++) items += rows[at].verdict == 0;
+    }
+}
+
 /* Reads rows, and writes them again: as many lines as come back are counted. */
 static void call_offsets_write(const uint8_t *text, size_t len) {
     lp_offset_row rows[4];
@@ -447,8 +462,9 @@ static void call_cuts(const uint8_t *text, size_t len) {
 static bool reads_evenly(void) {
     static const struct { const char *name; growth_call *call; } calls[] = {
         { "lp_lines_next", call_next }, { "lp_lines_block", call_block }, { "lp_offsets_block", call_offsets },
-        { "lp_offsets_keys", call_keys }, { "lp_offsets_verdicts", call_verdicts }, { "lp_offsets_write", call_offsets_write },
-        { "lp_lines_piece", call_piece }, { "lp_cuts_next", call_cuts },
+        { "lp_offsets_keys", call_keys }, { "lp_offsets_verdicts", call_verdicts },
+        { "lp_offsets_block_verdicts", call_block_verdicts }, { "lp_offsets_write", call_offsets_write }, { "lp_lines_piece", call_piece },
+        { "lp_cuts_next", call_cuts },
     };
     static const struct growth lines = { "", "m a=1i\n", "" };
     for (size_t at = 0; at < sizeof calls / sizeof *calls; at++) {

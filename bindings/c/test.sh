@@ -1,10 +1,11 @@
 #!/usr/bin/env bash
 # Builds the static library of crates/lp_c, and programs over it, watched by the address and undefined behaviour sanitizers;
-# compares what the examples print with example.out and sums.out, and lets answers.c compare the table of answers, lending.c read with
+# compares what the examples print with example.out, sums.out and groups.out, also over the heap of arena.c, and lets answers.c compare the table of answers, lending.c read with
 # little lent and no request for memory, offsets.c read by offsets, verdicts.c ask which lines are portable, cuts.c cut texts that come in
 # parts, writing.c write with little lent and memory refused, numbers.c ask for the numbers of literals, and sizes.c hand over what is
 # large. threads.c is watched by the thread sanitizer, and by helgrind, which sees the library's own loads and stores too; and the archive
-# must hold no variable. The header goes through a C++ compiler too.
+# must hold no variable. The header goes through a C++ compiler too; and each C++ compiler that is there builds example.cpp, which prints
+# example_cpp.out, and ranges.cpp, which compares the table of answers, by C++17 and under the same sanitizers.
 #
 #     bindings/c/test.sh             makes the archive first
 #     bindings/c/test.sh ARCHIVE     takes one that was made before
@@ -21,11 +22,12 @@ archive=${1:-$top/crates/lp_c/out/liblp_c.a}
 built=$(mktemp -d)
 trap 'rm -rf "$built"' EXIT
 
-# Builds a program over the library, with these flags.
+# Builds a program over the library, with these flags. Its heap is heap.c, or that of $heap.
+heap=heap
 build() {
     local name=$1
     shift
-    "${CC:-cc}" -std=c11 -Wall -Wextra -Wpedantic -Werror -g "$@" -I"$top/include" "$here/$name.c" "$here/heap.c" \
+    "${CC:-cc}" -std=c11 -Wall -Wextra -Wpedantic -Werror -g "$@" -I"$top/include" "$here/$name.c" "$here/$heap.c" \
         "$here/empty.c" "$archive" -o "$built/$name"
 }
 watched=("-fsanitize=address,undefined" -fno-sanitize-recover=all)
@@ -35,11 +37,15 @@ if ! "$built/example" | diff "$here/example.out" -; then
     echo "c: the example does not print example.out" >&2
     exit 1
 fi
-build sums "${watched[@]}"
-if ! "$built/sums" | diff "$here/sums.out" -; then
-    echo "c: the sums by series are not those of sums.out" >&2
-    exit 1
-fi
+for heap in arena heap; do
+    for example in sums groups; do
+        build "$example" "${watched[@]}"
+        if ! "$built/$example" | diff "$here/$example.out" -; then
+            echo "c: over $heap.c, the example $example does not print $example.out" >&2
+            exit 1
+        fi
+    done
+done
 build answers "${watched[@]}"
 if ! answers=$("$built/answers" "$top/crates/lp_answers/data/answers.tsv"); then
     echo "c: the table of answers is not as the library says: $answers" >&2
@@ -129,5 +135,29 @@ if command -v g++ >/dev/null; then
 else
     left_out "header as C++" "there is no g++"
 fi
+
+# Builds a program in C++17, and prints what it prints: `run_ranges COMPILER NAME WORD..`.
+run_ranges() {
+    local compiler=$1 name=$2
+    shift 2
+    "$compiler" -std=c++17 -Wall -Wextra -Wpedantic -Werror -g "${watched[@]}" -I"$top/include" "$here/$name.cpp" "$built/heap.o" "$archive" \
+        -o "$built/$name" && "$built/$name" "$@"
+}
+"${CC:-cc}" -c "$here/heap.c" -o "$built/heap.o"
+for compiler in g++ clang++; do
+    if ! command -v "$compiler" >/dev/null; then
+        left_out "ranges of C++ by $compiler" "there is no $compiler"
+        continue
+    fi
+    if ! run_ranges "$compiler" example | diff "$here/example_cpp.out" -; then
+        echo "c: example.cpp by $compiler does not print example_cpp.out" >&2
+        exit 1
+    fi
+    if ! ranges=$(run_ranges "$compiler" ranges "$top/crates/lp_answers/data/answers.tsv"); then
+        echo "c: by $compiler, ranges of C++ do not give what they should: $ranges" >&2
+        exit 1
+    fi
+    said="$said; by $compiler, $ranges"
+done
 echo "c: $said"
 echo "c: $answers"

@@ -33,14 +33,15 @@ static const struct { const char *text; uint64_t bits; bool influx, victoria; } 
     { "m,z=z,a\\\\b=v f=1", LP_CLAUSE_TAG_ESCAPE, true, false },
     { "m,a,b=v f=1", LP_CLAUSE_TAG_KEY_COMMA, true, true },
     { "m,z=z,a=b=c f=1", LP_CLAUSE_TAG_VALUE_EQUALS, true, false },
-    { "m,a==b f=1", 0, false, false },
+    { "m,a==b f=1", LP_CLAUSE_TAG_VALUE_EQUALS, true, false },
+    { "m,a=\\=b f=1", 0, false, false },
     { "m,a=1,a=2 f=1", LP_CLAUSE_REPEATED_TAG, true, true },
     { "m f=1,a\\\\b=1", LP_CLAUSE_FIELD_KEY_ESCAPE, true, false },
     { "m a,b=1", LP_CLAUSE_FIELD_KEY_COMMA, true, true },
     { "m f=1,a\"=1", LP_CLAUSE_FIELD_KEY_QUOTE, false, true },
     { "m f=1u", LP_CLAUSE_UNSIGNED, true, false },
-    { "m f=1e400", LP_CLAUSE_INFINITE_FLOAT | LP_CLAUSE_EXPONENT, true, true },
-    { "m f=1E3", LP_CLAUSE_EXPONENT, false, true },
+    { "m f=1e400", LP_CLAUSE_INFINITE_FLOAT | LP_CLAUSE_ROUNDED_FLOAT, true, true },
+    { "m f=1E3", LP_CLAUSE_ROUNDED_FLOAT, false, true },
     { "m f=1 9223372036854775807", LP_CLAUSE_TIME_OUT_OF_RANGE, true, false },
     { "m f=1 -9223372036854775807", LP_CLAUSE_TIME_OUT_OF_RANGE | LP_CLAUSE_TIME_NOT_KEPT, true, true },
     { "m,time=a f=1", LP_CLAUSE_TIME_NAME, true, false },
@@ -53,7 +54,7 @@ static const struct { const char *text; uint64_t bits; bool influx, victoria; } 
     { "m,__name__=x f=1", LP_CLAUSE_NAME_LABEL, false, true },
     { "m f=1 999999", LP_CLAUSE_TIME_NOT_KEPT, false, true },
     { " m\\=x,a=1,a=2 f=1u,g=1e5", LP_CLAUSE_LEADING_BLANK | LP_CLAUSE_MEASUREMENT_EQUALS | LP_CLAUSE_REPEATED_TAG | LP_CLAUSE_UNSIGNED |
-                                       LP_CLAUSE_EXPONENT, true, true },
+                                       LP_CLAUSE_ROUNDED_FLOAT, true, true },
 };
 
 enum { TEXTS = sizeof KNOWN / sizeof *KNOWN };
@@ -104,6 +105,18 @@ static uint8_t *all_texts(size_t *len) {
     return text;
 }
 
+/* Rows that are told as they are read must be those that are told after it. */
+static void told_at_once(const uint8_t *text, size_t len, uint32_t dialect, const lp_offset_row *wanted, size_t count, lp_limits limits) {
+    static uint8_t room[1 << 12];
+    static lp_offset_part parts[1 << 10];
+    static lp_offset_row rows[MOST];
+    lp_block block = { 1, 0, 0, 0, 0 };
+    size_t told = SIZE_MAX;
+    memset(rows, 0xa5, sizeof rows);
+    uint32_t answer = lp_offsets_block_verdicts(text, len, dialect, true, &block, room, sizeof room, rows, MOST, parts, 1 << 10, &limits, &told);
+    expect(answer == LP_END && told == count && block.rows == count && memcmp(rows, wanted, count * sizeof *rows) == 0, "rows are told otherwise at once");
+}
+
 static void known_verdicts(void) {
     static lp_offset_row rows[MOST];
     size_t len;
@@ -116,6 +129,7 @@ static void known_verdicts(void) {
             expect(((verdict & LP_OF_INFLUX1) != 0) == KNOWN[at].influx, "a clause concerns InfluxDB, or does not");
             expect(((verdict & LP_OF_VICTORIA) != 0) == KNOWN[at].victoria, "a clause concerns VictoriaMetrics, or does not");
         }
+        told_at_once(text, len, dialect, rows, TEXTS, defaults());
     }
     free(text);
 }
@@ -132,6 +146,7 @@ static void no_lines(void) {
             uint64_t rest = dialect == LP_NEWLINE_DELIMITED ? LP_CLAUSE_NOT_A_LINE : LP_CLAUSE_NEWLINE;
             expect(rows[at].verdict == (at == 3 ? 0 : at > 3 ? rest : LP_CLAUSE_NOT_A_LINE), "a row of no line has another verdict");
         }
+        told_at_once((const uint8_t *)text, sizeof text - 1, dialect, rows, count, defaults());
     }
 }
 
@@ -178,6 +193,7 @@ static uint64_t limited(size_t line, size_t tags, int64_t earliest, int64_t late
     static lp_offset_row rows[MOST];
     expect(read_rows(text, sizeof text - 1, LP_STRICT, rows) == 1, "one row is not read");
     expect(tell(text, sizeof text - 1, rows, 1, (lp_limits){ line, tags, earliest, latest }) == 1, "a row is not told");
+    told_at_once(text, sizeof text - 1, LP_STRICT, rows, 1, (lp_limits){ line, tags, earliest, latest });
     return rows[0].verdict;
 }
 
@@ -224,6 +240,24 @@ static long refusals(void) {
     return requests;
 }
 
+/* As it is read, a row is told that takes no memory, and the one after it is not. */
+static void refused_at_once(void) {
+    static char text[1 << 12];
+    static uint8_t room[1];
+    static lp_offset_row rows[2];
+    static lp_offset_part parts[1 << 8];
+    lp_limits limits = defaults();
+    lp_block block = { 1, 0, 0, 0, 0 };
+    size_t told = SIZE_MAX, len = (size_t)sprintf(text, "m,b=1,a=2 f=1\n");
+    len += many(text + len, 40);
+    lp_requests = lp_refused = 0;
+    uint32_t answer = lp_offsets_block_verdicts((uint8_t *)text, len, LP_STRICT, true, &block, room, 1, rows, 2, parts, 1 << 8, &limits, &told);
+    lp_refused = -1;
+    expect(answer == LP_LINE && block.rows == 2 && told == 1 && rows[0].verdict == 0 && rows[1].verdict == 0, "a row is told without memory");
+    expect(lp_offsets_block_verdicts((uint8_t *)text, len, 3, true, &block, room, 1, rows, 2, parts, 1 << 8, &limits, &told) == LP_NOT_A_DIALECT &&
+           told == 0, "by no dialect a row is told");
+}
+
 /* Few tags and fields take no memory. */
 static void no_memory(void) {
     static const uint8_t text[] = "m,a=1,b=2,c=3,d=4,e=5,f=6,g=7,h=8 f=1,g=2i,h=\"x\",i=t 1000000";
@@ -233,9 +267,29 @@ static void no_memory(void) {
     expect(tell(text, sizeof text - 1, rows, 1, defaults()) == 1 && rows[0].verdict == 0 && lp_requests == 0, "a short line takes memory");
 }
 
+/* A line of many parts is read just once, and takes no memory, if its keys rise and nothing in it means something to a server. Its time
+ * and its limits are no reason to read it again. */
+static void read_once(void) {
+    static char text[1 << 10] = "m";
+    static lp_offset_row rows[MOST];
+    lp_limits limits = defaults();
+    size_t len = 1;
+    for (int at = 0; at < 20; at++) len += (size_t)sprintf(text + len, ",t%02d=v", at);
+    for (int at = 0; at < 20; at++) len += (size_t)sprintf(text + len, "%cf%02d=%d.5", at ? ',' : ' ', at, at);
+    len += (size_t)sprintf(text + len, " 5");
+    expect(read_rows((uint8_t *)text, len, LP_STRICT, rows) == 1, "a line of many parts is not read");
+    lp_requests = 0;
+    expect(tell((uint8_t *)text, len, rows, 1, limits) == 1 && rows[0].verdict == LP_CLAUSE_TIME_NOT_KEPT, "its time is kept");
+    limits.line = limits.tags = 0, limits.earliest = 5;
+    expect(tell((uint8_t *)text, len, rows, 1, limits) == 1 && rows[0].verdict == (LP_CLAUSE_LONG_LINE | LP_CLAUSE_TOO_MANY_TAGS),
+           "its limits are not broken");
+    expect(lp_requests == 0, "a line that is read once takes memory");
+}
+
 int main(void) {
-    known_verdicts(), no_lines(), forged_rows(), other_limits(), no_memory();
+    known_verdicts(), no_lines(), forged_rows(), other_limits(), no_memory(), read_once();
     long requests = refusals();
+    refused_at_once();
     expect(requests > 0, "no request can be refused");
     printf("%d verdicts, and each of %ld requests refused", (int)TEXTS, requests);
     return failed;

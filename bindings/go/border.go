@@ -113,8 +113,7 @@ var errDialect = errors.New("lineprotocol: no dialect has the number")
 func (b *block) read(text []byte, dialect Dialect, last bool, line uint64) (rows, taken int, err error) {
 	for {
 		b.filled, b.keys.upto, b.verdicts.upto = C.lp_block{line: C.uint64_t(line)}, 0, 0
-		answer := C.lp_offsets_block(first(text), C.size_t(len(text)), C.uint32_t(dialect), C.bool(last), &b.filled, first(b.room),
-			C.size_t(len(b.room)), &b.rows[0], C.size_t(len(b.rows)), &b.parts[0], C.size_t(len(b.parts)))
+		answer := b.fill(text, dialect, last)
 		if answer == C.LP_NOT_A_DIALECT || answer == C.LP_TOO_LONG {
 			return 0, 0, errDialect
 		}
@@ -131,6 +130,19 @@ func (b *block) read(text []byte, dialect Dialect, last bool, line uint64) (rows
 		}
 	}
 	return int(b.filled.rows), int(b.filled.at), nil
+}
+
+// fill is the call of the library. If verdicts were asked for of most rows that told them, all rows tell theirs with it, since the strict rules
+// read no line again for that.
+func (b *block) fill(text []byte, dialect Dialect, last bool) C.uint32_t {
+	if dialect != Strict || b.verdicts.run < len(b.rows) || 2*b.verdicts.asked < b.verdicts.run {
+		return C.lp_offsets_block(first(text), C.size_t(len(text)), C.uint32_t(dialect), C.bool(last), &b.filled, first(b.room),
+			C.size_t(len(b.room)), &b.rows[0], C.size_t(len(b.rows)), &b.parts[0], C.size_t(len(b.parts)))
+	}
+	answer := C.lp_offsets_block_verdicts(first(text), C.size_t(len(text)), C.uint32_t(dialect), C.bool(last), &b.filled, first(b.room),
+		C.size_t(len(b.room)), &b.rows[0], C.size_t(len(b.rows)), &b.parts[0], C.size_t(len(b.parts)), &b.limits, &b.told)
+	b.verdicts.came(0, int(b.told))
+	return answer
 }
 
 // tellKeys lets rows from this one on tell their keys.

@@ -52,7 +52,7 @@ const (
 	ClauseTagEscape
 	// ClauseTagKeyComma: a comma is bare in a tag key.
 	ClauseTagKeyComma
-	// ClauseTagValueEquals: an equals sign is bare in a tag value, and not its first byte.
+	// ClauseTagValueEquals: an equals sign is bare in a tag value.
 	ClauseTagValueEquals
 	// ClauseRepeatedTag: two tags have one key.
 	ClauseRepeatedTag
@@ -68,8 +68,8 @@ const (
 	ClauseUnsigned
 	// ClauseInfiniteFloat: a float is too large for a finite number.
 	ClauseInfiniteFloat
-	// ClauseExponent: a float has an exponent.
-	ClauseExponent
+	// ClauseRoundedFloat: a float has an exponent, or takes over 310 bytes.
+	ClauseRoundedFloat
 	// ClauseLeadingNul: the first field key begins with a byte 0.
 	ClauseLeadingNul
 	// ClauseTimeOutOfRange: the timestamp is the greatest of 64 bits, or one of the two least.
@@ -114,7 +114,7 @@ var clauseWords = [...]string{
 	ClauseMeasurementEscape: "a backslash or a quote is escaped in the measurement",
 	ClauseTagEscape:         "a backslash is escaped in a tag key or a tag value",
 	ClauseTagKeyComma:       "a comma is bare in a tag key",
-	ClauseTagValueEquals:    "an equals sign is bare in a tag value, and not its first byte",
+	ClauseTagValueEquals:    "an equals sign is bare in a tag value",
 	ClauseRepeatedTag:       "two tags have one key",
 	ClauseFieldKeyEscape:    "a backslash or a quote is escaped in a field key",
 	ClauseFieldKeyComma:     "a comma is bare in a field key",
@@ -122,7 +122,7 @@ var clauseWords = [...]string{
 	ClauseLongSeries:        "the series, four bytes and a field key are longer than 65,535 bytes",
 	ClauseUnsigned:          "a value is an unsigned integer",
 	ClauseInfiniteFloat:     "a float is too large for a finite number",
-	ClauseExponent:          "a float has an exponent",
+	ClauseRoundedFloat:      "a float has an exponent, or takes over 310 bytes",
 	ClauseLeadingNul:        "the first field key begins with a byte 0",
 	ClauseTimeOutOfRange:    "the timestamp is the greatest of 64 bits, or one of the two least",
 	ClauseTagCount:          "the tags are 100, 200, 400, 800 and so on",

@@ -205,11 +205,11 @@ func TestVerdictAmongParts(t *testing.T) {
 }
 
 func TestClauses(t *testing.T) {
-	verdict := Verdict(1<<ClauseUnsigned | 1<<ClauseExponent | 1<<ClauseRepeatedField)
+	verdict := Verdict(1<<ClauseUnsigned | 1<<ClauseRoundedFloat | 1<<ClauseRepeatedField)
 	for _, row := range []struct {
 		to    Servers
 		first Clause
-	}{{Influx1, ClauseUnsigned}, {Victoria, ClauseExponent}, {AllServers, ClauseUnsigned}} {
+	}{{Influx1, ClauseUnsigned}, {Victoria, ClauseRoundedFloat}, {AllServers, ClauseUnsigned}} {
 		if first, ok := verdict.First(row.to); first != row.first || !ok {
 			t.Errorf("%v: %v, %v", row.to, first, ok)
 		}
@@ -217,7 +217,7 @@ func TestClauses(t *testing.T) {
 	if first, ok := Verdict(1 << ClauseUnsigned).First(Victoria); ok || !Verdict(1<<ClauseUnsigned).Portable(Victoria) {
 		t.Errorf("%v", first)
 	}
-	if !verdict.Breaks(ClauseExponent) || verdict.Breaks(ClauseNewline) || verdict.Breaks(64) || verdict.Portable(AllServers) {
+	if !verdict.Breaks(ClauseRoundedFloat) || verdict.Breaks(ClauseNewline) || verdict.Breaks(64) || verdict.Portable(AllServers) {
 		t.Error("a verdict breaks what it does not")
 	}
 	words := fmt.Sprint(ClauseNotALine, "; ", ClauseRepeatedField, "; ", ClauseTimeNotKept, "; ", Clause(33))

@@ -1,7 +1,7 @@
 #!/usr/bin/env bash
 # Tests the Go package of this folder over the static library of crates/lp_c: its own tests, the table of answers and its examples, as they
-# are, beside the race detector, and with each pointer watched that goes to C; looks at it by gofmt and vet; and compares it with ParsePoints
-# by checks/go_beside.sh.
+# are, beside the race detector, and with each pointer watched that goes to C; looks at it by gofmt and vet; runs the tests of
+# examples/endpoint, which stands on it; and compares it with ParsePoints by checks/go_beside.sh.
 #
 #     bindings/go/test.sh             makes the archive first
 #     bindings/go/test.sh ARCHIVE     takes one that was made before
@@ -29,7 +29,7 @@ try() {
         exit 1
     fi
 }
-unformatted=$(gofmt -l . "$top/checks/golang" "$top/bench/golang")
+unformatted=$(gofmt -l . "$top/checks/golang" "$top/bench/golang" "$top/examples/endpoint")
 if [ -n "$unformatted" ]; then
     echo "go: gofmt lays these files out otherwise: $unformatted" >&2
     exit 1
@@ -51,6 +51,9 @@ if go run -race "$built/nothing.go" >"$built/log" 2>&1; then
 else
     left_out "race detector of Go" "$(tail -n 1 "$built/log")"
 fi
+cd "$top/examples/endpoint"
+try go vet .
+try go test .
 echo "go: $answers"
 echo "go: $tests tests and examples passed, also watched by $watched, with $(go version | cut -d ' ' -f 3)"
 "$top/checks/go_beside.sh" "$built/liblp_c.a"

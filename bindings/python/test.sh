@@ -1,7 +1,7 @@
 #!/usr/bin/env bash
 # Builds the Python package, whose extension must compile without a warning, and runs its tests; two of them refuse each request for
-# memory in turn, of the library and of Python. Then mypy looks at its types, where it is there, and pip installs the package into a
-# new environment, without a network, and the example is run there. All else needs Python and its standard library alone; NumPy and
+# memory in turn, of the library and of Python, and some pack it. Then mypy looks at its types, where it is there, and pip installs the
+# package into a new environment, without a network, in three ways, and the example is run there. All else needs Python and its standard library alone; NumPy and
 # pandas are used where they are there. Where something cannot be run, a line that begins with `left out: ` says why, on standard output
 # and in the file that LEFT_OUT names, if it is set. LP_RELAY is the program that files are cut beside: that of this repository, if it
 # is built.
@@ -99,10 +99,22 @@ if ! "$python" -c 'import ensurepip, venv' 2>/dev/null; then
     exit 0
 fi
 "$python" -m venv "$built/new"
-if ! "$built/new/bin/python" -m pip install --quiet --no-index --disable-pip-version-check "$here" >"$built/said" 2>&1 ||
-    ! "$built/new/bin/python" "$here/example.py" >"$built/printed" 2>&1 || ! grep -q '^disk usage ' "$built/printed" ||
-    ! grep -qF "Counter({'cpu': 4, 'cpu,az=b,host=a': 3})" "$built/printed"; then
-    cat "$built/said" "$built/printed" >&2
-    exit 1
-fi
-echo "python: pip installs version $("$built/new/bin/python" -c 'import line_protocol; print(line_protocol.__version__)') in a new environment"
+# Installs what these words say in the new environment, and runs the example there: `install WORD..`.
+install() {
+    if ! "$built/new/bin/python" -m pip install --quiet --no-index --disable-pip-version-check --force-reinstall "$@" >"$built/said" 2>&1 ||
+        ! "$built/new/bin/python" "$here/example.py" >"$built/printed" 2>&1 || ! grep -q '^disk usage ' "$built/printed" ||
+        ! grep -qF "Counter({'cpu': 4, 'cpu,az=b,host=a': 3})" "$built/printed"; then
+        cat "$built/said" "$built/printed" >&2
+        exit 1
+    fi
+}
+install "$here"
+sources=$("$python" -B "$here/build_backend.py" --sdist "$built")
+install "$built/$sources"
+# What is installed to be edited is that of its folder, so of a copy.
+tar -C "$built" -xzf "$built/$sources"
+install --editable "$built/${sources%.tar.gz}/bindings/python"
+echo 'edited = True' >>"$built/${sources%.tar.gz}/bindings/python/src/line_protocol/__init__.py"
+edited=$("$built/new/bin/python" -c 'import line_protocol; print(line_protocol.edited, line_protocol.__version__)')
+[[ $edited = "True "* ]] || { echo "python: an editable install is not that of its folder: $edited" >&2; exit 1; }
+echo "python: pip installs version ${edited#True } in a new environment: of this folder, of the packed sources, and to be edited"

@@ -1,23 +1,71 @@
-//! Links `liblp_c.a`, of the folder that `LP_LIB_DIR` names, or else of `crates/lp_c/out`.
+//! Finds the static library, and links it. It is `liblp_c.a` of the first of these folders that has it:
 //!
-//! Where `liblp_heap.a` lies beside it, its three heap functions are linked, and those of `src/heap.rs` are left out. If there is
-//! no `liblp_c.a`, a warning says how to make it: documentation and checks need none, and the compiler refuses to link without it.
-use std::{env, path::PathBuf};
+//! 1. the folder that `LP_LIB_DIR` names; if that has none, no other is looked for;
+//! 2. `native/` of this crate, which `bin/dist` of the repository fills;
+//! 3. `crates/lp_c/out` of the repository, where this crate lies in it.
+//!
+//! Else it is the library that pkg-config knows as `influxdb_line_protocol`, of this major version: `PKG_CONFIG` names that program.
+//!
+//! Where `liblp_heap.a` lies beside `liblp_c.a`, its three heap functions are linked, and those of `src/heap.rs` are left out; so they are
+//! for an installed library, which has its own. If there is none, a warning says so: documentation and checks need none, and the compiler
+//! refuses to link without it.
+use std::path::{Path, PathBuf};
+use std::{env, process::Command};
+
+const ARCHIVE: &str = "liblp_c.a";
+const PACKAGE: &str = "influxdb_line_protocol";
 
 fn main() {
-    println!("cargo:rerun-if-env-changed=LP_LIB_DIR");
+    for name in ["LP_LIB_DIR", "PKG_CONFIG", "PKG_CONFIG_PATH", "PKG_CONFIG_LIBDIR"] {
+        println!("cargo:rerun-if-env-changed={name}");
+    }
     println!("cargo:rustc-check-cfg=cfg(lp_heap)");
     let here = PathBuf::from(env::var("CARGO_MANIFEST_DIR").expect("cargo says where the crate lies"));
-    let libraries = env::var("LP_LIB_DIR").map_or(here.join("../../crates/lp_c/out"), PathBuf::from);
-    let library = libraries.join("liblp_c.a");
-    if !library.exists() {
-        println!("cargo:warning=there is no {}: run `rt lib` in crates/lp_c, or let LP_LIB_DIR name its folder", library.display());
+    let named = env::var_os("LP_LIB_DIR").map(PathBuf::from);
+    let folders = named.map_or_else(|| vec![here.join("native"), here.join("../../crates/lp_c/out")], |folder| vec![folder]);
+    for folder in &folders {
+        println!("cargo:rerun-if-changed={}", folder.join(ARCHIVE).display());
     }
-    println!("cargo:rerun-if-changed={}", library.display());
-    println!("cargo:rustc-link-search=native={}", libraries.display());
+    if let Some(folder) = folders.iter().find(|folder| folder.join(ARCHIVE).exists()) {
+        return link_archive(folder);
+    }
+    let mut missing: Vec<_> = folders.iter().map(|folder| format!("no {}", folder.join(ARCHIVE).display())).collect();
+    if env::var_os("LP_LIB_DIR").is_none() {
+        match installed() {
+            Ok(folder) => return link_installed(&folder),
+            Err(why) => missing.push(why),
+        }
+    }
+    println!("cargo:warning=the proved library is not there: {}. README.md of this crate says where it comes from", missing.join("; "));
     println!("cargo:rustc-link-lib=static=lp_c");
-    if libraries.join("liblp_heap.a").exists() {
+}
+
+fn link_archive(folder: &Path) {
+    println!("cargo:rustc-link-search=native={}", folder.display());
+    println!("cargo:rustc-link-lib=static=lp_c");
+    if folder.join("liblp_heap.a").exists() {
         println!("cargo:rustc-link-lib=static=lp_heap");
         println!("cargo:rustc-cfg=lp_heap");
     }
+}
+
+/// Links the static library of a folder, so that programs run without it; or if there is none, the shared one.
+fn link_installed(folder: &Path) {
+    let kind = if folder.join(format!("lib{PACKAGE}.a")).exists() { "static" } else { "dylib" };
+    println!("cargo:rustc-link-search=native={}", folder.display());
+    println!("cargo:rustc-link-lib={kind}={PACKAGE}");
+    println!("cargo:rustc-cfg=lp_heap");
+}
+
+/// The folder of the installed library, or why there is none.
+fn installed() -> Result<PathBuf, String> {
+    let program = env::var("PKG_CONFIG").unwrap_or("pkg-config".into());
+    let ask = |words: &[&str]| Command::new(&program).args(words).output().map_err(|why| format!("{program}: {why}"));
+    let found = ask(&["--print-errors", "--exists", &format!("{PACKAGE} >= 3"), &format!("{PACKAGE} < 4")])?;
+    if !found.status.success() {
+        let said = String::from_utf8_lossy(&found.stderr);
+        return Err(format!("{program}: {}", said.lines().next().unwrap_or("it fails").trim_end_matches('.')));
+    }
+    let folder = ask(&["--variable=libdir", PACKAGE])?;
+    Ok(PathBuf::from(String::from_utf8_lossy(&folder.stdout).trim()))
 }

@@ -5,11 +5,12 @@
 # ORIGINAL: files of any name below it count: a test module is what follows `#[cfg(test)]` in one of them.
 # LP_LIB_DIR: the folder of liblp_c.a, crates/lp_c/out by default.
 # CARGO_FLAGS: more words for cargo, as where the crates lie.
-# The crates come from crates.io, or where that is out of reach, from Debian's packages librust-bytes-dev, librust-nom-dev and
-# librust-smallvec-dev.
+# flags.sh says where the crates come from. Then cargo packs the crate with the library in it; a program that names the original crate is
+# built over what was packed, by [patch.crates-io]; and the documentation is made without a library.
 set -eu
 here=$(cd "$(dirname "$0")" && pwd)
 . "$here/../../checks/left_out.sh"
+. "$here/flags.sh"
 export LP_LIB_DIR=${LP_LIB_DIR:-$here/../../crates/lp_c/out}
 LP_LIB_DIR=$(cd "$LP_LIB_DIR" && pwd)
 if ! command -v cargo >/dev/null; then
@@ -21,28 +22,15 @@ trap 'rm -rf "$built"' EXIT
 export CARGO_TARGET_DIR=${CARGO_TARGET_DIR:-$built/target}
 # Cargo writes its lock file beside the crate, so the crate is copied.
 mkdir "$built/crate"
-cp -r "$here"/{Cargo.toml,build.rs,src,tests,examples,original} "$built/crate/"
-# Tries whether cargo can have the crates with these flags.
-fetch() {
-    flags=$*
-    # shellcheck disable=SC2086
-    (cd "$built/crate" && CARGO_NET_RETRY=1 cargo fetch $flags) >"$built/log" 2>&1
-}
-debian='--offline --config source.crates-io.replace-with="debian" --config source.debian.directory="/usr/share/cargo/registry"'
-crates=
-if ! fetch "${CARGO_FLAGS:-}"; then
-    failure=$(tail -n 1 "$built/log")
-    if ! fetch "${CARGO_FLAGS:-} $debian"; then
-        left_out bindings/rust "cargo cannot have the crates from crates.io ($failure) or Debian ($(tail -n 1 "$built/log"))"
-        exit 0
-    fi
-    crates=" over Debian's crates"
+cp -r "$here"/{Cargo.toml,README.md,build.rs,src,tests,examples,original} "$built/crate/"
+if ! find_crates "$built/crate" "$built/log"; then
+    left_out bindings/rust "$found"
+    exit 0
 fi
 
 # Runs `cargo test` with these words in the copy, and tells how many tests passed.
 try() {
-    # shellcheck disable=SC2086
-    if ! (cd "$built/crate" && cargo test $flags "$@") >"$built/log" 2>&1; then
+    if ! (cd "$built/crate" && cargo test "${flags[@]}" "$@") >"$built/log" 2>&1; then
         cat "$built/log" >&2
         echo "rust: a test failed" >&2
         exit 1
@@ -70,10 +58,9 @@ take_examples() {
 }
 
 # Each `unsafe` has a reason beside it.
-# shellcheck disable=SC2086
 if ! cargo clippy --version >/dev/null 2>&1; then
     left_out "reasons beside unsafe" "there is no cargo clippy"
-elif ! (cd "$built/crate" && cargo clippy -q --all-targets $flags -- -A clippy::all -D clippy::undocumented_unsafe_blocks) >"$built/log" 2>&1; then
+elif ! (cd "$built/crate" && cargo clippy -q --all-targets "${flags[@]}" -- -A clippy::all -D clippy::undocumented_unsafe_blocks) >"$built/log" 2>&1; then
     cat "$built/log" >&2
     echo "rust: clippy refuses the crate" >&2
     exit 1
@@ -82,16 +69,62 @@ export LP_ANSWERS=$here/../../crates/lp_answers/data/answers.tsv LP_PORTABLE=$he
 own=$(try -- --show-output)
 answers=$(grep '^answers.tsv: ' "$built/log")
 refused='the value "b\nforged" of the tag "host" is not admitted: it may not be empty, hold a tab or a newline, or end in a backslash'
-# shellcheck disable=SC2086
-if ! (cd "$built/crate" && cargo run -q --example lines $flags) >"$built/printed" 2>"$built/log" ||
-    ! printf '%s\n' "$refused" 'disk usage at None' 'a fault: No fields were provided' '"cpu note=\"a\nb\" 1"' '"cpu usage=64i 2"' |
+if ! (cd "$built/crate" && cargo run -q --example lines "${flags[@]}") >"$built/printed" 2>"$built/log" ||
+    ! printf '%s\n' "$refused" 'disk usage at None' 'a fault: No fields were provided' \
+        'line 1, byte 0: No fields were provided' 'line 2, byte 12: cpu usage=64i 2' 'line 3: the line is not UTF-8' |
         diff - "$built/printed"; then
     cat "$built/log" >&2
     echo "rust: the example does not print its items" >&2
     exit 1
 fi
 echo "rust: $answers"
-said="$own own tests passed$crates"
+
+# Runs cargo with these words in a folder: `by_cargo FOLDER WHAT WORD..`. No library is named, so each crate has its own or none.
+by_cargo() {
+    local folder=$1 what=$2
+    shift 2
+    if ! (cd "$folder" && env -u LP_LIB_DIR PKG_CONFIG=false cargo "$@" "${flags[@]}") >"$built/printed" 2>"$built/log"; then
+        cat "$built/log" >&2
+        echo "rust: $what" >&2
+        exit 1
+    fi
+}
+by_cargo "$built/crate" "the documentation is not made without a library" doc -q --no-deps
+mkdir -p "$built/packed/native" "$built/patched/src"
+cp -r "$here"/{Cargo.toml,README.md,build.rs,src,examples} "$here"/../../LICENSE-* "$built/packed"
+cp "$LP_LIB_DIR/liblp_c.a" "$built/packed/native"
+by_cargo "$built/packed" "cargo does not pack the crate" package --allow-dirty
+packed=$(echo "$CARGO_TARGET_DIR"/package/*.crate)
+tar -C "$built" -xzf "$packed"
+cat >"$built/patched/Cargo.toml" <<TEXT
+[package]
+name = "patched"
+version = "0.1.0"
+edition = "2021"
+
+[dependencies]
+influxdb-line-protocol = "2"
+
+[patch.crates-io]
+influxdb-line-protocol = { path = "$built/$(basename "$packed" .crate)" }
+TEXT
+cat >"$built/patched/src/main.rs" <<'TEXT'
+fn main() {
+    for item in influxdb_line_protocol::parse_lines("cpu,host=a\\ b usage=64i\nm 5") {
+        match item {
+            Ok(line) => println!("{line}"),
+            Err(fault) => println!("{fault}"),
+        }
+    }
+}
+TEXT
+by_cargo "$built/patched" "a program that names the original crate is not built over the packed one" run -q
+if ! printf '%s\n' 'cpu,host=a\ b usage=64i' 'No fields were provided' | diff - "$built/printed"; then
+    echo "rust: a program over the packed crate does not print its items" >&2
+    exit 1
+fi
+own="$own own tests passed$found, a program that names the original crate ran over the packed one"
+said=$own
 if [ -z "${ORIGINAL:-}" ]; then
     echo "rust: $said"
     left_out "original crate's tests" "ORIGINAL names no folder with its source"

@@ -102,6 +102,9 @@ double double_of(lp_text literal, bool *is_plain);
 enum { SPELLED = 32 };
 size_t spell(double value, char *out);
 
+/* The same without Python, and so without its lock: 0 if only Python can spell it so. */
+size_t spell_own(double value, char *out);
+
 /* reading.c */
 
 /* The object for a name that was read: that which was made of the same bytes, if it is kept. */
@@ -150,6 +153,9 @@ bool put_timestamp(Handed *handed, PyObject *timestamp);
 /* What calls put out: one text after another. */
 typedef struct { uint8_t *at; size_t len, room; } Out;
 typedef uint32_t PutsOut(uint32_t dialect, const lp_line *, const lp_part *, size_t, uint8_t *, size_t, size_t *);
+
+/* Makes room for so many bytes more. */
+bool make_room(Out *out, size_t wanted);
 
 /* Appends what a call puts out for the line that was handed in, and gives its answer; 0 after an error, which is NotAdmitted if the line
  * is not admitted in the dialect. */

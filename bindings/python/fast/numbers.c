@@ -119,16 +119,16 @@ static size_t spell_any(double value, char *out) {
     return len;
 }
 
-size_t spell(double value, char *out) {
+size_t spell_own(double value, char *out) {
     uint64_t bits;
     memcpy(&bits, &value, sizeof value);
     const bool is_minus = bits >> 63;
     const double size = is_minus ? -value : value;
     Decimal decimal = { 0, 1 };
     if (size != 0) {
-        if (!(size >= 1e-4 && size < 1e15)) return spell_any(value, out);
+        if (!(size >= 1e-4 && size < 1e15)) return 0;
         const Parts parts = parts_of(size);
-        if (!short_decimal(&parts, &decimal) && !long_decimal(&parts, &decimal)) return spell_any(value, out);
+        if (!short_decimal(&parts, &decimal) && !long_decimal(&parts, &decimal)) return 0;
     }
     while (decimal.after > 1 && decimal.digits % 10 == 0) {
         decimal.digits /= 10;
@@ -140,4 +140,9 @@ size_t spell(double value, char *out) {
     }
     *out = '-';
     return is_minus + put_decimal(decimal, out + is_minus);
+}
+
+size_t spell(double value, char *out) {
+    const size_t len = spell_own(value, out);
+    return len > 0 ? len : spell_any(value, out);
 }

@@ -1,21 +1,34 @@
 /* Columns become lines: one for each row that has a field.
  *
+ * Rows are written block by block. First the cells that are objects are read, with Python's lock: each becomes a number or a text. Then the lock
+ * is let go, and the lines are written, until one needs Python: there is no room for it, it is refused, or it has a float that Python's own
+ * function has to spell. That row is written with the lock, as are the rows after such a float, since many are likely to come. So a block costs
+ * memory for its cells and their texts, and the lock is not asked for more often than the processor can do with.
+ *
  * Pointers: keys, cells, numbers and `missing` of a column belong to the tuple of its table, which is held until the table is left. The
- * names are of `bytes` objects that a column and the table hold themselves. The text of a tag is of a `bytes` object that is kept, or held
- * as long as the row; that of a float is in its column until the next row. An object in a cell is held while it is looked at. */
+ * names are of `bytes` objects that a column and the table hold themselves. The text of a cell is of a `bytes` object that is kept, or held
+ * as long as the block; that of a float among numbers is in its column until the next row. An object in a cell is held while it is looked at. */
 #include "fast.h"
 
-enum { TEXTS = 1024 }; /* So many texts are kept. */
+enum { TEXTS = 1024 };                                 /* So many texts are kept. */
+enum { ROWS = 1 << 14, CELLS = 1 << 16, HELD = 1 << 20 }; /* A block has so many rows, objects, and bytes of their texts, or a row more. */
+enum { WITH_LOCK = 1024 };                             /* So many rows are written with the lock after a float that Python spells. */
+enum { MISSING = UINT32_MAX };                         /* The kind of a cell that is None. */
 
 /* A str that came in a cell, and its bytes. */
 typedef struct { PyObject *object, *bytes; lp_text text; } Text;
+
+/* An object of a cell, as it was read: its kind, and its number, or its text with the length in the place of a number. */
+typedef struct { const uint8_t *at; uint64_t number; uint32_t kind; } Cell;
 
 /* A column that is handed in. A cell is missing if its byte of `missing` is not 0, or if its object is None. */
 typedef struct {
     PyObject *key, *cells, *name; /* `name` has the bytes of the key, and is this struct's own; the others are its caller's */
     const uint8_t *numbers;       /* eight bytes for each, or one for a boolean; NULL for objects */
     const uint8_t *missing;       /* NULL: none is */
+    Cell *read;                   /* of objects: those of the rows of the block */
     lp_part part;                 /* what all its parts have in common: the key and the kind */
+    bool is_time;
     char spelled[SPELLED];        /* the literal of the float that came last */
 } Given;
 
@@ -23,14 +36,18 @@ typedef struct {
 typedef struct {
     Given *columns;
     size_t columns_len, rows, row;
+    Cell *cells;
+    size_t block, first, held;    /* so many rows a block has at most; its first row; and how many bytes its texts have */
+    bool has_lock;
     PyObject *measurement, *name; /* `name` has the bytes of the measurement */
+    lp_view measurement_view;
     Handed handed;
     uint32_t dialect;
     Out out;
     Text *texts;
 } Rows;
 
-/* The text of a str in a cell: that which was kept of the same object. A text that is kept no longer is held as long as the row. */
+/* The text of a str in a cell: that which was kept of the same object. A text that is kept no longer is held as long as the block. */
 static bool put_kept(Rows *rows, PyObject *object, lp_view *view) {
     Text *kept = &rows->texts[((uintptr_t)object >> 4) % TEXTS];
     if (kept->object != object) {
@@ -56,38 +73,82 @@ static void free_texts(Rows *rows) {
     PyMem_Free(rows->texts);
 }
 
-/* A cell that is an object. */
+/* A cell that is an object becomes a part, or the timestamp of the line. */
 static bool put_object(Rows *rows, const Given *column, PyObject *object, lp_part *part) {
     if (column->key == Py_None) return put_timestamp(&rows->handed, object);
     if (column->part.kind != LP_TAG) return put_value(&rows->handed, column->key, object, part);
     return PyUnicode_Check(object) ? put_kept(rows, object, &part->text) : refuse("the value of the tag", column->key, object);
 }
 
-/* A cell that is a float: one that has no literal is refused as an object. */
+/* Reads a cell that is an object, which stays there while it is read. */
+static bool read_object(Rows *rows, const Given *column, PyObject *object, Cell *cell) {
+    lp_part part = column->part;
+    Py_INCREF(object);
+    const bool is_read = put_object(rows, column, object, &part);
+    Py_DECREF(object);
+    if (column->key == Py_None) {
+        part.kind = LP_INTEGER;
+        part.integer = rows->handed.line.timestamp;
+    }
+    cell->kind = part.kind;
+    cell->at = part.text.text.at;
+    cell->number = part.kind == LP_INTEGER    ? (uint64_t)part.integer
+                   : part.kind == LP_UNSIGNED ? part.unsigned_integer
+                   : part.kind == LP_BOOLEAN  ? part.boolean
+                                              : part.text.text.len;
+    rows->held += is_number(part.kind) && part.kind != LP_FLOAT ? 0 : part.text.text.len;
+    return is_read;
+}
+
+/* Reads the objects of a row. */
+static bool read_row(Rows *rows, size_t row) {
+    for (size_t i = 0; i < rows->columns_len; i++) {
+        const Given *column = &rows->columns[i];
+        if (column->numbers) continue;
+        Cell *cell = &column->read[row - rows->first];
+        cell->kind = MISSING;
+        if (column->missing && column->missing[row]) continue;
+        PyObject *object = PyList_GetItem(column->cells, (Py_ssize_t)row);
+        if (!object || (object != Py_None && !read_object(rows, column, object, cell))) return false;
+    }
+    return true;
+}
+
+/* Reads the objects of the next rows, and gives where the block ends: before a row that is refused, and then there is an error. */
+static size_t read_block(Rows *rows) {
+    size_t row = rows->first = rows->row;
+    const size_t left = rows->rows - row, end = row + (left < rows->block ? left : rows->block);
+    clear_handed(&rows->handed);
+    rows->held = 0;
+    while (row < end && rows->held < HELD && read_row(rows, row)) row++;
+    return row;
+}
+
+/* A cell that is a float: one that has no literal is refused as an object. False without the lock: Python has to look at it. */
 static bool put_float(Rows *rows, Given *column, const uint8_t *at, lp_part *part) {
     double value;
     memcpy(&value, at, sizeof value);
-    if (value - value != 0) {
+    const bool is_finite = value - value == 0;
+    size_t len = is_finite ? spell_own(value, column->spelled) : 0;
+    if (len == 0 && !rows->has_lock) return false;
+    if (!is_finite) {
         PyObject *object = PyFloat_FromDouble(value);
         const bool is_put = object && put_value(&rows->handed, column->key, object, part);
         Py_XDECREF(object);
         return is_put;
     }
+    if (len == 0) len = spell(value, column->spelled);
     part->text.text.at = (const uint8_t *)column->spelled;
-    part->text.text.len = spell(value, column->spelled);
-    return part->text.text.len > 0;
+    part->text.text.len = len;
+    return len > 0;
 }
 
 /* A cell that is a number. */
 static bool put_number(Rows *rows, Given *column, lp_part *part) {
     const uint8_t *at = column->numbers + rows->row * (column->part.kind == LP_BOOLEAN ? 1 : 8);
-    if (column->key == Py_None) {
-        memcpy(&rows->handed.line.timestamp, at, sizeof rows->handed.line.timestamp);
-        rows->handed.line.has_timestamp = true;
-    } else if (column->part.kind == LP_BOOLEAN) {
+    if (part->kind == LP_FLOAT) return put_float(rows, column, at, part);
+    if (part->kind == LP_BOOLEAN) {
         part->boolean = *at != 0;
-    } else if (column->part.kind == LP_FLOAT) {
-        return put_float(rows, column, at, part);
     } else {
         memcpy(&part->integer, at, sizeof part->integer);
         memcpy(&part->unsigned_integer, at, sizeof part->unsigned_integer);
@@ -95,37 +156,105 @@ static bool put_number(Rows *rows, Given *column, lp_part *part) {
     return true;
 }
 
+/* A cell that was an object. */
+static void put_read(const Cell *cell, lp_part *part) {
+    part->kind = cell->kind;
+    part->integer = (int64_t)cell->number;
+    part->unsigned_integer = cell->number;
+    part->boolean = cell->number != 0;
+    part->text.text.at = cell->at;
+    part->text.text.len = cell->number;
+}
+
 /* The cell of a column, which becomes a part, or the timestamp, unless it is missing. */
 static bool put_cell(Rows *rows, Given *column) {
     lp_part part = column->part;
-    PyObject *object = NULL;
-    if (column->missing && column->missing[rows->row]) return true;
-    if (!column->numbers) {
-        object = PyList_GetItem(column->cells, (Py_ssize_t)rows->row);
-        if (!object || object == Py_None) return object != NULL;
-        Py_INCREF(object);
+    const Cell *cell = column->numbers ? NULL : &column->read[rows->row - rows->first];
+    if ((column->missing && column->missing[rows->row]) || (cell && cell->kind == MISSING)) return true;
+    if (cell) put_read(cell, &part);
+    else if (!put_number(rows, column, &part)) return false;
+    if (column->is_time) {
+        rows->handed.line.timestamp = part.integer;
+        rows->handed.line.has_timestamp = true;
+    } else {
+        rows->handed.parts[rows->handed.parts_len++] = part;
+        rows->handed.line.tags += part.kind == LP_TAG;
     }
-    const bool is_put = object ? put_object(rows, column, object, &part) : put_number(rows, column, &part);
-    Py_XDECREF(object);
-    if (!is_put || column->key == Py_None) return is_put;
-    rows->handed.parts[rows->handed.parts_len++] = part;
-    rows->handed.line.tags += part.kind == LP_TAG;
     return true;
 }
 
-/* The line of a row, if it has a field. */
-static bool put_row(Rows *rows) {
+/* Makes the line of a row. */
+static bool make_line(Rows *rows) {
     static const lp_line empty = LP_EMPTY_LINE;
-    clear_handed(&rows->handed);
-    rows->handed.line = empty;
-    rows->handed.line.measurement.text = text_of(rows->name);
-    rows->handed.line.measurement.copied = true;
+    lp_line *line = &rows->handed.line;
+    *line = empty;
+    line->measurement = rows->measurement_view;
+    rows->handed.parts_len = 0;
     for (size_t i = 0; i < rows->columns_len; i++)
         if (!put_cell(rows, &rows->columns[i])) return false;
-    lp_line *line = &rows->handed.line;
     line->has_tag_set = line->tags > 0;
     line->fields = rows->handed.parts_len - line->tags;
-    return line->fields == 0 || put_out(lp_line_write, rows->dialect, &rows->handed, &rows->out) == LP_WRITTEN;
+    return true;
+}
+
+/* Writes a row, if it has a field. */
+static bool put_row(Rows *rows) {
+    return make_line(rows) && (rows->handed.line.fields == 0 || put_out(lp_line_write, rows->dialect, &rows->handed, &rows->out) == LP_WRITTEN);
+}
+
+/* Writes rows up to this one, without the lock, as long as none needs Python. True: it is a float that does. If the library is refused memory,
+ * there is an error. */
+static bool write_rows(Rows *rows, size_t end) {
+    const Handed *handed = &rows->handed;
+    Out *out = &rows->out;
+    PyThreadState *state = let_go((end - rows->row) * rows->columns_len * sizeof(uint64_t));
+    uint32_t answer = LP_WRITTEN;
+    bool is_made = true;
+    rows->has_lock = !state;
+    while (rows->row < end && answer == LP_WRITTEN && (is_made = make_line(rows))) {
+        size_t len = 0;
+        if (handed->line.fields > 0)
+            answer = lp_line_write(rows->dialect, &handed->line, handed->parts, handed->parts_len, out->at + out->len, out->room - out->len, &len);
+        if (answer != LP_WRITTEN) break;
+        out->len += len;
+        rows->row++;
+    }
+    take_back(state);
+    rows->has_lock = true;
+    if (answer == LP_OUT_OF_MEMORY) PyErr_NoMemory();
+    return !is_made;
+}
+
+/* Writes rows up to this one. False: there is an error, of the row at which it stopped. */
+static bool put_rows(Rows *rows, size_t end) {
+    size_t with_lock = rows->row; /* up to here rows are written with the lock */
+    while (rows->row < end) {
+        if (rows->row >= with_lock) {
+            if (!make_room(&rows->out, 256 + (end - rows->row) * rows->columns_len * 16)) return false;
+            if (write_rows(rows, end)) with_lock = rows->row + WITH_LOCK;
+            if (PyErr_Occurred()) return false;
+        }
+        if (rows->row < end) {
+            if (!put_row(rows)) return false;
+            rows->row++;
+        }
+    }
+    return true;
+}
+
+/* Writes the next rows. False: there is an error, of the row at which it stopped. */
+static bool put_block(Rows *rows) {
+    PyObject *type, *value, *trace;
+    const size_t end = read_block(rows);
+    PyErr_Fetch(&type, &value, &trace);
+    if (put_rows(rows, end)) {
+        PyErr_Restore(type, value, trace);
+        return !PyErr_Occurred();
+    }
+    Py_XDECREF(type);
+    Py_XDECREF(value);
+    Py_XDECREF(trace);
+    return false;
 }
 
 /* The bytes of a name, which must be a str. */
@@ -152,7 +281,7 @@ static bool take_column(Rows *rows, PyObject *told) {
     unsigned kind;
     column->part = empty;
     if (!PyArg_ParseTuple(told, "OIOO", &column->key, &kind, &column->cells, &missing)) return false;
-    const bool is_time = column->key == Py_None;
+    const bool is_time = column->is_time = column->key == Py_None;
     if (!are_cells(column->cells, missing, kind, rows->rows) || (is_time && is_number(kind) && kind != LP_INTEGER)) {
         PyErr_SetString(PyExc_TypeError, "a column has other cells than its kind and its table say");
         return false;
@@ -169,6 +298,22 @@ static bool take_column(Rows *rows, PyObject *told) {
     return true;
 }
 
+/* Lends cells for the objects of a block. */
+static bool lend_cells(Rows *rows) {
+    size_t objects = 0;
+    for (size_t i = 0; i < rows->columns_len; i++) objects += !rows->columns[i].numbers;
+    rows->block = objects > CELLS / ROWS ? (objects < CELLS ? CELLS / objects : 1) : ROWS;
+    if (rows->block > rows->rows) rows->block = rows->rows;
+    rows->cells = zeroed(rows->block * objects + 1, sizeof *rows->cells);
+    Cell *cells = rows->cells;
+    for (size_t i = 0; cells && i < rows->columns_len; i++) {
+        rows->columns[i].read = cells;
+        cells += rows->columns[i].numbers ? 0 : rows->block;
+    }
+    if (!rows->cells) PyErr_NoMemory();
+    return rows->cells != NULL;
+}
+
 /* Begins a table: its measurement, how many rows it has, and its columns, those of the tags before those of the fields. */
 static bool take_table(Rows *rows, PyObject *told) {
     Py_ssize_t count;
@@ -181,17 +326,22 @@ static bool take_table(Rows *rows, PyObject *told) {
     rows->handed.parts = zeroed(len + 1, sizeof *rows->handed.parts);
     if (!rows->columns || !rows->handed.parts) PyErr_NoMemory();
     for (size_t i = 0; i < len && !PyErr_Occurred(); i++) take_column(rows, PyTuple_GetItem(columns, (Py_ssize_t)i));
-    return !PyErr_Occurred();
+    if (PyErr_Occurred()) return false;
+    rows->measurement_view.text = text_of(rows->name);
+    rows->measurement_view.copied = true;
+    return lend_cells(rows);
 }
 
 /* Ends a table. */
 static void leave_table(Rows *rows) {
     for (size_t i = 0; i < rows->columns_len; i++) Py_XDECREF(rows->columns[i].name);
     PyMem_Free(rows->columns);
+    PyMem_Free(rows->cells);
     Py_CLEAR(rows->name);
     free_handed(&rows->handed);
     memset(&rows->handed, 0, sizeof rows->handed);
     rows->columns = NULL;
+    rows->cells = NULL;
     rows->columns_len = 0;
 }
 
@@ -214,8 +364,9 @@ static void tell_row(const Rows *rows, PyObject *refused) {
 /* Writes the rows of a table. */
 static bool put_table(Rows *rows, PyObject *told, PyObject *refused) {
     bool is_put = take_table(rows, told);
-    for (rows->row = 0; is_put && rows->row < rows->rows; rows->row++) {
-        is_put = put_row(rows);
+    rows->row = 0;
+    while (is_put && rows->row < rows->rows) {
+        is_put = put_block(rows);
         if (!is_put) tell_row(rows, refused);
     }
     leave_table(rows);
@@ -230,6 +381,7 @@ PyObject *fast_write_columns(PyObject *module, PyObject *args) {
     (void)module;
     if (!PyArg_ParseTuple(args, "OIO!", &tables, &dialect, &PyList_Type, &refused) || !(tables = PyObject_GetIter(tables))) return NULL;
     rows.dialect = dialect;
+    rows.has_lock = true;
     bool is_put = (rows.texts = zeroed(TEXTS, sizeof *rows.texts)) != NULL;
     if (!is_put) PyErr_NoMemory();
     while (is_put && (table = PyIter_Next(tables)) != NULL) {

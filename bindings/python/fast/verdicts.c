@@ -69,10 +69,10 @@ static uint32_t judge_block(Judge *judge) {
     const size_t len = is_last ? judge->rest.len : MOST;
     size_t told = 0;
     judge->block = (lp_block){ 1, 0, 0, 0, 0 };
-    const uint32_t answer = lp_offsets_block(judge->rest.at, len, judge->dialect, is_last, &judge->block, judge->room, judge->room_len,
-                                             judge->rows, ROWS, judge->parts, judge->parts_len);
-    const uint32_t verdicts = lp_offsets_verdicts(judge->rest.at, len, judge->rows, judge->block.rows, &judge->limits, &told);
-    return verdicts == LP_WRITTEN ? answer : verdicts;
+    const uint32_t answer = lp_offsets_block_verdicts(judge->rest.at, len, judge->dialect, is_last, &judge->block, judge->room,
+                                                      judge->room_len, judge->rows, ROWS, judge->parts, judge->parts_len,
+                                                      &judge->limits, &told);
+    return told == judge->block.rows ? answer : LP_OUT_OF_MEMORY;
 }
 
 /* Memory of so many elements of this size in the place of other memory, which is given back. */

@@ -154,9 +154,15 @@ PyObject *element_of(PyObject *elements, Py_ssize_t at) {
     return element;
 }
 
-/* The pairs of the tags or of the fields, which are a list or a tuple of such. Calls of `checking` may change a list meanwhile. */
+/* The pairs of the tags or of the fields, which are a list or a tuple of such, or a dict. Calls of `checking` may change a list meanwhile. */
 static bool put_pairs(Handed *handed, bool is_tag, PyObject *pairs) {
     const char *what = is_tag ? "tags" : "fields";
+    if (PyDict_Check(pairs)) {
+        PyObject *items = PyDict_Items(pairs);
+        const bool are_put = items && put_pairs(handed, is_tag, items);
+        Py_XDECREF(items);
+        return are_put;
+    }
     if (!PyList_Check(pairs) && !PyTuple_Check(pairs)) return refuse(what, NULL, pairs);
     PyObject *pair;
     for (Py_ssize_t i = 0; (pair = element_of(pairs, i)) != NULL; i++) {
@@ -282,19 +288,23 @@ static bool refuse_texts(uint32_t dialect, const Handed *handed) {
     return false;
 }
 
+bool make_room(Out *out, size_t wanted) {
+    if (out->room - out->len >= wanted) return true;
+    uint8_t *more = PyMem_Realloc(out->at, 2 * out->room + wanted);
+    if (!more) {
+        PyErr_NoMemory();
+        return false;
+    }
+    out->at = more;
+    out->room = 2 * out->room + wanted;
+    return true;
+}
+
 uint32_t put_out(PutsOut *call, uint32_t dialect, const Handed *handed, Out *out) {
     static const lp_part no_parts[1] = { { LP_NO_VIEW, LP_NO_VIEW, 0, 0, LP_TAG, false } };
     const lp_part *parts = handed->parts_len > 0 ? handed->parts : no_parts;
     for (size_t wanted = 256;;) {
-        if (out->room - out->len < wanted) {
-            uint8_t *more = PyMem_Realloc(out->at, 2 * out->room + wanted);
-            if (!more) {
-                PyErr_NoMemory();
-                return 0;
-            }
-            out->at = more;
-            out->room = 2 * out->room + wanted;
-        }
+        if (!make_room(out, wanted)) return 0;
         const uint32_t answer = call(dialect, &handed->line, parts, handed->parts_len, out->at + out->len, out->room - out->len, &wanted);
         if (answer == LP_WRITTEN || answer == LP_FAULT) {
             out->len += wanted;

@@ -129,7 +129,7 @@ class Names(unittest.TestCase):
                     call(make("a\ud800"))
 
     def test_what_is_no_list_of_pairs(self):
-        for pairs in (None, "ab", {"ab": "x"}, {"ab"}, ["ab"], [b"ab"], [("a",)], [("a", "b", "c")], [None], iter([("a", "b")])):
+        for pairs in (None, "ab", {"ab"}, ["ab"], [b"ab"], [("a",)], [("a", "b", "c")], [None], iter([("a", "b")])):
             for line in (Line("m", pairs, [("f", 1)]), Line("m", [], pairs)):
                 for call in (write, show, is_admitted):
                     with self.subTest(line=line, call=call.__name__), self.assertRaisesRegex(TypeError, "pair"):

@@ -46,6 +46,6 @@ class Documentation(unittest.TestCase):
     def test_the_page_names_each_call(self):
         page = PAGE.read_text(encoding="utf-8")
         for name in line_protocol.__all__:
-            if name not in ("Source", "Value", "Side", "FaultKind", "Servers"):
+            if name not in ("Source", "Value", "Side", "FaultKind", "Servers", "Errors"):
                 with self.subTest(name=name):
                     self.assertRegex(page, rf"[`.]{name}\b|\b{name}\(")

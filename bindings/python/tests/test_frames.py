@@ -143,7 +143,7 @@ class FromFrame(unittest.TestCase):
         for times in ([5, 6], numpy.array([5, 6], "int32"), pandas.array([5, 6], "Int64"), numpy.array([5, 6], "uint64"), ["5", "6"]):
             frame = pandas.DataFrame({"f": [1, 2], "at": times})
             if isinstance(times, list) and times[0] == "5":
-                with self.assertRaisesRegex(TypeError, "a timestamp is an int, not str: '5'"):
+                with self.assertRaisesRegex(TypeError, "a timestamp is an int or a datetime, not str: '5'"):
                     from_frame(frame, "m", time="at")
             else:
                 self.assertEqual(from_frame(frame, "m", time="at"), "m f=1i 5\nm f=2i 6\n")

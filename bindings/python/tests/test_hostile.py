@@ -51,12 +51,13 @@ NO_SOURCE = [
     None, 0, 5, True, 1.5, 1j, ["n"], [10**5000], ("n",), {"n": 1}, {"n"}, frozenset("n"), range(3), Strange(), Decimal(1), iter("n")]
 NO_PATH = [
     None, 0, 5, True, 1.5, 1j, b"n", bytearray(b"n"), ["n"], ("n",), {"n": 1}, {"n"}, io.BytesIO(b"n"), iter("n"), Strange(), Silent()]
-NO_PAIRS = [None, 5, True, 1.5, "ab", b"ab", {"a": "b"}, {("a", "b")}, iter([("a", "b")]), Strange(), Silent()]
+NO_PAIRS = [None, 5, True, 1.5, "ab", b"ab", {("a", "b")}, {"a": "b"}.items(), iter([("a", "b")]), Strange(), Silent()]
 NO_PAIR = [None, 5, "ab", b"ab", {"a": "b"}, {"a", "b"}, (), ("a",), ("a", "b", "c"), [], ["a"], Strange()]
 NO_VALUE = [
     None, b"x", bytearray(b"x"), 1j, Decimal(1), Fraction(1, 2), [1], (1,), {1: 2}, {1}, datetime.datetime(2026, 1, 1), Strange(),
     Silent(), int]
 NO_INT = ["5", b"5", 1.0, 1.5, math.nan, True, False, 1j, Decimal(5), Fraction(5), [5], (5,), {}, Strange(), datetime.datetime(2026, 1, 1)]
+NO_TIME = [*NO_INT[:-1], datetime.date(2026, 1, 1), datetime.time(), datetime.timedelta(5)]
 TOO_LARGE = [2**63, -(2**63) - 1, 2**64, 10**30, 10**5000]
 NO_LINE = [None, 5, True, 1.5, "m f=1i", b"m f=1i", ["m"], ("m", [], [("f", 1)], None), {"measurement": "m"}, Strange(), Silent()]
 
@@ -124,15 +125,15 @@ TABLE = [
     (NO_STR, lambda value: Line("m", [(value, "v")], FIELDS), BOTH, TypeError, "the key of a tag is a str, not {told}"),
     (NO_STR, lambda value: Line("m", [("k", value)], FIELDS), BOTH, TypeError, "the value of the tag 'k' is a str, not {told}"),
     (NO_STR, lambda value: Line("m", [], [(value, 1)]), LINE_CALLS, TypeError, "the key of a field is a str, not {told}"),
-    (NO_PAIRS, lambda value: Line("m", value, FIELDS), BOTH, TypeError, "the tags are a list of pairs, not {told}"),
-    (NO_PAIRS, lambda value: Line("m", [], value), LINE_CALLS, TypeError, "the fields are a list of pairs, not {told}"),
+    (NO_PAIRS, lambda value: Line("m", value, FIELDS), BOTH, TypeError, "the tags are a list of pairs or a dict, not {told}"),
+    (NO_PAIRS, lambda value: Line("m", [], value), LINE_CALLS, TypeError, "the fields are a list of pairs or a dict, not {told}"),
     (NO_PAIR, lambda value: Line("m", [value], FIELDS), BOTH, TypeError, "each of the tags is a pair, not {told}"),
     (NO_PAIR, lambda value: Line("m", [], [value]), LINE_CALLS, TypeError, "each of the fields is a pair, not {told}"),
     (NO_VALUE, with_field, LINE_CALLS, TypeError, "the field 'f': a value is .* not {told}"),
     (TOO_LARGE, with_field, LINE_CALLS, OverflowError, "the field 'f': .* is not at least"),
     ([-1, 2**64, 10**5000], lambda value: with_field(Unsigned(value)), LINE_CALLS, OverflowError, "the field 'f': .* is not at least 0"),
     ([math.inf, -math.inf, math.nan], with_field, LINE_CALLS, ValueError, "the field 'f': {value} has no literal"),
-    (NO_INT, lambda value: Line("m", [], FIELDS, value), LINE_CALLS, TypeError, "a timestamp is an int, not {told}"),
+    (NO_TIME, lambda value: Line("m", [], FIELDS, value), LINE_CALLS, TypeError, "a timestamp is an int or a datetime, not {told}"),
     (TOO_LARGE, lambda value: Line("m", [], FIELDS, value), LINE_CALLS, OverflowError, "the timestamp: .* is not at least"),
     (NO_LINE, itself, BOTH, TypeError, "a line is a Line, not {told}"),
     (["m", "a b"], Line, LINE_CALLS, ValueError, "the line of the measurement '{value}' has no field"),
@@ -176,7 +177,8 @@ TABLE = [
      "the table 'm', row 0: the field 'f': {value} has no literal"),
     ([math.inf, -math.inf, math.nan], lambda value: table_of(fields={"f": Column(array.array("d", [value]))}), TABLES, ValueError,
      "the table 'm', row 0: the field 'f': {value} has no literal"),
-    (NO_INT, lambda value: table_of(Column([value])), TABLES, TypeError, "the table 'm', row 0: a timestamp is an int, not {told}"),
+    (NO_TIME, lambda value: table_of(Column([value])), TABLES, TypeError,
+     "the table 'm', row 0: a timestamp is an int or a datetime, not {told}"),
     (TOO_LARGE, lambda value: table_of(Column([value])), TABLES, OverflowError, "the table 'm', row 0: the timestamp: .* is not at least"),
 ]
 
@@ -189,7 +191,7 @@ BUILDER = [
     ("field", ["f"], NO_VALUE, TypeError, "the field 'f': a value is .* not {told}"),
     ("field", ["f"], TOO_LARGE, OverflowError, "the field 'f': .* is not at least"),
     ("field", ["f"], [math.inf, math.nan], ValueError, "the field 'f': {value} has no literal"),
-    ("timestamp", [], NO_INT, TypeError, "a timestamp is an int, not {told}"),
+    ("timestamp", [], NO_TIME, TypeError, "a timestamp is an int or a datetime, not {told}"),
     ("timestamp", [], TOO_LARGE, OverflowError, "the timestamp: .* is not at least"),
 ]
 

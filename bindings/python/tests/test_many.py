@@ -251,7 +251,7 @@ class Scalars(unittest.TestCase):
                 for value in values:
                     with self.subTest(value=value), self.assertRaisesRegex(TypeError, "the field 'f': a value is"):
                         write(Line("m", [], [("f", value)]))
-                with self.assertRaisesRegex(TypeError, "a timestamp is an int, not bool"):
+                with self.assertRaisesRegex(TypeError, "a timestamp is an int or a datetime, not bool"):
                     write(Line("m", [], [("f", 1)], module.bool_(True)))
                 for value in (module.float64("nan"), module.float32(math.inf)):
                     with self.subTest(value=value), self.assertRaisesRegex(ValueError, "the field 'f'"):

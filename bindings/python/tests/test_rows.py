@@ -222,7 +222,7 @@ class WithNumpy(unittest.TestCase):
             with self.subTest(mask=mask), self.assertRaisesRegex(TypeError, "a mask is"):
                 write_columns({"m": Table(Column([5]), {}, {"f": Column([1], mask)})})
         for times in (one, numpy.array([True]), numpy.array(["5"]), numpy.array([5], "timedelta64[ns]")):
-            with self.subTest(times=times), self.assertRaisesRegex(TypeError, "a timestamp is an int, not"):
+            with self.subTest(times=times), self.assertRaisesRegex(TypeError, "a timestamp is an int or a datetime, not"):
                 write_columns({"m": Table(Column(times), {}, {"f": Column([1])})})
         with self.assertRaisesRegex(TypeError, "the value of the tag 't' is a str, not float64: 1.0"):
             write_columns({"m": Table(Column([5]), {"t": Column(one)}, {"f": Column([1])})})

@@ -15,6 +15,7 @@ fn main() {
     // [end]
     print_lines();
     print_sums();
+    rebuild_text();
     print_pieces().expect("a slice can be read");
 }
 
@@ -48,14 +49,37 @@ fn print_sums() {
     // [end]
 }
 
-fn print_pieces() -> Result<(), influxdb_line_protocol::LineError> {
-    // [reader_in_rust]
-    use influxdb_line_protocol::LineReader;
+fn rebuild_text() {
+    // [rebuilt_in_rust]
+    use influxdb_line_protocol::{rebuild, Dialect};
 
-    let input = "cpu note=\"a\nb\" 1\ncpu usage=64i 2";
-    let mut lines = LineReader::new(std::io::BufReader::with_capacity(8, input.as_bytes()));
-    while let Some(line) = lines.next_line() {
-        println!("{:?}", line?);
+    let rebuilt = rebuild(Dialect::Strict, "m  f=t,g=1.50\nm f");
+    assert_eq!((rebuilt.carried, rebuilt.batch.as_str()), (1, "m f=true,g=1.50\n"));
+    assert_eq!((rebuilt.refused, rebuilt.faults.as_str()), (1, "item 2: No fields were provided\n"));
+    // [end]
+}
+
+fn print_pieces() -> std::io::Result<()> {
+    // [reader_in_rust]
+    use influxdb_line_protocol::{parse_lines_in, Dialect, LineError, LineReader, MAX_LINE};
+
+    let (file, dialect) = (&b"cpu note=\"a\ncpu usage=64i 2\n\xff\n"[..], Dialect::NewlineDelimited);
+    let mut pieces = LineReader::from_read(file, dialect, MAX_LINE);
+    while let Some(piece) = pieces.next_line() {
+        let piece = match piece {
+            Ok(piece) => piece,
+            Err(LineError::Io(failure)) => return Err(failure),
+            Err(refused) => {
+                println!("{refused}"); // too long, or not UTF-8: the next pieces come
+                continue;
+            }
+        };
+        for item in parse_lines_in(dialect, &piece) {
+            match item {
+                Ok(line) => println!("line {}, byte {}: {line}", piece.line, piece.offset),
+                Err(fault) => println!("line {}, byte {}: {fault}", piece.line, piece.offset),
+            }
+        }
     }
     // [end]
     Ok(())

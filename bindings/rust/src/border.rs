@@ -177,10 +177,10 @@ pub(crate) struct Lines<'a> {
 }
 
 impl<'a> Lines<'a> {
-    /// The cursor that `lp_lines_begin` fills for this text in the dialect of the Rust crate. A `str` is UTF-8, so the test
-    /// is left out.
-    pub(crate) fn of(text: &'a str) -> Self {
-        Self { rest: Text::new(text), dialect: dialect::CRATE, ended: false }
+    /// The cursor that `lp_lines_begin` fills for this text in the dialect of this number. A `str` is UTF-8, so the test is left
+    /// out.
+    pub(crate) fn of(dialect: u32, text: &'a str) -> Self {
+        Self { rest: Text::new(text), dialect, ended: false }
     }
 }
 
@@ -302,6 +302,16 @@ impl Default for Limits {
     }
 }
 
+/// How much was rebuilt.
+#[repr(C)]
+#[derive(Default)]
+pub(crate) struct Counts {
+    pub(crate) batch_len: usize,
+    pub(crate) faults_len: usize,
+    pub(crate) carried: usize,
+    pub(crate) refused: usize,
+}
+
 /// A call that puts a text out.
 pub(crate) type PutOut =
     unsafe extern "C" fn(*const Line<'_>, *const Part<'_>, usize, *mut u8, usize, *mut usize) -> u32;
@@ -349,6 +359,23 @@ extern "C" {
         told: *mut usize,
     ) -> u32;
     fn lp_line_is_base_safe(line: *const Line<'_>, parts: *const Part<'_>, parts_len: usize, safe: *mut bool) -> u32;
+    fn lp_line_is_admitted(
+        dialect: u32,
+        line: *const Line<'_>,
+        parts: *const Part<'_>,
+        parts_len: usize,
+        admitted: *mut bool,
+    ) -> u32;
+    fn lp_rebuild(
+        dialect: u32,
+        text: *const u8,
+        len: usize,
+        batch: *mut u8,
+        batch_room: usize,
+        faults: *mut u8,
+        faults_room: usize,
+        counts: *mut Counts,
+    ) -> u32;
 }
 
 // Hands on an answer, but ends as a refused request of the standard library does if a request for memory was refused.
@@ -365,6 +392,26 @@ pub(crate) fn is_base_safe(line: &Line<'_>, parts: &[Part<'_>]) -> bool {
     // SAFETY: `line` and `parts` are borrows, of texts that are borrows too. What is written is a local, apart from these.
     granted(unsafe { lp_line_is_base_safe(line, parts.as_ptr(), parts.len(), &mut safe) });
     safe
+}
+
+/// Whether this line, whose texts are those of `Text::new`, is admitted in the dialect of this number. False: it is not, or is no line.
+pub(crate) fn is_admitted(dialect: u32, line: &Line<'_>, parts: &[Part<'_>]) -> bool {
+    let mut admitted = false;
+    // SAFETY: `line` and `parts` are borrows, of texts that are borrows too. What is written is a local, apart from these.
+    granted(unsafe { lp_line_is_admitted(dialect, line, parts.as_ptr(), parts.len(), &mut admitted) });
+    admitted
+}
+
+/// What `lp_rebuild` answers over these buffers for this text in the dialect of this number, and how much was rebuilt.
+pub(crate) fn rebuild(dialect: u32, text: &str, batch: &mut [u8], faults: &mut [u8]) -> (u32, Counts) {
+    let mut counts = Counts::default();
+    let (batch_at, faults_at) = (batch.as_mut_ptr(), faults.as_mut_ptr());
+    // SAFETY: `text` has `len` bytes, and its pointer is not null, also if it is empty; so have both buffers, which are borrowed alone.
+    // What is written is these and a local, so they are apart from `text` and from each other.
+    let answer = unsafe {
+        lp_rebuild(dialect, text.as_ptr(), text.len(), batch_at, batch.len(), faults_at, faults.len(), &mut counts)
+    };
+    (granted(answer), counts)
 }
 
 /// The bits of the clauses that this text breaks. `None`: it has more bytes than a row may say.

@@ -69,7 +69,7 @@ clauses! {
     MeasurementEscape = 5, "a backslash or a quote is escaped in the measurement";
     TagEscape = 6, "a backslash is escaped in a tag key or a tag value";
     TagKeyComma = 7, "a comma is bare in a tag key";
-    TagValueEquals = 8, "an equals sign is bare in a tag value, and not its first byte";
+    TagValueEquals = 8, "an equals sign is bare in a tag value";
     RepeatedTag = 9, "two tags have one key";
     FieldKeyEscape = 10, "a backslash or a quote is escaped in a field key";
     FieldKeyComma = 11, "a comma is bare in a field key";
@@ -77,7 +77,7 @@ clauses! {
     LongSeries = 13, "the series, four bytes and a field key are longer than 65,535 bytes";
     Unsigned = 14, "a value is an unsigned integer";
     InfiniteFloat = 15, "a float is too large for a finite number";
-    Exponent = 16, "a float has an exponent";
+    RoundedFloat = 16, "a float has an exponent, or takes over 310 bytes";
     LeadingNul = 17, "the first field key begins with a byte 0";
     TimeOutOfRange = 18, "the timestamp is the greatest of 64 bits, or one of the two least";
     TagCount = 19, "the tags are 100, 200, 400, 800 and so on";
@@ -168,8 +168,8 @@ impl fmt::Debug for Broken {
 /// use influxdb_line_protocol::{broken_clauses, Clause, Limits, Servers};
 ///
 /// let broken = broken_clauses(&Limits::default(), "m f=1u,f=1e3 1590488773254420000").unwrap();
-/// assert!(broken.iter().eq([Clause::Unsigned, Clause::Exponent, Clause::RepeatedField]));
-/// assert_eq!(broken.first(Servers::Victoria), Some(Clause::Exponent));
+/// assert!(broken.iter().eq([Clause::Unsigned, Clause::RoundedFloat, Clause::RepeatedField]));
+/// assert_eq!(broken.first(Servers::Victoria), Some(Clause::RoundedFloat));
 /// assert!(broken_clauses(&Limits::default(), "m f=1,").is_none());
 /// ```
 pub fn broken_clauses(limits: &Limits, text: &str) -> Option<Broken> {

@@ -1,10 +1,11 @@
 //! The readers: what is read of a text, item by item.
 use crate::border::{self, answer, fault_kind, kind, Line, Lines, Part, Room, Row, View};
-use crate::{Error, EscapedStr, FieldSet, FieldValue, ParsedLine, Result, Series, TagSet};
+use crate::{Dialect, Error, EscapedStr, FieldSet, FieldValue, ParsedLine, Result, Series, TagSet};
 use nom::error::ErrorKind;
+use std::{fmt, iter::FusedIterator};
 
-/// Reads each line of a text. Blank lines and comments are passed over; a line with a fault is an error, and the lines after
-/// it are read.
+/// Reads each line of a text, by the rules of the original crate. Blank lines and comments are passed over; a line with a fault is an
+/// error, and the lines after it are read.
 ///
 /// ```
 /// use influxdb_line_protocol::{parse_lines, FieldValue};
@@ -18,9 +19,22 @@ use nom::error::ErrorKind;
 /// assert_eq!(lines.next().unwrap().unwrap_err().to_string(), "No fields were provided");
 /// assert!(lines.next().is_none());
 /// ```
-pub fn parse_lines(input: &str) -> impl Iterator<Item = Result<ParsedLine<'_>>> {
+pub fn parse_lines(input: &str) -> ParseLines<'_> {
+    parse_lines_in(Dialect::Crate, input)
+}
+
+/// Reads each line of a text, by the rules of a dialect: else as [`parse_lines`].
+///
+/// ```
+/// use influxdb_line_protocol::{parse_lines_in, Dialect};
+///
+/// let count = |dialect| parse_lines_in(dialect, "m f=\"open\nn f=1i\n").filter(|item| item.is_ok()).count();
+/// assert_eq!(count(Dialect::Strict), 0); // the string goes on in the next line
+/// assert_eq!(count(Dialect::NewlineDelimited), 1); // a line that is open takes no other with it
+/// ```
+pub fn parse_lines_in(dialect: Dialect, input: &str) -> ParseLines<'_> {
     ParseLines {
-        lines: Lines::of(input),
+        lines: Lines::of(dialect.number(), input),
         rows: vec![],
         parts: vec![Part::EMPTY; 16],
         room: vec![0; 256],
@@ -30,24 +44,56 @@ pub fn parse_lines(input: &str) -> impl Iterator<Item = Result<ParsedLine<'_>>> 
     }
 }
 
-/// Cuts a text into the pieces that hold one line each, which are not read. A newline within the quotes of a string is no end.
+/// Cuts a text into the pieces that hold one line each, which are not read, by the rules of the original crate. A newline within the
+/// quotes of a string is no end.
 ///
 /// ```
 /// let pieces: Vec<_> = influxdb_line_protocol::split_lines("m f=\"a\nb\"\nm g=t").collect();
 /// assert_eq!(pieces, ["m f=\"a\nb\"", "m g=t"]);
 /// ```
-pub fn split_lines(input: &str) -> impl Iterator<Item = &str> {
-    let mut lines = Lines::of(input);
-    std::iter::from_fn(move || {
-        let mut piece = View::EMPTY;
-        // SAFETY: the cursor is that of `Lines::of`; it and `piece` are locals, apart from each other and from `input`. A piece is a
-        // part of `input`, which is borrowed for as long as the piece is.
-        unsafe { border::lp_lines_piece(&mut lines, &mut piece).then(|| piece.text.get()) }
-    })
+pub fn split_lines(input: &str) -> SplitLines<'_> {
+    split_lines_in(Dialect::Crate, input)
 }
 
-// What is left of the text, the memory that is lent for a block of its items, and the answer for the last block.
-struct ParseLines<'a> {
+/// Cuts a text into the pieces that hold one line each, by the rules of a dialect: else as [`split_lines`].
+///
+/// ```
+/// use influxdb_line_protocol::{split_lines_in, Dialect};
+///
+/// let pieces: Vec<_> = split_lines_in(Dialect::NewlineDelimited, "m f=\"a\nb\"").collect();
+/// assert_eq!(pieces, ["m f=\"a", "b\""]);
+/// ```
+pub fn split_lines_in(dialect: Dialect, input: &str) -> SplitLines<'_> {
+    SplitLines(Lines::of(dialect.number(), input))
+}
+
+/// The pieces of a text, as [`split_lines`] and [`split_lines_in`] give them.
+#[derive(Clone)]
+pub struct SplitLines<'a>(Lines<'a>);
+
+impl<'a> Iterator for SplitLines<'a> {
+    type Item = &'a str;
+
+    fn next(&mut self) -> Option<&'a str> {
+        let mut piece = View::EMPTY;
+        // SAFETY: the cursor is that of `Lines::of`, or as a call has left it; it and `piece` are apart from each other and from the text.
+        // A piece is a part of the text, which is borrowed for as long as the piece is.
+        unsafe { border::lp_lines_piece(&mut self.0, &mut piece).then(|| piece.text.get()) }
+    }
+}
+
+impl FusedIterator for SplitLines<'_> {}
+
+impl fmt::Debug for SplitLines<'_> {
+    fn fmt(&self, f: &mut fmt::Formatter<'_>) -> fmt::Result {
+        f.debug_struct("SplitLines").finish_non_exhaustive()
+    }
+}
+
+/// The lines of a text and its faults, as [`parse_lines`] and [`parse_lines_in`] give them.
+///
+/// It holds what is left of the text, and memory for up to 16 items, which it reads ahead.
+pub struct ParseLines<'a> {
     lines: Lines<'a>,
     rows: Vec<Row<'a>>,
     parts: Vec<Part<'a>>,
@@ -55,6 +101,7 @@ struct ParseLines<'a> {
     // So many rows hold items, of which so many were given out.
     filled: usize,
     taken: usize,
+    // The answer for the last block.
     answer: u32,
 }
 
@@ -140,6 +187,14 @@ impl<'a> Iterator for ParseLines<'a> {
             // next block writes.
             Some(Err(unsafe { fault(&row.line) }))
         }
+    }
+}
+
+impl FusedIterator for ParseLines<'_> {}
+
+impl fmt::Debug for ParseLines<'_> {
+    fn fmt(&self, f: &mut fmt::Formatter<'_>) -> fmt::Result {
+        f.debug_struct("ParseLines").finish_non_exhaustive()
     }
 }
 

@@ -61,9 +61,7 @@ impl LineWriter {
     /// assert_eq!(refused, [format!("the value \"a\\\\\\nb\" of the tag \"k\" is not admitted: {reason}")]);
     /// ```
     pub fn write(&mut self, line: &ParsedLine<'_>) -> Result<(), NotAdmitted> {
-        let tags = line.series.tag_set.iter().flatten().map(|(key, value)| (key.as_str(), value.as_str())).collect();
-        let fields = line.field_set.iter().map(|(key, value)| (key.as_str(), value)).collect();
-        self.put(&Point { measurement: &line.series.measurement, tags, fields, timestamp: line.timestamp })
+        self.put(&Point::of(line))
     }
 
     /// Writes the line of a measurement, tags, fields and a timestamp, with its newline. It is an error if the line would not be read
@@ -100,20 +98,7 @@ impl LineWriter {
 
     fn put(&mut self, point: &Point<'_>) -> Result<(), NotAdmitted> {
         point.has_literals()?;
-        let literals: Vec<_> = point.fields.iter().map(|(_, value)| float_text(value)).collect();
-        let tags = point.tags.iter().map(|(key, value)| tag_part(View::new(key), View::new(value)));
-        let fields = point.fields.iter().zip(&literals);
-        let parts: Vec<_> = tags.chain(fields.map(|((key, value), literal)| field_part(View::new(key), value, literal))).collect();
-        let line = Line {
-            measurement: View::new(point.measurement),
-            tags: point.tags.len(),
-            fields: point.fields.len(),
-            timestamp: point.timestamp.unwrap_or(0),
-            has_tag_set: !point.tags.is_empty(),
-            has_timestamp: point.timestamp.is_some(),
-            ..Line::EMPTY
-        };
-        if self.append(&line, &parts) {
+        if point.hand_over(|line, parts| self.append(line, parts)) {
             return Ok(());
         }
         Err(point.part_not_admitted(self.dialect))
@@ -144,7 +129,32 @@ struct Point<'a> {
     timestamp: Option<i64>,
 }
 
-impl Point<'_> {
+impl<'a> Point<'a> {
+    // What a line that was read says.
+    fn of(line: &'a ParsedLine<'_>) -> Self {
+        let tags = line.series.tag_set.iter().flatten().map(|(key, value)| (key.as_str(), value.as_str())).collect();
+        let fields = line.field_set.iter().map(|(key, value)| (key.as_str(), value)).collect();
+        Point { measurement: &line.series.measurement, tags, fields, timestamp: line.timestamp }
+    }
+
+    // Calls with the line and its parts, as C takes them.
+    fn hand_over<T>(&self, take: impl FnOnce(&Line<'_>, &[Part<'_>]) -> T) -> T {
+        let literals: Vec<_> = self.fields.iter().map(|(_, value)| float_text(value)).collect();
+        let tags = self.tags.iter().map(|(key, value)| tag_part(View::new(key), View::new(value)));
+        let fields = self.fields.iter().zip(&literals);
+        let parts: Vec<_> = tags.chain(fields.map(|((key, value), literal)| field_part(View::new(key), value, literal))).collect();
+        let line = Line {
+            measurement: View::new(self.measurement),
+            tags: self.tags.len(),
+            fields: self.fields.len(),
+            timestamp: self.timestamp.unwrap_or(0),
+            has_tag_set: !self.tags.is_empty(),
+            has_timestamp: self.timestamp.is_some(),
+            ..Line::EMPTY
+        };
+        take(&line, &parts)
+    }
+
     // It is an error if there is no field, or a float has no literal.
     fn has_literals(&self) -> Result<(), NotAdmitted> {
         if self.fields.is_empty() {
@@ -188,6 +198,22 @@ impl Point<'_> {
             }
         }
         unreachable!("a part of a line that is not admitted is not")
+    }
+}
+
+impl ParsedLine<'_> {
+    /// Whether the line is admitted in a dialect: whether a [`LineWriter`] writes it. If not, [`LineWriter::write`] says why.
+    ///
+    /// ```
+    /// use influxdb_line_protocol::{parse_lines, Dialect};
+    ///
+    /// let line = parse_lines("m f=\"two\nlines\"").next().unwrap().unwrap();
+    /// assert!(line.is_admitted(Dialect::Strict));
+    /// assert!(!line.is_admitted(Dialect::NewlineDelimited));
+    /// ```
+    pub fn is_admitted(&self, dialect: Dialect) -> bool {
+        let point = Point::of(self);
+        point.has_literals().is_ok() && point.hand_over(|line, parts| border::is_admitted(dialect.number(), line, parts))
     }
 }
 

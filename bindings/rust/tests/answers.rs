@@ -1,7 +1,7 @@
-//! The rows of crates/lp_answers/data/answers.tsv, compared with what this crate gives for their texts, in its dialect. The head of
+//! The rows of crates/lp_answers/data/answers.tsv, compared with what this crate gives for their texts, in each dialect. The head of
 //! that table says how a row is spelled, and what each kind asks. `LP_ANSWERS` names the table, if this crate is a copy.
 use influxdb_line_protocol::{
-    parse_lines, split_lines, Dialect, Error, EscapedStr, FieldValue, LineReader, LineWriter, ParsedLine,
+    parse_lines_in, rebuild, split_lines_in, Dialect, Error, EscapedStr, FieldValue, LineReader, LineWriter, ParsedLine,
 };
 use std::{
     borrow::Cow,
@@ -78,8 +78,9 @@ fn fault(fault: &Error) -> String {
     }
 }
 
-fn items(text: &str) -> String {
-    let items: Vec<_> = parse_lines(text).map(|item| item.map_or_else(|error| fault(&error), |read| line(&read))).collect();
+fn items(dialect: Dialect, text: &str) -> String {
+    let items: Vec<_> =
+        parse_lines_in(dialect, text).map(|item| item.map_or_else(|error| fault(&error), |read| line(&read))).collect();
     items.join("|")
 }
 
@@ -94,57 +95,66 @@ fn with_numbers(answer: &str) -> String {
     read
 }
 
-// A batch with each float spelled as the standard library spells the number: a field holds no more of it.
-fn with_short_floats(batch: &str) -> String {
-    let mut parts = batch.split('=');
-    let mut spelled = parts.next().expect("a text has a first part").to_owned();
-    for part in parts {
-        let (value, rest) = part.split_at(part.find([',', ' ', '\n']).unwrap_or(part.len()));
-        let value = value.parse::<f64>().map_or(value.to_owned(), |number| number.to_string());
-        spelled += &format!("={value}{rest}");
-    }
-    spelled
+// How many items are written again, of how many, and what is written.
+fn rebuilt(dialect: Dialect, text: &str) -> String {
+    let rebuilt = rebuild(dialect, text);
+    assert_eq!(rebuilt.carried, count_admitted(dialect, text), "{text:?}");
+    format!("{} of {} <{}>", rebuilt.carried, rebuilt.carried + rebuilt.refused, rebuilt.batch)
 }
 
-// How many items are written, of how many, and what is written.
-fn rebuilt(text: &str) -> String {
-    let mut lines = LineWriter::new(Dialect::Crate);
-    let is_written = |item: Result<ParsedLine<'_>, Error>| item.map_or(false, |line| lines.write(&line).is_ok());
-    let items: Vec<_> = parse_lines(text).map(is_written).collect();
-    let written = items.iter().filter(|is_written| **is_written).count();
-    format!("{written} of {} <{}>", items.len(), String::from_utf8(lines.into_bytes()).expect("lines are UTF-8"))
+// How many lines of a text are admitted. Just these are written by a `LineWriter`.
+fn count_admitted(dialect: Dialect, text: &str) -> usize {
+    let lines = parse_lines_in(dialect, text).flatten();
+    let is_admitted = |line: &ParsedLine<'_>| {
+        assert_eq!(LineWriter::new(dialect).write(line).is_ok(), line.is_admitted(dialect), "{text:?}");
+        line.is_admitted(dialect)
+    };
+    lines.filter(is_admitted).count()
 }
 
-fn first(text: &str) -> ParsedLine<'_> {
-    parse_lines(text).next().expect("there is an item").expect("it is a line")
+// The status of the program, which is 1 if an item is refused, and what it writes.
+fn run(dialect: Dialect, text: &str) -> String {
+    let rebuilt = rebuild(dialect, text);
+    format!("{} <{}> <{}>", u8::from(rebuilt.refused > 0), rebuilt.batch, rebuilt.faults)
 }
 
-fn base(text: &str) -> String {
-    match first(text).series.generate_base() {
+fn first(dialect: Dialect, text: &str) -> ParsedLine<'_> {
+    parse_lines_in(dialect, text).next().expect("there is an item").expect("it is a line")
+}
+
+fn first_fault(dialect: Dialect, text: &str) -> String {
+    parse_lines_in(dialect, text).next().expect("there is an item").expect_err("it is a fault").to_string()
+}
+
+fn base(line: ParsedLine<'_>) -> String {
+    match line.series.generate_base() {
         Ok(Cow::Borrowed(base)) => format!("B<{base}>"),
         Ok(Cow::Owned(base)) => format!("O<{base}>"),
         Err(error) => error.to_string(),
     }
 }
 
-// The pieces of a text that is read by three bytes at once.
-fn pieces_in_parts(text: &str, dialect: Dialect) -> String {
+// The pieces of a text, which are those of the text when it is read by three bytes at once.
+fn pieces(dialect: Dialect, text: &str) -> String {
     let reader = BufReader::with_capacity(3, text.as_bytes());
-    LineReader::new_in(reader, dialect, usize::MAX).map(|piece| format!("<{}>", piece.expect("it is a text"))).collect()
+    let in_parts: Vec<_> = LineReader::new_in(reader, dialect, usize::MAX).map(|piece| piece.expect("it is a text").text).collect();
+    assert!(in_parts.iter().eq(split_lines_in(dialect, text)), "{text:?}");
+    in_parts.iter().map(|piece| format!("<{piece}>")).collect()
 }
 
 // What this crate gives for a text, or `None` if no call gives it.
-fn answer(kind: &str, text: &str) -> Option<String> {
+fn answer(kind: &str, dialect: Dialect, text: &str) -> Option<String> {
     Some(match kind {
-        "items" => items(text),
-        "pieces" => split_lines(text).map(|piece| format!("<{piece}>")).collect(),
-        "columns" => first(text).column_count().to_string(),
-        "fault" => parse_lines(text).next().expect("there is an item").expect_err("it is a fault").to_string(),
-        "base" => base(text),
-        "key" => first(text).series.key(),
-        "shown" => first(text).to_string(),
-        "rebuilt" => rebuilt(text),
-        "rests_of_pieces" | "rests_of_items" | "series" | "run" | "float" | "as_written" => return None,
+        "items" => items(dialect, text),
+        "pieces" => pieces(dialect, text),
+        "columns" => first(dialect, text).column_count().to_string(),
+        "fault" => first_fault(dialect, text),
+        "base" => base(first(dialect, text)),
+        "key" => first(dialect, text).series.key(),
+        "shown" => first(dialect, text).to_string(),
+        "rebuilt" => rebuilt(dialect, text),
+        "run" => run(dialect, text),
+        "rests_of_pieces" | "rests_of_items" | "series" | "float" | "as_written" => return None,
         _ => panic!("{kind} is no kind that is known"),
     })
 }
@@ -158,35 +168,29 @@ fn told(table: &str, rows: &BTreeMap<&str, usize>) -> String {
     kinds.join(", ")
 }
 
+// Compares the answers of a row, one for each dialect that it has. `None`: no call gives them.
+fn compare(row: &str) -> (&str, Option<usize>) {
+    let cells: Vec<_> = row.split('\t').collect();
+    let (kind, text) = (cells[0], text_of(cells[1]));
+    let dialects = [Dialect::Crate, Dialect::Strict, Dialect::NewlineDelimited];
+    assert!((3..=5).contains(&cells.len()), "{row:?} is no row");
+    for (wanted, dialect) in cells[2..].iter().zip(dialects) {
+        let Some(given) = answer(kind, dialect, &text) else { return (kind, None) };
+        let wanted = text_of(wanted);
+        assert_eq!(given, if kind == "items" { with_numbers(&wanted) } else { wanted }, "{row}");
+    }
+    (kind, Some(cells.len() - 2))
+}
+
 #[test]
 fn each_row_has_its_answer() {
     let table = fs::read_to_string(env::var("LP_ANSWERS").unwrap_or(TABLE.into())).expect("LP_ANSWERS names the table");
     let (mut compared, mut passed_over, mut others) = (BTreeMap::new(), BTreeMap::new(), 0);
     for row in table.lines().filter(|line| !line.is_empty() && !line.starts_with('#')) {
-        let cells: Vec<_> = row.split('\t').collect();
-        let (kind, wanted) = match cells[..] {
-            [kind, _, wanted] | [kind, _, wanted, _] | [kind, _, wanted, _, _] => (kind, text_of(wanted)),
-            _ => panic!("{row:?} is no row"),
-        };
-        let Some(given) = answer(kind, &text_of(cells[1])) else {
-            *passed_over.entry(kind).or_insert(0) += 1;
-            continue;
-        };
-        let wanted = match kind {
-            "items" => with_numbers(&wanted),
-            "rebuilt" => with_short_floats(&wanted),
-            _ => wanted,
-        };
-        assert_eq!(given, wanted, "{row}");
-        *compared.entry(kind).or_insert(0) += 1;
-        if kind != "pieces" {
-            others += cells.len() - 3;
-            continue;
-        }
-        for (wanted, dialect) in cells[2..].iter().zip([Dialect::Crate, Dialect::Strict, Dialect::NewlineDelimited]) {
-            assert_eq!(pieces_in_parts(&text_of(cells[1]), dialect), text_of(wanted), "{row}");
-        }
+        let (kind, answers) = compare(row);
+        *if answers.is_some() { &mut compared } else { &mut passed_over }.entry(kind).or_insert(0) += 1;
+        others += answers.map_or(0, |answers| answers - 1);
     }
     let (compared, passed_over) = (told(&table, &compared), told(&table, &passed_over));
-    println!("answers.tsv: compared {compared}; passed over {passed_over}, and {others} answers in the other dialects");
+    println!("answers.tsv: compared {compared}, and {others} answers in the other dialects; passed over {passed_over}");
 }

@@ -44,8 +44,8 @@ fn a_reader_of_lines_holds_one_line() {
     let long = most_of(|| {
         let text = BufReader::new(b"m f=\"".chain(std::io::repeat(b'\n').take(MANY)).chain(&b"\"\nn f=1"[..]));
         let mut lines = LineReader::new_in(text, Dialect::Crate, 1000);
-        assert!(matches!(lines.next_line(), Some(Err(LineError::TooLong { newlines })) if newlines as u64 == MANY));
-        assert_eq!(lines.next_line().unwrap().unwrap(), "n f=1");
+        assert!(matches!(lines.next_line(), Some(Err(LineError::TooLong { newlines, .. })) if newlines as u64 == MANY));
+        assert_eq!(lines.next_line().unwrap().unwrap().text, "n f=1");
         assert!(lines.next_line().is_none());
     });
     assert!(long < 1 << 17, "{long} bytes for a line that is too long");
@@ -55,7 +55,7 @@ fn a_reader_of_lines_holds_one_line() {
         let mut lines = LineReader::new(text);
         let mut count = 0;
         while let Some(line) = lines.next_line() {
-            assert_eq!(line.unwrap(), "");
+            assert_eq!(line.unwrap().text, "");
             count += 1;
         }
         assert_eq!(count, MANY + 1);

@@ -125,7 +125,7 @@ fn limits_are_those_that_are_given() {
 #[test]
 fn words_and_sets_are_shown() {
     let broken = broken_clauses(&Limits::default(), "m f=1u,f=1e3").unwrap();
-    assert_eq!(format!("{broken:?}"), "{Unsigned, Exponent, RepeatedField}");
+    assert_eq!(format!("{broken:?}"), "{Unsigned, RoundedFloat, RepeatedField}");
     assert_eq!(broken.first(Servers::All).unwrap().to_string(), "a value is an unsigned integer");
     assert_eq!(Broken::default(), broken_clauses(&Limits::default(), "m f=1").unwrap());
 }

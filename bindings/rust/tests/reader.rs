@@ -1,5 +1,5 @@
 //! The pieces of a reader, however few bytes it gives at once.
-use influxdb_line_protocol::{split_lines, Dialect, LineError, LineReader};
+use influxdb_line_protocol::{split_lines, split_lines_in, Dialect, LineError, LineReader, Piece, MAX_LINE};
 use std::error::Error as _;
 use std::io::{self, BufRead, BufReader, Read};
 
@@ -10,11 +10,11 @@ fn in_parts(text: &[u8], len: usize) -> impl BufRead + '_ {
 
 // What comes of each piece: its text, or the error in words and the newlines.
 fn taken<R: BufRead>(lines: LineReader<R>) -> Vec<String> {
-    let item = |line: Result<String, LineError>| match line {
-        Ok(line) => line,
-        Err(LineError::TooLong { newlines }) => format!("too long {newlines}"),
+    let item = |line: Result<Piece<String>, LineError>| match line {
+        Ok(piece) => piece.text,
+        Err(LineError::TooLong { newlines, .. }) => format!("too long {newlines}"),
         Err(LineError::NotUtf8 { newlines, .. }) => format!("not UTF-8 {newlines}"),
-        Err(LineError::Io(fault)) => format!("failed: {fault}"),
+        Err(fault) => format!("failed: {fault}"),
     };
     lines.map(item).collect()
 }
@@ -94,7 +94,51 @@ fn a_piece_that_is_not_utf8_leaves_the_next_ones_alone() {
         assert_eq!(taken(reader), ["not UTF-8 1", "m f=\"\u{e9}\"", "not UTF-8 0", "n"]);
     }
     let fault = LineReader::new(&b"\xff"[..]).next().unwrap().unwrap_err();
-    assert_eq!((fault.to_string().as_str(), fault.source().is_some()), ("the line is not UTF-8", true));
+    assert_eq!((fault.to_string().as_str(), fault.source().is_some()), ("line 1: the line is not UTF-8", true));
+}
+
+// Where each piece of a text begins, or each error in the place of one.
+fn places<R: BufRead>(mut lines: LineReader<R>) -> Vec<(u64, u64)> {
+    let mut places = vec![];
+    while let Some(piece) = lines.next_line() {
+        places.push(match piece {
+            Ok(piece) => (piece.line, piece.offset),
+            Err(LineError::TooLong { line, offset, .. } | LineError::NotUtf8 { line, offset, .. }) => (line, offset),
+            Err(fault) => panic!("{fault}"),
+        });
+    }
+    places
+}
+
+#[test]
+fn each_piece_has_the_place_where_it_begins() {
+    for text in TEXTS {
+        for dialect in [Dialect::Crate, Dialect::Strict, Dialect::NewlineDelimited] {
+            let start = text.as_ptr() as usize;
+            let offsets = split_lines_in(dialect, text).map(|piece| piece.as_ptr() as usize - start);
+            let wanted: Vec<_> =
+                offsets.map(|at| (1 + text[..at].matches('\n').count() as u64, at as u64)).collect();
+            for (len, limit) in [(1, 3), (2, 0), (5, MAX_LINE), (100, 7)] {
+                assert_eq!(places(LineReader::new_in(in_parts(text.as_bytes(), len), dialect, limit)), wanted, "{text:?}");
+            }
+        }
+    }
+    let not_utf8 = b"m f=1\n\xff\"\n\nm g=\"\xff\n\"\nm f=2";
+    assert_eq!(places(LineReader::new(&not_utf8[..])), [(1, 0), (2, 6), (3, 9), (4, 10), (6, 19)]);
+}
+
+#[test]
+fn a_reader_has_a_limit_if_none_is_given() {
+    let longest = format!("m f={}", "1".repeat(MAX_LINE - 4));
+    let text = format!("{longest}1\n{longest}\nm f=1");
+    let file = io::Cursor::new(text.as_bytes());
+    let mut lines = LineReader::new(file.clone());
+    let long = lines.next_line().unwrap().unwrap_err();
+    assert_eq!(long.to_string(), "line 1: the line is too long");
+    assert_eq!(lines.next_line().unwrap().unwrap().len(), MAX_LINE);
+    assert_eq!(lines.next_line().unwrap().unwrap().text, "m f=1");
+    assert!(lines.next_line().is_none());
+    assert_eq!(LineReader::from_read(file, Dialect::Strict, MAX_LINE + 1).filter(|piece| piece.is_ok()).count(), 3);
 }
 
 // Gives a byte, an interruption and a failure in turn.
@@ -122,26 +166,26 @@ fn a_reader_that_fails_loses_nothing() {
     let mut pieces = vec![];
     while let Some(line) = lines.next_line() {
         match line {
-            Ok(line) => pieces.push(line.to_owned()),
+            Ok(piece) => pieces.push((piece.to_string(), piece.line, piece.offset)),
             Err(fault) => {
                 assert_eq!(fault.to_string(), "no more paper");
                 failures += 1;
             }
         }
     }
-    assert_eq!((pieces.as_slice(), failures), (&["m f=\"a\nb\"".to_owned(), "n f=1".to_owned()][..], text.len()));
+    assert_eq!((pieces, failures), (vec![("m f=\"a\nb\"".to_owned(), 1, 0), ("n f=1".to_owned(), 3, 10)], text.len()));
 }
 
 #[test]
 fn the_reader_is_at_the_byte_after_the_last_cut() {
     let mut lines = LineReader::new(&b"m f=1\nn f=2"[..]);
-    assert_eq!(lines.next_line().unwrap().unwrap(), "m f=1");
+    assert_eq!(lines.next_line().unwrap().unwrap().text, "m f=1");
     assert_eq!(lines.into_inner(), b"n f=2");
 }
 
 #[test]
 fn the_end_stays_the_end() {
     let mut lines = LineReader::new(&b"m"[..]);
-    assert_eq!(lines.next().unwrap().unwrap(), "m");
+    assert_eq!(lines.next().unwrap().unwrap().text, "m");
     assert!(lines.next().is_none() && lines.next_line().is_none());
 }

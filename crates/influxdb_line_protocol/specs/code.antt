@@ -31,4 +31,5 @@ pub use Rattle.lp_split.specs.code.Lending
 pub use Rattle.lp_split.specs.code.Bounded
 pub use Rattle.lp_portable.specs.code.Clauses
 pub use Rattle.lp_portable.specs.code.Telling
+pub use Rattle.lp_portable.specs.code.Verdicts
 pub mod WritingAdmitted

@@ -25,4 +25,5 @@ pub use Rattle.lp_portable.specs.declared.broken.Broken
 pub use Rattle.lp_portable.specs.declared.broken.Clause
 pub use Rattle.lp_portable.specs.declared.limits.Limits
 pub use Rattle.lp_portable.specs.declared.limits.Servers
+pub use Rattle.lp_portable.specs.declared.verdicts.Verdict
 pub use Rattle.influxdb_line_protocol.specs.declared.builder.admitted.Unwritten

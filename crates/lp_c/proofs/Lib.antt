@@ -1,4 +1,5 @@
 pub mod BlockLemmas
+pub mod BlockVerdictLemmas
 pub mod CursorLemmas
 pub mod CutLemmas
 pub mod FillLemmas
@@ -11,6 +12,7 @@ pub mod RowKeyLemmas
 pub mod RowLemmas
 pub mod RowsLemmas
 pub mod RowsTold
+pub mod SureRowLemmas
 pub mod TextLemmas
 pub mod ToldLemmas
 pub mod VerdictLemmas

@@ -1,3 +1,4 @@
+pub mod BlockVerdicts
 pub mod Blocks
 pub mod Crossing
 pub mod Cutting
@@ -12,6 +13,7 @@ pub mod Portions
 pub mod Rebuilding
 pub mod Rooms
 pub mod RowKeys
+pub mod SureRows
 pub mod Telling
 pub mod Verdicts
 pub mod Writing

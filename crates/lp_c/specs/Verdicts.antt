@@ -37,15 +37,19 @@ IsPieceOf text row None = ¬ HasPiece text row
 IsPieceOf text row (Some piece) = HasPiece text row × (piece.now ≡ piece_there text row)
 
 -- the piece of a row is one line for the strict reader, which breaks these clauses
-pub record BreaksThere (limits : Limits) (text : List ℕ) (row : OffsetRow) (broken : Broken) : Type 0 where
+pub record BreaksThere (limits : portable.Limits) (text : List ℕ) (row : OffsetRow) (broken : Broken) : Type 0 where
   pub piece : HasPiece text row
-  pub breaks : Breaks (limits_of limits) (piece_there text row) broken
+  pub breaks : Breaks limits (piece_there text row) broken
 
 -- the bits of the clauses that the piece of a row breaks; or 1, if it is no line for the strict reader
-abbrev pub IsVerdict : Limits → List ℕ → OffsetRow → ℕ → Type 0
-IsVerdict limits text row n =
+abbrev pub IsVerdictBy : portable.Limits → List ℕ → OffsetRow → ℕ → Type 0
+IsVerdictBy limits text row n =
     ((broken : Broken) × BreaksThere limits text row broken × (n ≡ bits_of broken))
     ⊎ (((broken : Broken) → ¬ BreaksThere limits text row broken) × (n ≡ 1))
+
+-- the same with limits as a caller in C has them
+abbrev pub IsVerdict : Limits → List ℕ → OffsetRow → ℕ → Type 0
+IsVerdict limits = IsVerdictBy (limits_of limits)
 
 -- telling the first of these rows may take memory: its piece is no light one
 abbrev pub MayTakeMemory : List ℕ → List OffsetRow → Type 0

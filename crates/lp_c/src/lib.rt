@@ -4,6 +4,7 @@
 //! texts of it are parts of the input or of the lent room. No call keeps anything, ends the program or calls back.
 #![tactic(auto)]
 
+mod block_verdicts;
 mod blocks;
 mod cuts;
 mod handed;
@@ -19,6 +20,7 @@ mod portions;
 mod reading;
 mod rebuilding;
 mod row_keys;
+mod sure_rows;
 mod telling;
 mod verdicts;
 mod views;

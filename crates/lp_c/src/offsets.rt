@@ -449,6 +449,58 @@ fn is_in_32(number: usize) -> bool
     number <= u32::MAX as usize
 }
 
+// Whether 32 bits hold the lengths of what is lent.
+#[inline(always)]
+pub(crate) fn are_in_32(text: &[u8], rows: &[OffsetRow], parts: &[OffsetPart], room: &[u8]) -> bool
+    ensures text { result ≡ true → length text.now < 2 ^ 32 }
+    ensures rows { result ≡ true → length rows.now < 2 ^ 32 }
+    ensures parts { result ≡ true → length parts.now < 2 ^ 32 }
+    ensures room { result ≡ true → length room.now < 2 ^ 32 }
+    ensures long { result ≡ false → (2 ^ 32 ≤ length text.now) ⊎ (2 ^ 32 ≤ length rows.now)
+        ⊎ (2 ^ 32 ≤ length parts.now) ⊎ (2 ^ 32 ≤ length room.now) }
+{
+    is_in_32(text.len()) && is_in_32(rows.len()) && is_in_32(parts.len()) && is_in_32(room.len())
+}
+
+// Fills rows from where a block begins, whose lengths 32 bits hold, and says where it ended. Gives the number of the answer.
+#[inline(always)]
+pub(crate) fn fill_block(
+    dialect: Rules,
+    last: bool,
+    text: &[u8],
+    block: &mut Block,
+    room: &mut [u8],
+    rows: &mut [OffsetRow],
+    parts: &mut [OffsetPart],
+) -> u32
+    requires text { length text.now < 2 ^ 32 }
+    requires rows { length rows.old < 2 ^ 32 }
+    requires parts { length parts.old < 2 ^ 32 }
+    requires room { length room.old < 2 ^ 32 }
+    ensures reads { ReadsOffsets (rules_of dialect) last text.now block.old rows.new parts.new room.new block.new result }
+    ensures known { result ≢ answer_number Answer.NotADialect }
+    ensures short { result ≢ answer_number Answer.TooLong }
+    ensures memory { result ≢ answer_number Answer.OutOfMemory }
+{
+    let mut filled = Filled {
+        spot: Spot {
+            at: text.len().min(block.at as usize),
+            line: block.line,
+        },
+        parts: 0,
+        room: 0,
+    };
+    let (count, came) = read_rows(dialect, last, text, rows, parts, room, &mut filled);
+    *block = Block {
+        line: filled.spot.line,
+        at: filled.spot.at as u32,
+        rows: count as u32,
+        parts: filled.parts as u32,
+        room: filled.room as u32,
+    };
+    block_answer(came, last)
+}
+
 /// Reads items of a text into rows, in order, as long as rows, parts and room last: each by offsets in `text` and in `room`. It asks for
 /// no memory, and what was lent before needs to hold nothing.
 ///
@@ -480,28 +532,8 @@ pub extern "C" fn lp_offsets_block(
     let Some(rules) = Dialect::numbered(dialect) else {
         return Answer::NotADialect.number();
     };
-    if !is_in_32(text.len())
-        || !is_in_32(rows.len())
-        || !is_in_32(parts.len())
-        || !is_in_32(room.len())
-    {
+    if !are_in_32(text, rows, parts, room) {
         return Answer::TooLong.number();
     }
-    let mut filled = Filled {
-        spot: Spot {
-            at: text.len().min(block.at as usize),
-            line: block.line,
-        },
-        parts: 0,
-        room: 0,
-    };
-    let (count, came) = read_rows(rules.rules(), last, text, rows, parts, room, &mut filled);
-    *block = Block {
-        line: filled.spot.line,
-        at: filled.spot.at as u32,
-        rows: count as u32,
-        parts: filled.parts as u32,
-        room: filled.room as u32,
-    };
-    block_answer(came, last)
+    fill_block(rules.rules(), last, text, block, room, rows, parts)
 }

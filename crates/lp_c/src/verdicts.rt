@@ -1,16 +1,19 @@
 //! Which clauses of what is portable the lines of rows by offsets break, told in the rows.
 
-ghost use Rattle.std.specs.Prelude.{◌≡◌, ◌≢◌, ◌↔◌, ◌≤◌, IfOk, IsOk, drop, length, take, true};
-ghost use Rattle.std.specs.List.{AllZip};
+ghost use Rattle.std.specs.Prelude.{◌≡◌, ◌≢◌, ◌↔◌, ◌≤◌, ◌<◌, IfOk, IfSome, IsOk, drop, length, take, true};
+ghost use Rattle.std.specs.List.{AllByRecursion, AllZip};
 ghost use Rattle.lp_format.specs.{code.Light.is_light, format.Strict, format.trimmed};
 ghost use Rattle.lp_portable.specs.format.Portable.{default_limits};
 ghost use Rattle.lp_c.specs.Numbers.{answer_number};
 ghost use Rattle.lp_c.specs.Portions.{IsPortionOf};
-ghost use Rattle.lp_c.specs.Verdicts.{IsPieceOf, IsVerdict, MayTakeMemory, TellsVerdict, format_limits, limits_of, piece_there};
+ghost use Rattle.lp_c.specs.SureRows.{IsShownRow};
+ghost use Rattle.lp_c.specs.Verdicts.{IsPieceOf, IsVerdictBy, MayTakeMemory, TellsVerdict, format_limits, limits_of, piece_there};
 ghost use Rattle.lp_c.specs.declared.views.Answer.TheVariants as Answer;
 
 use crate::offsets::OffsetRow;
+use crate::placed::OffsetPart;
 use crate::portions::{Portion, no_portion};
+use crate::sure_rows::sure_verdict;
 use crate::views::Answer;
 use lp_portable::{Limits as Most, broken_clauses};
 use std::alloc::{AllocError, Global};
@@ -83,10 +86,10 @@ fn piece_of<'a>(
     portion.next_text(text, at, len, rows, given)
 }
 
-// The bits of the clauses that the piece of a row breaks, or 1 if it is no line.
-fn verdict<'a>(
+// The bits of the clauses that the piece of a row breaks, or 1 if it is no line, by a look at its text.
+fn verdict_by_text<'a>(
     alloc: Global,
-    limits: &Limits,
+    limits: &Most,
     text: &'a [u8],
     portion: &mut Portion<'a>,
     row: &OffsetRow,
@@ -95,16 +98,79 @@ fn verdict<'a>(
 ) -> Result<u64, AllocError>
     requires { IsPortionOf text.now portion.old }
     ensures portion { IsPortionOf text.now portion.new }
-    ensures bits { IfOk result (IsVerdict limits.now text.now row.now) }
+    ensures bits { IfOk result (IsVerdictBy limits.now text.now row.now) }
     ensures memory { is_light Strict (trimmed (piece_there text.now row.now)) ≡ true → IsOk result }
 {
     let Some(piece) = piece_of(text, portion, row, rows, given) else {
         return Ok(1);
     };
-    match broken_clauses(alloc, &limits_of(limits), piece)? {
+    match broken_clauses(alloc, limits, piece)? {
         Some(broken) => Ok(broken.bits()),
         None => Ok(1),
     }
+}
+
+// The same, from its places if that is sure. The parts are those of the rows, if the strict rules filled them.
+#[inline(always)]
+fn verdict<'a>(
+    alloc: Global,
+    limits: &Most,
+    text: &'a [u8],
+    portion: &mut Portion<'a>,
+    parts: Option<&[OffsetPart]>,
+    row: &OffsetRow,
+    rows: usize,
+    given: usize,
+) -> Result<u64, AllocError>
+    requires portion { IsPortionOf text.now portion.old }
+    requires shown { IfSome parts (λ own. IsShownRow text.now own.now row.now) }
+    ensures portion { IsPortionOf text.now portion.new }
+    ensures bits { IfOk result (IsVerdictBy limits.now text.now row.now) }
+    ensures memory { is_light Strict (trimmed (piece_there text.now row.now)) ≡ true → IsOk result }
+{
+    if let Some(own) = parts {
+        if let Some(bits) = sure_verdict(limits, text, own, row) {
+            return Ok(bits);
+        }
+    }
+    verdict_by_text(alloc, limits, text, portion, row, rows, given)
+}
+
+/// Tells rows their verdicts, and gives how many it told: fewer than all if memory was refused for the next one. The parts are those of the
+/// rows, if these were filled by the strict rules.
+#[inline(always)]
+pub(crate) fn tell_verdicts(
+    alloc: Global,
+    limits: &Limits,
+    text: &[u8],
+    parts: Option<&[OffsetPart]>,
+    rows: &mut [OffsetRow],
+) -> usize
+    requires { IfSome parts (λ own. AllByRecursion (IsShownRow text.now own.now) rows.old) }
+    ensures verdicts { AllZip (TellsVerdict limits.now text.now) (take result rows.old) (take result rows.new) }
+    ensures others { drop result rows.new ≡ drop result rows.old }
+    ensures size { (length rows.new ≡ length rows.old) × (result ≤ length rows.new) }
+    ensures memory { result < length rows.new → MayTakeMemory text.now (drop result rows.old) }
+{
+    let most = limits_of(limits);
+    let count = rows.len();
+    let mut portion = no_portion(0, 0, 0);
+    for at in 0..count {
+        let Ok(bits) = verdict(
+            alloc,
+            &most,
+            text,
+            &mut portion,
+            parts,
+            &rows[at],
+            count,
+            at,
+        ) else {
+            return at;
+        };
+        rows[at].verdict = bits;
+    }
+    count
 }
 
 /// Tells each row which clauses its piece breaks, with these limits: `verdict` is the sum of their bits, 0 if it breaks none. It is 1 if the
@@ -135,15 +201,9 @@ pub extern "C" fn lp_offsets_verdicts(
     ensures answers { result ≢ answer_number Answer.Written → result ≡ answer_number Answer.OutOfMemory }
     ensures memory { result ≡ answer_number Answer.OutOfMemory → MayTakeMemory text.now (drop told.new rows.old) }
 {
-    let count = rows.len();
-    let mut portion = no_portion(0, 0, 0);
-    for at in 0..count {
-        let Ok(bits) = verdict(alloc, limits, text, &mut portion, &rows[at], count, at) else {
-            *told = at;
-            return Answer::OutOfMemory.number();
-        };
-        rows[at].verdict = bits;
+    *told = tell_verdicts(alloc, limits, text, None, rows);
+    if *told < rows.len() {
+        return Answer::OutOfMemory.number();
     }
-    *told = count;
     Answer::Written.number()
 }

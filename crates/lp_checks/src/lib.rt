@@ -9,6 +9,7 @@
 mod calls;
 mod devices;
 mod events;
+mod influx;
 mod render;
 mod report;
 mod settings;
@@ -26,6 +27,7 @@ use influxdb_line_protocol::{
     PieceTooLong, hash_series, key_of_text, parse_events_in, parse_lines, parse_lines_in,
     read_events_in, same_series, split_lines_in, write_line,
 };
+use lp_influx::influx_line;
 use lp_rebuild::{Reading, RunFault, Writing, rebuild_in, run_in};
 use lp_relay::{KINDS, Nowhere, Outputs, relay};
 use report::Report;
@@ -694,4 +696,24 @@ pub extern "C" fn lp_checks_stepped(
         refused: Nowhere::new(),
     };
     told_end(relay(alloc, settings, &mut reader, &mut outputs).err())
+}
+
+/// What InfluxDB 1.x reads of a line, as `influx` says it: one entry, or none. Where memory was refused, the entry is empty.
+#[unsafe(no_mangle)]
+pub extern "C" fn lp_checks_influx(
+    alloc: Global,
+    text: &[u8],
+    out: &mut [u8],
+    ends: &mut [u64],
+) -> u64 {
+    let mut report = Report::new(out, ends);
+    match &influx_line(alloc, text) {
+        Ok(Some(line)) => {
+            influx::render_influx(&mut report, line);
+            report.end();
+        }
+        Ok(None) => {}
+        Err(_) => report.end(),
+    }
+    report.count()
 }

@@ -7,7 +7,7 @@ use Rattle.lp_lines.specs.{declared.parsed.ParsedLine.ParsedLine, code.Lookups.s
 use Rattle.lp_lines.specs.code.Parsed.{tags_of}
 use Rattle.lp_portable.specs.declared.{broken.Broken.Broken, broken.Clause.Clause, limits.Limits.Limits, names.NameBreaks.NameBreaks, portable.Parts.Parts, portable.Repeats.Repeats}
 use Rattle.lp_portable.specs.code.{ByCode.ArePartsOf, ByCode.broken_by_code, Walks.keys_in, Walks.name_breaks, Walks.repeats_of}
-use Rattle.lp_portable.specs.format.Portable.{breaks, has_control, has_exponent, has_repeats, is_finite, is_hundreds, is_system_key, is_unsigned}
+use Rattle.lp_portable.specs.format.Portable.{breaks, has_control, is_rounded, has_repeats, is_finite, is_hundreds, is_system_key, is_unsigned}
 use Rattle.lp_portable.specs.format.Spellings.{Spelling}
 use Rattle.lp_portable.specs.code.Clauses.{clause_of, is_broken, limits_of}
 use Rattle.lp_portable.proofs.Spelled.{any_map}
@@ -51,7 +51,7 @@ code_is limits text read names given parts Clause.FieldKeyQuote = rw parts.field
 code_is limits text read names given parts Clause.LongSeries = refl
 code_is limits text read names given parts Clause.Unsigned = rw parts.fields (sym (any_map (λ f. is_unsigned f.value) field_of read.field_set.items))
 code_is limits text read names given parts Clause.InfiniteFloat = rw parts.fields (sym (any_map (λ f. not (is_finite f.value)) field_of read.field_set.items))
-code_is limits text read names given parts Clause.Exponent = rw parts.fields (sym (any_map (λ f. has_exponent f.value) field_of read.field_set.items))
+code_is limits text read names given parts Clause.RoundedFloat = rw parts.fields (sym (any_map (λ f. is_rounded f.value) field_of read.field_set.items))
 code_is limits text read names given parts Clause.LeadingNul = rw parts.fields refl
 code_is limits text read names given parts Clause.TimeOutOfRange = rw parts.timestamp refl
 code_is limits text read names given parts Clause.TagCount = rw (parts.tags, tags_are read) (ap is_hundreds (sym (length-map (some_items read.series.tag_set) tag_of)))

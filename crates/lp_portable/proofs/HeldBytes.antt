@@ -4,8 +4,8 @@ use Rattle.std.specs.List.{list_any}
 use Rattle.std.proofs.lemmas.{Bool.cases_Bool, Bool.or_parts, Bool.eqb-false, Bool.false≢true}
 use Rattle.lp_format.specs.format.{NameKind, backslash, bare_after, escapable, is_escaped_after, is_one_of, without_escapes}
 use Rattle.lp_format.proofs.lemmas.tokens.EscapeLemmas.{is_escaped_push}
-use Rattle.lp_portable.specs.format.Spellings.{holds}
-use Rattle.lp_portable.specs.laws.PortableLaws.{BareBytesAreHeld, EscapedBytesAreHeld, MeansTheSame, without_each}
+use Rattle.lp_portable.specs.format.Spellings.{holds, without_each}
+use Rattle.lp_portable.specs.laws.PortableLaws.{BareBytesAreHeld, EscapedBytesAreHeld, MeansTheSame}
 
 -- a disjunction that is false
 pub neither : (a b : Bool) → (a || b) ≡ false → (a ≡ false) × (b ≡ false)

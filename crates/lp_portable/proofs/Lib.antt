@@ -14,3 +14,7 @@ pub mod PlainEvents
 pub mod FieldEnds
 pub mod PlainNames
 pub mod PlainClauses
+pub mod MarksCounted
+pub mod ShortFloats
+pub mod CutWalk
+pub mod VerdictLemmas

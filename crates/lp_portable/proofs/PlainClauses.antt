@@ -1,28 +1,29 @@
 -- A line that is noted to its end, of a plain text, breaks no clause.
-use Rattle.std.proofs.Common.{◌≡◌, ℕ, suc, ℤ, pos, negsuc, ◌+◌, ◌≤◌, ◌<◌, ◌==◌, ◌||◌, Bool, true, false, not, List, [], ◌∷◌, ◌++◌, length, map, codes, nat_lt}
-use Rattle.std.proofs.Common.{bytes_eq, Option, Ok, refl, sym, ◌∙◌, ap, subst, arith, length-append, inl, inr, ne_eqb, ◌-◌, slice_index, slice_index_or}
+use Rattle.std.proofs.Common.{◌≡◌, ℕ, pos, negsuc, ◌+◌, ◌≤◌, ◌==◌, ◌||◌, Bool, true, false, not, List, [], ◌∷◌, ◌++◌, length, map, codes, nat_lt}
+use Rattle.std.proofs.Common.{bytes_eq, Ok, refl, sym, ◌∙◌, ap, subst, arith, length-append, ne_eqb, ◌-◌, slice_index, slice_index_or}
 use Rattle.std.specs.{List.AllByRecursion, List.list_any}
-use Rattle.std.proofs.lemmas.{Bool.and_parts, Bool.cases_Bool, Bool.eqb-false, Bool.eqb-true, Bool.le-ltb, Bool.false≢true, Bool.not-true, List.Folds.list_any-append}
+use Rattle.std.proofs.lemmas.{Bool.and_parts, Bool.eqb-false, Bool.le-ltb, Bool.false≢true, Bool.not-true, List.Folds.list_any-append}
 use Rattle.lp_format.specs.format.{Line, Pair, Strict, Text, Value, backslash, comma, equals, hash, is_one_of, logical, logical_tag, newline, nul, quote, some_tags}
 use Rattle.lp_format.specs.format.{a_field_key, space, tab, trimmed, without_escapes}
-use Rattle.lp_events.specs.code.OwnBases.{is_strictly_sorted}
 use Rattle.lp_portable.specs.declared.broken.Clause.{Clause}
-use Rattle.memchr.specs.Find.{Nowhere, Passes, is_byte3}
+use Rattle.memchr.specs.Find.{is_byte3}
+use Rattle.lp_portable.specs.code.Marks.{held, is_special}
+use Rattle.lp_portable.proofs.MarksCounted.{BareNames, bare_names, cuts_special, held_nowhere, none_held, some_read}
 use Rattle.lp_format.proofs.lemmas.line.TrimLemmas.{trimmed_is_after}
 use Rattle.lp_portable.specs.declared.limits.Limits as code
-use Rattle.lp_portable.specs.{code.Clauses.Breaks, code.Clauses.clause_of, code.Clauses.is_broken, code.Clauses.limits_of, declared.broken.TheConstants.NOTHING, declared.plain.Noting.Noting}
+use Rattle.lp_portable.specs.{code.Clauses.Breaks, code.Clauses.clause_of, code.Clauses.is_broken, code.Clauses.limits_of}
 use Rattle.lp_portable.proofs.{Lines.line_is_read, Lines.no_mark_cut, LinesSpelled.line_spelled}
-use Rattle.lp_portable.specs.code.Sure.{BreaksNothing, IsKept, IsNotedOf, IsPlain, noted, LineNoted, Noted, SureField, SureTag, begins_own, is_sure_key, is_sure_tag, is_sure_value}
+use Rattle.lp_portable.specs.code.Sure.{IsBare, IsLineNoted, LineNoted, Noted, SureField, SureTag, begins_own, is_sure_key, is_sure_tag, is_sure_value, broken_by_noted}
 use Rattle.lp_portable.specs.format.Portable as format
-use Rattle.lp_portable.specs.format.Portable.{Limits, begins_with_nul, breaks, has_bare_comma, has_comma, has_control, has_escape, has_exponent, has_marked_escape}
+use Rattle.lp_portable.specs.format.Portable.{Limits, begins_with_nul, breaks, has_bare_comma, has_comma, has_control, has_escape, is_rounded, has_marked_escape}
 use Rattle.lp_portable.specs.format.Portable.{has_repeats, has_sign, holds_text, is_finite, is_hundreds, is_long_after, is_outside, is_system_key, is_system_measurement}
-use Rattle.lp_portable.specs.format.Portable.{is_unsigned, without_sign}
+use Rattle.lp_portable.specs.format.Portable.{is_unsigned}
 use Rattle.lp_portable.specs.format.Spellings.{IsSpelled, Spelling, holds}
 use Rattle.lp_portable.specs.laws.PortableLaws.{logical_names}
 use Rattle.std.proofs.Common.{take, take-append-drop}
 use Rattle.lp_format.specs.format.{answer}
 use Rattle.lp_lines.proofs.lemmas.names.ParsedNames.{answer_parts}
-use Rattle.lp_portable.proofs.{PlainNames.names_have, Repeats.risen_once, Spelled.any_map, SpellingsRead.spellings_are_read}
+use Rattle.lp_portable.proofs.{PlainNames.names_have, Spelled.any_map, SpellingsRead.spellings_are_read}
 
 -- a text without this byte
 abbrev pub Lacks : ℕ → List ℕ → Type 0
@@ -97,11 +98,14 @@ one_alone m (b ∷ text) h =
 pub record GoodTag (t : Pair Text Text) : Type 0 where
   pub key : PlainText t.key.bytes
   pub val : PlainText t.value.bytes
-  pub sure : is_sure_tag t.key.bytes t.value.bytes ≡ true
+  pub no_comma : Lacks comma t.key.bytes
+  pub no_sign : Lacks equals t.value.bytes
+  pub sure : is_sure_tag t.key.bytes ≡ true
 
 -- a field that does not
 pub record GoodField (f : Pair Text (Value Text)) : Type 0 where
   pub key : PlainText f.key.bytes
+  pub no_comma : Lacks comma f.key.bytes
   pub name : is_sure_key f.key.bytes ≡ true
   pub val : is_sure_value f.value ≡ true
 
@@ -110,25 +114,24 @@ any_none : {X : Type 0} (p : X → Bool) (P : X → Type 0) → ((x : X) → P x
 any_none p P fails [] all = refl
 any_none p P fails (x ∷ xs) all = rw (fails x all.0) (any_none p P fails xs all.1)
 
--- what a sure tag is not
-tag_parts : (k v : List ℕ) → is_sure_tag k v ≡ true → (nat_lt 256 (length k) ≡ false) × (is_sure_key k ≡ true) × Lacks equals v
-tag_parts k v h =
-    let one = and_parts (not (nat_lt 256 (length k))) _ h in
-    let two = and_parts (is_sure_key k) _ one.1 in
-    (not-true _ one.0, two.0, not-true _ two.1)
-
 -- what a sure key is not
-key_parts : (k : List ℕ) → is_sure_key k ≡ true → (begins_own k ≡ false) × (bytes_eq k (codes "time") ≡ false) × Lacks comma k
+key_parts : (k : List ℕ) → is_sure_key k ≡ true → (begins_own k ≡ false) × (bytes_eq k (codes "time") ≡ false)
 key_parts k h =
     let one = and_parts (not (begins_own k)) _ h in
-    let two = and_parts (not (bytes_eq k (codes "time"))) _ one.1 in
-    (not-true _ one.0, not-true _ two.0, not-true _ two.1)
+    (not-true _ one.0, not-true _ one.1)
+
+-- what the key of a sure tag is not
+tag_parts : (k : List ℕ) → is_sure_tag k ≡ true → (nat_lt 256 (length k) ≡ false) × (begins_own k ≡ false) × (bytes_eq k (codes "time") ≡ false)
+tag_parts k h =
+    let one = and_parts (not (nat_lt 256 (length k))) _ h in
+    let two = key_parts k one.1 in
+    (not-true _ one.0, two.0, two.1)
 
 -- what a sure value is not
-value_parts : (v : Value Text) → is_sure_value v ≡ true → (is_unsigned v ≡ false) × (has_exponent v ≡ false) × (is_finite v ≡ true)
+value_parts : (v : Value Text) → is_sure_value v ≡ true → (is_unsigned v ≡ false) × (is_rounded v ≡ false) × (is_finite v ≡ true)
 value_parts v h =
     let one = and_parts (not (is_unsigned v)) _ h in
-    let two = and_parts (not (has_exponent v)) _ one.1 in
+    let two = and_parts (not (is_rounded v)) _ one.1 in
     (not-true _ one.0, not-true _ two.0, two.1)
 
 -- a name that begins with no underscore is no other that does
@@ -164,19 +167,6 @@ few_hundreds n few = rw (
   ne_eqb 12800 n (λ e. omega (arith, e, few)),
 ) refl
 
--- keys that rise after nothing rise
-rise_alone : (keys : List (List ℕ)) → is_strictly_sorted ([] ∷ keys) ≡ true → is_strictly_sorted keys ≡ true
-rise_alone [] h = refl
-rise_alone (k ∷ keys) h = (and_parts _ (is_strictly_sorted (k ∷ keys)) h).1
-
--- a value without an equals sign has none after its first byte
-no_sign : (v : List ℕ) → Lacks backslash v → Lacks equals v → holds [] (equals ∷ []) (without_sign v) ≡ false
-unfolding holds
-no_sign [] h k = refl
-no_sign (b ∷ v) h k =
-    let none = (or_none (b == equals) _ k).0 in
-    rw none (holds_bare [] (equals ∷ []) (b ∷ v) h ∙ one_alone equals (b ∷ v) k)
-
 -- what the names of a plain line are, by their spelling
 tags_same : (names : List (Pair (List ℕ) (List ℕ))) → AllByRecursion (λ t. PlainText t.key × PlainText t.value) names → map logical_names names ≡ names
 tags_same [] all = refl
@@ -191,19 +181,30 @@ keys_same : (keys : List (List ℕ)) → AllByRecursion PlainText keys → map (
 keys_same [] all = refl
 keys_same (k ∷ keys) all = rw (own_logical _ k all.0.no_backslash, keys_same keys all.1) refl
 
--- tags that break nothing, of plain names
-good_tags : (tags : List (Pair Text Text)) → AllByRecursion (λ t. PlainText t.key × PlainText t.value) (map logical_tag tags) → AllByRecursion SureTag tags
+-- the names of a tag that are plain, and bare where that counts
+abbrev IsGoodNames : Pair (List ℕ) (List ℕ) → Type 0
+IsGoodNames t = (PlainText t.key × PlainText t.value) × (Lacks comma t.key × Lacks equals t.value)
+
+-- two things that each of a list is, each of it is
+both_are : {A : Type 0} (P Q : A → Type 0) (xs : List A) → AllByRecursion P xs → AllByRecursion Q xs → AllByRecursion (λ x. P x × Q x) xs
+both_are P Q [] p q = tt
+both_are P Q (x ∷ xs) p q = ((p.0, q.0), both_are P Q xs p.1 q.1)
+
+-- tags that break nothing, of such names
+good_tags : (tags : List (Pair Text Text)) → AllByRecursion IsGoodNames (map logical_tag tags) → AllByRecursion SureTag tags
     → AllByRecursion GoodTag tags
 good_tags [] plain sure = tt
-good_tags (t ∷ tags) plain sure =
-    (record { key = plain.0.0; val = plain.0.1; sure = sure.0.tag }, good_tags tags plain.1 sure.1)
+good_tags (t ∷ tags) plain sure = (
+  record { key = plain.0.0.0; val = plain.0.0.1; no_comma = plain.0.1.0; no_sign = plain.0.1.1; sure = sure.0.tag },
+  good_tags tags plain.1 sure.1,
+)
 
 -- fields that break nothing
-good_fields : (fields : List (Pair Text (Value Text))) → AllByRecursion PlainText (map (λ f. f.key.bytes) fields) → AllByRecursion SureField fields
-    → AllByRecursion GoodField fields
+good_fields : (fields : List (Pair Text (Value Text))) → AllByRecursion (λ k. PlainText k × Lacks comma k) (map (λ f. f.key.bytes) fields)
+    → AllByRecursion SureField fields → AllByRecursion GoodField fields
 good_fields [] plain sure = tt
 good_fields (f ∷ fields) plain sure =
-    (record { key = plain.0; name = sure.0.key; val = sure.0.value }, good_fields fields plain.1 sure.1)
+    (record { key = plain.0.0; no_comma = plain.0.1; name = sure.0.key; val = sure.0.value }, good_fields fields plain.1 sure.1)
 
 -- both are not
 either_none : {a b : Bool} → a ≡ false → b ≡ false → (a || b) ≡ false
@@ -242,105 +243,100 @@ no_nul (f ∷ fields) all = first f.key.bytes all.0.key.no_nul
     first (b ∷ key) h = (or_none (b == nul) _ h).0
 
 -- what is known of a line that is noted to its end, of a plain text
-pub record PlainLine (limits : Limits) (text : List ℕ) (line : Line) (names : Spelling) : Type 0 where
+pub record PlainLine (text : List ℕ) (line : Line) (names : Spelling) : Type 0 where
   pub begins : is_one_of (space ∷ tab ∷ []) (slice_index_or text 0 0) ≡ false
   pub ends : (slice_index text (length text - 1) == space) ≡ false
   pub no_newline : Lacks newline text
-  pub long : nat_lt limits.line (length text) ≡ false
   pub short : length text ≤ 8000
   pub measurement : PlainText line.measurement.bytes
   pub own : begins_own line.measurement.bytes ≡ false
   pub measurement_is : names.measurement ≡ line.measurement.bytes
   pub tags : AllByRecursion GoodTag (some_tags line.tags)
   pub tags_are : names.tags ≡ map logical_tag (some_tags line.tags)
-  pub tags_rise : is_strictly_sorted (map (λ t. t.key.bytes) (some_tags line.tags)) ≡ true
+  pub tags_once : has_repeats (map (λ t. t.key.bytes) (some_tags line.tags)) ≡ false
   pub few : length (some_tags line.tags) ≤ 29
-  pub limit : nat_lt limits.tags (length (some_tags line.tags)) ≡ false
   pub fields : AllByRecursion GoodField line.fields
   pub keys_are : names.keys ≡ map (λ f. f.key.bytes) line.fields
-  pub fields_rise : is_strictly_sorted (map (λ f. f.key.bytes) line.fields) ≡ true
+  pub fields_once : has_repeats (map (λ f. f.key.bytes) line.fields) ≡ false
   pub series : PlainText line.series
-  pub range : is_outside (negsuc 9223372036854775805) (pos 9223372036854775806) line.timestamp ≡ false
-  pub kept : is_outside limits.earliest limits.latest line.timestamp ≡ false
 
--- no clause is broken
-pub nothing_broken : (limits : Limits) (text : List ℕ) (line : Line) (names : Spelling) → PlainLine limits text line names
-    → (clause : format.Clause) → breaks limits text line names clause ≡ false
-nothing_broken limits text line names h format.leading_blank =
+-- no clause is broken but those about its time, its tags and its length, which are as they are noted
+pub plain_breaks : (limits : code.Limits) (text : List ℕ) (line : Line) (names : Spelling) (n : Noted) → PlainLine text line names
+    → length (some_tags line.tags) ≡ n.tags → line.timestamp ≡ n.timestamp
+    → (clause : Clause) → breaks (limits_of limits) text line names (clause_of clause) ≡ is_broken (broken_by_noted limits text n.tags n.timestamp) clause
+plain_breaks limits text line names n h tags time Clause.LeadingBlank =
     h.begins
-nothing_broken limits text line names h format.trailing_space =
+plain_breaks limits text line names n h tags time Clause.TrailingSpace =
     h.ends
-nothing_broken limits text line names h format.newline =
+plain_breaks limits text line names n h tags time Clause.Newline =
     h.no_newline
-nothing_broken limits text line names h format.measurement_equals =
+plain_breaks limits text line names n h tags time Clause.MeasurementEquals =
     rw h.measurement_is (holds_bare _ [] line.measurement.bytes h.measurement.no_backslash ∙ none_of_none line.measurement.bytes)
-nothing_broken limits text line names h format.measurement_escape =
+plain_breaks limits text line names n h tags time Clause.MeasurementEscape =
     rw h.measurement_is (holds_bare _ [] line.measurement.bytes h.measurement.no_backslash ∙ none_of_none line.measurement.bytes)
-nothing_broken limits text line names h format.tag_escape =
+plain_breaks limits text line names n h tags time Clause.TagEscape =
     rw h.tags_are (any_map has_escape logical_tag (some_tags line.tags) ∙ any_none (λ t. has_escape (logical_tag t)) GoodTag (λ t g. rw (holds_bare (backslash ∷ []) [] t.key.bytes g.key.no_backslash, none_of_none t.key.bytes) (holds_bare _ [] t.value.bytes g.val.no_backslash ∙ none_of_none t.value.bytes)) (some_tags line.tags) h.tags)
-nothing_broken limits text line names h format.tag_key_comma =
-    rw h.tags_are (any_map has_comma logical_tag (some_tags line.tags) ∙ any_none (λ t. has_comma (logical_tag t)) GoodTag (λ t g. holds_bare [] _ t.key.bytes g.key.no_backslash ∙ one_alone comma t.key.bytes (key_parts t.key.bytes (tag_parts t.key.bytes t.value.bytes g.sure).1).2) (some_tags line.tags) h.tags)
-nothing_broken limits text line names h format.tag_value_equals =
-    rw h.tags_are (any_map has_sign logical_tag (some_tags line.tags) ∙ any_none (λ t. has_sign (logical_tag t)) GoodTag (λ t g. no_sign t.value.bytes g.val.no_backslash (tag_parts t.key.bytes t.value.bytes g.sure).2) (some_tags line.tags) h.tags)
-nothing_broken limits text line names h format.repeated_tag =
-    risen_once (map (λ t. t.key.bytes) (some_tags line.tags)) h.tags_rise
-nothing_broken limits text line names h format.field_key_escape =
+plain_breaks limits text line names n h tags time Clause.TagKeyComma =
+    rw h.tags_are (any_map has_comma logical_tag (some_tags line.tags) ∙ any_none (λ t. has_comma (logical_tag t)) GoodTag (λ t g. holds_bare [] _ t.key.bytes g.key.no_backslash ∙ one_alone comma t.key.bytes g.no_comma) (some_tags line.tags) h.tags)
+plain_breaks limits text line names n h tags time Clause.TagValueEquals =
+    rw h.tags_are (any_map has_sign logical_tag (some_tags line.tags) ∙ any_none (λ t. has_sign (logical_tag t)) GoodTag (λ t g. holds_bare [] _ t.value.bytes g.val.no_backslash ∙ one_alone equals t.value.bytes g.no_sign) (some_tags line.tags) h.tags)
+plain_breaks limits text line names n h tags time Clause.RepeatedTag =
+    h.tags_once
+plain_breaks limits text line names n h tags time Clause.FieldKeyEscape =
     rw h.keys_are (any_map (has_marked_escape) (λ f. f.key.bytes) line.fields ∙ any_none (λ f. has_marked_escape f.key.bytes) GoodField (λ f g. holds_bare _ [] f.key.bytes g.key.no_backslash ∙ none_of_none f.key.bytes) line.fields h.fields)
-nothing_broken limits text line names h format.field_key_comma =
-    rw h.keys_are (any_map (has_bare_comma) (λ f. f.key.bytes) line.fields ∙ any_none (λ f. has_bare_comma f.key.bytes) GoodField (λ f g. holds_bare [] _ f.key.bytes g.key.no_backslash ∙ one_alone comma f.key.bytes (key_parts f.key.bytes g.name).2) line.fields h.fields)
-nothing_broken limits text line names h format.field_key_quote =
+plain_breaks limits text line names n h tags time Clause.FieldKeyComma =
+    rw h.keys_are (any_map (has_bare_comma) (λ f. f.key.bytes) line.fields ∙ any_none (λ f. has_bare_comma f.key.bytes) GoodField (λ f g. holds_bare [] _ f.key.bytes g.key.no_backslash ∙ one_alone comma f.key.bytes g.no_comma) line.fields h.fields)
+plain_breaks limits text line names n h tags time Clause.FieldKeyQuote =
     any_none (λ f. is_one_of f.key.bytes quote) GoodField (λ f g. g.key.no_quote) line.fields h.fields
-nothing_broken limits text line names h format.long_series =
+plain_breaks limits text line names n h tags time Clause.LongSeries =
     rw h.keys_are (any_map (is_long_after (length line.series)) (λ f. f.key.bytes) line.fields ∙ any_none (λ f. is_long_after (length line.series) f.key.bytes) GoodField (λ f g. le-ltb 65535 _ (omega (arith, g.key.short, h.series.short))) line.fields h.fields)
-nothing_broken limits text line names h format.unsigned =
+plain_breaks limits text line names n h tags time Clause.Unsigned =
     any_none (λ f. is_unsigned f.value) GoodField (λ f g. (value_parts f.value g.val).0) line.fields h.fields
-nothing_broken limits text line names h format.infinite_float =
+plain_breaks limits text line names n h tags time Clause.InfiniteFloat =
     any_none (λ f. not (is_finite f.value)) GoodField (λ f g. ap not (value_parts f.value g.val).2) line.fields h.fields
-nothing_broken limits text line names h format.exponent =
-    any_none (λ f. has_exponent f.value) GoodField (λ f g. (value_parts f.value g.val).1) line.fields h.fields
-nothing_broken limits text line names h format.leading_nul =
+plain_breaks limits text line names n h tags time Clause.RoundedFloat =
+    any_none (λ f. is_rounded f.value) GoodField (λ f g. (value_parts f.value g.val).1) line.fields h.fields
+plain_breaks limits text line names n h tags time Clause.LeadingNul =
     no_nul line.fields h.fields
-nothing_broken limits text line names h format.time_out_of_range =
-    h.range
-nothing_broken limits text line names h format.tag_count =
+plain_breaks limits text line names n h tags time Clause.TimeOutOfRange =
+    ap (is_outside (negsuc 9223372036854775805) (pos 9223372036854775806)) time
+plain_breaks limits text line names n h tags time Clause.TagCount =
     few_hundreds _ h.few
-nothing_broken limits text line names h format.time_name =
-    either_none (any_none (λ t. bytes_eq t.key.bytes (codes "time")) GoodTag (λ t g. (key_parts t.key.bytes (tag_parts t.key.bytes t.value.bytes g.sure).1).1) (some_tags line.tags) h.tags)
+plain_breaks limits text line names n h tags time Clause.TimeName =
+    either_none (any_none (λ t. bytes_eq t.key.bytes (codes "time")) GoodTag (λ t g. (tag_parts t.key.bytes g.sure).2) (some_tags line.tags) h.tags)
     (any_none (λ f. bytes_eq f.key.bytes (codes "time")) GoodField (λ f g. (key_parts f.key.bytes g.name).1) line.fields h.fields)
-nothing_broken limits text line names h format.system_name =
+plain_breaks limits text line names n h tags time Clause.SystemName =
     either_none (no_system line.measurement.bytes h.own) (any_none (λ f. is_system_key f.key.bytes) GoodField (λ f g. no_system_key f.key.bytes (key_parts f.key.bytes g.name).0) line.fields h.fields)
-nothing_broken limits text line names h format.repeated_field =
-    risen_once (map (λ f. f.key.bytes) line.fields) h.fields_rise
-nothing_broken limits text line names h format.key_separator =
+plain_breaks limits text line names n h tags time Clause.RepeatedField =
+    h.fields_once
+plain_breaks limits text line names n h tags time Clause.KeySeparator =
     no_hash_text (33 ∷ 126 ∷ []) line.series h.series.no_hash
-nothing_broken limits text line names h format.control_byte =
+plain_breaks limits text line names n h tags time Clause.ControlByte =
     either_none (no_control line.measurement.bytes h.measurement.no_nul h.measurement.no_return)
     (any_none (λ f. has_control f.key.bytes) GoodField (λ f g. no_control f.key.bytes g.key.no_nul g.key.no_return) line.fields h.fields)
-nothing_broken limits text line names h format.name_label =
-    any_none (λ t. bytes_eq t.key.bytes (codes "__name__")) GoodTag (λ t g. no_own _ t.key.bytes (key_parts t.key.bytes (tag_parts t.key.bytes t.value.bytes g.sure).1).0) (some_tags line.tags) h.tags
-nothing_broken limits text line names h format.long_tag_key =
-    any_none (λ t. nat_lt 256 (length t.key.bytes)) GoodTag (λ t g. (tag_parts t.key.bytes t.value.bytes g.sure).0) (some_tags line.tags) h.tags
-nothing_broken limits text line names h format.long_tag_value =
+plain_breaks limits text line names n h tags time Clause.NameLabel =
+    any_none (λ t. bytes_eq t.key.bytes (codes "__name__")) GoodTag (λ t g. no_own _ t.key.bytes (tag_parts t.key.bytes g.sure).1) (some_tags line.tags) h.tags
+plain_breaks limits text line names n h tags time Clause.LongTagKey =
+    any_none (λ t. nat_lt 256 (length t.key.bytes)) GoodTag (λ t g. (tag_parts t.key.bytes g.sure).0) (some_tags line.tags) h.tags
+plain_breaks limits text line names n h tags time Clause.LongTagValue =
     any_none (λ t. nat_lt 16384 (length t.value.bytes)) GoodTag (λ t g. le-ltb 16384 _ (omega (arith, g.val.short))) (some_tags line.tags) h.tags
-nothing_broken limits text line names h format.long_metric_name =
+plain_breaks limits text line names n h tags time Clause.LongMetricName =
     any_none (λ f. nat_lt 16384 (length line.measurement.bytes + 1 + length f.key.bytes)) GoodField (λ f g. le-ltb 16384 _ (omega (arith, g.key.short, h.measurement.short))) line.fields h.fields
-nothing_broken limits text line names h format.long_labels =
+plain_breaks limits text line names n h tags time Clause.LongLabels =
     any_none (λ f. nat_lt 32000 (length line.series + 1 + length f.key.bytes)) GoodField (λ f g. le-ltb 32000 _ (omega (arith, g.key.short, h.series.short))) line.fields h.fields
-nothing_broken limits text line names h format.too_many_tags =
-    h.limit
-nothing_broken limits text line names h format.long_line =
-    h.long
-nothing_broken limits text line names h format.time_not_kept =
-    h.kept
+plain_breaks limits text line names n h tags time Clause.TooManyTags =
+    ap (nat_lt limits.tags) tags
+plain_breaks limits text line names n h tags time Clause.LongLine =
+    refl
+plain_breaks limits text line names n h tags time Clause.TimeNotKept =
+    ap (is_outside limits.earliest limits.latest) time
 
--- a plain text that is noted to its end is such a line
-pub plain_line : (limits : Limits) (text : List ℕ) (line : Line) (names : Spelling) (n : Noted) → PlainText (trimmed text) → answer Strict (trimmed text) ≡ Ok line
-    → IsSpelled (trimmed text) line names → LineNoted line n
+-- a bare text that is noted to its end is such a line
+pub plain_line : (text : List ℕ) (line : Line) (names : Spelling) (n : Noted) → PlainText (trimmed text) → answer Strict (trimmed text) ≡ Ok line
+    → IsSpelled (trimmed text) line names → BareNames text names → LineNoted line n
     → is_one_of (space ∷ tab ∷ []) (slice_index_or text 0 0) ≡ false → (slice_index text (length text - 1) == space) ≡ false → Lacks newline text
-    → nat_lt limits.line (length text) ≡ false → length text ≤ 8000 → nat_lt limits.tags n.tags ≡ false
-    → is_outside (negsuc 9223372036854775805) (pos 9223372036854775806) n.timestamp ≡ false
-    → is_outside limits.earliest limits.latest n.timestamp ≡ false → PlainLine limits text line names
-plain_line limits text line names n plain read are noted begins ends no_newline long short tags range kept =
+    → length text ≤ 8000 → PlainLine text line names
+plain_line text line names n plain read are bare noted begins ends no_newline short =
     let spells = spellings_are_read (trimmed text) line names read are in
     let have = names_have PlainText plain_parts (trimmed text) line names are plain in
     let parts = answer_parts Strict (trimmed text) line read in
@@ -354,116 +350,49 @@ plain_line limits text line names n plain read are noted begins ends no_newline 
       begins = begins;
       ends = ends;
       no_newline = no_newline;
-      long = long;
       short = short;
       measurement = subst PlainText measurement_is have.0;
       own = noted.measurement;
       measurement_is = measurement_is;
-      tags = good_tags (some_tags line.tags) (subst (AllByRecursion (λ t. PlainText t.key × PlainText t.value)) tags_are have.1) noted.tags;
+      tags = good_tags (some_tags line.tags) (subst (AllByRecursion IsGoodNames) tags_are (both_are _ _ names.tags have.1 bare.tags)) noted.tags;
       tags_are = tags_are;
-      tags_rise = rise_alone (map (λ t. t.key.bytes) (some_tags line.tags)) noted.tags_rise;
+      tags_once = noted.tags_once;
       few = subst (λ (k : ℕ). k ≤ 29) noted.count noted.few;
-      limit = subst (λ (k : ℕ). nat_lt limits.tags k ≡ false) noted.count tags;
-      fields = good_fields line.fields (subst (AllByRecursion PlainText) keys_are have.2) noted.fields;
+      fields = good_fields line.fields (subst (AllByRecursion (λ k. PlainText k × Lacks comma k)) keys_are (both_are _ _ names.keys have.2 bare.keys)) noted.fields;
       keys_are = keys_are;
-      fields_rise = rise_alone (map (λ f. f.key.bytes) line.fields) noted.fields_rise;
+      fields_once = noted.fields_once;
       series = series;
-      range = subst (λ (t : Option ℤ). is_outside (negsuc 9223372036854775805) (pos 9223372036854775806) t ≡ false) noted.timestamp range;
-      kept = subst (λ (t : Option ℤ). is_outside limits.earliest limits.latest t ≡ false) noted.timestamp kept;
     }
 
--- a byte that passes a test is in no text without bytes that pass it
-pub nowhere_lacks : (test : ℕ → Bool) (b : ℕ) (text : List ℕ) → test b ≡ true → Nowhere (Passes test text) 0 (length text) → Lacks b text
-nowhere_lacks test b [] is none = refl
-nowhere_lacks test b (x ∷ text) is none = elim (cases_Bool (x == b)) [
-  | inl here ↦ absurd (none 0 (omega arith) (omega arith) (rw (eqb-true x b here) is))
-  | inr other ↦ rw other (nowhere_lacks test b text is (λ k low high passes. none (suc k) (omega arith) (omega (arith, high)) passes))
-]
-
--- a text is plain that holds none of these bytes
-pub plain_is : (text : List ℕ) → length text ≤ 8000 → Nowhere (Passes (is_byte3 backslash newline quote) text) 0 (length text)
-    → Nowhere (Passes (is_byte3 nul 13 hash) text) 0 (length text) → IsPlain text
-plain_is text short marks others =
+-- a text that holds no mark but joints is plain
+pub plain_is : (text : List ℕ) → length text ≤ 8000 → held is_special text ≡ 0 → PlainText text
+plain_is text short none =
     record {
-      piece = no_mark_cut text marks;
-      no_backslash = nowhere_lacks (is_byte3 backslash newline quote) backslash text refl marks;
-      no_newline = nowhere_lacks (is_byte3 backslash newline quote) newline text refl marks;
-      no_quote = nowhere_lacks (is_byte3 backslash newline quote) quote text refl marks;
-      no_nul = nowhere_lacks (is_byte3 nul 13 hash) nul text refl others;
-      no_return = nowhere_lacks (is_byte3 nul 13 hash) 13 text refl others;
-      no_hash = nowhere_lacks (is_byte3 nul 13 hash) hash text refl others;
+      no_backslash = none_held is_special backslash text refl none;
+      no_quote = none_held is_special quote text refl none;
+      no_nul = none_held is_special nul text refl none;
+      no_return = none_held is_special 13 text refl none;
+      no_hash = none_held is_special hash text refl none;
       short = short;
     }
 
--- so is what is left of it without the blanks and comments before it
-trimmed_plain : (text : List ℕ) → IsPlain text → PlainText (trimmed text)
-trimmed_plain text h =
-    let after = trimmed_is_after text in
-    (plain_parts after.0 (trimmed text) (subst PlainText after.1 (record {
-      no_backslash = h.no_backslash;
-      no_quote = h.no_quote;
-      no_nul = h.no_nul;
-      no_return = h.no_return;
-      no_hash = h.no_hash;
-      short = h.short;
-    }))).1
-
--- a plain text that was noted to its end is one line that breaks nothing
-pub nothing_breaks : (limits : code.Limits) (text : List ℕ) (noting : Noting) → IsPlain text → nat_lt limits.line (length text) ≡ false
-    → is_one_of (space ∷ tab ∷ []) (slice_index_or text 0 0) ≡ false → (slice_index text (length text - 1) == space) ≡ false
-    → 0 < length (trimmed text) → IsNotedOf (trimmed text) noting → IsKept limits noting → BreaksNothing limits text
-nothing_breaks limits text noting plain long begins ends some is kept =
-    let (line, read, are) = is kept.ended in
+-- a bare text of which this is noted is one line that breaks what is noted, and no other clause
+pub noted_breaks : (limits : code.Limits) (text : List ℕ) (n : Noted) → IsBare text (n.tags + n.fields) → IsLineNoted (trimmed text) n
+    → Breaks limits text (broken_by_noted limits text n.tags n.timestamp)
+noted_breaks limits text n bare (line, read, are) =
     let (names, spelled, _) = line_spelled (trimmed text) line read in
+    let after = trimmed_is_after text in
+    let marks = bare_names text after.0 (trimmed text) line names after.1 spelled
+    (omega (arith, bare.marks, are.count, are.count_fields, spelled.all_tags, spelled.all_keys)) in
+    let plain = plain_is text bare.short marks.special in
+    let piece = no_mark_cut text (held_nowhere is_special (is_byte3 backslash newline quote) cuts_special text marks.special) in
+    let left = (plain_parts after.0 (trimmed text) (subst PlainText after.1 plain)).1 in
+    let no_newline = none_held is_special newline text refl marks.special in
+    let whole = plain_line text line names n left read spelled marks are bare.begins bare.ends no_newline bare.short in
     record {
       line = line;
       names = names;
-      is_line = record { piece = plain.piece; read = line_is_read text line some read };
+      is_line = record { piece = piece; read = line_is_read text line (some_read (trimmed text) line read) read };
       are_names = spelled;
-      none = nothing_broken (limits_of limits) text line names (plain_line (limits_of limits) text line names (noted noting) (trimmed_plain text plain) read spelled are begins ends plain.no_newline long plain.short kept.tags kept.range kept.time);
+      tells = λ clause. sym (plain_breaks limits text line names n whole (sym are.count) (sym are.timestamp) clause);
     }
-
--- what breaks nothing breaks no clause
-none_is_broken : (clause : Clause) → is_broken NOTHING clause ≡ false
-none_is_broken Clause.LeadingBlank = refl
-none_is_broken Clause.TrailingSpace = refl
-none_is_broken Clause.Newline = refl
-none_is_broken Clause.MeasurementEquals = refl
-none_is_broken Clause.MeasurementEscape = refl
-none_is_broken Clause.TagEscape = refl
-none_is_broken Clause.TagKeyComma = refl
-none_is_broken Clause.TagValueEquals = refl
-none_is_broken Clause.RepeatedTag = refl
-none_is_broken Clause.FieldKeyEscape = refl
-none_is_broken Clause.FieldKeyComma = refl
-none_is_broken Clause.FieldKeyQuote = refl
-none_is_broken Clause.LongSeries = refl
-none_is_broken Clause.Unsigned = refl
-none_is_broken Clause.InfiniteFloat = refl
-none_is_broken Clause.Exponent = refl
-none_is_broken Clause.LeadingNul = refl
-none_is_broken Clause.TimeOutOfRange = refl
-none_is_broken Clause.TagCount = refl
-none_is_broken Clause.TimeName = refl
-none_is_broken Clause.SystemName = refl
-none_is_broken Clause.RepeatedField = refl
-none_is_broken Clause.KeySeparator = refl
-none_is_broken Clause.ControlByte = refl
-none_is_broken Clause.NameLabel = refl
-none_is_broken Clause.LongTagKey = refl
-none_is_broken Clause.LongTagValue = refl
-none_is_broken Clause.LongMetricName = refl
-none_is_broken Clause.LongLabels = refl
-none_is_broken Clause.TooManyTags = refl
-none_is_broken Clause.LongLine = refl
-none_is_broken Clause.TimeNotKept = refl
-
--- so it is told of a line that breaks nothing
-pub nothing_told : (limits : code.Limits) (text : List ℕ) → BreaksNothing limits text → Breaks limits text NOTHING
-nothing_told limits text h = record {
-  line = h.line;
-  names = h.names;
-  is_line = h.is_line;
-  are_names = h.are_names;
-  tells = λ clause. none_is_broken clause ∙ sym (h.none (clause_of clause));
-}

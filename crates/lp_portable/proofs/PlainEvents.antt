@@ -10,6 +10,7 @@ use Rattle.lp_portable.specs.code.Sure.{Noted, TakesNoted, begins_own, is_sure_k
 use Rattle.lp_portable.specs.code.Sure.{LineNoted, SureField, SureTag, noted, rises, unsure}
 use Rattle.std.proofs.Common.{subst, append_assoc, zero-add}
 use Rattle.std.proofs.lemmas.Bool.{not-true}
+use Rattle.lp_portable.proofs.Repeats.{risen_once}
 
 -- what is noted after events
 abbrev note_all : Noted → List Event → Noted
@@ -63,14 +64,15 @@ record TagsNoted (n : Noted) (tags : List (Pair Text Text)) (es : List Event) : 
   count : next.tags ≡ n.tags + length tags
   few : n.tags ≤ 29 → next.tags ≤ 29
   fields : next.last_field ≡ n.last_field
+  no_field : next.fields ≡ n.fields
 
 -- tags that were noted before the end of a line
 tags_noted : (tags : List (Pair Text Text)) (n : Noted) (es : List Event) → (note_all n (map tagged tags ++ es)).is_ended ≡ true → TagsNoted n tags es
-tags_noted [] n es h = record { next = n; same = refl; rise = refl; sure = tt; count = omega arith; few = λ few. few; fields = refl }
+tags_noted [] n es h = record { next = n; same = refl; rise = refl; sure = tt; count = omega arith; few = λ few. few; fields = refl; no_field = refl }
 tags_noted (t ∷ tags) n es h =
     let n2 : Noted = record n { tags = n.tags + 1; last_tag = t.key.bytes } in
-    let (single, h2) = was_sure (t.key.is_single && t.value.is_single) (note_tag n t.key.bytes t.value.bytes) (map tagged tags ++ es) h in
-    let (all, h3) = was_sure (n.is_sure && (nat_lt n.tags 29 && (rises n.last_tag t.key.bytes && is_sure_tag t.key.bytes t.value.bytes))) n2
+    let (single, h2) = was_sure (t.key.is_single && t.value.is_single) (note_tag n t.key.bytes) (map tagged tags ++ es) h in
+    let (all, h3) = was_sure (n.is_sure && (nat_lt n.tags 29 && (rises n.last_tag t.key.bytes && is_sure_tag t.key.bytes))) n2
     (map tagged tags ++ es) h2 in
     let first = and_parts n.is_sure _ all in
     let second = and_parts (nat_lt n.tags 29) _ first.1 in
@@ -84,6 +86,7 @@ tags_noted (t ∷ tags) n es h =
       count = omega (arith, more.count);
       few = λ few. more.few (omega (arith, ltb-true n.tags 29 second.0));
       fields = more.fields;
+      no_field = more.no_field;
     }
 
 -- what is noted after fields
@@ -93,27 +96,37 @@ record FieldsNoted (n : Noted) (fields : List (Pair Text (Value Text))) (es : Li
   rise : is_strictly_sorted (n.last_field ∷ map (λ f. f.key.bytes) fields) ≡ true
   sure : AllByRecursion SureField fields
   count : next.tags ≡ n.tags
+  more : next.fields ≡ n.fields + length fields
+  few : n.fields ≤ 4000 → next.fields ≤ 4000
 
 -- fields that were noted before the end of a line
 fields_noted : (fields : List (Pair Text (Value Text))) (n : Noted) (es : List Event) → (note_all n (map valued fields ++ es)).is_ended ≡ true
     → FieldsNoted n fields es
-fields_noted [] n es h = record { next = n; same = refl; rise = refl; sure = tt; count = refl }
+fields_noted [] n es h = record { next = n; same = refl; rise = refl; sure = tt; count = refl; more = omega arith; few = λ few. few }
 fields_noted (f ∷ fields) n es h =
-    let n2 : Noted = record n { last_field = f.key.bytes } in
+    let n2 : Noted = record n { fields = n.fields + 1; last_field = f.key.bytes } in
     let (single, h2) = was_sure f.key.is_single (note_field n f.key.bytes f.value) (map valued fields ++ es) h in
-    let (all, h3) = was_sure (n.is_sure && (rises n.last_field f.key.bytes && (is_sure_key f.key.bytes && is_sure_value f.value))) n2
+    let (all, h3) = was_sure (n.is_sure && (nat_lt n.fields 4000 && (rises n.last_field f.key.bytes && (is_sure_key f.key.bytes && is_sure_value f.value)))) n2
     (map valued fields ++ es) h2 in
     let first = and_parts n.is_sure _ all in
-    let second = and_parts (rises n.last_field f.key.bytes) _ first.1 in
-    let third = and_parts (is_sure_key f.key.bytes) _ second.1 in
+    let second = and_parts (nat_lt n.fields 4000) _ first.1 in
+    let third = and_parts (rises n.last_field f.key.bytes) _ second.1 in
+    let fourth = and_parts (is_sure_key f.key.bytes) _ third.1 in
     let more = fields_noted fields n2 es h3 in
     record {
       next = more.next;
       same = ap (λ (m : Noted). note_all m (map valued fields ++ es)) (chosen _ unsure single ∙ chosen n2 unsure all) ∙ more.same;
-      rise = rw second.0 more.rise;
-      sure = (record { key = third.0; value = third.1 }, more.sure);
+      rise = rw third.0 more.rise;
+      sure = (record { key = fourth.0; value = fourth.1 }, more.sure);
       count = more.count;
+      more = omega (arith, more.more);
+      few = λ few. more.few (omega (arith, ltb-true n.fields 4000 second.0));
     }
+
+-- keys that rise after nothing rise
+rise_alone : (keys : List (List ℕ)) → is_strictly_sorted ([] ∷ keys) ≡ true → is_strictly_sorted keys ≡ true
+rise_alone [] h = refl
+rise_alone (k ∷ keys) h = (and_parts _ (is_strictly_sorted (k ∷ keys)) h).1
 
 -- so it is of a line whose events are told
 line_noted : (line : Line) → (note_all none_noted (events_of_line line)).is_ended ≡ true → LineNoted line (note_all none_noted (events_of_line line))
@@ -139,11 +152,14 @@ line_noted line h =
     subst (LineNoted line) (sym same) (record {
       measurement = not-true (begins_own line.measurement.bytes) (and_parts line.measurement.is_single _ named_is).1;
       tags = told.sure;
-      tags_rise = told.rise;
+      tags_once = risen_once (map (λ t. t.key.bytes) tags) (rise_alone (map (λ t. t.key.bytes) tags) told.rise);
       fields = more.sure;
-      fields_rise = subst (λ (k : List ℕ). is_strictly_sorted (k ∷ map (λ f. f.key.bytes) fields) ≡ true) told.fields more.rise;
+      fields_once = risen_once (map (λ f. f.key.bytes) fields) (rise_alone (map (λ f. f.key.bytes) fields)
+          (subst (λ (k : List ℕ). is_strictly_sorted (k ∷ map (λ f. f.key.bytes) fields) ≡ true) told.fields more.rise));
       count = more.count ∙ told.count ∙ zero-add (length tags);
       few = subst (λ (n : ℕ). n ≤ 29) (sym more.count) (told.few (omega arith));
+      count_fields = omega (arith, more.more, told.no_field);
+      few_fields = more.few (omega (arith, told.no_field));
       timestamp = refl;
     })
 

@@ -19,7 +19,7 @@ pub same_broken : (x y : Broken)
     → x.long_series ≡ y.long_series
     → x.unsigned ≡ y.unsigned
     → x.infinite_float ≡ y.infinite_float
-    → x.exponent ≡ y.exponent
+    → x.rounded_float ≡ y.rounded_float
     → x.leading_nul ≡ y.leading_nul
     → x.time_out_of_range ≡ y.time_out_of_range
     → x.tag_count ≡ y.tag_count

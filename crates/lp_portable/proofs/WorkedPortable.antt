@@ -12,8 +12,7 @@ use Rattle.lp_lines.proofs.lemmas.read_back.LinePieces.{admitted_point, line_is_
 use Rattle.std.proofs.lemmas.Bool.{false≢true}
 use Rattle.lp_portable.specs.format.Portable as portable
 use Rattle.lp_portable.specs.format.Portable.{Clause, IsOneLine, IsPortable, all, breaks, concerns, default_limits, has_escape, influx1, victoria}
-use Rattle.lp_portable.specs.format.Spellings.{IsSpelled, Spelling, holds, name_text}
-use Rattle.lp_portable.specs.laws.PortableLaws.{without_each}
+use Rattle.lp_portable.specs.format.Spellings.{IsSpelled, Spelling, holds, name_text, without_each}
 
 -- what these lines unfold to be computed
 unfoldable on_lines : ⊤

@@ -4,3 +4,6 @@ pub mod Telling
 pub mod ByCode
 pub mod Bits
 pub mod Sure
+pub mod Marks
+pub mod Cut
+pub mod Verdicts

@@ -24,7 +24,7 @@ pub enum Clause {
     TagEscape,
     /// A comma is bare in a tag key.
     TagKeyComma,
-    /// An equals sign is bare in a tag value, and not its first byte.
+    /// An equals sign is bare in a tag value.
     TagValueEquals,
     /// Two tags have one key.
     RepeatedTag,
@@ -40,8 +40,8 @@ pub enum Clause {
     Unsigned,
     /// A float is too large for a finite number.
     InfiniteFloat,
-    /// A float has an exponent.
-    Exponent,
+    /// A float has an exponent, or takes over 310 bytes.
+    RoundedFloat,
     /// The first field key begins with a byte 0.
     LeadingNul,
     /// The timestamp is the greatest of 64 bits, or one of the two least.
@@ -93,7 +93,7 @@ pub(crate) const CLAUSES: &[Clause] = &[
     Clause::LongSeries,
     Clause::Unsigned,
     Clause::InfiniteFloat,
-    Clause::Exponent,
+    Clause::RoundedFloat,
     Clause::LeadingNul,
     Clause::TimeOutOfRange,
     Clause::TagCount,
@@ -129,7 +129,7 @@ pub struct Broken {
     pub tag_escape: bool,
     /// A comma is bare in a tag key. As in `m,a,b=v f=1`.
     pub tag_key_comma: bool,
-    /// An equals sign is bare in a tag value, and not its first byte. As in `m,a=b=c f=1`.
+    /// An equals sign is bare in a tag value. As in `m,a=b=c f=1`.
     pub tag_value_equals: bool,
     /// Two tags have one key. As in `m,a=1,a=2 f=1`.
     pub repeated_tag: bool,
@@ -145,8 +145,8 @@ pub struct Broken {
     pub unsigned: bool,
     /// A float is too large for a finite number. As in `m f=1e400`.
     pub infinite_float: bool,
-    /// A float has an exponent. As in `m f=1e3`.
-    pub exponent: bool,
+    /// A float has an exponent, or takes over 310 bytes. As in `m f=1e3`.
+    pub rounded_float: bool,
     /// The first field key begins with a byte 0.
     pub leading_nul: bool,
     /// The timestamp is the greatest of 64 bits, or one of the two least. As in `m f=1 9223372036854775807`.
@@ -198,7 +198,7 @@ pub(crate) const NOTHING: Broken = Broken {
     long_series: false,
     unsigned: false,
     infinite_float: false,
-    exponent: false,
+    rounded_float: false,
     leading_nul: false,
     time_out_of_range: false,
     tag_count: false,
@@ -240,7 +240,7 @@ fn concerns(to: Servers, clause: Clause) -> bool
         | Clause::TrailingSpace
         | Clause::Newline
         | Clause::FieldKeyQuote
-        | Clause::Exponent
+        | Clause::RoundedFloat
         | Clause::NameLabel
         | Clause::LongTagKey
         | Clause::LongTagValue
@@ -259,7 +259,7 @@ fn concerns(to: Servers, clause: Clause) -> bool
 
 impl Clause {
     // Its place among the clauses: that of the first is 0.
-    fn place(self) -> usize
+    pub(crate) fn place(self) -> usize
         ensures value { result ≡ place self }
         ensures within { result < 32 }
     {
@@ -292,7 +292,7 @@ impl Broken {
             Clause::LongSeries => self.long_series,
             Clause::Unsigned => self.unsigned,
             Clause::InfiniteFloat => self.infinite_float,
-            Clause::Exponent => self.exponent,
+            Clause::RoundedFloat => self.rounded_float,
             Clause::LeadingNul => self.leading_nul,
             Clause::TimeOutOfRange => self.time_out_of_range,
             Clause::TagCount => self.tag_count,

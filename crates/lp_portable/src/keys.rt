@@ -5,6 +5,7 @@
 
 ghost use Rattle.std.specs.Prelude.{◌≡◌, ◌≤◌, IfOk, IsOk, bytes_eq, length, map};
 ghost use Rattle.std.specs.List.{list_any};
+ghost use Rattle.std.specs.{Cmp.Lexicographic.slice_cmp, Ordering.is_lt, Ordering.nat_cmp};
 ghost use Rattle.lp_values.specs.code.Texts.{text_of};
 ghost use Rattle.lp_events.specs.code.OwnBases.{is_strictly_sorted};
 ghost use Rattle.lp_portable.specs.format.Portable.{has_repeats};
@@ -22,6 +23,22 @@ fn has_key<'a, X: Drop>(key: &str, items: &[(EscapedStr<'a>, X)]) -> bool
     ensures { result ≡ list_any (λ x. bytes_eq key.now (text_of x.0)) items.now }
 {
     items.iter().any(|(other, _)| key == other.as_str())
+}
+
+/// Whether a key is greater than the last one, by bytes. Most keys differ in one of their first bytes, which a loop finds before a call of
+/// another comparison is made.
+#[inline(always)]
+pub fn rises(last: &[u8], key: &[u8]) -> bool
+    ensures { result ≡ is_lt (slice_cmp nat_cmp last.now key.now) }
+{
+    let mut at = 0;
+    while at < last.len() && at < key.len() {
+        if last[at] != key[at] {
+            return last[at] < key[at];
+        }
+        at += 1;
+    }
+    last.len() < key.len()
 }
 
 // Whether each key is greater than the one before it.

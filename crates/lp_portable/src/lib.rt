@@ -6,13 +6,17 @@
 #![tactic(auto)]
 
 mod broken;
-mod keys;
+pub mod keys;
 mod limits;
+mod marks;
 mod names;
 mod plain;
 mod portable;
+pub mod sure;
 mod values;
+mod verdicts;
 
 pub use broken::{Broken, Clause};
 pub use limits::{Limits, Servers};
 pub use portable::{broken_clauses, is_portable};
+pub use verdicts::{Verdict, verdict_of};

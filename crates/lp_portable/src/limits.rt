@@ -4,7 +4,7 @@ ghost use Rattle.std.specs.Prelude.{◌≡◌};
 ghost use Rattle.lp_portable.specs.{code.Clauses.limits_of, format.Portable.default_limits};
 
 /// The servers that are to read a line as the strict reader does.
-#[derive(Clone, Copy, Debug)]
+#[derive(Clone, Copy, Debug, PartialEq, Eq)]
 pub enum Servers {
     /// InfluxDB 1.x.
     Influx1,
@@ -15,7 +15,7 @@ pub enum Servers {
 }
 
 /// What the options of a server change.
-#[derive(Clone, Copy, Debug)]
+#[derive(Clone, Copy, Debug, PartialEq, Eq)]
 pub struct Limits {
     /// The most bytes of a line.
     pub line: usize,

@@ -4,7 +4,7 @@ ghost use Rattle.std.specs.Prelude.{◌≡◌, ◌<◌, ◌+◌, ◌||◌, [], �
 ghost use Rattle.std.specs.List.{list_any};
 ghost use Rattle.lp_format.specs.format.{Line, Pair, after_comma, is_one_of, backslash, comma, equals, quote, some_tags};
 ghost use Rattle.lp_values.specs.code.Outcomes.{kind_of};
-ghost use Rattle.lp_portable.specs.format.Portable.{has_comma, has_escape, has_sign, without_sign};
+ghost use Rattle.lp_portable.specs.format.Portable.{has_comma, has_escape, has_sign};
 ghost use Rattle.lp_portable.specs.format.Spellings.{AreAfterCommas, AreJoined, IsSpelled, Spelling, holds, key_text, name_text, tag_text};
 ghost use Rattle.lp_portable.specs.code.Walks.{GivesReading, either_key, either_tag, key_breaks, keys_breaks, name_breaks, spelled_pair, tag_breaks};
 ghost use Rattle.lp_portable.specs.code.Walks.{tags_breaks};
@@ -20,7 +20,7 @@ pub(crate) struct TagBreaks {
     pub escape: bool,
     /// A comma is bare in a key.
     pub comma: bool,
-    /// An equals sign is bare in a value, after its first byte.
+    /// An equals sign is bare in a value.
     pub sign: bool,
 }
 
@@ -130,14 +130,10 @@ fn next_key<'a>(text: &'a str) -> Option<(&'a [u8], &'a str)>
 fn tag_breaks(key: &[u8], value: &[u8]) -> TagBreaks
     ensures { result ≡ tag_breaks (record { key = key.now; value = value.now }) }
 {
-    let after_sign = match value {
-        [b'=', rest @ ..] => rest,
-        _ => value,
-    };
     TagBreaks {
         escape: holds(b"\\", b"", key) || holds(b"\\", b"", value),
         comma: holds(b"", b",", key),
-        sign: holds(b"", b"=", after_sign),
+        sign: holds(b"", b"=", value),
     }
 }
 

@@ -1,22 +1,27 @@
-//! Lines that surely break no clause, as they are told by the reader of events.
+//! Lines that surely break no clause but those about their time and the limits, as they are told by the reader of events.
 //!
 //! Most lines hold no backslash and no quote. Then names are spelled as they read, so the events of a line tell all that clauses are about,
-//! and the line is read just once, with no memory. A line that is not sure is looked at again, clause by clause.
+//! and the line is read just once, with no memory. Whether its time is kept, and how long it is, is no reason to read it again. A line that
+//! is not sure is looked at again, clause by clause.
 
-ghost use Rattle.std.specs.Prelude.{◌≡◌, ◌&&◌, ◌||◌, ◌<◌, IsTrue, not, bytes_eq, codes, length, nat_lt};
-ghost use Rattle.lp_format.specs.format.{comma, equals, is_one_of};
+ghost use Rattle.std.specs.Prelude.{◌≡◌, ◌&&◌, ◌||◌, IfSome, not};
+ghost use Rattle.lp_format.specs.format.{float, trimmed};
+ghost use Rattle.lp_values.specs.code.Texts.{literal_of};
 ghost use Rattle.lp_values.specs.code.SpelledParts.{spelled_value};
-ghost use Rattle.lp_portable.specs.format.Portable.{has_exponent, is_finite, is_unsigned};
-ghost use Rattle.lp_portable.specs.code.Sure.{BreaksNothing, IsKept, IsNotedOf, IsPlain, TakesNoted, begins_own, is_sure_key, is_sure_tag, is_sure_value, none_noted, note_field, note_tag, noted, unsure};
+ghost use Rattle.lp_portable.specs.format.Portable.{is_rounded, is_finite, is_unsigned};
+ghost use Rattle.lp_portable.specs.code.Clauses.{Breaks};
+ghost use Rattle.lp_portable.specs.code.Sure.{IsNotedOf, TakesNoted, is_sure_value, none_noted, note_field, note_tag, noted, unsure};
 
+use crate::broken::Broken;
+use crate::keys::rises;
 use crate::limits::Limits;
-use crate::values::{self, has_byte, has_power, is_infinite_text};
+use crate::sure::{begins_own, broken_by_noted, is_bare, is_sure_key, is_sure_tag};
+use crate::values::{is_infinite_text, is_rounded};
 use lp_events::{EventSink, read_line_events};
 use lp_scan::trim::trimmed;
 use lp_split::Dialect;
 use lp_values::spelled::shared;
-use lp_values::{Spelled, SpelledFault, SpelledValue};
-use memchr::memchr3;
+use lp_values::{FloatText, Spelled, SpelledFault, SpelledValue};
 
 /// What is noted of a line.
 #[derive(Clone, Copy, Drop)]
@@ -26,41 +31,29 @@ pub(crate) struct Noting<'a> {
     /// Whether the line was read to its end.
     pub is_ended: bool,
     pub tags: usize,
+    pub fields: usize,
     pub last_tag: &'a str,
     pub last_field: &'a str,
     pub timestamp: Option<i64>,
 }
 
-// Whether a name begins with an underscore, as names of the servers' own do.
-fn begins_own(name: &str) -> bool
-    ensures { result ≡ begins_own name.now }
+// Whether a float surely breaks no clause. What is short and has no exponent is finite, so that few literals are made numbers.
+#[inline(always)]
+fn is_sure_float<'a>(literal: FloatText<'a>) -> bool
+    ensures { result ≡ is_sure_value (float (literal_of literal.entry)) }
 {
-    matches!(name.as_bytes(), [b'_', ..])
-}
-
-// Whether a key is surely that of no tag and no field that breaks a clause.
-fn is_sure_key(key: &str) -> bool
-    ensures { result ≡ is_sure_key key.now }
-{
-    !begins_own(key) && key != "time" && !has_byte(key.as_bytes(), b',')
-}
-
-// Whether a tag surely breaks no clause.
-fn is_sure_tag(key: &str, value: &str) -> bool
-    ensures { result ≡ is_sure_tag key.now value.now }
-{
-    key.len() <= 256 && is_sure_key(key) && !has_byte(value.as_bytes(), b'=')
+    let text = literal.as_str();
+    !is_rounded(text) && (text.len() <= 300 || !is_infinite_text(text))
 }
 
 // Whether a value surely breaks no clause.
+#[inline(always)]
 fn is_sure_value<'a>(value: SpelledValue<'a>) -> bool
     ensures { result ≡ is_sure_value (spelled_value value.entry) }
 {
     match value {
         SpelledValue::U64(_) => false,
-        SpelledValue::F64(literal) => {
-            !has_power(literal.as_str()) && !is_infinite_text(literal.as_str())
-        }
+        SpelledValue::F64(literal) => is_sure_float(literal),
         _ => true,
     }
 }
@@ -73,6 +66,7 @@ fn unsure<'a>() -> Noting<'a>
         is_sure: false,
         is_ended: false,
         tags: 0,
+        fields: 0,
         last_tag: "",
         last_field: "",
         timestamp: None,
@@ -90,11 +84,16 @@ impl<'a> Noting<'a> {
         }
     }
 
-    // Notes one more tag whose names are parts of the line.
-    fn note_tag(&mut self, key: &'a str, value: &'a str)
-        ensures { noted self.new ≡ note_tag (noted self.old) key.now value.now }
+    // Notes one more tag whose key is a part of the line.
+    #[inline(always)]
+    fn note_tag(&mut self, key: &'a str)
+        ensures { noted self.new ≡ note_tag (noted self.old) key.now }
     {
-        if self.is_sure && self.tags < 29 && self.last_tag < key && is_sure_tag(key, value) {
+        if self.is_sure
+            && self.tags < 29
+            && rises(self.last_tag.as_bytes(), key.as_bytes())
+            && is_sure_tag(key.as_bytes())
+        {
             self.tags += 1;
             self.last_tag = key;
         } else {
@@ -103,23 +102,51 @@ impl<'a> Noting<'a> {
     }
 
     // Notes one more field whose key is a part of the line.
+    #[inline(always)]
     fn note_field(&mut self, key: &'a str, value: SpelledValue<'a>)
         ensures { noted self.new ≡ note_field (noted self.old) key.now (spelled_value value.entry) }
     {
-        if self.is_sure && self.last_field < key && is_sure_key(key) && is_sure_value(value) {
+        if self.is_sure
+            && self.fields < 4000
+            && rises(self.last_field.as_bytes(), key.as_bytes())
+            && is_sure_key(key.as_bytes())
+            && is_sure_value(value)
+        {
+            self.fields += 1;
             self.last_field = key;
         } else {
             *self = unsure();
         }
+    }
+
+    /// Which clauses a text breaks, of whose line this was noted: that without the blanks and comments before it. It is a line that breaks
+    /// none but those about its time, its tags and its length. `None`: that is not sure. It takes no memory, and goes once over the bytes.
+    ///
+    /// ```text
+    /// m,t=x f=1i    breaks nothing
+    /// m,t=x f=1i 5  breaks time_not_kept
+    /// m,t=x f=1u    is None
+    /// ```
+    #[inline(always)]
+    pub(crate) fn broken(&self, limits: &Limits, text: &str) -> Option<Broken>
+        requires { IsNotedOf (trimmed text.now) self.now }
+        ensures { IfSome result (Breaks limits.now text.now) }
+    {
+        let bytes = text.as_bytes();
+        if !self.is_ended || !is_bare(bytes, self.tags + self.fields) {
+            return None;
+        }
+        Some(broken_by_noted(limits, bytes, self.tags, self.timestamp))
     }
 }
 
 impl<'a> EventSink<'a> for Noting<'a> {
     ghost takes = { TakesNoted };
 
+    #[inline(always)]
     fn measurement(&mut self, name: Spelled<'a>) {
         let is_sure = match shared(name) {
-            Some(text) => self.is_sure && !begins_own(text),
+            Some(text) => self.is_sure && !begins_own(text.as_bytes()),
             None => false,
         };
         if !is_sure {
@@ -127,13 +154,15 @@ impl<'a> EventSink<'a> for Noting<'a> {
         }
     }
 
+    #[inline(always)]
     fn tag(&mut self, key: Spelled<'a>, value: Spelled<'a>) {
         match (shared(key), shared(value)) {
-            (Some(key), Some(value)) => self.note_tag(key, value),
+            (Some(key), Some(_)) => self.note_tag(key),
             _ => *self = unsure(),
         }
     }
 
+    #[inline(always)]
     fn field(&mut self, key: Spelled<'a>, value: SpelledValue<'a>) {
         match shared(key) {
             Some(key) => self.note_field(key, value),
@@ -141,6 +170,7 @@ impl<'a> EventSink<'a> for Noting<'a> {
         }
     }
 
+    #[inline(always)]
     fn end(&mut self, series: &'a str, timestamp: Option<i64>) {
         if self.is_sure {
             self.is_ended = true;
@@ -150,6 +180,7 @@ impl<'a> EventSink<'a> for Noting<'a> {
         }
     }
 
+    #[inline(always)]
     fn fault(&mut self, fault: SpelledFault<'a>) {
         *self = unsure();
     }
@@ -164,41 +195,9 @@ fn noting_of<'a>(line: &'a str) -> Noting<'a>
     noting
 }
 
-// Whether a text is short, and holds no byte that means something to a server.
-fn is_plain(text: &[u8]) -> bool
-    ensures { IsTrue result → IsPlain text.now }
+/// The same of a text that is not read yet.
+pub(crate) fn surely_broken(limits: &Limits, text: &str) -> Option<Broken>
+    ensures { IfSome result (Breaks limits.now text.now) }
 {
-    if text.len() > 8000 || memchr3(b'\\', b'\n', b'"', text).is_some() {
-        return false;
-    }
-    memchr3(0, b'\r', b'#', text).is_none()
-}
-
-// Whether a line of which this is noted is read to its end, with no more tags than the limit, and times that are kept.
-fn is_kept<'a>(limits: &Limits, noting: Noting<'a>) -> bool
-    ensures { IsTrue result → IsKept limits.now noting.entry }
-{
-    noting.is_ended
-        && noting.tags <= limits.tags
-        && !values::is_outside(
-            -9_223_372_036_854_775_806,
-            9_223_372_036_854_775_806,
-            noting.timestamp,
-        )
-        && !values::is_outside(limits.earliest, limits.latest, noting.timestamp)
-}
-
-/// Whether a text is surely a line that breaks no clause.
-pub(crate) fn breaks_nothing(limits: &Limits, text: &str) -> bool
-    ensures { IsTrue result → BreaksNothing limits.now text.now }
-{
-    if text.len() > limits.line
-        || !is_plain(text.as_bytes())
-        || values::begins_with_blank(text)
-        || values::ends_in_space(text)
-    {
-        return false;
-    }
-    let line = trimmed(text);
-    !line.is_empty() && is_kept(limits, noting_of(line))
+    noting_of(trimmed(text)).broken(limits, text)
 }

@@ -11,11 +11,11 @@ ghost use Rattle.lp_portable.specs.format.Portable.{is_outside};
 ghost use Rattle.lp_portable.specs.code.{ByCode.ArePartsOf, ByCode.broken_by_code, Walks.most_compared, Walks.repeats_of};
 ghost use Rattle.lp_portable.specs.code.Telling.{IsNoLine, IsTrimmedPiece, TellsBroken, TellsRead};
 
-use crate::broken::{Broken, NOTHING};
+use crate::broken::Broken;
 use crate::keys::has_repeats;
 use crate::limits::{Limits, Servers};
 use crate::names::{NameBreaks, name_breaks};
-use crate::plain::breaks_nothing;
+use crate::plain::surely_broken;
 use crate::values;
 use lp_lines::parsed::tags_in;
 use lp_lines::{ParsedLine, Unread, read_spelled_into};
@@ -128,7 +128,7 @@ fn broken_in<'l, 'a>(
         long_series: names.keys.long,
         unsigned: values::has_unsigned(parts.fields),
         infinite_float: values::has_infinite(parts.fields),
-        exponent: values::has_exponent(parts.fields),
+        rounded_float: values::has_rounded(parts.fields),
         leading_nul: values::begins_with_nul(parts.fields),
         time_out_of_range: values::is_outside(
             -9_223_372_036_854_775_806,
@@ -192,7 +192,8 @@ fn broken_by<'a>(
 /// without its newline.
 ///
 /// [`Broken::first`] tells the first that concerns a server; if there is none, the server reads the line as this reader does. The text
-/// is read once for that, and once more if it may break a clause, or has a string, an escape, a `#`, more than 29 tags or 8,000 bytes.
+/// is read once for that, and once more if it may break a clause that is not about its time and the limits, or has a string, an escape, a
+/// `#`, keys that do not rise, more than 29 tags or 8,000 bytes.
 /// Then memory is taken as for a line that is read, and for a map of more than 32 tags or fields: none for a line with at most 8 tags
 /// and 4 fields whose names and strings are no copies.
 ///
@@ -213,8 +214,8 @@ pub fn broken_clauses(
     ensures value { IfOk result (TellsBroken limits.now text.now) }
     ensures no_memory { is_light Strict (trimmed text.now) ≡ true → IsOk result }
 {
-    if breaks_nothing(limits, text) {
-        return Ok(Some(NOTHING));
+    if let Some(broken) = surely_broken(limits, text) {
+        return Ok(Some(broken));
     }
     let Some(line) = one_line(text) else {
         return Ok(None);

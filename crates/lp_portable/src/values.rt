@@ -5,7 +5,7 @@ ghost use Rattle.std.specs.List.{list_any};
 ghost use Rattle.lp_format.specs.format.{is_one_of, quote, space, tab};
 ghost use Rattle.lp_values.specs.code.{ReadValues.value_of, Texts.literal_of, Texts.text_of};
 ghost use Rattle.lp_lines.specs.code.Parsed.{field_of, tag_of};
-ghost use Rattle.lp_portable.specs.format.Portable.{begins_with_nul, has_control, has_exponent, holds_text, is_finite, is_outside, is_system_key};
+ghost use Rattle.lp_portable.specs.format.Portable.{begins_with_nul, has_control, holds_text, is_finite, is_outside, is_rounded, is_system_key};
 ghost use Rattle.lp_portable.specs.format.Portable.{is_finite_number, is_hundreds, is_system_measurement, is_unsigned};
 ghost use Rattle.std.specs.{Float.Parse.parse_float, Float.binary64};
 
@@ -104,7 +104,7 @@ pub(crate) fn has_infinite<'a>(fields: &[Field<'a>]) -> bool
 }
 
 // Whether a text holds an `e` or an `E`.
-pub(crate) fn has_power(literal: &str) -> bool
+fn has_power(literal: &str) -> bool
     ensures { result ≡ list_any (is_one_of (codes "eE")) literal.now }
 {
     literal
@@ -113,12 +113,19 @@ pub(crate) fn has_power(literal: &str) -> bool
         .any(|byte| matches!(byte, b'e' | b'E'))
 }
 
-// Whether some value is a float with an exponent.
-pub(crate) fn has_exponent<'a>(fields: &[Field<'a>]) -> bool
-    ensures { result ≡ list_any (λ f. has_exponent (field_of f).value) fields.now }
+// Whether a literal has an exponent, or takes over 310 bytes.
+pub(crate) fn is_rounded(literal: &str) -> bool
+    ensures { result ≡ (list_any (is_one_of (codes "eE")) literal.now || nat_lt 310 (length literal.now)) }
+{
+    has_power(literal) || literal.len() > 310
+}
+
+// Whether some value is a float whose literal does.
+pub(crate) fn has_rounded<'a>(fields: &[Field<'a>]) -> bool
+    ensures { result ≡ list_any (λ f. is_rounded (field_of f).value) fields.now }
 {
     fields.iter().any(|(_, value)| match value {
-        FieldValue::F64(literal) => has_power(literal.as_str()),
+        FieldValue::F64(literal) => is_rounded(literal.as_str()),
         _ => false,
     })
 }

@@ -6,5 +6,8 @@ pub mod Files
 pub mod Inputs
 pub mod Joined
 pub mod Options
+pub mod Plain
 pub mod Refusals
+pub mod RunErrors
+pub mod Starts
 pub mod Summaries

@@ -1,5 +1,5 @@
 -- What words say that take one form in all programs.
-use Rattle.std.specs.Prelude.{ℕ, ◌+◌, ◌^◌, nat_lt, take, drop, slice_index, Bool, false, not, ◌&&◌, ◌||◌, ◌==◌, List, [], ◌∷◌, length, bytes_eq, codes}
+use Rattle.std.specs.Prelude.{ℕ, ◌+◌, ◌^◌, nat_lt, take, drop, slice_index, Bool, false, true, not, ◌&&◌, ◌||◌, ◌==◌, List, [], ◌∷◌, length, bytes_eq, codes}
 use Rattle.std.specs.Prelude.{Option, Some, None, option_map, option_and_then, if◌then◌else◌}
 use Rattle.std.specs.{Borrow.Bor, List.list_all, List.position, Str.all_ascii_digits, Str.Parse.digits_value}
 use Rattle.lp_relay.specs.declared.telling.{Faults.Faults, Faults.TheVariants.Raw, Faults.TheVariants.OneLine, Faults.TheVariants.Json}
@@ -24,9 +24,11 @@ names_file (first ∷ word) = not (first == 45)
 abbrev pub names_input : List ℕ → Bool
 names_input word = bytes_eq word (codes "-") || names_file word
 
--- whether each word names an input
-abbrev pub are_inputs : List (Bor (List ℕ)) → Bool
-are_inputs words = list_all (λ word. names_input word.now) words
+-- the names of inputs that words are, if they are the mark `--` and names, each of a byte or more
+abbrev pub named_inputs : List (Bor (List ℕ)) → Option (List (Bor (List ℕ)))
+named_inputs [] = None
+named_inputs (mark ∷ names) =
+    if bytes_eq mark.now (codes "--") && list_all (λ name. nat_lt 0 (length name.now)) names then Some names else None
 
 -- whether there is one word, if that is asked for
 abbrev pub is_one_if : Bool → List (Bor (List ℕ)) → Bool
@@ -36,11 +38,26 @@ is_one_if asked words = not asked || length words == 1
 abbrev pub first_number : List ℕ → Option ℕ
 first_number word = option_and_then (λ first. if first == 0 then None else Some first) (decimal word)
 
--- how faults are told, as a word says: each on one line, as they are, or as objects, which name lines from 1 on
+-- how faults are told, as a word says: each on one line, as they are, or as objects, which name lines from 1 on, without their pieces or
+-- with them
 abbrev pub faults_form : List ℕ → Option Faults
 faults_form word =
     if bytes_eq word (codes "line") then Some OneLine
-    else (if bytes_eq word (codes "raw") then Some Raw else (if bytes_eq word (codes "json") then Some (Json 1) else None))
+    else (if bytes_eq word (codes "raw") then Some Raw
+    else (if bytes_eq word (codes "json") then Some (Json 1 false)
+    else (if bytes_eq word (codes "json+text") then Some (Json 1 true) else None)))
+
+-- whether faults are told as objects
+abbrev pub are_objects : Faults → Bool
+are_objects Raw = false
+are_objects OneLine = false
+are_objects (Json first_line has_piece) = true
+
+-- the name that objects tell of their file, if words name one input, and that is a file
+abbrev pub told_file : Faults → List (Bor (List ℕ)) → Option (Bor (List ℕ))
+told_file faults [] = None
+told_file faults (word ∷ []) = if are_objects faults && not (bytes_eq word.now (codes "-")) then Some word else None
+told_file faults (word ∷ next ∷ words) = None
 
 -- the place that a range ends before, as a word writes it: none if it has no byte
 abbrev pub range_end : List ℕ → Option (Option ℕ)

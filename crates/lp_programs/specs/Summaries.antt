@@ -28,3 +28,10 @@ items_text counts =
 abbrev pub summary_text : Totals → List ℕ
 summary_text totals =
     decimal totals.bytes ++ codes " bytes, " ++ decimal totals.lines ++ codes " lines, " ++ items_text totals.counts
+
+-- the kinds of these of which some are counted as members, each with its count, and before the first of them a mark
+abbrev pub kind_members : (mark : List ℕ) → (kinds : List Kind) → Counts → List ℕ
+kind_members mark [] counts = []
+kind_members mark (kind ∷ kinds) counts =
+    if counts kind == 0 then kind_members mark kinds counts
+    else mark ++ codes "\"" ++ kind_name kind ++ codes "\":" ++ decimal (counts kind) ++ kind_members (codes ",") kinds counts

@@ -8,7 +8,7 @@ ghost use Rattle.lp_programs.specs.Batches.{both, fitting, line_size, may_be, no
 ghost use Rattle.lp_programs.specs.Files.{IsBeside, IsInPlace, IsWhole};
 
 use crate::batch_names::BatchNames;
-use crate::beside::{FileBeside, make_beside};
+use crate::beside::{FileBeside, NEW_MODE, make_beside};
 use crate::endings::Failure;
 use crate::files::{Output, failure_of, let_file_go};
 use influxdb_line_protocol::{Dialect, laws, split_lines_in};
@@ -99,14 +99,15 @@ fn lines_that_fit(dialect: Dialect, limits: Limits, batch: Size, text: &str) -> 
     fit
 }
 
-// Puts a file in its place, once all of it is on the device.
+// Puts a file in its place, once all of it is on the device, and waits until that is there too.
 fn put_whole<'n, F: Output<'n>>(file: &mut F) -> io::Result<()>
     requires beside { IsBeside (F.state file.old) }
     ensures placed { OnOk result (IsInPlace (F.state file.new)) }
     ensures whole { IsInPlace (F.state file.new) → (F.state file.new).is_synced ≡ true }
 {
     file.sync()?;
-    file.put()
+    file.put()?;
+    file.sync_place()
 }
 
 // Puts a file in its place, once all of it is on the device, or removes it.
@@ -150,7 +151,7 @@ fn file_of<'a, 'n>(
     number: u64,
 ) -> io::Result<FileBeside<'a, 'n>> {
     match names.name_of(rt.alloc(), number)? {
-        Some(place) => make_beside(rt, word, place, true),
+        Some(place) => make_beside(rt, word, place, true, NEW_MODE),
         None => Err(io::Error::new(
             ErrorKind::InvalidInput,
             "the numbers of the batches are used up",

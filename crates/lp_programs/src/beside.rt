@@ -1,18 +1,28 @@
 //! Where the lines and the refused pieces go: to standard output, to a file that comes to its place whole or not at all, or nowhere.
-ghost use Rattle.std.specs.Prelude.{◌≡◌, ◌≢◌, None, Ok, false, is_none, length, true, IfOk, IsOk};
+ghost use Rattle.std.specs.Prelude.{◌≡◌, ◌≢◌, None, Ok, false, length, true, IfOk, IsOk};
 ghost use Rattle.std.specs.Io.{WritesAtMost};
 ghost use Rattle.std.specs.Io.KnownBytes.{Keeps, WriteAppends};
 ghost use Rattle.lp_programs.specs.Files.{new_file};
-ghost use Rattle.lp_programs.specs.Destinations.{GoesTo, is_nowhere};
+ghost use Rattle.lp_programs.specs.Destinations.{GoesTo, PiecesGoTo, is_nowhere};
 
 use crate::files::{FileState, Files, Maker, Output, Stage};
-use std::fs::{self, File, OpenOptions};
+use crate::locks::{BESIDE, lock_made};
+use crate::places::{folder_and_file, is_mounted, place_of};
+use crate::speaking::{Notice, Speaker};
+use crate::streams::Stream;
+use std::fs::{self, File, Metadata, OpenOptions};
 use std::io::{self, ErrorKind, IsTerminal, Stdout, Write};
-use std::os::unix::fs::MetadataExt;
+use std::os::unix::fs::{MetadataExt, OpenOptionsExt, fchown};
 use std::process;
 
 // How many names are tried for the file beside.
 const TRIES: u32 = 1000;
+
+/// Who may do what with a new file, as far as the process lets them.
+pub(crate) const NEW_MODE: u32 = 0o666;
+
+// Who may do what with a file until it has the permissions of the one that it replaces.
+const OWN_MODE: u32 = 0o600;
 
 /// A file of the system that is written beside its place.
 pub struct FileBeside<'a, 'n> {
@@ -66,6 +76,11 @@ impl<'a, 'n> Output<'n> for FileBeside<'a, 'n> {
         Ok(())
     }
 
+    fn sync_place(&self) -> io::Result<()> {
+        let (folder, _) = folder_and_file(self.place.as_str());
+        sync_folder(self.rt, folder)
+    }
+
     fn remove(&mut self) {
         if self.state.stage == Stage::Beside {
             let _ = fs::remove_file(self.rt, self.beside.as_str());
@@ -86,33 +101,96 @@ impl<'a, 'n> Output<'n> for FileBeside<'a, 'n> {
     }
 }
 
-/// It makes a file for the place of a name, or of what that links to, with the permissions of the file that is there, if one is. A
-/// place that has something else than a file is refused.
-impl<'a, 'n> Maker<'n> for &'a HostRuntime {
+/// The system, and the program that says something of its files.
+#[derive(Clone, Copy)]
+pub(crate) struct System<'a> {
+    pub(crate) rt: &'a HostRuntime,
+    pub(crate) program: Speaker<'a>,
+}
+
+/// It makes a file for the place of a name, or of what that links to, also if nothing is there. The file has owner, group and
+/// permissions of the file that is there, if one is; of the first two it says so if it may not give them. A place that has something
+/// else than a file, or where something is mounted, is refused.
+impl<'a, 'n> Maker<'n> for System<'a> {
     type File = FileBeside<'a, 'n>;
 
     fn make(&self, name: &'n str) -> io::Result<FileBeside<'a, 'n>> {
-        let rt: &'a HostRuntime = *self;
-        let place = match fs::canonicalize(rt, name) {
-            Ok(path) => path.into_string(),
-            Err(_) => String::from_str(rt.alloc(), name)?,
-        };
-        let old = match fs::metadata(rt, place.as_str()) {
-            Ok(old) if !old.is_file() => {
-                return Err(io::Error::new(ErrorKind::InvalidInput, "it is no regular file"));
-            }
-            Ok(old) => Some(old.permissions()),
-            Err(_) => None,
-        };
-        let mut file = make_beside(rt, name, place, false)?;
-        if let Some(permissions) = old {
-            if let Err(error) = file.file.set_permissions(permissions) {
-                file.remove();
-                file.let_go();
-                return Err(error);
-            }
+        let place = place_of(self.rt, name)?;
+        match fs::metadata(self.rt, place.as_str()) {
+            Ok(old) => self.make_over(name, place, &old),
+            Err(_) => make_beside(self.rt, name, place, false, NEW_MODE),
+        }
+    }
+}
+
+impl<'a> System<'a> {
+    // Makes a file for a place where this is.
+    fn make_over<'n>(
+        self,
+        name: &'n str,
+        place: String,
+        old: &Metadata,
+    ) -> io::Result<FileBeside<'a, 'n>>
+        ensures { IfOk result (λ file. file.state ≡ new_file name.entry) }
+    {
+        check_replaced(self.rt, place.as_str(), old)?;
+        let mut file = make_beside(self.rt, name, place, false, OWN_MODE)?;
+        if let Err(error) = give_owner(&file.file, old) {
+            self.say_unkept(name, error);
+        }
+        if let Err(error) = file.file.set_permissions(old.permissions()) {
+            file.remove();
+            file.let_go();
+            return Err(error);
         }
         Ok(file)
+    }
+
+    // Says that a new file is not of the owner and group of the old one.
+    fn say_unkept(self, name: &str, error: io::Error) {
+        self.program.notify(self.rt, Notice::Unkept(name, error));
+    }
+}
+
+// Sees that a file can replace what is in a place.
+fn check_replaced(rt: &HostRuntime, place: &str, old: &Metadata) -> io::Result<()> {
+    if !old.is_file() {
+        return Err(io::Error::new(ErrorKind::InvalidInput, "it is no regular file"));
+    }
+    if is_mounted(rt, place)? {
+        return Err(io::Error::new(
+            ErrorKind::InvalidInput,
+            "it is a mount point, which no file can replace",
+        ));
+    }
+    Ok(())
+}
+
+// Gives a file the owner and the group of an old one, or the group alone if the owner may not be given.
+fn give_owner(file: &File, old: &Metadata) -> io::Result<()> {
+    let made = file.metadata()?;
+    if made.uid() == old.uid() && made.gid() == old.gid() {
+        return Ok(());
+    }
+    let answer = fchown(file, Some(old.uid()), Some(old.gid()));
+    if answer.is_err() {
+        let _ = fchown(file, None, Some(old.gid()));
+    }
+    answer
+}
+
+// Waits until all of a folder is on the device. One that may not be read, or a device that knows no such wait, is passed over.
+fn sync_folder(rt: &HostRuntime, folder: &str) -> io::Result<()> {
+    let Ok(folder) = File::open(rt, folder) else {
+        return Ok(());
+    };
+    match folder.sync_all() {
+        Err(error)
+            if matches!(
+                error.kind(),
+                ErrorKind::InvalidInput | ErrorKind::Unsupported
+            ) => { Ok(()) }
+        answer => answer,
     }
 }
 
@@ -122,10 +200,11 @@ pub(crate) fn make_beside<'a, 'n>(
     name: &'n str,
     place: String,
     is_new: bool,
+    mode: u32,
 ) -> io::Result<FileBeside<'a, 'n>>
     ensures { IfOk result (λ file. file.state ≡ new_file name.entry) }
 {
-    let (beside, turn, file) = create_beside(rt, place.as_str())?;
+    let (beside, turn, file) = create_beside(rt, place.as_str(), mode)?;
     Ok(FileBeside {
         rt,
         state: FileState {
@@ -170,17 +249,21 @@ fn check_free(rt: &HostRuntime, place: &str) -> io::Result<()> {
 // A name beside a place.
 fn name_beside(rt: &HostRuntime, place: &str, turn: u32) -> io::Result<String> {
     let id = process::id(rt.process());
-    Ok(format!(in rt.alloc(); "{place}.lp_relay-{id}-{turn}")?)
+    Ok(format!(in rt.alloc(); "{place}{BESIDE}{id}-{turn}")?)
 }
 
-// Makes a file beside a place, by a name that no file has.
-fn create_beside(rt: &HostRuntime, place: &str) -> io::Result<(String, u32, File)> {
+// Makes a file beside a place, by a name that no file has, and locks it.
+fn create_beside(rt: &HostRuntime, place: &str, mode: u32) -> io::Result<(String, u32, File)> {
     for turn in 0..TRIES {
         let beside = name_beside(rt, place, turn)?;
         let mut options = OpenOptions::new();
-        options.write(true).create_new(true);
+        options.write(true).create_new(true).mode(mode);
         match options.open(rt, beside.as_str()) {
-            Ok(file) => return Ok((beside, turn, file)),
+            Ok(file) => {
+                if lock_made(rt, beside.as_str(), &file) {
+                    return Ok((beside, turn, file));
+                }
+            }
             Err(error) if error.kind() == ErrorKind::AlreadyExists => {}
             Err(error) => return Err(error),
         }
@@ -242,10 +325,16 @@ impl<'a> Destinations<'a> {
 }
 
 impl<'a, 'n> Files<FileBeside<'a, 'n>> {
-    /// Where lines and refused pieces are written: lines that are only checked, and refused pieces that have no file, nowhere.
-    pub(crate) fn destinations(&self, rt: &HostRuntime, is_check: bool) -> Destinations<'_>
+    /// Where lines and refused pieces are written: lines that are only checked, and refused pieces that have neither a file beside its
+    /// place nor what takes them as they come, nowhere.
+    pub(crate) fn destinations<'d>(
+        &'d self,
+        rt: &HostRuntime,
+        is_check: bool,
+        stream: &'d Option<Stream>,
+    ) -> Destinations<'d>
         ensures lines { GoesTo self.now.lines is_check result.lines }
-        ensures refused { GoesTo self.now.refused (is_none self.now.refused) result.refused }
+        ensures refused { PiecesGoTo self.now.refused stream.now result.refused }
     {
         Destinations {
             lines: match &self.lines {
@@ -253,9 +342,11 @@ impl<'a, 'n> Files<FileBeside<'a, 'n>> {
                 Some(output) => Destination::File(&output.file),
                 None => Destination::Standard(rt.stdout()),
             },
-            refused: match &self.refused {
-                Some(output) => Destination::File(&output.file),
-                None => Destination::Nowhere,
+            refused: match (&self.refused, stream) {
+                (Some(output), _) => Destination::File(&output.file),
+                (None, Some(Stream::Opened(file))) => Destination::File(file),
+                (None, Some(Stream::StandardOutput)) => Destination::Standard(rt.stdout()),
+                (None, None) => Destination::Nowhere,
             },
         }
     }

@@ -1,9 +1,10 @@
 //! How a run ends: why it failed, what is said of that, and its exit status.
 ghost use Rattle.std.specs.Prelude.{◌≡◌};
-ghost use Rattle.lp_programs.specs.Endings.{failed_device, failed_ending, fault_status, is_broken_pipe, is_closed, plain_ending, print_status, relay_ending, run_failure};
+ghost use Rattle.lp_programs.specs.Endings.{failed_device, failed_ending, fault_status, is_broken_pipe, is_closed, is_closed_stream, not_told, plain_ending, print_status, relay_ending, run_failure};
 ghost use Rattle.std.specs.IoError.{error_kind};
 
 use crate::summary::Totals;
+use crate::told::ToldName;
 use lp_rebuild::RunFault;
 use lp_relay::Settings;
 use std::fmt;
@@ -42,6 +43,8 @@ pub struct Failure<'n> {
 pub struct Ending<'n> {
     /// What is said of why it failed.
     pub failure: Option<Failure<'n>>,
+    /// How many faults were not told.
+    pub not_told: usize,
     /// What is said of what it did.
     pub summary: Option<Totals>,
     /// The exit status.
@@ -67,6 +70,15 @@ impl<'n> Device<'n> {
     }
 }
 
+impl<'n> Device<'n> {
+    // Whether it is a standard stream, and failed since nothing reads what is written to it.
+    fn is_closed_stream(self) -> bool
+        ensures { result ≡ is_closed_stream self.entry }
+    {
+        self.name.is_none() && self.is_closed()
+    }
+}
+
 impl<'n> Devices<Device<'n>> {
     // The device of which a fault tells; without an error if it tells of none.
     fn failed(self, fault: RunFault) -> Device<'n>
@@ -88,7 +100,9 @@ impl<'n> Devices<Device<'n>> {
     pub fn failure(self, fault: RunFault) -> Failure<'n>
         ensures { result ≡ run_failure self.entry fault }
     {
-        let is_closed = self.output.is_closed() || self.faults.is_closed();
+        let is_closed = self.output.is_closed()
+            || self.faults.is_closed()
+            || self.refused.is_closed_stream();
         Failure {
             fault,
             device: self.failed(fault),
@@ -101,7 +115,10 @@ impl<'n> fmt::Display for Failure<'n> {
     fn fmt<W: fmt::Write>(&self, f: &mut fmt::Formatter<W>) -> fmt::Result {
         let fault = self.fault;
         match (self.device.name, self.device.error) {
-            (Some(name), Some(error)) => write!(f, "{fault}: {name}: {error}"),
+            (Some(name), Some(error)) => {
+                let name = ToldName::of(name);
+                write!(f, "{fault}: {name}: {error}")
+            }
             (None, Some(error)) => write!(f, "{fault}: {error}"),
             (_, None) => write!(f, "{fault}"),
         }
@@ -128,12 +145,23 @@ fn ending_of_failure<'n>(failure: Failure<'n>) -> Ending<'n>
         } else {
             Some(failure)
         },
+        not_told: 0,
         summary: None,
         status: status_of_fault(failure.fault, failure.is_pipe_closed),
     }
 }
 
-/// How a relay by these settings ends, which tells its totals if the kinds of faults are counted.
+// How many faults were not told of so many items that were refused, if so many are told at most.
+fn not_told(most: Option<usize>, refused: usize) -> usize
+    ensures { result ≡ not_told most refused }
+{
+    match most {
+        Some(most) => refused.saturating_sub(most),
+        None => 0,
+    }
+}
+
+/// How a relay by these settings ends, which tells its totals if the kinds of faults are counted, and how many faults it did not tell.
 pub fn ending_of_relay<'n>(
     settings: Settings<'_>,
     answer: Result<Totals, Failure<'n>>,
@@ -143,6 +171,7 @@ pub fn ending_of_relay<'n>(
     match answer {
         Ok(totals) => Ending {
             failure: None,
+            not_told: not_told(settings.max_faults, totals.counts.refused),
             summary: if settings.counts_kinds {
                 Some(totals)
             } else {
@@ -161,6 +190,7 @@ pub fn ending_of_cut<'n>(answer: Result<(), Failure<'n>>) -> Ending<'n>
     match answer {
         Ok(()) => Ending {
             failure: None,
+            not_told: 0,
             summary: None,
             status: 0,
         },

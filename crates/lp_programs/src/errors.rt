@@ -3,6 +3,7 @@
 //! The fault of a run says which side failed, and no more. So the program puts a [`Watched`] before each reader and writer of
 //! std: it hands on each call, and keeps the error that comes, for the message.
 ghost use Rattle.std.specs.Prelude.{◌≡◌, None};
+ghost use Rattle.std.specs.Io.{ReadsAtMost};
 
 use crate::endings::{Device, Devices};
 use lp_rebuild::DeviceFault;
@@ -11,6 +12,9 @@ use std::cell::Cell;
 use std::fs::File;
 use std::io::{self, ErrorKind, Read, Write};
 use std::os::unix::fs::FileExt;
+
+// How often a read at a place is tried: a process gets no such number of signals.
+const TRIES: u64 = u64::MAX;
 
 /// The devices of a run with the errors that they have so far.
 pub type LastErrors<'n> = Devices<Cell<Device<'n>>>;
@@ -62,9 +66,12 @@ impl<'a, 'n, D> Watched<'a, 'n, D> {
         Watched { device, inner }
     }
 
-    // Keeps the error of an answer, if it is one.
+    // Keeps the error of an answer, if it is one. A call that a signal interrupts is tried again, so that is none.
     fn keep<T>(&self, answer: &io::Result<T>) {
         if let Err(error) = answer {
+            if error.kind() == ErrorKind::Interrupted {
+                return;
+            }
             let name = self.device.get().name;
             let error = Some(*error);
             self.device.set(Device { name, error });
@@ -98,12 +105,25 @@ impl<'a, 'n, W: Write> Write for Watched<'a, 'n, W> {
     }
 }
 
+// Reads at a place, and again as often as a signal interrupts that.
+fn read_at_again(file: &File, buf: &mut [u8], place: u64) -> io::Result<usize>
+    ensures bound { ReadsAtMost result buf.new }
+{
+    for _ in 0..TRIES {
+        match file.read_at(buf, place) {
+            Err(error) if error.kind() == ErrorKind::Interrupted => {}
+            answer => return answer,
+        }
+    }
+    Err(io::Error::from(ErrorKind::Interrupted))
+}
+
 /// A file that ends before a place has failed there.
 impl<'a, 'n> ReadAt for Watched<'a, 'n, File> {
     ghost text = { λ _. None };
 
     fn read_at(&self, buf: &mut [u8], place: usize) -> Result<usize, DeviceFault> {
-        let answer = match self.inner.read_at(buf, place as u64) {
+        let answer = match read_at_again(&self.inner, buf, place as u64) {
             Ok(0) if !buf.is_empty() => Err(shorter()),
             answer => answer,
         };

@@ -74,6 +74,14 @@ pub trait Output<'n> {
         ensures state { state self.new ≡ after_put (state self.old) (is_ok result) }
         ensures told { IfErr result (λ error. says (state self.old).name.now error) };
 
+    /// Waits until its place is on the device: that its folder has it there.
+    ///
+    /// # Errors
+    ///
+    /// What the system says if it cannot.
+    fn sync_place(&self) -> io::Result<()>
+        ensures told { IfErr result (λ error. says (state self.now).name.now error) };
+
     /// Removes the file, if it is beside its place.
     fn remove(&mut self)
         ensures { state self.new ≡ after_remove (state self.old) };
@@ -177,6 +185,17 @@ fn put_file<'n, F: Output<'n>>(file: &mut Option<F>) -> Result<(), Failure<'n>>
     file.put().map_err(|error| failure_of(name, error))
 }
 
+// Waits until the place of a file is on the device, if there is one.
+fn sync_place_of<'n, F: Output<'n>>(file: &Option<F>) -> Result<(), Failure<'n>>
+    ensures told { IfErr result (λ failure. IsTold F.says failure) }
+{
+    let Some(file) = file else {
+        return Ok(());
+    };
+    let name = file.name();
+    file.sync_place().map_err(|error| failure_of(name, error))
+}
+
 impl<'n, F: Output<'n>> Files<F> {
     /// The files of these names: for the lines and for the refused pieces.
     ///
@@ -242,6 +261,26 @@ impl<'n, F: Output<'n>> Files<F> {
         put_file(&mut self.refused)
     }
 
+    // Waits until the places of both are on the device.
+    fn sync_places(&self) -> Result<(), Failure<'n>>
+        ensures told { IfErr result (λ failure. IsTold F.says failure) }
+    {
+        sync_place_of(&self.lines)?;
+        sync_place_of(&self.refused)
+    }
+
+    // Puts each file in its place, and waits until that is on the device too. After an error each may be there already.
+    fn put_and_sync(&mut self) -> Result<(), Failure<'n>>
+        requires { Each F.state IsBeside self.old }
+        ensures kept { HasNames F.state self.old self.new }
+        ensures placed { OnOk result (Each F.state IsInPlace self.new) }
+        ensures whole { ArePutWhole F.state self.new }
+        ensures told { IfErr result (λ failure. IsTold F.says failure) }
+    {
+        self.put()?;
+        self.sync_places()
+    }
+
     /// Ends a run that gave this answer: puts each file in its place, once all of both is on the device. After a failure, of the run
     /// or of that, each file that is not in its place is removed.
     ///
@@ -259,7 +298,7 @@ impl<'n, F: Output<'n>> Files<F> {
         ensures told { OnOk answer.entry (IfErr result (λ failure. IsTold F.says failure)) }
     {
         let answer = match answer {
-            Ok(value) => self.put().map(|()| value),
+            Ok(value) => self.put_and_sync().map(|()| value),
             Err(failure) => Err(failure),
         };
         if answer.is_err() {

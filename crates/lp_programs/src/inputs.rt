@@ -8,9 +8,10 @@ use crate::endings::Device;
 use crate::errors::shorter;
 use crate::options::Range;
 use crate::places::path_of;
+use crate::starts::{Start, TELLING, keep_first, start_of};
 use std::cell::Cell;
 use std::fs::File;
-use std::io::{self, Read, Seek, SeekFrom, Stdin, Take};
+use std::io::{self, ErrorKind, Read, Seek, SeekFrom, Stdin, Take};
 
 /// What opens inputs.
 ///
@@ -91,9 +92,9 @@ impl<'n, O: Opener<'n>> Read for Inputs<'n, O, O::Input> {
     }
 }
 
-/// An input of the system that is open.
+// What an input of the system is read from.
 #[derive(Drop)]
-pub enum SystemInput {
+enum Opened {
     /// Standard input.
     Standard(Stdin),
     /// A file, from where it is on.
@@ -113,13 +114,55 @@ fn read_part(part: &mut Take<File>, buf: &mut [u8]) -> io::Result<usize>
     Ok(n)
 }
 
-impl Read for SystemInput {
+impl Read for Opened {
     fn read(&mut self, buf: &mut [u8]) -> io::Result<usize> {
         match self {
-            SystemInput::Standard(stdin) => stdin.read(buf),
-            SystemInput::File(file) => file.read(buf),
-            SystemInput::Part(part) => read_part(part, buf),
+            Opened::Standard(stdin) => stdin.read(buf),
+            Opened::File(file) => file.read(buf),
+            Opened::Part(part) => read_part(part, buf),
         }
+    }
+}
+
+/// An input of the system that is open. Its first bytes are looked at: a read fails that finds it packed.
+#[derive(Drop)]
+pub struct SystemInput<'a> {
+    opened: Opened,
+    /// Its first bytes, as long as these may tell more of it.
+    first: Option<Vec<u8>>,
+    /// Where it is put that it begins with a byte order mark.
+    is_marked: &'a Cell<bool>,
+}
+
+// The error of an input that is packed, and with what it can be unpacked.
+fn packed(text: &str) -> io::Error {
+    io::Error::new(ErrorKind::InvalidData, text)
+}
+
+impl<'a> SystemInput<'a> {
+    // Looks at bytes that were read, if these may tell what the input is.
+    fn look(&mut self, bytes: &[u8]) -> io::Result<()> {
+        let Some(first) = &mut self.first else {
+            return Ok(());
+        };
+        keep_first(first, bytes)?;
+        match start_of(first.as_slice()) {
+            Start::Gzip => return Err(packed("the input is gzip: use zcat")),
+            Start::Zstd => return Err(packed("the input is zstd: use zstdcat")),
+            Start::ByteOrderMark => self.is_marked.set(true),
+            Start::Text if first.len() < TELLING => return Ok(()),
+            Start::Text => {}
+        }
+        self.first = None;
+        Ok(())
+    }
+}
+
+impl<'a> Read for SystemInput<'a> {
+    fn read(&mut self, buf: &mut [u8]) -> io::Result<usize> {
+        let n = self.opened.read(buf)?;
+        self.look(&buf[..n])?;
+        Ok(n)
     }
 }
 
@@ -129,47 +172,84 @@ pub struct SystemOpener<'a, 'n> {
     rt: &'a HostRuntime,
     /// The input that was opened last, for the message if it fails.
     device: &'a Cell<Device<'n>>,
+    /// Whether an input was found to begin with a byte order mark.
+    is_marked: &'a Cell<bool>,
     /// The part of an input that is read, if not all of it is.
     range: Option<Range>,
 }
 
 impl<'a, 'n> SystemOpener<'a, 'n> {
-    /// It puts the name of each file that it opens into a cell.
-    pub fn new(rt: &'a HostRuntime, device: &'a Cell<Device<'n>>, range: Option<Range>) -> Self {
-        SystemOpener { rt, device, range }
+    /// It puts the name of each file that it opens into a cell, and into another, at the read that shows it, that an input begins with a
+    /// byte order mark.
+    pub fn new(
+        rt: &'a HostRuntime,
+        device: &'a Cell<Device<'n>>,
+        is_marked: &'a Cell<bool>,
+        range: Option<Range>,
+    ) -> Self {
+        SystemOpener {
+            rt,
+            device,
+            is_marked,
+            range,
+        }
     }
 
     // Opens a file at the start of a range.
-    fn open_range(&self, path: &str, range: Range) -> io::Result<SystemInput> {
+    fn open_range(&self, path: &str, range: Range) -> io::Result<Opened> {
         let mut file = File::open(self.rt, path)?;
         file.seek(SeekFrom::Start(range.from as u64))?;
         match range.to {
             Some(to) => {
                 let len = to.saturating_sub(range.from);
-                Ok(SystemInput::Part(file.take(len as u64)))
+                Ok(Opened::Part(file.take(len as u64)))
             }
-            None => Ok(SystemInput::File(file)),
+            None => Ok(Opened::File(file)),
+        }
+    }
+
+    // Opens the input of a name, or the part of it that is read.
+    fn open_part(&self, name: &str) -> io::Result<Opened> {
+        if let Some(range) = self.range {
+            return self.open_range(path_of(name), range);
+        }
+        if name == "-" {
+            Ok(Opened::Standard(self.rt.stdin()))
+        } else {
+            Ok(Opened::File(File::open(self.rt, name)?))
         }
     }
 }
 
+// Whether an input is read from its start.
+fn begins_at_start(range: Option<Range>) -> bool {
+    match range {
+        Some(range) => range.from == 0,
+        None => true,
+    }
+}
+
 impl<'a, 'n> Opener<'n> for SystemOpener<'a, 'n> {
-    type Input = SystemInput;
+    type Input = SystemInput<'a>;
 
     ghost bytes = { λ _ _. None };
 
-    fn open(&self, name: &'n str) -> io::Result<SystemInput> {
+    fn open(&self, name: &'n str) -> io::Result<SystemInput<'a>> {
         let file = if name == "-" { None } else { Some(name) };
         self.device.set(Device {
             name: file,
             error: None,
         });
-        if let Some(range) = self.range {
-            return self.open_range(path_of(name), range);
-        }
-        match file {
-            Some(path) => Ok(SystemInput::File(File::open(self.rt, path)?)),
-            None => Ok(SystemInput::Standard(self.rt.stdin())),
-        }
+        let opened = self.open_part(name)?;
+        let first = if begins_at_start(self.range) {
+            Some(Vec::new(self.rt.alloc()))
+        } else {
+            None
+        };
+        Ok(SystemInput {
+            opened,
+            first,
+            is_marked: self.is_marked,
+        })
     }
 }

@@ -1,7 +1,7 @@
 //! What words say that take one form in all programs: numbers, names of files, ranges, and how faults are told.
-ghost use Rattle.std.specs.Prelude.{◌≡◌, ◌<◌, ◌==◌, IfSome, length, slice_index};
-ghost use Rattle.std.specs.List.{position};
-ghost use Rattle.lp_programs.specs.Options.{are_inputs, asked_range, decimal, faults_form, first_number, is_one_if, names_file, names_input, range_between, range_end};
+ghost use Rattle.std.specs.Prelude.{◌≡◌, ◌<◌, ◌==◌, IfSome, length, nat_lt, option_map, slice_index};
+ghost use Rattle.std.specs.List.{list_all, position};
+ghost use Rattle.lp_programs.specs.Options.{are_objects, asked_range, decimal, faults_form, first_number, is_one_if, named_inputs, names_file, names_input, range_between, range_end, told_file};
 
 use lp_relay::Faults;
 
@@ -89,7 +89,31 @@ pub fn faults_form_of(word: &str) -> Option<Faults>
     match word {
         "line" => Some(Faults::OneLine),
         "raw" => Some(Faults::Raw),
-        "json" => Some(Faults::Json { first_line: 1 }),
+        "json" => Some(Faults::Json {
+            first_line: 1,
+            has_piece: false,
+        }),
+        "json+text" => Some(Faults::Json {
+            first_line: 1,
+            has_piece: true,
+        }),
+        _ => None,
+    }
+}
+
+/// Whether faults are told as objects.
+pub fn are_objects(faults: Faults) -> bool
+    ensures { result ≡ are_objects faults }
+{
+    matches!(faults, Faults::Json { .. })
+}
+
+/// The name that objects tell of their file, if words name one input, and that is a file. If they name several, each object tells its own.
+pub fn told_file<'a>(faults: Faults, words: &[&'a str]) -> Option<&'a str>
+    ensures { result ≡ told_file faults words.now }
+{
+    match words {
+        [word] if are_objects(faults) && *word != "-" => Some(*word),
         _ => None,
     }
 }
@@ -104,16 +128,39 @@ pub fn is_file(word: &str) -> bool
     }
 }
 
-// Whether a word names an input: a file, or standard input.
-fn is_input(word: &str) -> bool
+/// Whether a word names a file, or a standard stream, which is `-`.
+pub fn is_input(word: &str) -> bool
     ensures { result ≡ names_input word.now }
 {
     word == "-" || is_file(word)
 }
 
-/// Whether each word names an input.
-pub fn are_inputs(words: &[&str]) -> bool
-    ensures { result ≡ are_inputs words.now }
+// Whether a word has a byte.
+fn has_byte(word: &str) -> bool
+    ensures { result ≡ nat_lt 0 (length word.now) }
 {
-    words.iter().all(|word| is_input(word))
+    0 < word.len()
+}
+
+// Whether each word has a byte.
+fn have_bytes(words: &[&str]) -> bool
+    ensures { result ≡ list_all (λ word. nat_lt 0 (length word.now)) words.now }
+{
+    words.iter().all(|word| has_byte(word))
+}
+
+/// The names of inputs that words are, if they are the mark `--` and names, each of a byte or more.
+pub fn inputs_of<'w, 'a>(words: &'w [&'a str]) -> Option<&'w [&'a str]>
+    ensures { option_map (λ names. names.now) result ≡ named_inputs words.now }
+{
+    let [mark, names @ ..] = words else {
+        return None;
+    };
+    if *mark != "--" {
+        return None;
+    }
+    if !have_bytes(names) {
+        return None;
+    }
+    Some(names)
 }

@@ -4,11 +4,23 @@ ghost use Rattle.lp_programs.specs.Refusals.{input_path};
 
 use crate::batch_names::BatchNames;
 use crate::options::Range;
-use crate::refusals::{FileId, Located, Refusal, refusal_of, refusal_of_range};
+use crate::refusals::{
+    FileId, Located, OldPieces, Refusal, refusal_of, refusal_of_faults, refusal_of_old,
+    refusal_of_range, refusal_of_unseen,
+};
 use std::alloc::AllocError;
 use std::fs::{self, File, OpenOptions};
 use std::io::{self, ErrorKind};
-use std::os::unix::fs::MetadataExt;
+use std::os::unix::fs::{FileTypeExt, MetadataExt};
+
+// How many links are followed, as the system follows them.
+const MOST_LINKS: usize = 40;
+
+// Where the system tells what is mounted.
+const MOUNTS: &str = "/proc/self/mountinfo";
+
+// Where the system has the standard streams.
+const STREAMS: &str = "/proc/self/fd";
 
 // Where the system has standard input.
 const STDIN: &str = "/proc/self/fd/0";
@@ -85,8 +97,54 @@ fn inputs_at<'a>(rt: &HostRuntime, names: &'a [&'a str]) -> Result<Vec<Located<'
     Ok(inputs)
 }
 
+// The regular file or the FIFO to which a path of an output leads, if it does. A device takes what two write to it.
+fn output_at(rt: &HostRuntime, path: &str) -> Option<FileId> {
+    match fs::metadata(rt, path) {
+        Ok(file) if file.is_file() || file.file_type().is_fifo() => Some(FileId {
+            device: file.dev(),
+            number: file.ino(),
+        }),
+        _ => None,
+    }
+}
+
+/// The path of an output: `-` is standard output.
+fn output_path<'a>(name: &'a str) -> &'a str {
+    if name == "-" { STDOUT } else { name }
+}
+
+// An output of this name, and the file to which it leads.
+fn located<'a>(rt: &HostRuntime, name: Option<&'a str>) -> Option<Located<'a>> {
+    let name = name?;
+    let file = output_at(rt, output_path(name));
+    Some(Located { name, file })
+}
+
+// Where the lines of a run go that has no file for them: to standard output, unless refused pieces do.
+fn lines_at(rt: &HostRuntime, refused: Option<Located<'_>>) -> Option<FileId> {
+    match refused {
+        Some(refused) if refused.name == "-" => None,
+        _ => output_at(rt, STDOUT),
+    }
+}
+
+// Why a run is refused over these inputs, if it is, whose standard streams cannot be looked at, as without /proc.
+fn unseen_refusal_at<'a>(
+    mut files: Vec<Located<'a>>,
+    output: Option<Located<'a>>,
+    refused: Option<Located<'a>>,
+) -> Result<Option<Refusal<'a>>, AllocError> {
+    if let Some(output) = output {
+        files.push(output)?;
+    }
+    if let Some(refused) = refused {
+        files.push(refused)?;
+    }
+    Ok(refusal_of_unseen(files.as_slice()))
+}
+
 /// Why a run over the inputs of these names is refused, if it is, whose lines and refused pieces go to files of these names: lines
-/// that have no file go to standard output.
+/// that have no file go to standard output, unless the refused pieces do, whose name is `-` then.
 ///
 /// # Errors
 ///
@@ -94,19 +152,38 @@ fn inputs_at<'a>(rt: &HostRuntime, names: &'a [&'a str]) -> Result<Vec<Located<'
 pub fn refusal_at<'a>(
     rt: &HostRuntime,
     names: &'a [&'a str],
-    output: Option<&str>,
+    output: Option<&'a str>,
     refused: Option<&'a str>,
 ) -> Result<Option<Refusal<'a>>, AllocError> {
     let inputs = inputs_at(rt, names)?;
-    let output = file_at(rt, output.unwrap_or(STDOUT));
-    let refused = match refused {
-        Some(name) => Some(Located {
-            name,
-            file: file_at(rt, name),
-        }),
-        None => None,
+    let output = located(rt, output);
+    let refused = located(rt, refused);
+    if fs::metadata(rt, STREAMS).is_err() {
+        return unseen_refusal_at(inputs, output, refused);
+    }
+    let lines = match output {
+        Some(output) => output.file,
+        None => lines_at(rt, refused),
     };
-    Ok(refusal_of(inputs.as_slice(), output, refused))
+    match refusal_of(inputs.as_slice(), lines, refused) {
+        Some(refusal) => Ok(Some(refusal)),
+        None => {
+            let named = refused.filter(|refused| refused.name != "-");
+            let faults = file_at(rt, STDERR);
+            Ok(refusal_of_faults(inputs.as_slice(), faults, output, named))
+        }
+    }
+}
+
+/// Why refused pieces cannot go to the file of this name for what it holds, if they cannot: standard output, whose name is `-`, may
+/// hold anything.
+pub fn old_refusal_at<'a>(rt: &HostRuntime, old: OldPieces, name: &'a str) -> Option<Refusal<'a>> {
+    match fs::metadata(rt, name) {
+        Ok(file) if name != "-" && file.is_file() => {
+            refusal_of_old(old, name, Some(file.len() as usize))
+        }
+        _ => None,
+    }
 }
 
 /// The name of a file that is there, and is named as a batch.
@@ -182,4 +259,74 @@ fn total_len(rt: &HostRuntime, names: &[&str]) -> Option<u64> {
         total = total.saturating_add(file.len());
     }
     Some(total)
+}
+
+// Where a link leads.
+fn led_to(rt: &HostRuntime, link: &str) -> io::Result<String> {
+    let to = fs::read_link(rt, link)?.into_string();
+    if to.starts_with('/') {
+        return Ok(to);
+    }
+    match link.rsplit_once('/') {
+        Some((folder, _)) => Ok(format!(in rt.alloc(); "{folder}/{to}")?),
+        None => Ok(to),
+    }
+}
+
+/// The place of a name: if that is a link, what it leads to, also if nothing is there.
+///
+/// # Errors
+///
+/// What the system says if a link cannot be read, or that there are too many.
+pub(crate) fn place_of(rt: &HostRuntime, name: &str) -> io::Result<String> {
+    let mut place = String::from_str(rt.alloc(), name)?;
+    for _ in 0..MOST_LINKS {
+        match fs::symlink_metadata(rt, place.as_str()) {
+            Ok(found) if found.is_symlink() => place = led_to(rt, place.as_str())?,
+            _ => return Ok(place),
+        }
+    }
+    Err(io::Error::from(ErrorKind::FilesystemLoop))
+}
+
+// Adds a path as the system tells it among what is mounted.
+fn put_path(told: &mut String, path: &str) -> Result<(), AllocError> {
+    for character in path.chars() {
+        match character {
+            ' ' => told.push_str("\\040")?,
+            '\t' => told.push_str("\\011")?,
+            '\n' => told.push_str("\\012")?,
+            '\\' => told.push_str("\\134")?,
+            _ => told.push(character)?,
+        }
+    }
+    Ok(())
+}
+
+/// Whether something is mounted in a place, as far as the system tells: then no other file can be put there.
+///
+/// # Errors
+///
+/// If memory was refused.
+pub(crate) fn is_mounted(rt: &HostRuntime, place: &str) -> Result<bool, AllocError> {
+    let (Ok(mounts), Ok(path)) = (fs::read_to_string(rt, MOUNTS), fs::canonicalize(rt, place))
+    else {
+        return Ok(false);
+    };
+    let mut told = String::new(rt.alloc());
+    put_path(&mut told, path.into_string().as_str())?;
+    Ok(
+        mounts
+            .lines()
+            .any(|mount| mount.split(' ').nth(4) == Some(told.as_str())),
+    )
+}
+
+/// The folder of a place, and the name of its file there.
+pub(crate) fn folder_and_file<'a>(place: &'a str) -> (&'a str, &'a str) {
+    match place.rsplit_once('/') {
+        Some(("", file)) => ("/", file),
+        Some((folder, file)) => (folder, file),
+        None => (".", place),
+    }
 }

@@ -1,10 +1,11 @@
-//! What is refused before anything is opened: an output that is an input, a file of refused pieces that is one of these, a range that
-//! its file does not have, batches that have no names of their own, and parts that are none or too many.
+//! What is refused before anything is opened: an output that is an input, a file of refused pieces that is one of these or holds
+//! something, standard error that is one of these, a range that its file does not have, batches that have no names of their own, and parts that are none or too many.
 ghost use Rattle.std.specs.Prelude.{◌≡◌, ◌≢◌, Some, false, true, ◌<◌, ◌-◌, [], ◌∷◌, codes, drop, length, map};
-ghost use Rattle.lp_programs.specs.Refusals.{are_one, are_unnamed, input_at, input_text, is_backwards, parts_refusal, range_refusal, refusal, refused_refusal};
+ghost use Rattle.lp_programs.specs.Refusals.{are_one, are_unnamed, faults_refusal, held_refusal, input_at, input_text, is_backwards, parts_refusal, range_refusal, refusal, refused_refusal, unseen_refusal};
 
 use crate::batch_names::batch_names_of;
 use crate::options::{MOST_PARTS, Range};
+use crate::told::ToldName;
 use std::fmt;
 
 /// The names of inputs if no word names an input.
@@ -24,6 +25,17 @@ pub struct Located<'a> {
     pub file: Option<FileId>,
 }
 
+/// What becomes of the pieces that are in the file of refused pieces before a run, if that is a regular file.
+#[derive(Clone, Copy)]
+pub enum OldPieces {
+    /// A run is refused if there are any.
+    Refuse,
+    /// The pieces of the run come after them.
+    Append,
+    /// The pieces of the run replace them.
+    Replace,
+}
+
 /// Why a run is refused before anything is opened, with the name of the file that it would spoil.
 #[derive(Clone, Copy)]
 pub enum Refusal<'a> {
@@ -33,6 +45,16 @@ pub enum Refusal<'a> {
     RefusedIsInput(&'a str),
     /// The refused pieces would go where the lines go.
     RefusedIsOutput(&'a str),
+    /// The faults would go to an input.
+    FaultsAreInput(&'a str),
+    /// The faults would go to the file of the lines.
+    OutputIsFaults(&'a str),
+    /// The faults would go to the file of the refused pieces.
+    RefusedIsFaults(&'a str),
+    /// It cannot be seen whether a standard stream is this file.
+    StreamsUnseen(&'a str),
+    /// The file of the refused pieces holds bytes, of which no option says what becomes.
+    RefusedHolds(&'a str),
     /// A range ends before it begins.
     RangeIsBackwards(Range),
     /// A range begins or ends after the end of a file, which has so many bytes.
@@ -101,6 +123,48 @@ pub fn refusal_of<'a>(
     }
 }
 
+/// Why a run over these inputs is refused, whose faults go to this file, and its lines and refused pieces to files that are named, if
+/// they are: what comes to the place of such a file takes away the faults.
+pub fn refusal_of_faults<'a>(
+    inputs: &[Located<'a>],
+    faults: Option<FileId>,
+    output: Option<Located<'a>>,
+    refused: Option<Located<'a>>,
+) -> Option<Refusal<'a>>
+    ensures { result ≡ faults_refusal inputs.now faults output.entry refused.entry }
+{
+    if let Some(name) = input_at(inputs, faults) {
+        return Some(Refusal::FaultsAreInput(name));
+    }
+    match (output, refused) {
+        (Some(output), _) if are_one(output.file, faults) => {
+            Some(Refusal::OutputIsFaults(output.name))
+        }
+        (_, Some(refused)) if are_one(refused.file, faults) => {
+            Some(Refusal::RefusedIsFaults(refused.name))
+        }
+        _ => None,
+    }
+}
+
+/// Why a run is refused whose standard streams cannot be looked at, if it is: one may be the first of these files that is there.
+pub fn refusal_of_unseen<'a>(files: &[Located<'a>]) -> Option<Refusal<'a>>
+    ensures { result ≡ unseen_refusal files.now }
+{
+    let file = files.iter().find(|file| file.file.is_some())?;
+    Some(Refusal::StreamsUnseen(file.name))
+}
+
+/// Why refused pieces cannot go to the file of this name, if that is a regular file, and holds so many bytes.
+pub fn refusal_of_old<'a>(old: OldPieces, name: &'a str, len: Option<usize>) -> Option<Refusal<'a>>
+    ensures { result ≡ held_refusal old name.entry len }
+{
+    match (old, len) {
+        (OldPieces::Refuse, Some(len)) if len > 0 => Some(Refusal::RefusedHolds(name)),
+        _ => None,
+    }
+}
+
 // Whether a range ends before it begins.
 fn is_backwards(range: Range) -> bool
     ensures { result ≡ is_backwards range }
@@ -163,10 +227,10 @@ pub fn refusal_of_parts<'a>(parts: usize) -> Option<Refusal<'a>>
 }
 
 // How an input is named.
-fn input_text<'a>(name: &'a str) -> &'a str
-    ensures { result.now ≡ input_text name.now }
+fn input_text<'a>(name: &'a str) -> ToldName<'a>
+    ensures { result.bytes.now ≡ input_text name.now }
 {
-    if name == "-" { "standard input" } else { name }
+    ToldName::of(if name == "-" { "standard input" } else { name })
 }
 
 impl<'a> fmt::Display for Refusal<'a> {
@@ -185,7 +249,32 @@ impl<'a> fmt::Display for Refusal<'a> {
                 write!(f, "the file of --refused is an input too: {name}")
             }
             Refusal::RefusedIsOutput(name) => {
+                let name = ToldName::of(name);
                 write!(f, "the file of --refused is the output too: {name}")
+            }
+            Refusal::FaultsAreInput(name) => {
+                let name = input_text(name);
+                write!(f, "standard error is an input too: {name}")
+            }
+            Refusal::OutputIsFaults(name) => {
+                let name = ToldName::of(name);
+                write!(f, "the output is standard error too: {name}")
+            }
+            Refusal::RefusedIsFaults(name) => {
+                let name = ToldName::of(name);
+                write!(f, "the file of --refused is standard error too: {name}")
+            }
+            Refusal::StreamsUnseen(name) => {
+                let name = ToldName::of(name);
+                f.write_str("without /proc it cannot be seen whether a standard stream is ")?;
+                write!(f, "this file: {name}")
+            }
+            Refusal::RefusedHolds(name) => {
+                let name = ToldName::of(name);
+                write!(
+                    f,
+                    "the file of --refused needs --append or --replace: {name}"
+                )
             }
             Refusal::RangeIsBackwards(range) => {
                 let from = range.from;
@@ -197,7 +286,7 @@ impl<'a> fmt::Display for Refusal<'a> {
                 let name = input_text(name);
                 let len = *len;
                 write!(f, "the range goes past the {len} bytes of ")?;
-                f.write_str(name)
+                write!(f, "{name}")
             }
             Refusal::RangeOfNoFile(name) => {
                 let name = input_text(name);
@@ -206,8 +295,12 @@ impl<'a> fmt::Display for Refusal<'a> {
             Refusal::BatchesUnnamed => f.write_str(
                 "batches need an --output with one %0Nd in the name of the file, as lines-%06d.lp",
             ),
-            Refusal::BatchIsThere(name) => write!(f, "a batch is there already: {name}"),
+            Refusal::BatchIsThere(name) => {
+                let name = ToldName::of(name);
+                write!(f, "a batch is there already: {name}")
+            }
             Refusal::RefusedIsBatch(name) => {
+                let name = ToldName::of(name);
                 write!(f, "the file of --refused is named as a batch: {name}")
             }
             Refusal::PartsOutOfRange(parts) => {

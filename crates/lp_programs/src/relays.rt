@@ -1,25 +1,33 @@
 //! Relays what words ask for, and says how that ends.
-ghost use Rattle.std.specs.Prelude.{◌≡◌, IfSome};
+ghost use Rattle.std.specs.Prelude.{◌≡◌, IfOk, IfSome};
+ghost use Rattle.lp_programs.specs.Files.{Each, IsBeside};
 
 use crate::asked::{ReadsOn, relay_each};
 use crate::batch_names::batch_names_of;
 use crate::batches::{Batches, Limits};
-use crate::beside::{Destination, Destinations, FileBeside};
+use crate::beside::{Destination, Destinations, FileBeside, System};
 use crate::counted::CountedSource;
 use crate::endings::{Ending, Failure, ending_of_relay};
 use crate::errors::{LastErrors, Watched};
 use crate::files::{Files, failure_of};
 use crate::inputs::{Inputs, SystemOpener};
+use crate::locks::{names_beside, remove_left};
+use crate::marks::{MarkedSource, Marks};
 use crate::meter::{Counted, Meter, MeteredSink, MeteredSource};
 use crate::options::Range;
-use crate::places::{batch_at, range_refusal_at, refusal_at, relayed_len};
-use crate::refusals::{Refusal, refusal_of_batches};
-use crate::summary::Totals;
+use crate::places::{
+    batch_at, old_refusal_at, place_of, range_refusal_at, refusal_at, relayed_len,
+};
+use crate::refusals::{OldPieces, Refusal, refusal_of_batches};
+use crate::speaking::{Notice, Speaker, fault_name};
+use crate::streams::{Stream, stream_of};
+use crate::summary::{AsObject, Totals};
 use crate::watched::{Unwatched, WatchedSource, Watcher};
 use lp_rebuild::{Reading, RunFault, Source, Writing};
 use lp_relay::{Outputs, Settings, ThreeWriters};
 use std::alloc::Global;
-use std::io::{self, IsTerminal, Write};
+use std::cell::Cell;
+use std::io::{self, ErrorKind, IsTerminal, Write};
 
 /// A relay that words ask for.
 #[derive(Clone, Copy)]
@@ -32,8 +40,10 @@ pub struct Request<'a> {
     pub check: bool,
     /// The file that the lines go to, or none: standard output. A check has none.
     pub output: Option<&'a str>,
-    /// The file that the refused pieces go to, if they go out.
+    /// The file that the refused pieces go to, if they go out: `-` is standard output.
     pub refused: Option<&'a str>,
+    /// What becomes of the pieces that this file holds.
+    pub old_pieces: OldPieces,
     /// How large the batches are to which the lines go, if they go to batches. `output` says the names of these then.
     pub batches: Option<Limits>,
     /// The part of the input that is relayed, if it is not all. There is one input then.
@@ -69,9 +79,22 @@ struct Outs<'d, L> {
     refused: Destination<'d>,
 }
 
+// What shows how far a relay of these inputs is, if that is asked for, and standard error is a terminal.
+fn meter_of<'a>(
+    rt: &'a HostRuntime,
+    request: Request<'_>,
+    names: &[&str],
+) -> Option<Meter<'a, HostRuntime>> {
+    if !request.progress || !rt.stderr().is_terminal() {
+        return None;
+    }
+    Some(Meter::new(rt, relayed_len(rt, names, request.range)))
+}
+
 // Relays the inputs of these names, one after another, and shows on the terminal how far it is, if that is asked for.
 fn relay_inputs<'n, W: Watcher + Drop, L: Write + Drop>(
     rt: &HostRuntime,
+    program: Speaker<'_>,
     request: Request<'_>,
     names: &'n [&'n str],
     watcher: W,
@@ -83,15 +106,13 @@ fn relay_inputs<'n, W: Watcher + Drop, L: Write + Drop>(
     } else {
         Counted::Lines
     };
-    let meter = if request.progress && rt.stderr().is_terminal() {
-        Some(Meter::new(rt, relayed_len(rt, names, request.range)))
-    } else {
-        None
-    };
+    let meter = meter_of(rt, request, names);
     let shown = meter.as_ref();
-    let inputs = Inputs::new(SystemOpener::new(rt, &errors.input, request.range), names);
-    let reader = Reading::new(Watched::new(&errors.input, inputs));
-    let reader = MeteredSource::new(shown, reader);
+    let is_marked = Cell::new(false);
+    let opener = SystemOpener::new(rt, &errors.input, &is_marked, request.range);
+    let reader = Reading::new(Watched::new(&errors.input, Inputs::new(opener, names)));
+    let marks = Marks::new(rt, program, shown, &errors.input, &is_marked);
+    let reader = MarkedSource::new(marks, MeteredSource::new(shown, reader));
     let lines = Writing::new(Watched::new(&errors.output, outs.lines));
     let faults = Writing::new(Watched::new(&errors.faults, rt.stderr()));
     let outputs = Outputs {
@@ -123,17 +144,45 @@ fn open_batches<'a, 'n>(
     }
 }
 
-// Relays the inputs of these names to files, or to batches.
+// What the refused pieces of a request are written to as they come. That it leads to an input or to the output may be seen only once it
+// is there.
+fn stream_at<'n>(
+    rt: &HostRuntime,
+    request: Request<'n>,
+    names: &[&str],
+    name: &'n str,
+) -> io::Result<Option<Stream>> {
+    let stream = stream_of(rt, name, request.old_pieces)?;
+    if stream.is_some() && refusal_at(rt, names, request.output, Some(name))?.is_some() {
+        return Err(io::Error::new(ErrorKind::InvalidInput, "it is an input or the output too"));
+    }
+    Ok(stream)
+}
+
+// What the refused pieces of a request are written to as they come, if they are.
+fn open_stream<'n>(
+    rt: &HostRuntime,
+    request: Request<'n>,
+    names: &[&str],
+) -> Result<Option<Stream>, Failure<'n>> {
+    let Some(name) = request.refused else {
+        return Ok(None);
+    };
+    stream_at(rt, request, names, name).map_err(|error| failure_of(name, error))
+}
+
+// Relays the inputs of these names to where its lines and refused pieces go, or to batches.
 fn relay_into<'a, 'n, W: Watcher + Drop>(
     rt: &HostRuntime,
+    program: Speaker<'_>,
     request: Request<'n>,
     names: &'n [&'n str],
     watcher: W,
-    files: &Files<FileBeside<'a, 'n>>,
+    destinations: Destinations<'_>,
     batches: &mut Option<Batches<'a, 'n>>,
 ) -> (Result<Totals, Failure<'n>>, W) {
-    let errors = LastErrors::unfailed(request.output, request.refused);
-    let destinations = files.destinations(rt, request.check);
+    let refused = request.refused.filter(|name| *name != "-");
+    let errors = LastErrors::unfailed(request.output, refused);
     let is_shown = destinations.is_on_terminal();
     let Destinations { lines, refused } = destinations;
     let (answer, watcher) = match batches {
@@ -143,7 +192,7 @@ fn relay_into<'a, 'n, W: Watcher + Drop>(
                 is_shown: false,
                 refused,
             };
-            relay_inputs(rt, request, names, watcher, outs, &errors)
+            relay_inputs(rt, program, request, names, watcher, outs, &errors)
         }
         None => {
             let outs = Outs {
@@ -151,7 +200,7 @@ fn relay_into<'a, 'n, W: Watcher + Drop>(
                 is_shown,
                 refused,
             };
-            relay_inputs(rt, request, names, watcher, outs, &errors)
+            relay_inputs(rt, program, request, names, watcher, outs, &errors)
         }
     };
     match answer {
@@ -160,30 +209,62 @@ fn relay_into<'a, 'n, W: Watcher + Drop>(
     }
 }
 
-/// Relays the inputs of these names to the files that a request names, and puts these in their places. A watcher takes all bytes that
-/// are read, and is given back.
+// The files of a request that come to their places once the run ends: for the lines, unless these go to batches, and for the refused
+// pieces, unless these are written as they come.
+fn open_files<'a, 'n>(
+    system: System<'a>,
+    request: Request<'n>,
+    batches: &Option<Batches<'a, 'n>>,
+    stream: &Option<Stream>,
+) -> Result<Files<FileBeside<'a, 'n>>, Failure<'n>>
+    ensures { IfOk result (λ files. Each (λ file. file.state) IsBeside files) }
+{
+    let output = if batches.is_some() {
+        None
+    } else {
+        request.output
+    };
+    let refused = if stream.is_some() {
+        None
+    } else {
+        request.refused
+    };
+    Files::open(&system, output, refused)
+}
+
+/// Relays the inputs of these names, by a program of this name, to the files that a request names, and puts these in their places. A
+/// watcher takes all bytes that are read, and is given back. What is told of an input that is relayed all the same, the program tells.
 ///
 /// # Errors
 ///
 /// Why the relay failed, or why a file could not be put in its place.
 pub fn relay_to_files<'n, W: Watcher + Drop>(
     rt: &HostRuntime,
+    program: Speaker<'_>,
     request: Request<'n>,
     names: &'n [&'n str],
     watcher: W,
 ) -> (Result<Totals, Failure<'n>>, W) {
+    let stream = match open_stream(rt, request, names) {
+        Ok(stream) => stream,
+        Err(failure) => return (Err(failure), watcher),
+    };
     let mut batches = match open_batches(rt, request) {
         Ok(batches) => batches,
         Err(failure) => return (Err(failure), watcher),
     };
-    let output = if batches.is_some() {
-        None
-    } else {
-        request.output
-    };
-    let (answer, watcher) = match Files::open(&rt, output, request.refused) {
+    let (answer, watcher) = match open_files(System { rt, program }, request, &batches, &stream) {
         Ok(mut files) => {
-            let (answer, watcher) = relay_into(rt, request, names, watcher, &files, &mut batches);
+            let destinations = files.destinations(rt, request.check, &stream);
+            let (answer, watcher) = relay_into(
+                rt,
+                program,
+                request,
+                names,
+                watcher,
+                destinations,
+                &mut batches,
+            );
             let answer = match batches {
                 Some(batches) => batches.finish(answer),
                 None => answer,
@@ -206,30 +287,65 @@ fn write_text(mut destinations: Destinations<'_>, text: &str) -> io::Result<()> 
     destinations.lines.flush()
 }
 
-/// Writes a text to a file, which is put in its place once all of it is on the device.
+/// Writes a text to a file, by a program of this name. The file is put in its place once all of it is on the device.
 ///
 /// # Errors
 ///
 /// `Write` if it cannot be; then what was in its place stays there.
-pub fn put_text<'n>(rt: &HostRuntime, name: &'n str, text: &str) -> Result<(), Failure<'n>> {
-    let mut files = Files::open(&rt, Some(name), None)?;
-    let written = write_text(files.destinations(rt, false), text);
+pub fn put_text<'n>(
+    rt: &HostRuntime,
+    program: Speaker<'_>,
+    name: &'n str,
+    text: &str,
+) -> Result<(), Failure<'n>> {
+    let mut files = Files::open(&System { rt, program }, Some(name), None)?;
+    let written = write_text(files.destinations(rt, false, &None), text);
     let answer = files.finish(written.map_err(|error| failure_of(name, error)));
     files.let_go();
     answer
 }
 
-/// Says how a run of a program of this name ends, and answers with its exit status.
-pub fn end(rt: &HostRuntime, program: &str, ending: Ending<'_>) -> u8
+/// Says how a run of a program ends, and answers with its exit status.
+pub fn end(rt: &HostRuntime, program: Speaker<'_>, ending: Ending<'_>) -> u8
     ensures { result ≡ ending.entry.status }
 {
     if let Some(failure) = ending.failure {
-        let _ = eprintln!(rt; "{program}: {failure}");
+        program.say(rt, fault_name(failure.fault), failure.device.name, &failure);
+    }
+    let not_told = ending.not_told;
+    if not_told > 0 {
+        let _ = if program.as_objects {
+            eprintln!(rt; "{{\"faults_not_told\":{not_told}}}")
+        } else {
+            eprintln!(rt; "{not_told} faults were not told")
+        };
     }
     if let Some(summary) = ending.summary {
-        let _ = eprintln!(rt; "{summary}");
+        let _ = if program.as_objects {
+            eprintln!(rt; "{}", AsObject(summary))
+        } else {
+            eprintln!(rt; "{summary}")
+        };
     }
     ending.status
+}
+
+// Removes what runs that were ended have left beside the place of this name. What cannot be removed stays.
+fn remove_beside(rt: &HostRuntime, program: Speaker<'_>, name: &str) -> io::Result<()> {
+    let place = place_of(rt, name)?;
+    for left in &names_beside(rt, place.as_str())? {
+        if remove_left(rt, place.as_str(), left.as_str()) {
+            program.notify(rt, Notice::Removed(left.as_str()));
+        }
+    }
+    Ok(())
+}
+
+/// Removes what runs that were ended have left beside the place of this name, if there is one, and says so.
+pub fn remove_all_left(rt: &HostRuntime, program: Speaker<'_>, name: Option<&str>) {
+    if let Some(name) = name {
+        let _ = remove_beside(rt, program, name);
+    }
 }
 
 /// Relays what a request names, by a program of this name, and answers with the exit status.
@@ -239,26 +355,31 @@ pub fn relay<'n>(
     request: Request<'n>,
     names: &'n [&'n str],
 ) -> u8 {
+    let program = Speaker::as_faults(program, request.relay.faults);
     if let Some(status) = refuse_request(rt, program, request, names) {
         return status;
     }
-    let (answer, _unwatched) = relay_to_files(rt, request, names, Unwatched);
+    if request.batches.is_none() {
+        remove_all_left(rt, program, request.output);
+    }
+    remove_all_left(rt, program, request.refused);
+    let (answer, _unwatched) = relay_to_files(rt, program, request, names, Unwatched);
     end(rt, program, ending_of_relay(request.relay, answer))
 }
 
-/// Says why a run of a program of this name is refused, and answers with the exit status, if it is.
-pub fn refuse(rt: &HostRuntime, program: &str, refusal: Option<Refusal<'_>>) -> Option<u8>
+/// Says why a run of a program is refused, and answers with the exit status, if it is.
+pub fn refuse(rt: &HostRuntime, program: Speaker<'_>, refusal: Option<Refusal<'_>>) -> Option<u8>
     ensures { IfSome result (λ status. status ≡ 2) }
 {
     let refusal = refusal?;
-    let _ = eprintln!(rt; "{program}: {refusal}");
+    program.say(rt, "refused", None, &refusal);
     Some(2)
 }
 
 /// Says why a run over the inputs of these names is refused for the files that they and its outputs are, if it is.
 pub fn refuse_files(
     rt: &HostRuntime,
-    program: &str,
+    program: Speaker<'_>,
     names: &[&str],
     output: Option<&str>,
     refused: Option<&str>,
@@ -269,7 +390,7 @@ pub fn refuse_files(
         Ok(refusal) => refuse(rt, program, refusal),
         Err(_) => {
             let fault = RunFault::OutOfMemory;
-            let _ = eprintln!(rt; "{program}: {fault}");
+            program.say(rt, fault_name(fault), None, &fault);
             Some(2)
         }
     }
@@ -278,7 +399,7 @@ pub fn refuse_files(
 // Says why lines cannot go to batches that this word names, if they cannot.
 fn refuse_batches(
     rt: &HostRuntime,
-    program: &str,
+    program: Speaker<'_>,
     output: Option<&str>,
     refused: Option<&str>,
 ) -> Option<u8>
@@ -293,16 +414,21 @@ fn refuse_batches(
         Ok(None) => None,
         Err(error) => {
             let failure = failure_of(word, error);
-            let _ = eprintln!(rt; "{program}: {failure}");
+            program.say(rt, fault_name(failure.fault), failure.device.name, &failure);
             Some(2)
         }
     }
 }
 
+// Why the refused pieces of a request cannot go to what holds others, if they cannot.
+fn refusal_of_request<'a>(rt: &HostRuntime, request: Request<'a>) -> Option<Refusal<'a>> {
+    old_refusal_at(rt, request.old_pieces, request.refused?)
+}
+
 /// Says why the relay of a request is refused, if it is: for its range, or for its files.
 pub fn refuse_request(
     rt: &HostRuntime,
-    program: &str,
+    program: Speaker<'_>,
     request: Request<'_>,
     names: &[&str],
 ) -> Option<u8>
@@ -316,6 +442,9 @@ pub fn refuse_request(
         return Some(status);
     }
     if let Some(status) = refuse_files(rt, program, names, request.output, request.refused) {
+        return Some(status);
+    }
+    if let Some(status) = refuse(rt, program, refusal_of_request(rt, request)) {
         return Some(status);
     }
     match request.batches {

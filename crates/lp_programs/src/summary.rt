@@ -1,7 +1,7 @@
 //! What a relay tells at its end.
 ghost use Rattle.std.specs.Prelude.{Some};
 ghost use Rattle.std.specs.Fmt.{DisplaysOnOk};
-ghost use Rattle.lp_programs.specs.Summaries.{items_text, kinds_from, kinds_text};
+ghost use Rattle.lp_programs.specs.Summaries.{items_text, kind_members, kinds_from, kinds_text};
 ghost use Rattle.lp_relay.specs.Kinds.{counts_of};
 
 use lp_relay::{KINDS, Kind, KindCounts, Relayed};
@@ -71,5 +71,50 @@ impl fmt::Display for Totals {
         let lines = self.lines;
         write!(f, "{bytes} bytes, {lines} lines, ")?;
         show_items(&self.counts, f)
+    }
+}
+
+// Writes these kinds as members, each with its count if it has one, and before the first of them a mark.
+fn show_kind_members<W: fmt::Write>(
+    mark: &str,
+    kinds: &[Kind],
+    counts: &KindCounts,
+    f: &mut fmt::Formatter<W>,
+) -> fmt::Result
+    ensures { DisplaysOnOk W.write_str_gives f.old result (Some (kind_members mark.now kinds.now (counts_of counts.now))) f.new }
+{
+    let Some((kind, kinds)) = kinds.split_first() else {
+        return Ok(());
+    };
+    let of_kind = counts.of(*kind);
+    if of_kind == 0 {
+        return show_kind_members(mark, kinds, counts, f);
+    }
+    let name = kind.name();
+    write!(f, "{mark}\"{name}\":{of_kind}")?;
+    show_kind_members(",", kinds, counts, f)
+}
+
+/// What a relay read, and what came of it, shown as an object, which no clause tells:
+/// `{"summary":{"bytes":34,"lines":4,"items":3,"carried":2,"refused":1,"kinds":{"not_utf8":1}}}`.
+#[derive(Clone, Copy)]
+pub struct AsObject(pub Totals);
+
+impl fmt::Display for AsObject {
+    fn fmt<W: fmt::Write>(&self, f: &mut fmt::Formatter<W>) -> fmt::Result {
+        let (bytes, lines) = (self.0.bytes, self.0.lines);
+        let (carried, refused) = (self.0.counts.carried, self.0.counts.refused);
+        let items = carried as u128 + refused as u128;
+        write!(f, "{{\"summary\":{{\"bytes\":{bytes},\"lines\":{lines}")?;
+        write!(
+            f,
+            ",\"items\":{items},\"carried\":{carried},\"refused\":{refused}"
+        )?;
+        if let Some(counts) = &self.0.counts.kinds {
+            f.write_str(",\"kinds\":{")?;
+            show_kind_members("", KINDS, counts, f)?;
+            f.write_str("}")?;
+        }
+        f.write_str("}}")
     }
 }

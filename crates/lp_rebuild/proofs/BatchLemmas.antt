@@ -36,9 +36,10 @@ filled_answers line (Ok done) answer filled = filled
 filled_answers line (Err e) answer filled = filled
 
 -- a line that was read has a field
-pub has_field : LinesArePoints → (line : ParsedLine) → IsReadLine line → 0 < length line.field_set.items
-has_field are line read =
-    let point = are read.dialect (trimmed read.text) (line_read line) read.answered in
+pub has_field : LinesArePoints → (dialect : Dialect) (text : List ℕ) (line : ParsedLine) → answer dialect text ≡ Ok (line_read line)
+    → 0 < length line.field_set.items
+has_field are dialect text line read =
+    let point = are dialect text (line_read line) read in
     subst (λ (n : ℕ). 0 < n) (length-map (map field_of line.field_set.items) logical_field ∙ length-map line.field_set.items field_of)
     point.some_field
 

@@ -1,11 +1,11 @@
 //! The lines of a text, written again.
-ghost use Rattle.std.specs.Prelude.{◌≡◌, ◌+◌, ◌<◌, ◌≤◌, ◌++◌, ◌∷◌, [], length, IfOk, OnOk, Ok};
+ghost use Rattle.std.specs.Prelude.{◌≡◌, ◌+◌, ◌<◌, ◌≤◌, ◌++◌, ◌∷◌, [], length, IfOk, OnOk, Ok, Some};
 ghost use Rattle.influxdb_line_protocol.specs.code.Rules.{rules_of};
 ghost use Rattle.influxdb_line_protocol.specs.format.Bytes.{newline};
 ghost use Rattle.influxdb_line_protocol.specs.format.Points.{built};
 ghost use Rattle.influxdb_line_protocol.specs.format.Lines.{answer};
 ghost use Rattle.influxdb_line_protocol.specs.format.Trimming.{trimmed};
-ghost use Rattle.influxdb_line_protocol.specs.code.Parsed.{line_read, parsed_point, IsReadLine};
+ghost use Rattle.influxdb_line_protocol.specs.code.Parsed.{line_read, parsed_point};
 ghost use Rattle.lp_rebuild.specs.Rebuilding.{Rebuilds, RebuildsIn, ReadsBack, ReadsBackIn};
 ghost use Rattle.lp_rebuild.specs.RebuildSteps.{IsReadAs, IsTrimmed, Refuses, Takes, TakesLine, line_refusal_text};
 
@@ -109,6 +109,15 @@ impl<'a> LineReader<'a> {
         &self.line
     }
 
+    /// Gives the line that it read last this timestamp, in the place of its own if it has one.
+    #[inline(always)]
+    pub fn set_timestamp(&mut self, timestamp: i64)
+        ensures line { self.new.line ≡ record self.old.line { timestamp = Some timestamp } }
+        ensures dialect { self.new.dialect ≡ self.old.dialect }
+    {
+        self.line.timestamp = Some(timestamp);
+    }
+
     /// Lets it go, without a visit to each place of its line's sets. Its memory is freed.
     #[inline(always)]
     pub fn free(mut self) {
@@ -119,24 +128,28 @@ impl<'a> LineReader<'a> {
 
 // Writes the line again, after `batch`.
 fn append(batch: Vec<u8>, line: &ParsedLine<'_>) -> Result<Vec<u8>, AllocError>
-    requires { IsReadLine line.now }
+    requires { 0 < length line.now.field_set.items }
     ensures { IfOk result (λ longer. longer.items ≡ batch.items ++ built (parsed_point line.now)) }
 {
-    laws::lines_are_points();
     match write_line(LineProtocolBuilder::new_with(batch), line) {
         Ok(builder) => Ok(builder.build()),
         Err(_) => Err(AllocError),
     }
 }
 
-// Takes a line that was read: it is written again, after the batch, or refused. If each newline ends a line, no string that was read
-// holds one, so `is_admitted` says whether it reads back in each dialect.
-fn take_line<'a>(
+/// Takes a line that was read, which has a field: it is written again, after the batch, or refused; then the batch stays as it was.
+///
+/// If each newline ends a line, no string that was read holds one, so `is_admitted` says whether it reads back in each dialect.
+///
+/// # Errors
+///
+/// If memory was refused for the batch, which then may be lost.
+pub fn take_line<'a>(
     alloc: Global,
     batch: &mut Vec<u8>,
     line: &ParsedLine<'_>,
 ) -> Result<Option<LineRefusal<'a>>, AllocError>
-    requires { IsReadLine line.now }
+    requires { 0 < length line.now.field_set.items }
     ensures { IfOk result (λ refusal. TakesLine batch.old.items refusal (Ok (line_read line.now)) batch.new.items) }
 {
     if !is_admitted(line) {
@@ -177,6 +190,7 @@ pub fn take_text<'a>(
         TakesLine batch.old.items refusal (answer (rules_of reader.old.dialect) text.now) batch.new.items) }
     ensures dialect { reader.new.dialect ≡ reader.old.dialect }
 {
+    laws::lines_are_points();
     match reader.read(text)? {
         None => take_line(reader.alloc, batch, &reader.line),
         Some(fault) => Ok(Some(LineRefusal::Fault(fault))),

@@ -9,6 +9,7 @@ ghost use Rattle.lp_rebuild.specs.Devices.{CountsFailure, kept_bytes, kept_capac
 ghost use Rattle.lp_rebuild.specs.Devices.{reading_failures, reading_inner, writing_failures, writing_inner, writing_is_flushed};
 
 use crate::failures::Failures;
+use crate::tries::{flush_again, read_again, write_again};
 use std::alloc::Global;
 use std::io::{Read, Write};
 
@@ -73,7 +74,8 @@ pub trait Sink {
         ensures flushed { OnOk result (is_flushed self.new ≡ true) };
 }
 
-/// A source over a reader of std. Its `bytes` are not known to contracts, but each read hands over what the reader gives.
+/// A source over a reader of std. Its `bytes` are not known to contracts, but each read hands over what the reader gives. A read that a
+/// signal interrupts is tried again.
 #[derive(Drop)]
 pub struct Reading<R> {
     inner: R,
@@ -103,7 +105,7 @@ impl<R: Read> Source for Reading<R> {
         ensures inner { ReadConsumes (R.remaining (reading_inner self.old)) (R.remaining (reading_inner self.new)) result buf.new }
         ensures counts { CountsFailure result (reading_failures self.old) (reading_failures self.new) }
     {
-        match self.inner.read(buf) {
+        match read_again(&mut self.inner, buf) {
             Ok(n) => Ok(n),
             Err(_) => {
                 self.failures.add();
@@ -129,7 +131,7 @@ impl<'a> Source for &'a [u8] {
 }
 
 /// A sink over a writer of std. Its `bytes` are not known to contracts, but each write hands the writer what it takes. A
-/// writer that takes nothing of bytes that it was given has failed.
+/// writer that takes nothing of bytes that it was given has failed. A call that a signal interrupts is tried again.
 #[derive(Drop)]
 pub struct Writing<W> {
     inner: W,
@@ -167,7 +169,7 @@ impl<W: Write> Sink for Writing<W> {
         ensures counts { CountsFailure result (writing_failures self.old) (writing_failures self.new) }
         ensures unflushed { IfOk result (λ n. 0 < n → writing_is_flushed self.new ≡ false) }
     {
-        match self.inner.write(buf) {
+        match write_again(&mut self.inner, buf) {
             Ok(n) if n > 0 || buf.is_empty() => {
                 self.is_flushed = false;
                 Ok(n)
@@ -184,7 +186,7 @@ impl<W: Write> Sink for Writing<W> {
         ensures counts { CountsFailure result (writing_failures self.old) (writing_failures self.new) }
         ensures flushed { OnOk result (writing_is_flushed self.new ≡ true) }
     {
-        match self.inner.flush() {
+        match flush_again(&mut self.inner) {
             Ok(()) => {
                 self.is_flushed = true;
                 Ok(())

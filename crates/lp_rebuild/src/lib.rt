@@ -10,6 +10,7 @@ mod devices;
 mod failures;
 pub mod program;
 mod refusals;
+mod tries;
 
 pub use batch::{Rebuilt, rebuild, rebuild_in};
 pub use devices::{DeviceFault, Kept, Reading, Sink, Source, Writing};

@@ -3,7 +3,6 @@ use Rattle.std.proofs.Common.{◌≡◌, ℕ, ◌+◌, ◌-◌, List, [], ◌∷
 use Rattle.std.proofs.Common.{refl, sym, ap, subst, ◌∙◌, append_assoc, arith, take-append-drop, inl, inr}
 use Rattle.std.proofs.Math.Seq.{take-append-add, take-append_seam}
 use Rattle.std.proofs.lemmas.Bool.{cases_lt}
-use Rattle.std.proofs.lemmas.Grind.{flat_map-append}
 use Rattle.std.proofs.lemmas.List.{length-append, take-append-le}
 use Rattle.influxdb_line_protocol.specs.code.Bounded.{CutsTo, IsTooLong}
 use Rattle.influxdb_line_protocol.specs.code.Rules.{rules_of}
@@ -13,54 +12,71 @@ use Rattle.influxdb_line_protocol.specs.format.Pieces.{IsLastPiece, Pieces, Piec
 use Rattle.influxdb_line_protocol.specs.laws.Laws.{PiecesAreUnique, PiecesExist}
 use Rattle.lp_relay.specs.declared.taking.Settings.{Settings}
 use Rattle.lp_relay.specs.declared.telling.Place.{Place}
+use Rattle.lp_relay.specs.FieldTypes.{Types}
 use Rattle.lp_relay.specs.FaultsTold.{first_place, told_faults, told_items, told_piece}
-use Rattle.lp_relay.specs.Objects.{stop_of_piece}
-use Rattle.lp_relay.specs.Relaying.{items_of, items_of_piece, kept_of, refused_lines, refused_piece, refused_pieces, too_long}
+use Rattle.lp_relay.specs.Objects.{seen_of_piece}
+use Rattle.lp_relay.specs.Relaying.{items_of, items_of_piece, kept_bytes, kept_of, refused_lines, refused_piece, refused_pieces, too_long, types_past}
 use Rattle.lp_relay.specs.RelaySteps.{IsAhead, place_past}
 use Rattle.lp_relay.proofs.CutLemmas.{cut_nowhere}
 use Rattle.lp_relay.proofs.FaultLines.{told_append}
-use Rattle.lp_relay.proofs.ItemLemmas.{item_of_long, items_push, refused_long, stop_long}
+use Rattle.lp_relay.proofs.ItemLemmas.{item_of_long, items_push, kept_long, over_long, put_append, refused_long, stop_long, types_append, types_of_long}
 
 -- two lists of pieces make the same
-abbrev pub MakesSame : Settings → (pieces others : List (List ℕ)) → Type 0
-MakesSame s pieces others = (items_of s pieces ≡ items_of s others) × (told_faults s pieces ≡ told_faults s others)
-    × (refused_pieces s pieces ≡ refused_pieces s others)
+abbrev pub MakesSame : Settings → Types → (pieces others : List (List ℕ)) → Type 0
+MakesSame s types pieces others =
+    (items_of s types pieces ≡ items_of s types others) × (told_faults s types pieces ≡ told_faults s types others)
+    × (refused_pieces s types pieces ≡ refused_pieces s types others) × (types_past s types pieces ≡ types_past s types others)
 
 -- a piece with a front that is too long is too long
 pub long_more : (limit : ℕ) (front more piece : List ℕ) → IsTooLong limit front → piece ≡ front ++ more → IsTooLong limit piece
 long_more limit front more piece h is = (omega (arith, ap (λ (l : List ℕ). length l) is, length-append front more, h.0), h.1)
 
--- what is told of pieces that are too long
-told_long : (s : Settings) (place : Place) (front piece : List ℕ) → IsTooLong s.limit front → IsTooLong s.limit piece
-    → told_piece s place front ≡ told_piece s place piece
-told_long s place front piece h k =
-    ap (λ l. told_items s.faults place (stop_of_piece s front) l) (item_of_long s front h ∙ sym (item_of_long s piece k))
-    ∙ ap (λ e. told_items s.faults place e (items_of_piece s piece)) (stop_long s front h ∙ sym (stop_long s piece k))
+-- what is kept of pieces that are too long
+kept_same : (s : Settings) (front more piece : List ℕ) → IsTooLong s.limit front → IsTooLong s.limit piece → piece ≡ front ++ more
+    → kept_bytes s front ≡ kept_bytes s piece
+kept_same s front more piece h k is =
+    kept_long s front h ∙ sym (take-append-le s.limit front more (omega (arith, h.0))) ∙ ap (take s.limit) (sym is) ∙ sym (kept_long s piece k)
+
+-- what is told of them
+seen_same : (s : Settings) (front more piece : List ℕ) → IsTooLong s.limit front → IsTooLong s.limit piece → piece ≡ front ++ more
+    → seen_of_piece s front ≡ seen_of_piece s piece
+seen_same s front more piece h k is =
+    rw (kept_same s front more piece h k is, over_long s front h, over_long s piece k, stop_long s front h, stop_long s piece k) refl
+
+-- what is told of their items
+told_long : (s : Settings) (types : Types) (place : Place) (front more piece : List ℕ) → IsTooLong s.limit front → IsTooLong s.limit piece
+    → piece ≡ front ++ more → told_piece s types place front ≡ told_piece s types place piece
+told_long s types place front more piece h k is =
+    ap (λ l. told_items s place (seen_of_piece s front) l) (item_of_long s types front h ∙ sym (item_of_long s types piece k))
+    ∙ ap (λ e. told_items s place e (items_of_piece s types piece)) (seen_same s front more piece h k is)
 
 -- what goes out of them as refused
-put_long : (s : Settings) (front more piece : List ℕ) → IsTooLong s.limit front → IsTooLong s.limit piece → piece ≡ front ++ more
-    → refused_piece s front ≡ refused_piece s piece
-put_long s front more piece h k is =
-    refused_long s front h
+put_long : (s : Settings) (types : Types) (front more piece : List ℕ) → IsTooLong s.limit front → IsTooLong s.limit piece
+    → piece ≡ front ++ more → refused_piece s types front ≡ refused_piece s types piece
+put_long s types front more piece h k is =
+    refused_long s types front h
     ∙ ap (λ l. refused_lines s.puts_refused l (too_long (kept_of s) ∷ []))
     (sym (take-append-le s.limit front more (omega (arith, h.0))) ∙ ap (take s.limit) (sym is))
-    ∙ sym (refused_long s piece k)
+    ∙ sym (refused_long s types piece k)
 
 -- after others, a piece makes what its front makes, if that is too long
-pub front_makes : (s : Settings) (pieces : List (List ℕ)) (front more piece : List ℕ) → IsTooLong s.limit front → piece ≡ front ++ more
-    → MakesSame s (pieces ++ front ∷ []) (pieces ++ piece ∷ [])
-front_makes s pieces front more piece h is =
+pub front_makes : (s : Settings) (types : Types) (pieces : List (List ℕ)) (front more piece : List ℕ) → IsTooLong s.limit front
+    → piece ≡ front ++ more → MakesSame s types (pieces ++ front ∷ []) (pieces ++ piece ∷ [])
+front_makes s types pieces front more piece h is =
     let k = long_more s.limit front more piece h is in
-    let place = place_past s (first_place s) pieces in (
-      items_push s pieces front
-          ∙ ap (λ l. items_of s pieces ++ l) (item_of_long s front h ∙ sym (item_of_long s piece k))
-          ∙ sym (items_push s pieces piece),
-      told_append s (first_place s) pieces (front ∷ [])
-          ∙ ap (λ l. told_faults s pieces ++ (l ++ [])) (told_long s place front piece h k)
-          ∙ sym (told_append s (first_place s) pieces (piece ∷ [])),
-      flat_map-append (refused_piece s) pieces (front ∷ [])
-          ∙ ap (λ l. refused_pieces s pieces ++ (l ++ [])) (put_long s front more piece h k is)
-          ∙ sym (flat_map-append (refused_piece s) pieces (piece ∷ [])),
+    let past = types_past s types pieces in
+    let place = place_past s types (first_place s) pieces in (
+      items_push s types pieces front
+          ∙ ap (λ l. items_of s types pieces ++ l) (item_of_long s past front h ∙ sym (item_of_long s past piece k))
+          ∙ sym (items_push s types pieces piece),
+      told_append s types (first_place s) pieces (front ∷ [])
+          ∙ ap (λ l. told_faults s types pieces ++ (l ++ [])) (told_long s past place front more piece h k is)
+          ∙ sym (told_append s types (first_place s) pieces (piece ∷ [])),
+      put_append s types pieces (front ∷ [])
+          ∙ ap (λ l. refused_pieces s types pieces ++ (l ++ [])) (put_long s past front more piece h k is)
+          ∙ sym (put_append s types pieces (piece ∷ [])),
+      types_append s types pieces (front ∷ []) ∙ types_of_long s past front h ∙ sym (types_of_long s past piece k)
+          ∙ sym (types_append s types pieces (piece ∷ [])),
     )
 
 -- the first piece of a text that begins with a front begins with it too, if no newline in the front ends a piece

@@ -1,5 +1,5 @@
 -- Lines that go out only if they are as they would be written.
-use Rattle.std.proofs.Common.{◌≡◌, ℕ, false, true, List, [], ◌∷◌, ◌++◌, length, take, drop, string_bytes}
+use Rattle.std.proofs.Common.{◌≡◌, ℕ, false, true, List, [], ◌∷◌, ◌++◌, ◌-◌, length, take, drop, string_bytes, arith, length-append}
 use Rattle.std.proofs.Common.{None, Option, Some, Result, Ok, append-nil, refl, sym, ap, subst, ◌∙◌, inl, inr}
 use Rattle.std.proofs.Math.Seq.{drop-append_seam, take-append_seam}
 use Rattle.std.proofs.lemmas.Bool.{cases_Bool}
@@ -8,7 +8,7 @@ use Rattle.std.specs.Str.{bytes_eq}
 use Rattle.influxdb_line_protocol.specs.format.Bytes.{newline}
 use Rattle.influxdb_line_protocol.specs.format.Dialects.{Dialect}
 use Rattle.influxdb_line_protocol.specs.format.Readings.{Fault}
-use Rattle.influxdb_line_protocol.specs.format.Points.{IsAsWritten, built, built_all, is_admitted_point}
+use Rattle.influxdb_line_protocol.specs.format.Points.{IsAsWritten, built, built_all, is_admitted_point, line_of}
 use Rattle.influxdb_line_protocol.specs.format.Lines.{Line, answer, point_of}
 use Rattle.influxdb_line_protocol.specs.format.Trimming.{trimmed}
 use Rattle.influxdb_line_protocol.specs.laws.PointsOfLines.{LinesThatStayAreWritten, WrittenLinesStay}
@@ -77,6 +77,70 @@ pub no_refusal : (before after : List ℕ) (refusal : Option LineRefusal) (a : R
     → TakesLine before refusal a after → TakesLine before None a after
 no_refusal before after None a none t = t
 no_refusal before after (Some r) a none t = absurd (none r refl)
+
+-- what the builder writes, without its newline
+cut_newline : (line : List ℕ) → take (length (line ++ newline ∷ []) - 1) (line ++ newline ∷ []) ≡ line
+cut_newline line =
+    let long : length (line ++ newline ∷ []) - 1 ≡ length line = omega (arith, length-append {A = ℕ}) in
+    ap (λ n. take n (line ++ newline ∷ [])) long ∙ take-append_seam line (newline ∷ [])
+
+-- a line that was read was written again, and what was written is a text and a newline exactly if this line of it is the text
+record WroteLine (before mid line : List ℕ) (l : Line) : Type 0 where
+  admitted : is_admitted_point (point_of l) ≡ true
+  batch : mid ≡ before ++ built (point_of l)
+  written : drop (length before) mid ≡ built (point_of l)
+  is_line : line ≡ line_of (point_of l)
+
+-- so it is
+wrote : (before mid written line : List ℕ) (start n : ℕ) (l : Line) → TakesLine before None (Ok l) mid → start ≡ length before
+    → written ≡ drop start mid → n ≡ length written - 1 → line ≡ take n written → WroteLine before mid line l
+wrote before mid written line start n l t starts rest cut is =
+    let admitted : is_admitted_point (point_of l) ≡ true = t.refused in
+    let batch : mid ≡ before ++ built (point_of l) = rw admitted at t.batch ∙ ap (λ (p : List ℕ). before ++ p) (append-nil (built (point_of l))) in
+    let whole : drop (length before) mid ≡ built (point_of l) = ap (drop (length before)) batch ∙ drop-append_seam before (built (point_of l)) in
+    let all : written ≡ built (point_of l) = rest ∙ ap (λ (k : ℕ). drop k mid) starts ∙ whole in
+    record {
+      admitted = admitted;
+      batch = batch;
+      written = whole;
+      is_line = is ∙ ap (λ k. take k written) cut ∙ ap (λ (w : List ℕ). take (length w - 1) w) all ∙ cut_newline (line_of (point_of l));
+    }
+
+-- a line that was read goes out as it came if it is that text
+pub takes_same : (piece text before mid written line : List ℕ) (start n : ℕ) (l : Line) → text ≡ trimmed piece → TakesLine before None (Ok l) mid
+    → start ≡ length before → written ≡ drop start mid → n ≡ length written - 1 → line ≡ take n written → line ≡ text
+    → TakesItem took.Carried (item_of Canonical piece (Ok l)) before mid
+takes_same piece text before mid written line start n l is t starts rest cut cuts same =
+    let w = wrote before mid written line start n l t starts rest cut cuts in
+    let writes : built (point_of l) ≡ text ++ newline ∷ [] = ap (λ (x : List ℕ). x ++ newline ∷ []) (sym w.is_line ∙ same) in
+    let item : item_of Canonical piece (Ok l) ≡ put_out (text ++ newline ∷ []) =
+    ap (λ (x : List ℕ). canonical_item (front_of piece) x l) (sym is) ∙ as_it_is (front_of piece) text l w.admitted writes in
+    subst (λ (i : Item). TakesItem took.Carried i before mid) (sym item) (refl, w.batch ∙ ap (λ (x : List ℕ). before ++ x) writes)
+
+-- and else it is refused, and taken back
+pub takes_other : (piece text before mid written line after : List ℕ) (start n : ℕ) (l : Line) (part : Part) (wrong : _) → text ≡ trimmed piece
+    → TakesLine before None (Ok l) mid → start ≡ length before → written ≡ drop start mid → n ≡ length written - 1 → line ≡ take n written
+    → (¬ (line ≡ text)) → part ≡ differing_part text (drop start mid) → string_bytes wrong ≡ part_text part → after ≡ take start mid
+    → TakesItem (took.Refused (why.NotAsWritten wrong)) (item_of Canonical piece (Ok l)) before after
+takes_other piece text before mid written line after start n l part wrong is t starts rest cut cuts differs part_is says back =
+    let w = wrote before mid written line start n l t starts rest cut cuts in
+    let p = point_of l in
+    let all : drop start mid ≡ built p = ap (λ (k : ℕ). drop k mid) starts ∙ w.written in
+    let other : bytes_eq (built p) (text ++ newline ∷ []) ≡ false =
+    elim (cases_Bool (bytes_eq (built p) (text ++ newline ∷ []))) [
+      | inl good ↦
+          let same = (bytes_eq-Decides (built p) (text ++ newline ∷ [])).0 good in
+          absurd (differs (w.is_line ∙ sym (cut_newline (line_of p)) ∙ ap (λ (x : List ℕ). take (length x - 1) x) same ∙ cut_newline text))
+      | inr bad ↦ bad
+    ] in
+    let item : item_of Canonical piece (Ok l) ≡ not_as_written (front_of piece) (part_text part) =
+    ap (λ (x : List ℕ). canonical_item (front_of piece) x l) (sym is) ∙ otherwise (front_of piece) text l w.admitted other
+    ∙ ap (λ (x : List ℕ). not_as_written (front_of piece) (part_text (differing_part text x))) (sym all)
+    ∙ ap (λ (q : Part). not_as_written (front_of piece) (part_text q)) (sym part_is) in
+    subst (λ (i : Item). TakesItem (took.Refused (why.NotAsWritten wrong)) i before after) (sym item) (
+      record { refused = refl; wrong = sym says; kind = refl; fault = refl },
+      back ∙ ap (λ (k : ℕ). take k mid) starts ∙ ap (take (length before)) w.batch ∙ take-append_seam before (built p),
+    )
 
 -- a line that is not as written was written again, to find the part in which it differs, and taken back
 pub takes_differing : (dialect : Dialect) (piece text before mid after : List ℕ) (start : ℕ) (part : Part) (wrong : _)

@@ -1,22 +1,22 @@
 -- The items of a relay, one after another.
-use Rattle.std.proofs.Common.{◌≡◌, ℕ, ◌+◌, ◌≤◌, nat_lt, false, not, cond, List, [], ◌∷◌, ◌++◌, length, take, map, None}
-use Rattle.std.proofs.Common.{refl, arith, append-nil, inl, inr}
+use Rattle.std.proofs.Common.{◌≡◌, ℕ, ◌+◌, ◌≤◌, nat_lt, false, not, cond, List, [], ◌∷◌, ◌++◌, length, take, map, Some, None}
+use Rattle.std.proofs.Common.{refl, sym, ap, ◌∙◌, fold, append_assoc, arith, append-nil, inl, inr}
 use Rattle.std.specs.Str.{IsUtf8, is_utf8}
 use Rattle.std.proofs.lemmas.Bool.{cases_Bool}
 use Rattle.std.proofs.lemmas.Bool.Decides.{nat_tests}
 use Rattle.std.proofs.lemmas.Grind.{flat_map-append}
 use Rattle.std.proofs.lemmas.List.Sums.{sum_by-append}
 use Rattle.std.proofs.lemmas.Str.{IsUtf8-from_is_utf8, is_utf8-from_IsUtf8}
-use Rattle.influxdb_line_protocol.specs.format.Dialects.{Dialect}
 use Rattle.influxdb_line_protocol.specs.format.Items.{answers_of_piece}
 use Rattle.influxdb_line_protocol.specs.code.Bounded.{IsTooLong}
 use Rattle.lp_relay.specs.declared.taking.Settings.{Settings}
 use Rattle.influxdb_line_protocol.specs.code.Rules.{rules_of}
-use Rattle.lp_relay.specs.declared.taking.LineForm.{LineForm}
-use Rattle.lp_relay.specs.Objects.{stop_of_bytes, stop_of_piece}
-use Rattle.lp_relay.specs.Relaying.{Item, item_of, not_utf8, too_long, limit_of, is_too_long, items_of_bytes, items_of_piece, items_of}
+use Rattle.lp_relay.specs.Objects.{over_of_piece, stop_of_bytes, stop_of_piece}
+use Rattle.lp_relay.specs.FieldTypes.{Types}
+use Rattle.lp_relay.specs.Relaying.{Item, not_utf8, too_long, limit_of, is_too_long, items_of_bytes, items_of_piece, items_of, line_of, timed_item}
+use Rattle.lp_relay.specs.Relaying.{refused_pieces, types_after, types_after_timed, types_of_bytes, types_past}
 use Rattle.lp_relay.specs.Relaying.{is_carried_item, items_batch, carried_items, refused_items}
-use Rattle.lp_relay.specs.Relaying.{kept_of, refused_lines, refused_piece}
+use Rattle.lp_relay.specs.Relaying.{kept_bytes, kept_of, refused_lines, refused_piece}
 use Rattle.lp_rebuild.proofs.RebuildLemmas.{one_of_two}
 
 -- the batch of items and others
@@ -45,52 +45,84 @@ items_add_up [] = refl
 items_add_up (x ∷ xs) =
     omega (arith, carried_first x xs, refused_first x xs, one_of_two (is_carried_item x), items_add_up xs)
 
--- the items of a piece that is UTF-8
-pub items_of_text : (lines : LineForm) (dialect : Dialect) (piece : List ℕ) → IsUtf8 piece
-    → items_of_bytes lines dialect piece ≡ map (item_of lines piece) (answers_of_piece dialect piece)
+-- the items of a line that is UTF-8
+pub items_of_text : (s : Settings) (types : Types) (piece : List ℕ) → IsUtf8 piece
+    → items_of_bytes s types piece ≡ map (timed_item s types piece) (answers_of_piece (rules_of s.dialect) piece)
 unfolding items_of_bytes
-items_of_text lines dialect piece h = rw (is_utf8-from_IsUtf8 piece h) refl
+items_of_text s types piece h = rw (is_utf8-from_IsUtf8 piece h) refl
 
--- the item of a piece that is not
-pub item_of_no_text : (lines : LineForm) (dialect : Dialect) (piece : List ℕ) → (¬ IsUtf8 piece) → items_of_bytes lines dialect piece ≡ not_utf8 ∷ []
+-- the types that fields have after it
+pub types_of_text : (s : Settings) (types : Types) (piece : List ℕ) → IsUtf8 piece
+    → types_of_bytes s types piece ≡ fold (types_after_timed s piece) types (answers_of_piece (rules_of s.dialect) piece)
+unfolding types_of_bytes
+types_of_text s types piece h = rw (is_utf8-from_IsUtf8 piece h) refl
+
+-- the item of a line that is not
+pub item_of_no_text : (s : Settings) (types : Types) (piece : List ℕ) → (¬ IsUtf8 piece) → items_of_bytes s types piece ≡ not_utf8 ∷ []
 unfolding items_of_bytes
-item_of_no_text lines dialect piece h =
+item_of_no_text s types piece h =
+    elim (cases_Bool (is_utf8 piece)) [
+      | inl good ↦ absurd (h (IsUtf8-from_is_utf8 piece good))
+      | inr bad ↦ rw bad refl
+    ]
+
+-- it changes no types
+pub types_of_no_text : (s : Settings) (types : Types) (piece : List ℕ) → (¬ IsUtf8 piece) → types_of_bytes s types piece ≡ types
+unfolding types_of_bytes
+types_of_no_text s types piece h =
     elim (cases_Bool (is_utf8 piece)) [
       | inl good ↦ absurd (h (IsUtf8-from_is_utf8 piece good))
       | inr bad ↦ rw bad refl
     ]
 
 -- the items of a piece that is not too long
-pub items_of_fitting : (s : Settings) (piece : List ℕ) → is_too_long (limit_of s.limit) piece ≡ false
-    → items_of_piece s piece ≡ items_of_bytes s.lines (rules_of s.dialect) piece
+pub items_of_fitting : (s : Settings) (types : Types) (piece : List ℕ) → is_too_long (limit_of s.limit) piece ≡ false
+    → items_of_piece s types piece ≡ items_of_bytes s types (line_of s piece)
 unfolding items_of_piece
-items_of_fitting s piece h = rw h refl
+items_of_fitting s types piece h = rw h refl
+
+-- the types after it
+pub types_of_fitting : (s : Settings) (types : Types) (piece : List ℕ) → is_too_long (limit_of s.limit) piece ≡ false
+    → types_after s types piece ≡ types_of_bytes s types (line_of s piece)
+unfolding types_after
+types_of_fitting s types piece h = rw h refl
 
 -- so if it has no more bytes than the limit
-pub items_of_short : (s : Settings) (piece : List ℕ) → length piece ≤ s.limit
-    → items_of_piece s piece ≡ items_of_bytes s.lines (rules_of s.dialect) piece
-items_of_short s piece h = grind (arith, cases_Bool, items_of_fitting)
+pub items_of_short : (s : Settings) (types : Types) (piece : List ℕ) → length piece ≤ s.limit
+    → items_of_piece s types piece ≡ items_of_bytes s types (line_of s piece)
+items_of_short s types piece h = grind (arith, cases_Bool, items_of_fitting)
+
+-- and so are the types after it
+pub types_of_short : (s : Settings) (types : Types) (piece : List ℕ) → length piece ≤ s.limit
+    → types_after s types piece ≡ types_of_bytes s types (line_of s piece)
+types_of_short s types piece h = grind (arith, cases_Bool, types_of_fitting)
 
 -- the item of a piece that is too long
-pub item_of_long : (s : Settings) (piece : List ℕ) → IsTooLong s.limit piece → items_of_piece s piece ≡ too_long (kept_of s) ∷ []
+pub item_of_long : (s : Settings) (types : Types) (piece : List ℕ) → IsTooLong s.limit piece
+    → items_of_piece s types piece ≡ too_long (kept_of s) ∷ []
 unfolding items_of_piece
-item_of_long s piece h = grind (arith, nat_lt)
+item_of_long s types piece h = grind (arith, nat_lt)
+
+-- it changes no types
+pub types_of_long : (s : Settings) (types : Types) (piece : List ℕ) → IsTooLong s.limit piece → types_after s types piece ≡ types
+unfolding types_after
+types_of_long s types piece h = grind (arith, nat_lt)
 
 -- what goes out as refused of a piece that has no more bytes than the limit
-pub refused_short : (s : Settings) (piece : List ℕ) → length piece ≤ s.limit
-    → refused_piece s piece ≡ refused_lines s.puts_refused piece (items_of_piece s piece)
+pub refused_short : (s : Settings) (types : Types) (piece : List ℕ) → length piece ≤ s.limit
+    → refused_piece s types piece ≡ refused_lines s.puts_refused piece (items_of_piece s types piece)
 unfolding refused_piece
-refused_short s piece h = grind (arith, cases_Bool, nat_tests)
+refused_short s types piece h = grind (arith, cases_Bool, nat_tests)
 
 -- and of one that is too long
-pub refused_long : (s : Settings) (piece : List ℕ) → IsTooLong s.limit piece
-    → refused_piece s piece ≡ refused_lines s.puts_refused (take s.limit piece) (too_long (kept_of s) ∷ [])
+pub refused_long : (s : Settings) (types : Types) (piece : List ℕ) → IsTooLong s.limit piece
+    → refused_piece s types piece ≡ refused_lines s.puts_refused (take s.limit piece) (too_long (kept_of s) ∷ [])
 unfolding refused_piece
-refused_long s piece h = grind (arith, nat_lt, item_of_long)
+refused_long s types piece h = grind (arith, nat_lt, item_of_long)
 
 -- where reading stops in a piece that is not too long
 pub stop_short : (s : Settings) (piece : List ℕ) → length piece ≤ s.limit
-    → stop_of_piece s piece ≡ stop_of_bytes (rules_of s.dialect) piece
+    → stop_of_piece s piece ≡ stop_of_bytes (rules_of s.dialect) (line_of s piece)
 unfolding stop_of_piece
 stop_short s piece h = grind (arith, cases_Bool, nat_tests)
 
@@ -99,7 +131,51 @@ pub stop_long : (s : Settings) (piece : List ℕ) → IsTooLong s.limit piece �
 unfolding stop_of_piece
 stop_long s piece h = grind (arith, nat_lt)
 
+-- what is kept of a piece that is not too long is all of it
+pub kept_short : (s : Settings) (piece : List ℕ) → length piece ≤ s.limit → kept_bytes s piece ≡ piece
+kept_short s piece h = grind (arith, cases_Bool, nat_tests)
+
+-- and of one that is too long its first bytes
+pub kept_long : (s : Settings) (piece : List ℕ) → IsTooLong s.limit piece → kept_bytes s piece ≡ take s.limit piece
+kept_long s piece h = grind (arith, nat_lt)
+
+-- a piece that is not too long is over no limit
+pub over_short : (s : Settings) (piece : List ℕ) → length piece ≤ s.limit → over_of_piece s piece ≡ None
+unfolding over_of_piece
+over_short s piece h = grind (arith, cases_Bool, nat_tests)
+
+-- and one that is too long is over its limit
+pub over_long : (s : Settings) (piece : List ℕ) → IsTooLong s.limit piece → over_of_piece s piece ≡ Some s.limit
+unfolding over_of_piece
+over_long s piece h = grind (arith, nat_lt)
+
+-- the types after pieces and others
+pub types_append : (s : Settings) (types : Types) (ps qs : List (List ℕ))
+    → types_past s types (ps ++ qs) ≡ types_past s (types_past s types ps) qs
+types_append s types [] qs = refl
+types_append s types (p ∷ ps) qs = types_append s (types_after s types p) ps qs
+
+-- the items of pieces and others
+pub items_append : (s : Settings) (types : Types) (ps qs : List (List ℕ))
+    → items_of s types (ps ++ qs) ≡ items_of s types ps ++ items_of s (types_past s types ps) qs
+items_append s types [] qs = refl
+items_append s types (p ∷ ps) qs =
+    let after = types_after s types p in
+    ap (λ (l : List Item). items_of_piece s types p ++ l) (items_append s after ps qs)
+    ∙ sym (append_assoc (items_of_piece s types p) (items_of s after ps) (items_of s (types_past s after ps) qs))
+
 -- the items of pieces and one more
-pub items_push : (s : Settings) (pieces : List (List ℕ)) (piece : List ℕ)
-    → items_of s (pieces ++ piece ∷ []) ≡ items_of s pieces ++ items_of_piece s piece
-items_push s pieces piece = grind (arith, flat_map-append, append-nil)
+pub items_push : (s : Settings) (types : Types) (pieces : List (List ℕ)) (piece : List ℕ)
+    → items_of s types (pieces ++ piece ∷ []) ≡ items_of s types pieces ++ items_of_piece s (types_past s types pieces) piece
+items_push s types pieces piece =
+    items_append s types pieces (piece ∷ [])
+    ∙ ap (λ (l : List Item). items_of s types pieces ++ l) (append-nil (items_of_piece s (types_past s types pieces) piece))
+
+-- what goes out of pieces and others as refused
+pub put_append : (s : Settings) (types : Types) (ps qs : List (List ℕ))
+    → refused_pieces s types (ps ++ qs) ≡ refused_pieces s types ps ++ refused_pieces s (types_past s types ps) qs
+put_append s types [] qs = refl
+put_append s types (p ∷ ps) qs =
+    let after = types_after s types p in
+    ap (λ (l : List ℕ). refused_piece s types p ++ l) (put_append s after ps qs)
+    ∙ sym (append_assoc (refused_piece s types p) (refused_pieces s after ps) (refused_pieces s (types_past s after ps) qs))

@@ -12,7 +12,7 @@ use Rattle.lp_relay.specs.declared.kinds.{Kind.Kind, KindCounts.KindCounts, TheC
 use Rattle.lp_relay.specs.declared.taking.Settings.{Settings}
 use Rattle.lp_relay.specs.Kinds.{Counts, counts_if, counts_of, is_kind, is_refused_for, kinds_after, kinds_of_none, place, refused_kinds, sum_of, with_fault}
 use Rattle.lp_relay.specs.Objects.{item_kind}
-use Rattle.lp_relay.specs.Relaying.{Item, answered, put_out, not_as_written, not_utf8, too_long, is_carried_item, refused_items}
+use Rattle.lp_relay.specs.Relaying.{Item, answered, put_out, not_as_written, not_portable, not_of_type, not_of_time, not_utf8, too_long, is_carried_item, refused_items}
 use Rattle.lp_relay.proofs.ItemLemmas.{refused_append}
 
 -- the number at one place is one more, and the others are as they were
@@ -34,6 +34,9 @@ carried_kind (answered front (Ok line)) =
 carried_kind (answered front (Err fault)) = refl
 carried_kind (put_out out) = refl
 carried_kind (not_as_written front wrong) = refl
+carried_kind (not_portable front wrong) = refl
+carried_kind (not_of_type front fault) = refl
+carried_kind (not_of_time front fault) = refl
 carried_kind not_utf8 = refl
 carried_kind (too_long kept) = refl
 

@@ -6,10 +6,12 @@ pub mod JumpLemmas
 pub mod WindowLemmas
 pub mod ApartLemmas
 pub mod PassLemmas
+pub mod TimeLemmas
 pub mod ItemLemmas
 pub mod FaultLines
 pub mod KindLemmas
 pub mod AheadLemmas
+pub mod ReturnLemmas
 pub mod RelayLemmas
 pub mod DifferingLemmas
 pub mod CanonicalLemmas
@@ -24,3 +26,7 @@ pub mod RelayEnds
 pub mod InputLemmas
 pub mod VerdictLemmas
 pub mod WorkedShards
+pub mod PortableLemmas
+pub mod TypeLemmas
+pub mod TimedPieces
+pub mod FieldTypeLemmas

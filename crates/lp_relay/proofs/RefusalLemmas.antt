@@ -1,10 +1,10 @@
 -- What comes of the item of a piece.
-use Rattle.std.proofs.Common.{◌≡◌, ◌<◌, ◌==◌, ℕ, Bool, false, true, List, [], ◌∷◌, ◌++◌, length, Option, None, Some, Ok, Err}
+use Rattle.std.proofs.Common.{◌≡◌, ◌<◌, ◌==◌, ℕ, Bool, false, true, List, [], ◌∷◌, ◌++◌, length, Option, None, Some, Ok, Err, ◌&&◌, nat_lt}
 use Rattle.std.proofs.Common.{Result, is_err, refl, sym, ap, subst, ◌∙◌, append-nil, inl, inr}
 use Rattle.std.specs.Borrow.{Bor}
 use Rattle.std.specs.Str.{IsUtf8, bytes_eq, is_utf8}
 use Rattle.std.proofs.Math.Nat.{eq-zero-or-pos}
-use Rattle.std.proofs.lemmas.Bool.{cases_Bool, eqb-false, eqb-true}
+use Rattle.std.proofs.lemmas.Bool.{cases_Bool, eqb-false, eqb-true, false≢true}
 use Rattle.std.proofs.lemmas.Str.{IsUtf8-from_is_utf8, is_utf8-from_IsUtf8}
 use Rattle.influxdb_line_protocol.specs.code.Rules.{rules_of}
 use Rattle.influxdb_line_protocol.specs.format.Bytes.{newline}
@@ -27,12 +27,18 @@ use Rattle.lp_relay.specs.declared.taking.LineForm.TheVariants.{Rebuilt, Verbati
 use Rattle.lp_relay.specs.declared.taking.Settings.{Settings}
 use Rattle.lp_relay.specs.declared.taking.Taken.{Taken}
 use Rattle.lp_relay.specs.declared.taking.Taken.TheVariants as took
+use Rattle.lp_relay.specs.declared.field_types.{StrictTypes.StrictTypes, TypeFault.TypeFault}
+use Rattle.lp_relay.specs.FieldTypes.{Types, after_point}
 use Rattle.lp_relay.specs.Objects.{item_front, stop_given}
-use Rattle.lp_relay.specs.Refusals.{IsRefusal, TakesItem, TakesPiece, has_fault, is_fault, stop_in}
-use Rattle.lp_relay.specs.Relaying.{Item, answered, canonical_item, front_of, is_carried_item, item_of, kept_of, keyed_item, too_long}
+use Rattle.lp_relay.specs.Refusals.{IsRefusal, TakesItem, TakesPiece, has_fault, is_fault, line_piece, stop_in}
+use Rattle.lp_relay.specs.Relaying.{Item, after_item, allowed, answered, canonical_item, front_of, goes_out, if_portable, if_typed, is_carried_item, item_by, item_line, item_of}
+use Rattle.lp_relay.specs.Relaying.{items_of_bytes, kept_of, keyed_item, line_in, line_of, timed_item, too_long, typed_item}
+use Rattle.lp_relay.specs.Portables.{is_shown_portable, told_of_bytes}
+use Rattle.lp_relay.specs.declared.portable.Portable.{Portable}
 use Rattle.lp_relay.specs.Verdicts.{fault_in}
 use Rattle.lp_relay.proofs.ItemLemmas.{item_of_no_text}
 use Rattle.lp_relay.proofs.RelayLemmas.{blank_items, text_item}
+use Rattle.lp_relay.proofs.ReturnLemmas.{piece_utf8}
 
 -- an answer that a rebuild refuses is refused for this
 pub refuses_answer : (front : List ℕ) (refusal : LineRefusal) (a : Result Line Fault) → IsRefusedFor (Some refusal) a
@@ -124,11 +130,81 @@ item_is_of Keyed piece (Err fault) refused = (refl, refl)
 item_is_of (OfShard shard) piece (Ok l) refused = absurd (cc)
 item_is_of (OfShard shard) piece (Err fault) refused = (refl, refl)
 
--- where reading stops in a text, if it is at fault
-stop_is : (dialect : Dialect) (piece : Bor (List ℕ)) (fault : Bool) → IsUtf8 piece.now
-    → is_err (answer dialect (trimmed piece.now)) ≡ fault → stop_given dialect (Ok piece) ≡ stop_in fault dialect (Text piece)
-stop_is dialect piece true u is = rw (is_utf8-from_IsUtf8 piece.now u, is) refl
-stop_is dialect piece false u is = rw (is_utf8-from_IsUtf8 piece.now u, is) refl
+-- what is carried is made of a line
+a_line_is_carried : (lines : LineForm) (piece : List ℕ) (a : Result Line Fault) → is_carried_item (item_of lines piece a) ≡ true → is_err a ≡ false
+a_line_is_carried lines piece (Ok l) carried = refl
+a_line_is_carried Rebuilt piece (Err fault) carried = absurd (cc)
+a_line_is_carried Verbatim piece (Err fault) carried = absurd (cc)
+a_line_is_carried Canonical piece (Err fault) carried = absurd (cc)
+a_line_is_carried Keyed piece (Err fault) carried = absurd (cc)
+a_line_is_carried (OfShard shard) piece (Err fault) carried = absurd (cc)
+
+-- both hold of two tests that hold together
+both_hold : (a b : Bool) → (a && b) ≡ true → (a ≡ true) × (b ≡ true)
+both_hold true true is = (refl, refl)
+both_hold true false is = absurd (cc)
+both_hold false b is = absurd (cc)
+
+-- an item that is refused as not portable, or as it was before
+if_portable_is_of : (p : Portable) (front line : List ℕ) (a : Result Line Fault) (item : Item) → is_carried_item item ≡ true → is_err a ≡ false
+    → is_carried_item (if_portable p front line item) ≡ false → IsOf front a (if_portable p front line item)
+if_portable_is_of p front line a item carried good refused =
+    elim (cases_Bool (is_shown_portable (told_of_bytes p line))) [
+      | inl is ↦ let same = rw is at refused in absurd (false≢true (sym same ∙ carried))
+      | inr not ↦ rw not (refl, sym good)
+    ]
+
+-- and with each item that is allowed only if it is portable
+allowed_is_of : (portable : Option Portable) (lines : LineForm) (piece : List ℕ) (a : Result Line Fault)
+    → is_carried_item (allowed portable lines piece (item_of lines piece a)) ≡ false
+    → IsOf (front_of piece) a (allowed portable lines piece (item_of lines piece a))
+allowed_is_of None lines piece a refused = item_is_of lines piece a refused
+allowed_is_of (Some p) lines piece a refused =
+    let item = item_of lines piece a in
+    elim (cases_Bool (goes_out item)) [
+      | inl out ↦
+          let carried = (both_hold (is_carried_item item) (nat_lt 0 (length (item_line item))) out).0 in
+          rw out (if_portable_is_of p (front_of piece) (line_in lines piece (item_line item)) a item carried
+          (a_line_is_carried lines piece a carried) (rw out at refused))
+      | inr none ↦ rw none (item_is_of lines piece a (rw none at refused))
+    ]
+
+-- and with each item, if the types of fields stay
+if_typed_is_of : (strict : Option StrictTypes) (types : Types) (front : List ℕ) (a : Result Line Fault) (item : Item)
+    → (is_carried_item item ≡ false → IsOf front a item) → is_carried_item (if_typed front item (after_item strict types a item)) ≡ false
+    → IsOf front a (if_typed front item (after_item strict types a item))
+if_typed_is_of None types front a item is refused = is refused
+if_typed_is_of (Some strict) types front (Err fault) item is refused = is refused
+if_typed_is_of (Some strict) types front (Ok l) item is refused =
+    elim (cases_Bool (goes_out item)) [
+      | inl out ↦ rw out (typed_is_of front l item (after_point strict.max_fields types (point_of l)) is (rw out at refused))
+      | inr none ↦ rw none (is (rw none at refused))
+    ]
+  where
+    -- whatever came of the types
+    typed_is_of : (front : List ℕ) (l : Line) (item : Item) (kept : Result Types TypeFault)
+        → (is_carried_item item ≡ false → IsOf front (Ok l) item) → is_carried_item (if_typed front item kept) ≡ false
+        → IsOf front (Ok l) (if_typed front item kept)
+    typed_is_of front l item (Ok types) is refused = is refused
+    typed_is_of front l item (Err fault) is refused = (refl, refl)
+
+-- so it is by the settings
+pub by_is_of : (s : Settings) (types : Types) (piece : List ℕ) (a : Result Line Fault) → is_carried_item (typed_item s types piece a) ≡ false
+    → IsOf (front_of piece) a (typed_item s types piece a)
+by_is_of s types piece a refused =
+    if_typed_is_of s.types types (front_of piece) a (item_by s piece a) (allowed_is_of s.portable s.lines piece a) refused
+
+-- an item whose line is looked at, once it was added
+looked_at : (p : Portable) (front line before after : List ℕ) (item : Item) → is_carried_item item ≡ true → after ≡ before ++ item_line item
+    → is_shown_portable (told_of_bytes p line) ≡ true → TakesItem took.Carried (if_portable p front line item) before after
+looked_at p front line before after item carried added is = rw is (carried, added)
+
+-- where reading stops in the line of a text, if it is at fault
+stop_is : (s : Settings) (piece : Bor (List ℕ)) (fault : Bool) → IsUtf8 (line_of s piece.now)
+    → is_err (answer (rules_of s.dialect) (trimmed (line_of s piece.now))) ≡ fault
+    → stop_given s (Ok piece) ≡ stop_in fault (rules_of s.dialect) (line_piece s (Text piece))
+stop_is s piece true u is = rw (is_utf8-from_IsUtf8 (line_of s piece.now) u, is) refl
+stop_is s piece false u is = rw (is_utf8-from_IsUtf8 (line_of s piece.now) u, is) refl
 
 -- the test of what is not UTF-8
 not_utf8_test : (bytes : List ℕ) → (¬ IsUtf8 bytes) → is_utf8 bytes ≡ false
@@ -151,38 +227,57 @@ not_blank text piece test is tests fails =
     ]
 
 -- of a blank text nothing is taken
-pub takes_blank : (s : Settings) (piece : Bor (List ℕ)) (before : List ℕ) → IsUtf8 piece.now → length (trimmed piece.now) ≡ 0
-    → TakesPiece s (Text piece) took.Blank before before
-takes_blank s piece before u blank = (blank_items s.lines (rules_of s.dialect) piece.now u blank, refl)
+pub takes_blank : (s : Settings) (types : Types) (piece : Bor (List ℕ)) (line before : List ℕ) → line ≡ line_of s piece.now → IsUtf8 line
+    → length (trimmed line) ≡ 0 → TakesPiece s types (Text piece) took.Blank before before
+takes_blank s types piece line before same u blank =
+    (ap (items_of_bytes s types) (sym same) ∙ blank_items s types line u blank, refl)
 
--- of another one its item
-pub takes_text : (s : Settings) (piece : Bor (List ℕ)) (text : List ℕ) (taken : Taken) (before after : List ℕ) → IsUtf8 piece.now
-    → text ≡ trimmed piece.now → 0 < length (trimmed piece.now)
-    → TakesItem taken (item_of s.lines piece.now (answer (rules_of s.dialect) text)) before after
-    → TakesPiece s (Text piece) taken before after
-takes_text s piece text took.Blank before after u is some takes = absurd takes
-takes_text s piece text took.Carried before after u is some takes =
-    let d = rules_of s.dialect in (
-      item_of s.lines piece.now (answer d text),
-      text_item s.lines d piece.now u some ∙ ap (λ (l : List ℕ). item_of s.lines piece.now (answer d l) ∷ []) (sym is),
+-- of another one the item of its line
+takes_item : (s : Settings) (types : Types) (piece : Bor (List ℕ)) (text : List ℕ) (taken : Taken) (before after : List ℕ)
+    → IsUtf8 (line_of s piece.now) → text ≡ trimmed (line_of s piece.now) → 0 < length (trimmed (line_of s piece.now))
+    → (is_carried_item (timed_item s types (line_of s piece.now) (answer (rules_of s.dialect) text)) ≡ false
+    → IsOf (front_of (line_of s piece.now)) (answer (rules_of s.dialect) text) (timed_item s types (line_of s piece.now) (answer (rules_of s.dialect) text)))
+    → TakesItem taken (timed_item s types (line_of s piece.now) (answer (rules_of s.dialect) text)) before after
+    → TakesPiece s types (Text piece) taken before after
+takes_item s types piece text took.Blank before after u is some of takes = absurd takes
+takes_item s types piece text took.Carried before after u is some of takes =
+    let d = rules_of s.dialect in
+    let line = line_of s piece.now in (
+      timed_item s types line (answer d text),
+      text_item s types line u some ∙ ap (λ (l : List ℕ). timed_item s types line (answer d l) ∷ []) (sym is),
       takes.0,
       takes.1,
     )
-takes_text s piece text (took.Refused refusal) before after u is some takes =
+takes_item s types piece text (took.Refused refusal) before after u is some is_of takes =
     let d = rules_of s.dialect in
-    let of = item_is_of s.lines piece.now (answer d text) takes.0.refused in (
+    let line = line_of s piece.now in
+    let of = is_of takes.0.refused in (
       (
-        item_of s.lines piece.now (answer d text),
+        timed_item s types line (answer d text),
         record {
-          is = text_item s.lines d piece.now u some ∙ ap (λ (l : List ℕ). item_of s.lines piece.now (answer d l) ∷ []) (sym is);
+          is = text_item s types line u some ∙ ap (λ (l : List ℕ). timed_item s types line (answer d l) ∷ []) (sym is);
           refused = takes.0;
           front = of.0;
-          stop = stop_is d piece (is_fault refusal) u
+          stop = stop_is s piece (is_fault refusal) u
               (ap (λ (l : List ℕ). is_err (answer d l)) (sym is) ∙ sym of.1 ∙ takes.0.fault);
         },
       ),
       takes.1,
     )
+
+-- so it is of these bytes, which are its line
+pub takes_text : (s : Settings) (types : Types) (piece : Bor (List ℕ)) (line text : List ℕ) (taken : Taken) (before after : List ℕ)
+    → line ≡ line_of s piece.now → IsUtf8 line → text ≡ trimmed line → 0 < length (trimmed line)
+    → (is_carried_item (timed_item s types line (answer (rules_of s.dialect) text)) ≡ false
+    → IsOf (front_of line) (answer (rules_of s.dialect) text) (timed_item s types line (answer (rules_of s.dialect) text)))
+    → TakesItem taken (timed_item s types line (answer (rules_of s.dialect) text)) before after
+    → TakesPiece s types (Text piece) taken before after
+takes_text s types piece line text taken before after same =
+    subst (λ (l : List ℕ). IsUtf8 l → text ≡ trimmed l → 0 < length (trimmed l)
+    → (is_carried_item (timed_item s types l (answer (rules_of s.dialect) text)) ≡ false
+    → IsOf (front_of l) (answer (rules_of s.dialect) text) (timed_item s types l (answer (rules_of s.dialect) text)))
+    → TakesItem taken (timed_item s types l (answer (rules_of s.dialect) text)) before after → TakesPiece s types (Text piece) taken before after)
+    (sym same) (takes_item s types piece text taken before after)
 
 -- what came of the item of a line came of it by the settings
 pub takes_by : (s : Settings) (piece text : List ℕ) (taken : Taken) (before after : List ℕ) (lines : LineForm) (dialect : TheDialect)
@@ -193,9 +288,9 @@ takes_by s piece text taken before after lines dialect its same takes =
     (subst (λ e. TakesItem taken (item_of lines piece (answer (rules_of e) text)) before after) same takes)
 
 -- a piece that is too long is refused
-pub takes_too_long : (s : Settings) (fault : PieceTooLong) (kept : Option ℕ) (before : List ℕ) → kept ≡ kept_of s
-    → TakesPiece s (TooLong fault) (took.Refused (why.TooLong kept)) before before
-takes_too_long s fault kept before is =
+pub takes_too_long : (s : Settings) (types : Types) (fault : PieceTooLong) (kept : Option ℕ) (before : List ℕ) → kept ≡ kept_of s
+    → TakesPiece s types (TooLong fault) (took.Refused (why.TooLong kept)) before before
+takes_too_long s types fault kept before is =
     rw is (
       (
         too_long (kept_of s),
@@ -210,14 +305,15 @@ takes_too_long s fault kept before is =
     )
 
 -- a piece that is not UTF-8 is refused
-pub takes_no_text : (s : Settings) (bytes : Bor (List ℕ)) (before : List ℕ) → (¬ IsUtf8 bytes.now)
-    → TakesPiece s (NoText bytes) (took.Refused why.NotUtf8) before before
-takes_no_text s bytes before bad =
-    let none = not_utf8_test bytes.now bad in (
+pub takes_no_text : (s : Settings) (types : Types) (bytes : Bor (List ℕ)) (before : List ℕ) → (¬ IsUtf8 bytes.now)
+    → TakesPiece s types (NoText bytes) (took.Refused why.NotUtf8) before before
+takes_no_text s types bytes before bad =
+    let no_line : ¬ IsUtf8 (line_of s bytes.now) = λ u. bad (piece_utf8 s bytes.now u) in
+    let none = not_utf8_test (line_of s bytes.now) no_line in (
       (
         _,
         record {
-          is = item_of_no_text s.lines (rules_of s.dialect) bytes.now bad;
+          is = item_of_no_text s types (line_of s bytes.now) no_line;
           refused = record { refused = refl; wrong = refl; kind = refl; fault = refl };
           front = refl;
           stop = rw none refl;

@@ -7,6 +7,7 @@ use Rattle.lp_relay.specs.declared.taking.Settings.{Settings}
 use Rattle.lp_relay.specs.declared.relaying.Relayed.{Relayed}
 use Rattle.lp_rebuild.specs.Running.{CountsReadFault, ReaderTold}
 use Rattle.lp_relay.specs.Writers.{AreFlushed, CountsNone, CountsOne, CountsWriteFault, Told, Writers, bytes_of, failures_of}
+use Rattle.lp_relay.specs.FieldTypes.{Types}
 use Rattle.lp_relay.specs.Inputs.{TellsFaults}
 use Rattle.lp_relay.specs.Relays.{Relays, RelaysAll, RelaysFronts}
 use Rattle.influxdb_line_protocol.specs.laws.Laws.{PiecesAreUnique}
@@ -54,18 +55,19 @@ write_fault e fault start count before mid after is c n same =
     }
 
 -- after a fault each writer has a front
-pub failed : Utf8ByPieces → PiecesAreUnique → (s : Settings) (result : Result Relayed RunFault) (reader reader_after : ReaderTold)
-    (before after : Told) → IsErr result → IfSome reader.bytes (λ bs. RelaysFronts s bs (bytes_of before) (bytes_of after))
-    → TellsFaults result reader.failures reader_after.failures before after → Relays s result reader reader_after before after
-failed law unique s (Ok counts) reader reader_after before after is fronts told = absurd (cc)
-failed law unique s (Err fault) reader reader_after before after is fronts told =
+pub failed : Utf8ByPieces → PiecesAreUnique → (s : Settings) (types : Types) (result : Result Relayed RunFault)
+    (reader reader_after : ReaderTold) (before after : Told) → IsErr result
+    → IfSome reader.bytes (λ bs. RelaysFronts s types bs (bytes_of before) (bytes_of after))
+    → TellsFaults result reader.failures reader_after.failures before after → Relays s types result reader reader_after before after
+failed law unique s types (Ok counts) reader reader_after before after is fronts told = absurd (cc)
+failed law unique s types (Err fault) reader reader_after before after is fronts told =
     record {
       all = tt;
       flushed = tt;
       part = fronts;
-      rebuilt = λ again. tt;
-      rebuilt_part = λ again.
-          IfSome_then reader.bytes fronts (λ bs. fronts_rebuilt law unique s bs (bytes_of before) (bytes_of after) again);
+      rebuilt = λ again each any untimed kept. tt;
+      rebuilt_part = λ again each any untimed kept.
+          IfSome_then reader.bytes fronts (λ bs. fronts_rebuilt law unique s types bs (bytes_of before) (bytes_of after) again each any untimed kept);
       read = told.read;
       write = told.write;
       utf8 = told.utf8;
@@ -73,20 +75,21 @@ failed law unique s (Err fault) reader reader_after before after is fronts told 
     }
 
 -- all was written
-pub ended : Utf8ByPieces → PiecesAreUnique → (s : Settings)
+pub ended : Utf8ByPieces → PiecesAreUnique → (s : Settings) (types : Types)
     (counts : Relayed) (reader reader_after : ReaderTold) (before after : Told)
-    → IfSome reader.bytes (λ bs. (reader_after.bytes ≡ Some []) × RelaysAll s bs counts (bytes_of before) (bytes_of after))
+    → IfSome reader.bytes (λ bs. (reader_after.bytes ≡ Some []) × RelaysAll s types bs counts (bytes_of before) (bytes_of after))
     → AreFlushed after
     → reader_after.failures ≡ reader.failures → CountsNone (failures_of before) (failures_of after)
-    → Relays s (Ok counts) reader reader_after before after
-ended law unique s counts reader reader_after before after all flushed r n =
+    → Relays s types (Ok counts) reader reader_after before after
+ended law unique s types counts reader reader_after before after all flushed r n =
     record {
       all = all;
       flushed = flushed;
       part = tt;
-      rebuilt = λ again.
-          IfSome_then reader.bytes all (λ bs whole. all_rebuilt law unique s bs counts (bytes_of before) (bytes_of after) again whole.1);
-      rebuilt_part = λ again. tt;
+      rebuilt = λ again each any untimed kept.
+          IfSome_then reader.bytes all
+          (λ bs whole. all_rebuilt law unique s types bs counts (bytes_of before) (bytes_of after) again each any untimed kept whole.1);
+      rebuilt_part = λ again each any untimed kept. tt;
       read = grind (arith);
       write = grind (arith, none_rose);
       utf8 = grind (arith);

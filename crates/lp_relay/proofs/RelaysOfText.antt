@@ -21,11 +21,14 @@ use Rattle.lp_rebuild.specs.declared.batch.Rebuilt.{Rebuilt}
 use Rattle.lp_relay.specs.declared.relaying.Relayed.{Relayed}
 use Rattle.lp_rebuild.specs.Rebuilding.{RebuildsIn, batch_of, carried_of, carried_point, fault_of, faults_from, is_carried_answer, refused_of}
 use Rattle.lp_rebuild.specs.Running.{AppendsFront}
-use Rattle.lp_relay.specs.Relaying.{answered, first_of, front_of, is_too_long, item_of, limit_of, items_of, items_of_piece, items_batch}
+use Rattle.lp_relay.specs.declared.portable.Portable.{Portable}
+use Rattle.lp_relay.specs.declared.field_types.StrictTypes.{StrictTypes}
+use Rattle.lp_relay.specs.FieldTypes.{Types}
+use Rattle.lp_relay.specs.Relaying.{Item, after_item, allowed, answered, first_of, front_of, if_typed, is_too_long, item_by, item_of, limit_of, items_of, items_of_bytes, items_of_piece, items_batch, types_after}
 use Rattle.lp_relay.specs.Relaying.{carried_items, refused_items}
 use Rattle.lp_relay.specs.Writers.{Known}
 use Rattle.lp_relay.specs.FaultsTold.{after_piece, first_item, first_line, first_named, first_place, line_after, told_faults, told_from, told_item, told_items}
-use Rattle.lp_relay.specs.Objects.{stop_of_piece}
+use Rattle.lp_relay.specs.Objects.{Seen, seen_of_piece}
 use Rattle.lp_relay.specs.Relays.{IfRebuilt, RelaysAll, RelaysFronts, RelaysRebuilt, RelaysRebuiltFronts}
 use Rattle.lp_relay.specs.declared.taking.LineForm.TheVariants as going
 use Rattle.lp_relay.specs.declared.taking.Numbering.TheVariants as named
@@ -35,71 +38,73 @@ use Rattle.influxdb_line_protocol.specs.code.Rules.{rules_of}
 use Rattle.lp_rebuild.proofs.RebuildLemmas.{blank_answers, carried_cons, piece_answers, refused_cons}
 use Rattle.lp_relay.proofs.ItemLemmas.{carried_first, refused_first, items_of_fitting}
 use Rattle.lp_relay.proofs.RelayLemmas.{blank_items, text_item}
+use Rattle.lp_relay.proofs.ReturnLemmas.{whole_line}
+use Rattle.lp_relay.proofs.TimeLemmas.{untimed_item}
 use Rattle.std.proofs.Math.Nat.{eq-zero-or-pos}
 use Rattle.influxdb_line_protocol.specs.format.Trimming.{trimmed}
 
 -- the answers of these pieces are these, in order: each piece has one item, which is its answer, or none
-data AreAnswers (s : Settings) : List (List ℕ) → List (Result Line Fault) → Type 0 where
-  no_piece : AreAnswers s [] []
-  blank : (piece : List ℕ) (pieces : List (List ℕ)) (answers : List (Result Line Fault)) → items_of_piece s piece ≡ []
-      → AreAnswers s pieces answers → AreAnswers s (piece ∷ pieces) answers
-  one : (front : List ℕ) (a : Result Line Fault) (piece : List ℕ) (pieces : List (List ℕ)) (answers : List (Result Line Fault))
-      → items_of_piece s piece ≡ answered front a ∷ [] → AreAnswers s pieces answers → AreAnswers s (piece ∷ pieces) (a ∷ answers)
+data AreAnswers (s : Settings) : Types → List (List ℕ) → List (Result Line Fault) → Type 0 where
+  no_piece : (types : Types) → AreAnswers s types [] []
+  blank : (types : Types) (piece : List ℕ) (pieces : List (List ℕ)) (answers : List (Result Line Fault)) → items_of_piece s types piece ≡ []
+      → AreAnswers s (types_after s types piece) pieces answers → AreAnswers s types (piece ∷ pieces) answers
+  one : (types : Types) (front : List ℕ) (a : Result Line Fault) (piece : List ℕ) (pieces : List (List ℕ)) (answers : List (Result Line Fault))
+      → items_of_piece s types piece ≡ answered front a ∷ [] → AreAnswers s (types_after s types piece) pieces answers
+      → AreAnswers s types (piece ∷ pieces) (a ∷ answers)
 
 -- what goes out for the items are the lines of the points of the answers
-lines_of_answers : (s : Settings) (pieces : List (List ℕ)) (answers : List (Result Line Fault)) → AreAnswers s pieces answers
-    → items_batch (items_of s pieces) ≡ batch_of answers
-lines_of_answers s pieces answers no_piece = refl
-lines_of_answers s pieces answers (blank p others later none more) = rw none (lines_of_answers s others later more)
-lines_of_answers s pieces answers (one front a p others later is more) =
-    rw is (ap (λ l. built_all (carried_point a) ++ l) (lines_of_answers s others later more)
+lines_of_answers : (s : Settings) (types : Types) (pieces : List (List ℕ)) (answers : List (Result Line Fault)) → AreAnswers s types pieces answers
+    → items_batch (items_of s types pieces) ≡ batch_of answers
+lines_of_answers s types pieces answers (no_piece _) = refl
+lines_of_answers s types pieces answers (blank _ p others later none more) = rw none (lines_of_answers s (types_after s types p) others later more)
+lines_of_answers s types pieces answers (one _ front a p others later is more) =
+    rw is (ap (λ l. built_all (carried_point a) ++ l) (lines_of_answers s (types_after s types p) others later more)
     ∙ sym (flat_map-append built (carried_point a) (flat_map carried_point later)))
 
 -- the fault line of an answer, if items are named
-fault_of_answer : (place : Place) (stop : Option (List ℕ)) (front : List ℕ) (a : Result Line Fault) → place.line ≡ None
-    → told_item Raw place stop (answered front a) ≡ fault_of place.number a
-fault_of_answer place stop front (Ok line) none =
+fault_of_answer : (s : Settings) (place : Place) (seen : Seen) (front : List ℕ) (a : Result Line Fault) → s.faults ≡ Raw → s.max_faults ≡ None
+    → place.line ≡ None → told_item s place seen (answered front a) ≡ fault_of place.number a
+fault_of_answer s place seen front (Ok line) raw all none =
     elim (cases_Bool (is_carried_answer (Ok line))) [
       | inl carried ↦ rw carried refl
-      | inr refused ↦ rw (refused, none) (grind (arith, append_assoc))
+      | inr refused ↦ rw (refused, raw, all, none) (grind (arith, append_assoc))
     ]
-fault_of_answer place stop front (Err fault) none = rw none (grind (arith, append_assoc))
+fault_of_answer s place seen front (Err fault) raw all none = rw (raw, all, none) (grind (arith, append_assoc))
 
 -- so what is told, if fault lines are told as they are, are the fault lines of the answers
-faults_of_answers : (s : Settings) (place : Place) (pieces : List (List ℕ)) (answers : List (Result Line Fault)) → s.faults ≡ Raw
-    → place.line ≡ None → AreAnswers s pieces answers → told_from s place pieces ≡ faults_from place.number answers
-faults_of_answers s place pieces answers raw unnamed no_piece = refl
-faults_of_answers s place pieces answers raw unnamed (blank p others later none more) =
-    let after = after_piece s place p in
+faults_of_answers : (s : Settings) (types : Types) (place : Place) (pieces : List (List ℕ)) (answers : List (Result Line Fault)) → s.faults ≡ Raw
+    → s.max_faults ≡ None → place.line ≡ None → AreAnswers s types pieces answers → told_from s types place pieces ≡ faults_from place.number answers
+faults_of_answers s types place pieces answers raw told unnamed (no_piece _) = refl
+faults_of_answers s types place pieces answers raw told unnamed (blank _ p others later none more) =
+    let after = after_piece s types place p in
     let number : after.number ≡ place.number = omega (arith, ap length none) in
-    ap (λ items. told_items s.faults place (stop_of_piece s p) items ++ told_from s after others) none
-    ∙ faults_of_answers s after others later raw (ap (λ l. line_after l (newlines_in p)) unnamed) more ∙ ap (λ n. faults_from n later) number
-faults_of_answers s place pieces answers raw unnamed (one front a p others later is more) =
-    let after = after_piece s place p in
-    let rest = told_from s after others in
-    ap (λ items. told_items s.faults place (stop_of_piece s p) items ++ rest) is
+    ap (λ items. told_items s place (seen_of_piece s p) items ++ told_from s (types_after s types p) after others) none
+    ∙ faults_of_answers s (types_after s types p) after others later raw told (ap (λ l. line_after l (newlines_in p)) unnamed) more ∙ ap (λ n. faults_from n later) number
+faults_of_answers s types place pieces answers raw told unnamed (one _ front a p others later is more) =
+    let after = after_piece s types place p in
+    let rest = told_from s (types_after s types p) after others in
+    ap (λ items. told_items s place (seen_of_piece s p) items ++ rest) is
     ∙ ap (λ l. l ++ rest) (append-nil _)
-    ∙ ap (λ form. told_item form place (stop_of_piece s p) (answered front a) ++ rest) raw
-    ∙ ap (λ l. l ++ rest) (fault_of_answer place (stop_of_piece s p) front a unnamed)
+    ∙ ap (λ l. l ++ rest) (fault_of_answer s place (seen_of_piece s p) front a raw told unnamed)
     ∙ ap (λ l. fault_of place.number a ++ l)
-    (faults_of_answers s after others later raw (ap (λ l. line_after l (newlines_in p)) unnamed) more
+    (faults_of_answers s (types_after s types p) after others later raw told (ap (λ l. line_after l (newlines_in p)) unnamed) more
     ∙ ap (λ items. faults_from (place.number + length items) later) is)
 
 -- how many items are carried
-carried_of_answers : (s : Settings) (pieces : List (List ℕ)) (answers : List (Result Line Fault)) → AreAnswers s pieces answers
-    → carried_items (items_of s pieces) ≡ carried_of answers
-carried_of_answers s pieces answers no_piece = refl
-carried_of_answers s pieces answers (blank p others later none more) = rw none (carried_of_answers s others later more)
-carried_of_answers s pieces answers (one front a p others later is more) =
-    rw is (omega (arith, carried_first (answered front a) (items_of s others), carried_cons a later, carried_of_answers s others later more))
+carried_of_answers : (s : Settings) (types : Types) (pieces : List (List ℕ)) (answers : List (Result Line Fault)) → AreAnswers s types pieces answers
+    → carried_items (items_of s types pieces) ≡ carried_of answers
+carried_of_answers s types pieces answers (no_piece _) = refl
+carried_of_answers s types pieces answers (blank _ p others later none more) = rw none (carried_of_answers s (types_after s types p) others later more)
+carried_of_answers s types pieces answers (one _ front a p others later is more) =
+    rw is (omega (arith, carried_first (answered front a) (items_of s (types_after s types p) others), carried_cons a later, carried_of_answers s (types_after s types p) others later more))
 
 -- how many are not
-refused_of_answers : (s : Settings) (pieces : List (List ℕ)) (answers : List (Result Line Fault)) → AreAnswers s pieces answers
-    → refused_items (items_of s pieces) ≡ refused_of answers
-refused_of_answers s pieces answers no_piece = refl
-refused_of_answers s pieces answers (blank p others later none more) = rw none (refused_of_answers s others later more)
-refused_of_answers s pieces answers (one front a p others later is more) =
-    rw is (omega (arith, refused_first (answered front a) (items_of s others), refused_cons a later, refused_of_answers s others later more))
+refused_of_answers : (s : Settings) (types : Types) (pieces : List (List ℕ)) (answers : List (Result Line Fault)) → AreAnswers s types pieces answers
+    → refused_items (items_of s types pieces) ≡ refused_of answers
+refused_of_answers s types pieces answers (no_piece _) = refl
+refused_of_answers s types pieces answers (blank _ p others later none more) = rw none (refused_of_answers s (types_after s types p) others later more)
+refused_of_answers s types pieces answers (one _ front a p others later is more) =
+    rw is (omega (arith, refused_first (answered front a) (items_of s (types_after s types p) others), refused_cons a later, refused_of_answers s (types_after s types p) others later more))
 
 -- none of these pieces is too long
 abbrev NoneTooLong : Option ℕ → List (List ℕ) → Type 0
@@ -120,39 +125,46 @@ short_pieces limit (piece ∷ pieces) h =
     (fits, short_pieces limit pieces (All-tail (λ piece. length piece ≤ limit) piece pieces h))
 
 -- a piece that is UTF-8 and not too long comes before others, if lines are written again
-one_more : (s : Settings) (piece : List ℕ) (pieces : List (List ℕ)) → s.lines ≡ going.Rebuilt
-    → is_too_long (limit_of s.limit) piece ≡ false → IsUtf8 piece → AreAnswers s pieces (answers_of (rules_of s.dialect) pieces)
-    → AreAnswers s (piece ∷ pieces) (answers_of (rules_of s.dialect) (piece ∷ pieces))
-one_more s piece pieces again fits u others =
+one_more : (s : Settings) (types : Types) (piece : List ℕ) (pieces : List (List ℕ)) → s.lines ≡ going.Rebuilt → s.portable ≡ None → s.types ≡ None → s.times ≡ None → s.drops_returns ≡ false
+    → is_too_long (limit_of s.limit) piece ≡ false → IsUtf8 piece
+    → AreAnswers s (types_after s types piece) pieces (answers_of (rules_of s.dialect) pieces)
+    → AreAnswers s types (piece ∷ pieces) (answers_of (rules_of s.dialect) (piece ∷ pieces))
+one_more s types piece pieces again each any untimed kept fits u others =
     let d = rules_of s.dialect in
     let a = answer d (trimmed piece) in
-    let items = items_of_fitting s piece fits in
+    let items = items_of_fitting s types piece fits ∙ ap (items_of_bytes s types) (whole_line s piece kept) in
     elim (eq-zero-or-pos (length (trimmed piece))) [
       | inl none ↦
-          subst (λ l. AreAnswers s (piece ∷ pieces) (l ++ answers_of d pieces)) (sym (blank_answers d piece none))
-          (blank piece pieces _ (items ∙ blank_items s.lines d piece u none) others)
+          subst (λ l. AreAnswers s types (piece ∷ pieces) (l ++ answers_of d pieces)) (sym (blank_answers d piece none))
+          (blank types piece pieces _ (items ∙ blank_items s types piece u none) others)
       | inr some ↦
-          subst (λ l. AreAnswers s (piece ∷ pieces) (l ++ answers_of d pieces)) (sym (piece_answers d piece some))
-          (one (front_of piece) a piece pieces _ (items ∙ text_item s.lines d piece u some ∙ ap (λ l. item_of l piece a ∷ []) again) others)
+          subst (λ l. AreAnswers s types (piece ∷ pieces) (l ++ answers_of d pieces)) (sym (piece_answers d piece some))
+          (one types (front_of piece) a piece pieces _ (items ∙ text_item s types piece u some
+          ∙ ap (λ (i : Item). i ∷ []) (untimed_item s types piece a untimed)
+          ∙ ap (λ (t : Option StrictTypes). if_typed (front_of piece) (item_by s piece a) (after_item t types a (item_by s piece a)) ∷ []) any
+          ∙ ap (λ (p : Option Portable). allowed p s.lines piece (item_of s.lines piece a) ∷ []) each
+          ∙ ap (λ l. item_of l piece a ∷ []) again) others)
     ]
 
 -- the pieces of a text that is UTF-8, if none is too long, have its answers
-pieces_are_answers : Utf8ByPieces → (s : Settings) (text : List ℕ) (pieces : List (List ℕ)) → s.lines ≡ going.Rebuilt
+pieces_are_answers : Utf8ByPieces → (s : Settings) (types : Types) (text : List ℕ) (pieces : List (List ℕ)) → s.lines ≡ going.Rebuilt → s.portable ≡ None → s.types ≡ None → s.times ≡ None → s.drops_returns ≡ false
     → Pieces (rules_of s.dialect) text pieces → IsUtf8 text → NoneTooLong (limit_of s.limit) pieces
-    → AreAnswers s pieces (answers_of (rules_of s.dialect) pieces)
-pieces_are_answers law s text pieces again (last piece h) u fit = one_more s piece [] again fit.0 u no_piece
-pieces_are_answers law s text pieces again (cut piece rest others c k) u fit =
+    → AreAnswers s types pieces (answers_of (rules_of s.dialect) pieces)
+pieces_are_answers law s types text pieces again each any untimed kept (last piece h) u fit =
+    one_more s types piece [] again each any untimed kept fit.0 u (no_piece (types_after s types piece))
+pieces_are_answers law s types text pieces again each any untimed kept (cut piece rest others c k) u fit =
     let both = (law piece rest).0 u in
-    one_more s piece others again fit.0 both.0 (pieces_are_answers law s rest others again k both.1 fit.1)
+    one_more s types piece others again each any untimed kept fit.0 both.0
+    (pieces_are_answers law s (types_after s types piece) rest others again each any untimed kept k both.1 fit.1)
 
 -- so they have those of a rebuild
-pieces_of_rebuilt : Utf8ByPieces → PiecesAreUnique → (s : Settings) (text : List ℕ) (pieces : List (List ℕ)) → s.lines ≡ going.Rebuilt
+pieces_of_rebuilt : Utf8ByPieces → PiecesAreUnique → (s : Settings) (types : Types) (text : List ℕ) (pieces : List (List ℕ)) → s.lines ≡ going.Rebuilt → s.portable ≡ None → s.types ≡ None → s.times ≡ None → s.drops_returns ≡ false
     → Pieces (rules_of s.dialect) text pieces → NoneTooLong (limit_of s.limit) pieces → IsUtf8 text → (r : Rebuilt)
-    → (h : RebuildsIn (rules_of s.dialect) text r) → AreAnswers s pieces h.answers
-pieces_of_rebuilt law unique s text pieces again are fit u r h =
+    → (h : RebuildsIn (rules_of s.dialect) text r) → AreAnswers s types pieces h.answers
+pieces_of_rebuilt law unique s types text pieces again each any untimed kept are fit u r h =
     let same = unique (rules_of s.dialect) text pieces h.has.pieces are h.has.are in
-    subst (AreAnswers s pieces) (ap (answers_of (rules_of s.dialect)) same ∙ sym h.has.answered)
-    (pieces_are_answers law s text pieces again are u fit)
+    subst (AreAnswers s types pieces) (ap (answers_of (rules_of s.dialect)) same ∙ sym h.has.answered)
+    (pieces_are_answers law s types text pieces again each any untimed kept are u fit)
 
 -- what holds if no piece is too long holds of a text that is rebuilt
 if_rebuilt : PiecesAreUnique → (dialect : Dialect) (limit : Option ℕ) (text : List ℕ) (pieces : List (List ℕ)) (P : Rebuilt → Type 0)
@@ -160,39 +172,39 @@ if_rebuilt : PiecesAreUnique → (dialect : Dialect) (limit : Option ℕ) (text 
     → (NoneTooLong limit pieces → IsUtf8 text → (r : Rebuilt) → RebuildsIn dialect text r → P r) → IfRebuilt dialect limit text P
 if_rebuilt unique dialect limit text pieces x5 are f = grind (arith, no_limit, short_pieces)
 
--- the fault lines of a rebuild, if they name items from 1 on, and are told as they are
-faults_of_rebuilt : (s : Settings) (pieces : List (List ℕ)) (answers : List (Result Line Fault)) → AreAnswers s pieces answers
-    → s.numbering ≡ named.Items → first_of s.first ≡ 1 → s.faults ≡ Raw → told_faults s pieces ≡ faults_from 1 answers
-faults_of_rebuilt s pieces answers same named first raw =
-    faults_of_answers s (first_place s) pieces answers raw
+-- the fault lines of a rebuild, if they name items from 1 on, and are told as they are, all of them
+faults_of_rebuilt : (s : Settings) (types : Types) (pieces : List (List ℕ)) (answers : List (Result Line Fault)) → AreAnswers s types pieces answers
+    → s.numbering ≡ named.Items → first_of s.first ≡ 1 → s.faults ≡ Raw → s.max_faults ≡ None → told_faults s types pieces ≡ faults_from 1 answers
+faults_of_rebuilt s types pieces answers same named first raw told =
+    faults_of_answers s types (first_place s) pieces answers raw told
     (ap (λ form. first_line form s.numbering s.first) raw ∙ ap (λ n. first_named n s.first) named) same
     ∙ ap (λ n. faults_from n answers) (ap (λ n. first_item n s.first) named ∙ first)
 
 -- what was written of all items is what the rebuild gives
-pub all_rebuilt : Utf8ByPieces → PiecesAreUnique → (s : Settings) (text : List ℕ) (counts : Relayed)
-    (before after : Known) → s.lines ≡ going.Rebuilt → RelaysAll s text counts before after
+pub all_rebuilt : Utf8ByPieces → PiecesAreUnique → (s : Settings) (types : Types) (text : List ℕ) (counts : Relayed)
+    (before after : Known) → s.lines ≡ going.Rebuilt → s.portable ≡ None → s.types ≡ None → s.times ≡ None → s.drops_returns ≡ false → RelaysAll s types text counts before after
     → IfRebuilt (rules_of s.dialect) (limit_of s.limit) text (λ r. RelaysRebuilt s r counts before after)
-all_rebuilt law unique s text counts before after again all =
+all_rebuilt law unique s types text counts before after again each any untimed kept all =
     if_rebuilt unique (rules_of s.dialect) (limit_of s.limit) text all.pieces (λ r. RelaysRebuilt s r counts before after) all.are
     (λ fit u r h.
-    let same = pieces_of_rebuilt law unique s text all.pieces again all.are fit u r h in
+    let same = pieces_of_rebuilt law unique s types text all.pieces again each any untimed kept all.are fit u r h in
     record {
-      batch = subst (Appends before.lines after.lines) (lines_of_answers s all.pieces h.answers same ∙ sym h.batch) all.batch;
-      faults = λ named first raw. subst (Appends before.faults after.faults)
-          (faults_of_rebuilt s all.pieces h.answers same named first raw ∙ sym h.faults) all.faults;
-      carried = all.carried ∙ carried_of_answers s all.pieces h.answers same ∙ sym h.carried;
-      refused = all.refused ∙ refused_of_answers s all.pieces h.answers same ∙ sym h.refused;
+      batch = subst (Appends before.lines after.lines) (lines_of_answers s types all.pieces h.answers same ∙ sym h.batch) all.batch;
+      faults = λ named first raw told. subst (Appends before.faults after.faults)
+          (faults_of_rebuilt s types all.pieces h.answers same named first raw told ∙ sym h.faults) all.faults;
+      carried = all.carried ∙ carried_of_answers s types all.pieces h.answers same ∙ sym h.carried;
+      refused = all.refused ∙ refused_of_answers s types all.pieces h.answers same ∙ sym h.refused;
     })
 
 -- and a beginning is a beginning of that
-pub fronts_rebuilt : Utf8ByPieces → PiecesAreUnique → (s : Settings) (text : List ℕ) (before after : Known)
-    → s.lines ≡ going.Rebuilt → RelaysFronts s text before after
+pub fronts_rebuilt : Utf8ByPieces → PiecesAreUnique → (s : Settings) (types : Types) (text : List ℕ) (before after : Known)
+    → s.lines ≡ going.Rebuilt → s.portable ≡ None → s.types ≡ None → s.times ≡ None → s.drops_returns ≡ false → RelaysFronts s types text before after
     → IfRebuilt (rules_of s.dialect) (limit_of s.limit) text (λ r. RelaysRebuiltFronts s r before after)
-fronts_rebuilt law unique s text before after again some =
+fronts_rebuilt law unique s types text before after again each any untimed kept some =
     if_rebuilt unique (rules_of s.dialect) (limit_of s.limit) text some.pieces (λ r. RelaysRebuiltFronts s r before after) some.are
     (λ fit u r h.
-    let same = pieces_of_rebuilt law unique s text some.pieces again some.are fit u r h in (
-      subst (AppendsFront before.lines after.lines) (lines_of_answers s some.pieces h.answers same ∙ sym h.batch) some.batch,
-      λ named first raw. subst (AppendsFront before.faults after.faults)
-          (faults_of_rebuilt s some.pieces h.answers same named first raw ∙ sym h.faults) some.faults,
+    let same = pieces_of_rebuilt law unique s types text some.pieces again each any untimed kept some.are fit u r h in (
+      subst (AppendsFront before.lines after.lines) (lines_of_answers s types some.pieces h.answers same ∙ sym h.batch) some.batch,
+      λ named first raw told. subst (AppendsFront before.faults after.faults)
+          (faults_of_rebuilt s types some.pieces h.answers same named first raw told ∙ sym h.faults) some.faults,
     ))

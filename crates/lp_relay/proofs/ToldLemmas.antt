@@ -5,20 +5,20 @@ use Rattle.std.specs.Borrow.{Bor}
 use Rattle.std.specs.Prelude.{if◌then◌else◌}
 use Rattle.influxdb_line_protocol.specs.code.Rules.{rules_of}
 use Rattle.influxdb_line_protocol.specs.format.Bytes.{newline, newlines_in}
-use Rattle.influxdb_line_protocol.specs.format.Dialects.{Dialect}
 use Rattle.influxdb_line_protocol.specs.types.PieceTooLong.{PieceTooLong}
 use Rattle.lp_relay.specs.declared.pieces.Piece.{Piece}
 use Rattle.lp_relay.specs.declared.refusals.Refusal.{Refusal}
-use Rattle.lp_relay.specs.declared.telling.{Faults.Faults, Place.Place}
+use Rattle.lp_relay.specs.declared.telling.Place.{Place}
 use Rattle.lp_relay.specs.declared.taking.Settings.{Settings}
 use Rattle.lp_relay.specs.declared.taking.Taken.TheVariants as took
-use Rattle.lp_relay.specs.FaultsTold.{line_after, told_fault, told_item}
+use Rattle.lp_relay.specs.FaultsTold.{is_told, line_after, told_at, told_fault, told_item}
 use Rattle.lp_relay.specs.Kinds.{with_fault}
-use Rattle.lp_relay.specs.Objects.{item_front, stop_given}
-use Rattle.lp_relay.specs.Refusals.{EndsPiece, GaveSame, IsRefusal, RefusesPiece, front_in, given_of, is_fault, reason_of, refusal_kind, stop_in}
-use Rattle.lp_relay.specs.Relaying.{Item, answered, put_out, not_as_written, not_utf8, too_long, is_carried_item, item_line, refused_lines}
-use Rattle.lp_relay.specs.RelaySteps.{EndsAhead, TakesAhead, TakesBy, TakesGiven, Unwritten, after_given, bytes_given, items_given}
-use Rattle.lp_relay.specs.RelaySteps.{len_given, newlines_given, next_place}
+use Rattle.lp_relay.specs.Objects.{Reason, bytes_given, item_front, over_given, stop_given}
+use Rattle.lp_relay.specs.Refusals.{EndsPiece, GaveSame, IsRefusal, RefusesPiece, front_in, given_of, is_fault, line_piece, reason_of, refusal_kind, stop_in}
+use Rattle.lp_relay.specs.FieldTypes.{Types}
+use Rattle.lp_relay.specs.Relaying.{Item, answered, put_out, not_as_written, not_portable, not_of_type, not_of_time, not_utf8, too_long, is_carried_item, item_line, refused_lines}
+use Rattle.lp_relay.specs.RelaySteps.{EndsAhead, TakesAhead, TakesBy, TakesGiven, Unwritten, after_given, items_given}
+use Rattle.lp_relay.specs.RelaySteps.{len_given, newlines_given, next_place, types_given}
 use Rattle.lp_relay.proofs.ItemLemmas.{items_add_up}
 use Rattle.lp_relay.proofs.KindLemmas.{kinds_of_carried, kinds_of_nothing, kinds_of_refused, no_kind}
 
@@ -33,6 +33,9 @@ no_line (answered front (Ok l)) refused = rw refused refl
 no_line (answered front (Err fault)) refused = refl
 no_line (put_out out) refused = absurd (cc)
 no_line (not_as_written front wrong) refused = refl
+no_line (not_portable front wrong) refused = refl
+no_line (not_of_type front fault) refused = refl
+no_line (not_of_time front fault) refused = refl
 no_line not_utf8 refused = refl
 no_line (too_long kept) refused = refl
 
@@ -52,15 +55,25 @@ pub put_asked : (pieces bytes : List ℕ) (goes_out : Bool) → goes_out ≡ tru
     → pieces ++ (bytes ++ newline ∷ []) ≡ pieces ++ (if goes_out then bytes ++ newline ∷ [] else [])
 put_asked pieces bytes goes_out asked = rw asked refl
 
+-- a fault beyond those that are told is not told
+pub told_none : (s : Settings) (place : Place) (why : Reason) → is_told s.max_faults place.refused ≡ false → told_at s place why ≡ []
+told_none s place why beyond = rw beyond refl
+
+-- and each other is
+pub told_whole : (s : Settings) (place : Place) (why : Reason) → is_told s.max_faults place.refused ≡ true
+    → told_at s place why ≡ told_fault s.faults place why
+told_whole s place why within = rw within refl
+
 -- why an item is refused is told as what is told of the item
-told_is : (form : Faults) (dialect : Dialect) (place : Place) (piece : Piece) (refusal : Refusal) (item : Item) (stop : Option (List ℕ))
-    → IsRefusal refusal item → item_front item ≡ front_in piece → stop ≡ stop_in (is_fault refusal) dialect piece
-    → told_item form place stop item ≡ told_fault form place (reason_of dialect piece refusal)
-told_is form dialect place piece refusal item stop r front is = rw (r.kind, r.wrong, front, is) refl
+told_is : (s : Settings) (place : Place) (piece line : Piece) (refusal : Refusal) (item : Item) (stop : Option (List ℕ)) → IsRefusal refusal item
+    → item_front item ≡ front_in line → stop ≡ stop_in (is_fault refusal) (rules_of s.dialect) line
+    → told_item s place (record { bytes = bytes_given (given_of piece); over = over_given s.limit (given_of piece); stop = stop }) item
+    ≡ told_at s place (reason_of (rules_of s.dialect) s.limit piece line refusal)
+told_is s place piece line refusal item stop r front is = rw (r.kind, r.wrong, front, is) refl
 
 -- a piece without an item ends as it is
 pub ends_blank : (s : Settings) (piece : Piece) (mid : Unwritten) → EndsPiece s piece took.Blank mid mid
-ends_blank s piece mid before t =
+ends_blank s piece mid before types t is =
     record {
       batch = rw t.0 (t.1 ∙ sym (append-nil before));
       faults = rw t.0 (sym (append-nil mid.made.faults));
@@ -69,12 +82,13 @@ ends_blank s piece mid before t =
       pieces = rw t.0 (nothing_put s.puts_refused mid.pieces);
       kinds = rw t.0 (sym (kinds_of_nothing mid.kinds));
       ahead = refl;
+      types = is;
     }
 
 -- a piece whose line was added ends once that is counted
 pub ends_carried : (s : Settings) (piece : Piece) (mid : Unwritten) → EndsPiece s piece took.Carried mid
     (record mid { made = record mid.made { carried = mid.made.carried + 1 } })
-ends_carried s piece mid before (item, one, carries, copied) =
+ends_carried s piece mid before types (item, one, carries, copied) is =
     record {
       batch = rw one (copied ∙ ap (λ (l : List ℕ). before ++ l) (sym (append-nil (item_line item))));
       faults = rw (one, no_kind item carries) (sym (append-nil mid.made.faults));
@@ -83,21 +97,23 @@ ends_carried s piece mid before (item, one, carries, copied) =
       pieces = rw (one, carries) (nothing_put s.puts_refused mid.pieces);
       kinds = rw one (sym (kinds_of_carried item mid.kinds carries));
       ahead = refl;
+      types = is;
     }
 
 -- a piece whose item is refused ends once that is told and counted, and the piece is put out
-pub refuses : (s : Settings) (piece : Piece) (refusal : Refusal) (item : Item) (old new : Unwritten) (n : ℕ) → RefusesPiece s piece refusal item
+pub refuses : (s : Settings) (types : Types) (piece : Piece) (refusal : Refusal) (item : Item) (old new : Unwritten) (n : ℕ)
+    → RefusesPiece s types piece refusal item
     → n ≡ old.made.carried + old.made.refused + 1
     → new.made.batch ≡ old.made.batch
-    → new.made.faults ≡ old.made.faults ++ told_fault s.faults (record (next_place s old) { number = n }) (reason_of (rules_of s.dialect) piece refusal)
+    → new.made.faults ≡ old.made.faults ++ told_at s (record (next_place s old) { number = n }) (reason_of (rules_of s.dialect) s.limit piece (line_piece s piece) refusal)
     → new.made.carried ≡ old.made.carried → new.made.refused ≡ old.made.refused + 1
     → new.kinds ≡ option_map (with_fault (refusal_kind refusal)) old.kinds
     → new.pieces ≡ old.pieces ++ (if s.puts_refused then bytes_given (given_of piece) ++ newline ∷ [] else [])
-    → new.ahead ≡ old.ahead → TakesGiven s old (given_of piece) new
-refuses s piece refusal item old new n r numbered batch faults carried refused kinds pieces ahead =
-    let d = rules_of s.dialect in
+    → new.ahead ≡ old.ahead → new.types ≡ types_given s types (given_of piece)
+    → TakesGiven s (record old { types = types }) (given_of piece) new
+refuses s types piece refusal item old new n r numbered batch faults carried refused kinds pieces ahead kept =
     let is = r.refused in
-    let told = told_is s.faults d (record (next_place s old) { number = n }) piece refusal item (stop_given d (given_of piece)) is r.front r.stop in
+    let told = told_is s (record (next_place s old) { number = n }) piece (line_piece s piece) refusal item (stop_given s (given_of piece)) is r.front r.stop in
     record {
       batch = batch ∙ sym (rw (r.is, no_line item is.refused) (append-nil old.made.batch));
       faults = rw (r.is, ← numbered) (faults ∙ ap (λ (l : List ℕ). old.made.faults ++ l) (sym (append-nil _ ∙ told)));
@@ -106,38 +122,50 @@ refuses s piece refusal item old new n r numbered batch faults carried refused k
       pieces = rw r.is (pieces ∙ ap (λ (l : List ℕ). old.pieces ++ l) (sym (refused_put s.puts_refused (bytes_given (given_of piece)) item is.refused)));
       kinds = rw r.is (kinds ∙ kinds_of_refused item (refusal_kind refusal) old.kinds (sym is.kind));
       ahead = ahead;
+      types = kept;
     }
 
 -- a piece ends so
 pub ends_refused : (s : Settings) (piece : Piece) (refusal : Refusal) (mid new : Unwritten)
-    → ((item : Item) → RefusesPiece s piece refusal item → TakesGiven s mid (given_of piece) new)
+    → ((item : Item) (types : Types) → RefusesPiece s types piece refusal item → mid.types ≡ types_given s types (given_of piece)
+    → TakesGiven s (record mid { types = types }) (given_of piece) new)
     → EndsPiece s piece (took.Refused refusal) mid new
-ends_refused s piece refusal mid new takes before ((item, r), same) =
-    subst (λ (l : List ℕ). TakesGiven s (record mid { made = record mid.made { batch = l } }) (given_of piece) new) same (takes item r)
+ends_refused s piece refusal mid new takes before types ((item, r), same) is =
+    subst (λ (l : List ℕ). TakesGiven s (record mid { made = record mid.made { batch = l }; types = types }) (given_of piece) new) same
+    (takes item types r is)
 
 -- what was taken is taken with another reference to the same bytes
 pub given_same : (s : Settings) (old new : Unwritten) (given other : Result (Bor (List ℕ)) PieceTooLong) → GaveSame given other
     → TakesGiven s old given new → TakesGiven s old other new
 given_same s old new (Ok piece) (Ok other) same t =
     let h = subst (λ (l : List ℕ). TakesGiven s old (Ok (record piece { now = l })) new) same t in
-    record { batch = h.batch; faults = h.faults; carried = h.carried; refused = h.refused; pieces = h.pieces; kinds = h.kinds; ahead = h.ahead }
+    record {
+      batch = h.batch;
+      faults = h.faults;
+      carried = h.carried;
+      refused = h.refused;
+      pieces = h.pieces;
+      kinds = h.kinds;
+      ahead = h.ahead;
+      types = h.types;
+    }
 given_same s old new (Ok piece) (Err other) same t = absurd same
 given_same s old new (Err fault) (Ok other) same t = absurd same
 given_same s old new (Err fault) (Err other) same t = subst (λ f. TakesGiven s old (Err f) new) same t
 
 -- the next place is the same too
-pub same_place : (s : Settings) (place : Place) (given other : Result (Bor (List ℕ)) PieceTooLong) → GaveSame given other
-    → after_given s place given ≡ after_given s place other
-same_place s place (Ok piece) (Ok other) same = ap (λ (l : List ℕ). after_given s place (Ok (record piece { now = l }))) same
-same_place s place (Ok piece) (Err other) same = absurd same
-same_place s place (Err fault) (Ok other) same = absurd same
-same_place s place (Err fault) (Err other) same = ap (λ f. after_given s place (Err f)) same
+pub same_place : (s : Settings) (types : Types) (place : Place) (given other : Result (Bor (List ℕ)) PieceTooLong) → GaveSame given other
+    → after_given s types place given ≡ after_given s types place other
+same_place s types place (Ok piece) (Ok other) same = ap (λ (l : List ℕ). after_given s types place (Ok (record piece { now = l }))) same
+same_place s types place (Ok piece) (Err other) same = absurd same
+same_place s types place (Err fault) (Ok other) same = absurd same
+same_place s types place (Err fault) (Err other) same = ap (λ f. after_given s types place (Err f)) same
 
 -- so is all of the step, or of the end of a piece that was taken ahead
 pub step_same : (ahead : Bool) (s : Settings) (old new : Unwritten) (given other : Result (Bor (List ℕ)) PieceTooLong)
     → GaveSame given other → TakesBy ahead s old given new → TakesBy ahead s old other new
 step_same false s old new given other same t =
-    (given_same s old new given other same t.0, t.1 ∙ same_place s (next_place s old) given other same)
+    (given_same s old new given other same t.0, t.1 ∙ same_place s old.types (next_place s old) given other same)
 step_same true s old new (Ok piece) (Ok other) same t =
     record {
       is = t.is;
@@ -163,16 +191,18 @@ counts_ahead s old mid given t counts place =
         pieces = t.pieces;
         kinds = t.kinds;
         ahead = refl;
+        types = t.types;
       };
-      place = rw (place.0, place.1, number) refl;
+      place = rw (place.0, place.1, number, counts.1) refl;
       ahead = refl;
     }
 
 -- once a piece was taken, the next place comes after it
 pub place_taken : (s : Settings) (old new : Unwritten) (given : Result (Bor (List ℕ)) PieceTooLong) (line : Option ℕ) (offset : ℕ)
     → TakesGiven s old given new → line ≡ line_after old.made.line (newlines_given given) → offset ≡ old.offset + len_given given + 1
-    → next_place s (record new { made = record new.made { line = line }; offset = offset }) ≡ after_given s (next_place s old) given
+    → next_place s (record new { made = record new.made { line = line }; offset = offset })
+    ≡ after_given s old.types (next_place s old) given
 place_taken s old new given line offset t lines offsets =
-    let number : new.made.carried + new.made.refused + 1 ≡ old.made.carried + old.made.refused + 1 + length (items_given s given) =
-    omega (arith, t.carried, t.refused, items_add_up (items_given s given)) in
-    rw (lines, offsets, number) refl
+    let number : new.made.carried + new.made.refused + 1 ≡ old.made.carried + old.made.refused + 1 + length (items_given s old.types given) =
+    omega (arith, t.carried, t.refused, items_add_up (items_given s old.types given)) in
+    rw (lines, offsets, number, t.refused) refl

@@ -14,8 +14,7 @@ use Rattle.influxdb_line_protocol.specs.code.Bounded.{CutsTo, HeldWithin, Holds}
 use Rattle.influxdb_line_protocol.specs.code.Rules.{rules_of}
 use Rattle.influxdb_line_protocol.specs.laws.Laws.{PiecesAreTheText, PiecesAreUnique, PiecesExist}
 use Rattle.lp_relay.specs.declared.taking.Settings.{Settings}
-use Rattle.lp_relay.specs.RelaySteps.{SoFar, Stage, TakesBy, TakesFirst, TakesGiven, Unwritten, after_given, next_place}
-use Rattle.lp_relay.specs.Writers.{Told}
+use Rattle.lp_relay.specs.RelaySteps.{SoFar, Stage, Start, TakesBy, TakesFirst, TakesGiven, Unwritten, after_given, next_place}
 use Rattle.lp_relay.proofs.CutLemmas.{cut_nowhere, no_newline, some_piece}
 use Rattle.lp_relay.proofs.RelaysSoFar.{so_far_ended, so_far_given, so_far_more}
 
@@ -44,7 +43,7 @@ nothing_left : PiecesExist → PiecesAreUnique → (dialect : Dialect) (text fro
 nothing_left exist unique dialect text front piece rest is_last none cuts = grind (arith, cut_there, cut_nowhere)
 
 -- so if the first newline of a part ended a piece, nothing is left of what was given up to there
-pub line_ended : PiecesExist → PiecesAreUnique → (s : Settings) (given text part : List ℕ) (at : ℕ) (stream : HeldWithin) (a : Told)
+pub line_ended : PiecesExist → PiecesAreUnique → (s : Settings) (given text part : List ℕ) (at : ℕ) (stream : HeldWithin) (a : Start)
     (now : Stage) → IsLastPiece (rules_of s.dialect) text → take (at + 1) part ≡ take at part ++ newline ∷ []
     → All (λ b. b ≢ newline) (take at part)
     → ((left : List ℕ) × Holds stream left × SoFar s given left a now
@@ -125,9 +124,9 @@ line_given exist texts dialect before after piece rest bytes taken same within b
 
 -- such a line was taken
 pub line_taken : PiecesExist → PiecesAreUnique → (s : Settings) (given bytes : List ℕ) (taken : ℕ) (piece : Bor (List ℕ))
-    (after : Option (List ℕ)) (a : Told) (now : Stage) (next : Unwritten) → SoFar s (given ++ take taken bytes) [] a now
+    (after : Option (List ℕ)) (a : Start) (now : Stage) (next : Unwritten) → SoFar s (given ++ take taken bytes) [] a now
     → LineGiven (rules_of s.dialect) after piece.now bytes taken → length piece.now ≤ s.limit → TakesGiven s now.unwritten (Ok piece) next
-    → next_place s next ≡ after_given s (next_place s now.unwritten) (Ok piece)
+    → next_place s next ≡ after_given s now.unwritten.types (next_place s now.unwritten) (Ok piece)
     → SoFar s (given ++ take (taken + (length piece.now + 1)) bytes) [] a (record { unwritten = next; told = now.told })
 line_taken exist unique s given bytes taken piece after a now next h line short takes start =
     let front = given ++ take taken bytes in

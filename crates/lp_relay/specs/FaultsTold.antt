@@ -1,5 +1,5 @@
 -- What a relay tells of the items that it refuses: of each a fault line, or an object, which names its place.
-use Rattle.std.specs.Prelude.{ℕ, ◌+◌, List, [], ◌∷◌, ◌++◌, codes, decimal, length, Option, Some, None, option_map}
+use Rattle.std.specs.Prelude.{ℕ, ◌+◌, nat_lt, Bool, true, if◌then◌else◌, List, [], ◌∷◌, ◌++◌, codes, decimal, length, Option, Some, None, option_map}
 use Rattle.std.specs.Borrow.{Bor}
 use Rattle.std.specs.List.{flat_map}
 use Rattle.std.specs.Option.{option_map_or}
@@ -8,8 +8,9 @@ use Rattle.lp_relay.specs.declared.taking.{Numbering.Numbering, Settings.Setting
 use Rattle.lp_relay.specs.declared.taking.Numbering.TheVariants as named
 use Rattle.lp_relay.specs.declared.telling.{Faults.Faults, Place.Place}
 use Rattle.lp_relay.specs.declared.telling.Faults.TheVariants.{Raw, OneLine, Json}
-use Rattle.lp_relay.specs.Objects.{Reason, item_front, item_kind, item_text, object, stop_of_piece}
-use Rattle.lp_relay.specs.Relaying.{Item, first_of, items_of_piece}
+use Rattle.lp_relay.specs.Objects.{Reason, Seen, item_front, item_kind, item_text, object, seen_of_piece}
+use Rattle.lp_relay.specs.FieldTypes.{Types}
+use Rattle.lp_relay.specs.Relaying.{Item, first_of, items_of_piece, refused_items, types_after}
 use Rattle.lp_relay.specs.Told.{on_one_line, told_byte}
 
 -- what a fault line begins with: the line on which the piece of the item begins, if lines are named, or else the number of the item
@@ -27,47 +28,59 @@ file_before None = []
 file_before (Some name) = flat_map told_byte name.now ++ codes ": "
 
 -- what is told of an item at a place that is refused for this: its fault line as it is; that on one line, after the name of the file;
--- or its object
+-- or its object, with its piece or without
 abbrev pub told_fault : Faults → Place → Reason → List ℕ
 told_fault Raw place why = fault_text place why.wrong ++ newline ∷ []
 told_fault OneLine place why = file_before place.file ++ on_one_line (fault_text place why.wrong) ++ newline ∷ []
-told_fault (Json first_line) place why = object place why
+told_fault (Json first_line has_piece) place why = object has_piece place why
 
--- what is told of an item at a place, in whose piece reading stopped after these bytes, if its text is no line: nothing if it is carried
-abbrev pub told_item : Faults → Place → (stop : Option (List ℕ)) → Item → List ℕ
-told_item form place stop item =
-    option_map_or (λ kind. told_fault form place (record { kind = kind; wrong = item_text item; front = item_front item; stop = stop })) (item_kind item) []
+-- whether a fault is told before which so many items were refused, if so many faults are told at most
+abbrev pub is_told : (most : Option ℕ) → (refused : ℕ) → Bool
+is_told None refused = true
+is_told (Some most) refused = nat_lt refused most
+
+-- what is told by the settings of an item at a place that is refused for this: nothing if as many faults were told as may be
+abbrev pub told_at : Settings → Place → Reason → List ℕ
+told_at s place why = if is_told s.max_faults place.refused then told_fault s.faults place why else []
+
+-- what is told of an item at a place, of whose piece this is told: nothing if it is carried
+abbrev pub told_item : Settings → Place → Seen → Item → List ℕ
+told_item s place seen item =
+    option_map_or (λ kind. told_at s place (record { kind = kind; wrong = item_text item; front = item_front item; seen = seen })) (item_kind item) []
 
 -- what is told of the items of one piece, of which the first is at this place
-abbrev pub told_items : Faults → Place → (stop : Option (List ℕ)) → List Item → List ℕ
-told_items form place stop [] = []
-told_items form place stop (item ∷ items) =
-    told_item form place stop item ++ told_items form (record place { number = place.number + 1 }) stop items
+abbrev pub told_items : Settings → Place → Seen → List Item → List ℕ
+told_items s place seen [] = []
+told_items s place seen (item ∷ items) =
+    told_item s place seen item
+    ++ told_items s (record place { number = place.number + 1; refused = place.refused + refused_items (item ∷ []) }) seen items
 
 -- what is told of a piece at a place
-abbrev pub told_piece : Settings → Place → List ℕ → List ℕ
-told_piece s place piece = told_items s.faults place (stop_of_piece s piece) (items_of_piece s piece)
+abbrev pub told_piece : Settings → Types → Place → List ℕ → List ℕ
+told_piece s types place piece = told_items s place (seen_of_piece s piece) (items_of_piece s types piece)
 
 -- the line after a piece with so many newlines, if lines are named
 abbrev pub line_after : Option ℕ → (newlines : ℕ) → Option ℕ
 line_after line newlines = option_map (λ line. line + newlines + 1) line
 
--- the place after a piece with so many items, newlines and bytes
-abbrev pub place_after : Place → (items newlines len : ℕ) → Place
+-- the place after a piece with these items, and with so many newlines and bytes
+abbrev pub place_after : Place → (items : List Item) → (newlines len : ℕ) → Place
 place_after place items newlines len = record place {
-  number = place.number + items;
+  number = place.number + length items;
+  refused = place.refused + refused_items items;
   line = line_after place.line newlines;
   offset = place.offset + len + 1;
 }
 
 -- the place after a piece
-abbrev pub after_piece : Settings → Place → List ℕ → Place
-after_piece s place piece = place_after place (length (items_of_piece s piece)) (newlines_in piece) (length piece)
+abbrev pub after_piece : Settings → Types → Place → List ℕ → Place
+after_piece s types place piece = place_after place (items_of_piece s types piece) (newlines_in piece) (length piece)
 
--- what is told of pieces, of which the first is at this place
-abbrev pub told_from : Settings → Place → List (List ℕ) → List ℕ
-told_from s place [] = []
-told_from s place (piece ∷ pieces) = told_piece s place piece ++ told_from s (after_piece s place piece) pieces
+-- what is told of pieces, of which the first is at this place, by the types that fields have before it
+abbrev pub told_from : Settings → Types → Place → List (List ℕ) → List ℕ
+told_from s types place [] = []
+told_from s types place (piece ∷ pieces) =
+    told_piece s types place piece ++ told_from s (types_after s types piece) (after_piece s types place piece) pieces
 
 -- the number of the first item, if this is the number of what fault lines name first
 abbrev pub first_item : Numbering → ℕ → ℕ
@@ -83,17 +96,18 @@ first_named named.Lines first = Some (first_of first)
 abbrev pub first_line : Faults → Numbering → ℕ → Option ℕ
 first_line Raw numbering first = first_named numbering first
 first_line OneLine numbering first = first_named numbering first
-first_line (Json line) numbering first = Some (first_of line)
+first_line (Json line has_piece) numbering first = Some (first_of line)
 
 -- the place of the first item
 abbrev pub first_place : Settings → Place
 first_place s = record {
   file = s.file;
   number = first_item s.numbering s.first;
+  refused = 0;
   line = first_line s.faults s.numbering s.first;
   offset = s.first_offset;
 }
 
 -- what is told of pieces by the settings, from the first place on
-abbrev pub told_faults : Settings → List (List ℕ) → List ℕ
-told_faults s pieces = told_from s (first_place s) pieces
+abbrev pub told_faults : Settings → Types → List (List ℕ) → List ℕ
+told_faults s types pieces = told_from s types (first_place s) pieces

@@ -12,7 +12,8 @@ use Rattle.lp_relay.specs.declared.telling.Faults.{Faults}
 use Rattle.lp_relay.specs.declared.telling.Faults.TheVariants.{Raw, OneLine, Json}
 use Rattle.lp_relay.specs.Kinds.{Counts, counts_if}
 use Rattle.lp_relay.specs.Relaying.{first_of}
-use Rattle.lp_relay.specs.Relays.{RelaysAll, RelaysFronts}
+use Rattle.lp_relay.specs.FieldTypes.{Types, no_types}
+use Rattle.lp_relay.specs.Relays.{RelaysAll, RelaysFronts, TypesAfter}
 use Rattle.lp_relay.specs.Writers.{AreFlushed, Known, Told, bytes_of}
 
 -- an input: its name and its text
@@ -43,12 +44,21 @@ first_after named.Lines first so_far = 1
 abbrev pub faults_after : Faults → Faults
 faults_after Raw = Raw
 faults_after OneLine = OneLine
-faults_after (Json first_line) = Json 1
+faults_after (Json first_line has_piece) = Json 1 has_piece
+
+-- how many of its faults are told at most, if so many are of all inputs
+abbrev pub most_after : Option ℕ → Relayed → Option ℕ
+most_after None so_far = None
+most_after (Some most) so_far = Some (most - so_far.refused)
 
 -- the settings for it, which begins its file: all others stay
 abbrev pub settings_after : Settings → Relayed → Settings
-settings_after s so_far =
-    record s { first = first_after s.numbering s.first so_far; faults = faults_after s.faults; first_offset = 0 }
+settings_after s so_far = record s {
+  first = first_after s.numbering s.first so_far;
+  faults = faults_after s.faults;
+  max_faults = most_after s.max_faults so_far;
+  first_offset = 0;
+}
 
 -- the settings for an input that comes after these, whose items were counted so
 abbrev pub settings_past : Settings → List Input → Relayed → Settings
@@ -83,13 +93,15 @@ pub record AddsUp (so_far counts total : Relayed) : Type 0 where
   pub refused : total.refused ≡ min (2 ^ 64 - 1) (so_far.refused + counts.refused)
   pub kinds : counts_if total.kinds ≡ kinds_sum (counts_if so_far.kinds) (counts_if counts.kinds)
 
--- inputs were relayed whole, one after another and each by itself, by the settings that count on after those before it
-pub data RelaysEach (s : Settings) (several : Bool) (before : Known) : List Input → Relayed → Known → Type 0 where
-  none : RelaysEach s several before [] nothing_relayed before
-  more : (done : List Input) (so_far counts total : Relayed) (input : Input) (mid after : Known)
-      → RelaysEach s several before done so_far mid
-      → RelaysAll (settings_for several input.name (settings_past s done so_far)) input.text counts mid after
-      → AddsUp so_far counts total → RelaysEach s several before (done ++ input ∷ []) total after
+-- inputs were relayed whole, one after another, by the settings that count on after those before it, and by the types that fields have
+-- then
+pub data RelaysEach (s : Settings) (several : Bool) (before : Known) : List Input → Relayed → Types → Known → Type 0 where
+  none : RelaysEach s several before [] nothing_relayed no_types before
+  more : (done : List Input) (so_far counts total : Relayed) (types types_after : Types) (input : Input) (mid after : Known)
+      → RelaysEach s several before done so_far types mid
+      → RelaysAll (settings_for several input.name (settings_past s done so_far)) types input.text counts mid after
+      → TypesAfter (settings_for several input.name (settings_past s done so_far)) types input.text types_after
+      → AddsUp so_far counts total → RelaysEach s several before (done ++ input ∷ []) total types_after after
 
 -- inputs were relayed whole up to one, and of that each writer gained a front of what was meant for it
 pub record RelaysUpTo (s : Settings) (several : Bool) (inputs : List Input) (before after : Known) : Type 0 where
@@ -98,9 +110,10 @@ pub record RelaysUpTo (s : Settings) (several : Bool) (inputs : List Input) (bef
   pub others : List Input
   pub are : inputs ≡ done ++ input ∷ others
   pub so_far : Relayed
+  pub types : Types
   pub mid : Known
-  pub each : RelaysEach s several before done so_far mid
-  pub fronts : RelaysFronts (settings_for several input.name (settings_past s done so_far)) input.text mid after
+  pub each : RelaysEach s several before done so_far types mid
+  pub fronts : RelaysFronts (settings_for several input.name (settings_past s done so_far)) types input.text mid after
 
 -- the texts of the inputs that are left, if they are known, and how many calls of their reader failed so far
 pub record InputsTold : Type 0 where
@@ -124,13 +137,14 @@ pub record TellsFaults (result : Result Relayed RunFault) (failures failures_aft
   pub counts : (failures ≤ failures_after) × (before.lines.failures ≤ after.lines.failures)
       × (before.faults.failures ≤ after.faults.failures) × (before.refused.failures ≤ after.refused.failures)
 
--- the next input was relayed by these settings
-pub record RelaysNext (s : Settings) (result : Result Relayed RunFault) (inputs inputs_after : InputsTold) (before after : Told)
-    : Type 0 where
+-- the next input was relayed by these settings, and by these types that fields have before it and after it
+pub record RelaysNext (s : Settings) (types types_after : Types) (result : Result Relayed RunFault) (inputs inputs_after : InputsTold)
+    (before after : Told) : Type 0 where
   pub all : IfOk result (λ counts. IfSome inputs.left (λ texts.
-      (inputs_after.left ≡ Some (drop 1 texts)) × RelaysAll s (next_text texts) counts (bytes_of before) (bytes_of after)))
+      (inputs_after.left ≡ Some (drop 1 texts)) × RelaysAll s types (next_text texts) counts (bytes_of before) (bytes_of after)))
+  pub types_are : OnOk result (IfSome inputs.left (λ texts. TypesAfter s types (next_text texts) types_after))
   pub flushed : OnOk result (AreFlushed after)
-  pub part : OnErr result (IfSome inputs.left (λ texts. RelaysFronts s (next_text texts) (bytes_of before) (bytes_of after)))
+  pub part : OnErr result (IfSome inputs.left (λ texts. RelaysFronts s types (next_text texts) (bytes_of before) (bytes_of after)))
   pub faults : TellsFaults result inputs.failures inputs_after.failures before after
 
 -- a relay of the inputs of these names: what it answers, and what it leaves in their reader and in its three writers
@@ -138,7 +152,7 @@ pub record RelaysInputs (s : Settings) (names : List (Bor (List ℕ))) (result :
     (inputs inputs_after : InputsTold) (before after : Told) : Type 0 where
   -- each was read, and the items of it were written
   pub all : IfOk result (λ total. IfSome inputs.left (λ texts. (inputs_after.left ≡ Some (drop (length names) texts))
-      × RelaysEach s (are_several names) (bytes_of before) (inputs_of names texts) total (bytes_of after)))
+      × ((types : Types) × RelaysEach s (are_several names) (bytes_of before) (inputs_of names texts) total types (bytes_of after))))
   -- all that was written to each writer was flushed
   pub flushed : OnOk result (0 < length names → AreFlushed after)
   -- after a fault, those before one were written whole, and a front of that one

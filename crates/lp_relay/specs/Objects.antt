@@ -1,9 +1,12 @@
 -- The faults of a relay as objects of JSON.
-use Rattle.std.specs.Prelude.{ℕ, ◌+◌, ◌/◌, ◌%◌, ◌==◌, ◌||◌, ◌&&◌, nat_lt, Bool, List, [], ◌∷◌, ◌++◌, codes, decimal, length, if◌then◌else◌}
+use Rattle.std.specs.Prelude.{ℕ, ◌+◌, ◌/◌, ◌%◌, ◌==◌, ◌||◌, nat_lt, Bool, false, true, List, [], ◌∷◌, ◌++◌, codes, decimal, length, take, if◌then◌else◌}
 use Rattle.std.specs.Prelude.{Option, Some, None, Result, Ok, Err, is_err, unwrap_or}
 use Rattle.std.specs.Borrow.{Bor}
 use Rattle.std.specs.List.{flat_map}
 use Rattle.std.specs.Str.{is_utf8}
+use Rattle.std.specs.Str.Lossy.{utf8_valid_len}
+use Rattle.base64.specs.Engines.{standard}
+use Rattle.base64.specs.GeneralPurpose.{encode_of}
 use Rattle.influxdb_line_protocol.specs.format.Bytes.{newline, newlines_in, backslash}
 use Rattle.influxdb_line_protocol.specs.format.Dialects.{Dialect}
 use Rattle.influxdb_line_protocol.specs.format.Lines.{answer, front_before}
@@ -12,16 +15,20 @@ use Rattle.influxdb_line_protocol.specs.format.Trimming.{trimmed}
 use Rattle.influxdb_line_protocol.specs.types.PieceTooLong.{PieceTooLong}
 use Rattle.lp_rebuild.specs.Rebuilding.{is_carried_answer, refusal_text}
 use Rattle.lp_relay.specs.declared.kinds.Kind.{Kind}
-use Rattle.lp_relay.specs.declared.kinds.Kind.TheVariants.{CannotParseEntireLine, EndsWithBackslash, FieldSetMissing, GenericParsingError, IntegerValueInvalid}
-use Rattle.lp_relay.specs.declared.kinds.Kind.TheVariants.{MeasurementValueInvalid, NameNotAdmitted, NotAsWritten, NotUtf8}
-use Rattle.lp_relay.specs.declared.kinds.Kind.TheVariants.{TagSetMalformed, TimestampValueInvalid, TooLong, UintegerValueInvalid}
+use Rattle.lp_relay.specs.declared.kinds.Kind.TheVariants.{CannotParseEntireLine, EndsWithBackslash, FieldSetMissing, FieldTypeConflict, GenericParsingError, IntegerValueInvalid}
+use Rattle.lp_relay.specs.declared.kinds.Kind.TheVariants.{MeasurementValueInvalid, NameNotAdmitted, NotAsWritten, NotPortable, NotUtf8}
+use Rattle.lp_relay.specs.declared.kinds.Kind.TheVariants.{TagSetMalformed, TimeMissing, TimeOutOfRange, TimeOverflow, TimestampValueInvalid, TooLong, TooManyFields, UintegerValueInvalid}
+use Rattle.lp_relay.specs.declared.field_types.TypeFault.{TypeFault, TheVariants.Conflict, TheVariants.TooMany}
+use Rattle.lp_relay.specs.declared.times.TimeFault.{TimeFault, TheVariants.Overflow, TheVariants.OutOfRange, TheVariants.Missing}
+use Rattle.lp_relay.specs.FieldTypes.{type_fault_text}
+use Rattle.lp_relay.specs.LineTimes.{time_fault_text}
 use Rattle.lp_relay.specs.declared.taking.Settings.{Settings}
 use Rattle.lp_relay.specs.declared.telling.Place.{Place}
 use Rattle.influxdb_line_protocol.specs.code.Rules.{rules_of}
-use Rattle.lp_relay.specs.Relaying.{Item, answered, put_out, not_as_written, not_utf8, too_long}
-use Rattle.lp_relay.specs.Relaying.{is_too_long, limit_of, long_text}
+use Rattle.lp_relay.specs.Relaying.{Item, answered, put_out, not_as_written, not_portable, not_of_type, not_of_time, not_utf8, too_long}
+use Rattle.lp_relay.specs.Relaying.{is_too_long, kept_bytes, limit_of, line_of, long_text}
 use Rattle.lp_events.specs.code.Stops.{reading_stop}
-use Rattle.lp_relay.specs.Told.{hex_digit}
+use Rattle.lp_relay.specs.Told.{cut_mark, hex_digit}
 
 -- whether a byte has an escape in a string of JSON: a quote, a backslash, and what ASCII does not print
 abbrev pub is_escaped : ℕ → Bool
@@ -41,20 +48,36 @@ json_byte b = if is_escaped b then escape_of b else b ∷ []
 abbrev pub json_text : List ℕ → List ℕ
 json_text text = flat_map json_byte text
 
+-- the longest front of bytes that is UTF-8: what comes before the first byte at which they are not
+abbrev pub utf8_front : List ℕ → List ℕ
+utf8_front bytes = take (utf8_valid_len bytes) bytes
+
+-- a text in a string of JSON, of which no more is told than of a fault line: if it has more than 200 bytes, the characters that end
+-- within the first 200, and how many bytes it has
+abbrev pub cut_json_text : List ℕ → List ℕ
+cut_json_text text =
+    if nat_lt 200 (length text) then json_text (utf8_front (take 200 text)) ++ cut_mark (length text) else json_text text
+
 -- the name of a kind of fault, as objects tell it
 abbrev pub kind_name : Kind → List ℕ
 kind_name CannotParseEntireLine = codes "cannot_parse_entire_line"
 kind_name EndsWithBackslash = codes "ends_with_backslash"
 kind_name FieldSetMissing = codes "field_set_missing"
+kind_name FieldTypeConflict = codes "field_type_conflict"
 kind_name GenericParsingError = codes "generic_parsing_error"
 kind_name IntegerValueInvalid = codes "integer_value_invalid"
 kind_name MeasurementValueInvalid = codes "measurement_value_invalid"
 kind_name NameNotAdmitted = codes "name_not_admitted"
 kind_name NotAsWritten = codes "not_as_written"
+kind_name NotPortable = codes "not_portable"
 kind_name NotUtf8 = codes "not_utf8"
 kind_name TagSetMalformed = codes "tag_set_malformed"
+kind_name TimeMissing = codes "time_missing"
+kind_name TimeOutOfRange = codes "time_out_of_range"
+kind_name TimeOverflow = codes "time_overflow"
 kind_name TimestampValueInvalid = codes "timestamp_value_invalid"
 kind_name TooLong = codes "too_long"
+kind_name TooManyFields = codes "too_many_fields"
 kind_name UintegerValueInvalid = codes "uinteger_value_invalid"
 
 -- the kind of the fault of a text
@@ -69,12 +92,26 @@ fault_kind (fault.cannot_parse_entire_line rest) = CannotParseEntireLine
 fault_kind fault.tag_set_malformed = TagSetMalformed
 fault_kind fault.take_while1 = GenericParsingError
 
+-- the kind of the fault of a line with a field whose type does not stay
+abbrev pub type_fault_kind : TypeFault → Kind
+type_fault_kind (Conflict number is was) = FieldTypeConflict
+type_fault_kind (TooMany number) = TooManyFields
+
+-- the kind of the fault of a line that is refused for its time
+abbrev pub time_fault_kind : TimeFault → Kind
+time_fault_kind (Overflow came unit) = TimeOverflow
+time_fault_kind (OutOfRange time) = TimeOutOfRange
+time_fault_kind Missing = TimeMissing
+
 -- the kind of fault for which an item is refused, if it is
 abbrev pub item_kind : Item → Option Kind
 item_kind (answered front (Ok line)) = if is_carried_answer (Ok line) then None else Some NameNotAdmitted
 item_kind (answered front (Err fault)) = Some (fault_kind fault)
 item_kind (put_out out) = None
 item_kind (not_as_written front wrong) = Some NotAsWritten
+item_kind (not_portable front wrong) = Some NotPortable
+item_kind (not_of_type front fault) = Some (type_fault_kind fault)
+item_kind (not_of_time front fault) = Some (time_fault_kind fault)
 item_kind not_utf8 = Some NotUtf8
 item_kind (too_long kept) = Some TooLong
 
@@ -83,6 +120,9 @@ abbrev pub item_text : Item → List ℕ
 item_text (answered front answer) = refusal_text answer
 item_text (put_out out) = []
 item_text (not_as_written front wrong) = wrong
+item_text (not_portable front wrong) = wrong
+item_text (not_of_type front fault) = type_fault_text fault
+item_text (not_of_time front fault) = time_fault_text fault
 item_text not_utf8 = codes "the line is not UTF-8"
 item_text (too_long kept) = long_text kept
 
@@ -91,31 +131,64 @@ abbrev pub item_front : Item → List ℕ
 item_front (answered front answer) = front
 item_front (put_out out) = []
 item_front (not_as_written front wrong) = front
+item_front (not_portable front wrong) = front
+item_front (not_of_type front fault) = front
+item_front (not_of_time front fault) = front
 item_front not_utf8 = []
 item_front (too_long kept) = []
 
--- why an item is refused: the kind of its fault, what is wrong with it, what comes before its text in its piece, and, if its text is no
--- line, what comes before the byte of the piece at which reading stopped
+-- what is told of a piece whose item is refused: its bytes; if it is too long, its first bytes and the limit that it is longer than;
+-- and what comes before the byte of it at which reading stopped, if its text is no line, or at which it is not UTF-8
+pub record Seen : Type 0 where
+  pub bytes : List ℕ
+  pub over : Option ℕ
+  pub stop : Option (List ℕ)
+
+-- why an item is refused: the kind of its fault, what is wrong with it, what comes before its text in its piece, and its piece
 pub record Reason : Type 0 where
   pub kind : Kind
   pub wrong : List ℕ
   pub front : List ℕ
-  pub stop : Option (List ℕ)
+  pub seen : Seen
 
--- what comes before the byte of a piece at which reading stops, if its text is no line
+-- what comes before the byte of the line of a piece at which reading stops, if its text is no line, or at which it is not UTF-8
 abbrev pub stop_of_bytes : Dialect → List ℕ → Option (List ℕ)
-stop_of_bytes dialect piece =
-    let text = trimmed piece in
-    if is_utf8 piece && is_err (answer dialect text) then Some (front_before piece (reading_stop dialect text).1) else None
+stop_of_bytes dialect line =
+    let text = trimmed line in
+    if is_utf8 line then (if is_err (answer dialect text) then Some (front_before line (reading_stop dialect text).1) else None)
+    else Some (utf8_front line)
 
 -- the same of a piece that may be too long
 unfoldable pub stop_of_piece : Settings → List ℕ → Option (List ℕ)
-stop_of_piece s piece = if is_too_long (limit_of s.limit) piece then None else stop_of_bytes (rules_of s.dialect) piece
+stop_of_piece s piece = if is_too_long (limit_of s.limit) piece then None else stop_of_bytes (rules_of s.dialect) (line_of s piece)
 
--- the same of what a call gave
-abbrev pub stop_given : Dialect → Result (Bor (List ℕ)) PieceTooLong → Option (List ℕ)
-stop_given dialect (Ok piece) = stop_of_bytes dialect piece.now
-stop_given dialect (Err _) = None
+-- the limit of a piece that is too long
+unfoldable pub over_of_piece : Settings → List ℕ → Option ℕ
+over_of_piece s piece = if is_too_long (limit_of s.limit) piece then Some s.limit else None
+
+-- what is told of a piece
+abbrev pub seen_of_piece : Settings → List ℕ → Seen
+seen_of_piece s piece = record { bytes = kept_bytes s piece; over = over_of_piece s piece; stop = stop_of_piece s piece }
+
+-- the bytes of what a call gave: those of a piece, or the first ones of one that is too long
+abbrev pub bytes_given : Result (Bor (List ℕ)) PieceTooLong → List ℕ
+bytes_given (Ok piece) = piece.now
+bytes_given (Err fault) = fault.front.now
+
+-- the limit, if what a call gave is too long
+abbrev pub over_given : (limit : ℕ) → Result (Bor (List ℕ)) PieceTooLong → Option ℕ
+over_given limit (Ok piece) = None
+over_given limit (Err _) = Some limit
+
+-- what comes before the byte of the line of what a call gave at which reading stops, or at which it is not UTF-8
+abbrev pub stop_given : Settings → Result (Bor (List ℕ)) PieceTooLong → Option (List ℕ)
+stop_given s (Ok piece) = stop_of_bytes (rules_of s.dialect) (line_of s piece.now)
+stop_given s (Err _) = None
+
+-- what is told of what a call gave
+abbrev pub seen_given : Settings → Result (Bor (List ℕ)) PieceTooLong → Seen
+seen_given s given =
+    record { bytes = bytes_given given; over = over_given s.limit given; stop = stop_given s given }
 
 -- the column after these bytes, from this one on: each newline begins a line
 abbrev pub column_after : ℕ → List ℕ → ℕ
@@ -135,6 +208,11 @@ first_members (Some name) number = codes "{\"file\":\"" ++ json_text name.now ++
 abbrev pub line_or_none : Option ℕ → ℕ
 line_or_none line = unwrap_or line 0
 
+-- the member that tells how long a piece of these bytes is: how many it has, or which limit it is longer than
+abbrev pub length_member : (over : Option ℕ) → (bytes : List ℕ) → List ℕ
+length_member None bytes = member (codes "length") (length bytes)
+length_member (Some limit) bytes = member (codes "longer_than") limit
+
 -- the start of an object, which names the item at this place, where its text begins, and where its piece does. These bytes of the piece
 -- come before the text
 abbrev pub object_start : Place → (front : List ℕ) → List ℕ
@@ -146,7 +224,7 @@ object_start place front =
 
 -- the members that tell the kind of a fault and its text
 abbrev pub fault_members : Kind → (text : List ℕ) → List ℕ
-fault_members kind text = codes ",\"kind\":\"" ++ kind_name kind ++ codes "\",\"text\":\"" ++ json_text text ++ codes "\""
+fault_members kind text = codes ",\"kind\":\"" ++ kind_name kind ++ codes "\",\"text\":\"" ++ cut_json_text text ++ codes "\""
 
 -- the members that tell where reading stopped, if it did, after these bytes of a piece, which begins on this line
 abbrev pub stop_members : (line : ℕ) → Option (List ℕ) → List ℕ
@@ -154,8 +232,28 @@ stop_members line None = []
 stop_members line (Some bytes) =
     member (codes "stop_line") (line + newlines_in bytes) ++ member (codes "stop_column") (column_after 1 bytes)
 
+-- the name of the member that has a piece: another one if it has the first bytes alone
+abbrev pub piece_name : (over : Option ℕ) → List ℕ
+piece_name None = codes ",\"piece"
+piece_name (Some limit) = codes ",\"piece_start"
+
+-- bytes as the end of a name and a string of JSON: their text, or in base64 if they are not UTF-8
+abbrev pub bytes_string : List ℕ → List ℕ
+bytes_string bytes =
+    if is_utf8 bytes then codes "\":\"" ++ json_text bytes ++ codes "\"" else codes "_base64\":\"" ++ encode_of standard bytes ++ codes "\""
+
+-- the member that has a piece, if objects have it
+abbrev pub piece_member : (has_piece : Bool) → (over : Option ℕ) → (bytes : List ℕ) → List ℕ
+piece_member false over bytes = []
+piece_member true over bytes = piece_name over ++ bytes_string bytes
+
+-- the members that each object has: where its item is, how long the piece is, and the fault
+abbrev pub object_head : Place → Reason → List ℕ
+object_head place why =
+    object_start place why.front ++ length_member why.seen.over why.seen.bytes ++ fault_members why.kind why.wrong
+
 -- the object of an item at this place that is refused for this, and a newline
-abbrev pub object : Place → Reason → List ℕ
-object place why =
-    object_start place why.front ++ fault_members why.kind why.wrong ++ stop_members (line_or_none place.line) why.stop
-    ++ codes "}" ++ newline ∷ []
+abbrev pub object : (has_piece : Bool) → Place → Reason → List ℕ
+object has_piece place why =
+    object_head place why ++ stop_members (line_or_none place.line) why.seen.stop
+    ++ piece_member has_piece why.seen.over why.seen.bytes ++ codes "}" ++ newline ∷ []

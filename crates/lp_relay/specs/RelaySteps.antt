@@ -16,19 +16,25 @@ use Rattle.lp_relay.specs.declared.taking.Numbering.{Numbering}
 use Rattle.lp_relay.specs.declared.taking.Numbering.TheVariants as named
 use Rattle.lp_relay.specs.declared.taking.Settings.{Settings}
 use Rattle.lp_relay.specs.declared.telling.Place.{Place}
+use Rattle.lp_relay.specs.FieldTypes.{Types, types_of}
 use Rattle.lp_relay.specs.FaultsTold.{after_piece, first_line, first_place, line_after, place_after, told_faults, told_items}
 use Rattle.lp_relay.specs.Kinds.{Counts, counts_if, kinds_after, kinds_of_none}
-use Rattle.lp_relay.specs.Objects.{stop_given}
-use Rattle.lp_relay.specs.Relaying.{Item, kept_of, too_long, items_of_bytes, items_of, items_batch, carried_items}
-use Rattle.lp_relay.specs.Relaying.{refused_items, refused_lines, refused_pieces}
+use Rattle.lp_relay.specs.Objects.{bytes_given, seen_given}
+use Rattle.lp_relay.specs.Relaying.{Item, kept_of, line_of, too_long, items_of_bytes, items_of, items_batch, carried_items}
+use Rattle.lp_relay.specs.Relaying.{refused_items, refused_lines, refused_pieces, types_after, types_of_bytes, types_past}
 use Rattle.lp_rebuild.specs.declared.program.RunFault.{RunFault}
 use Rattle.lp_relay.specs.Relays.{RelaysFronts}
 use Rattle.lp_relay.specs.Writers.{GainsFronts, Told, bytes_of}
 
 -- the items of what a call gave: those of a piece, or that of one that is too long
-abbrev pub items_given : Settings → Result (Bor (List ℕ)) PieceTooLong → List Item
-items_given s (Ok piece) = items_of_bytes s.lines (rules_of s.dialect) piece.now
-items_given s (Err _) = too_long (kept_of s) ∷ []
+abbrev pub items_given : Settings → Types → Result (Bor (List ℕ)) PieceTooLong → List Item
+items_given s types (Ok piece) = items_of_bytes s types (line_of s piece.now)
+items_given s types (Err _) = too_long (kept_of s) ∷ []
+
+-- the types that fields have after what a call gave
+abbrev pub types_given : Settings → Types → Result (Bor (List ℕ)) PieceTooLong → Types
+types_given s types (Ok piece) = types_of_bytes s types (line_of s piece.now)
+types_given s types (Err _) = types
 
 -- the newlines of what a call gave
 abbrev pub newlines_given : Result (Bor (List ℕ)) PieceTooLong → ℕ
@@ -40,14 +46,9 @@ abbrev pub len_given : Result (Bor (List ℕ)) PieceTooLong → ℕ
 len_given (Ok piece) = length piece.now
 len_given (Err fault) = fault.len
 
--- the bytes of what a call gave: those of a piece, or the first ones of one that is too long
-abbrev pub bytes_given : Result (Bor (List ℕ)) PieceTooLong → List ℕ
-bytes_given (Ok piece) = piece.now
-bytes_given (Err fault) = fault.front.now
-
 -- what goes out as refused of what a call gave, if refused pieces go out
-abbrev pub refused_given : Settings → Result (Bor (List ℕ)) PieceTooLong → List ℕ
-refused_given s given = refused_lines s.puts_refused (bytes_given given) (items_given s given)
+abbrev pub refused_given : Settings → Types → Result (Bor (List ℕ)) PieceTooLong → List ℕ
+refused_given s types given = refused_lines s.puts_refused (bytes_given given) (items_given s types given)
 
 -- what was made so far and is not written yet, how many items were carried and refused, with those already written and those counted
 -- before the first one, and what the next fault line names
@@ -83,19 +84,20 @@ made so_far = record {
   line = so_far.line;
 }
 
--- what was made so far and is not written yet; and of the next piece, how many bytes come before it, and whether its fault was told
--- ahead of its end. `kinds` has how many items were refused for each kind of fault, if that is counted
+-- what was made so far and is not written yet; of the next piece, how many bytes come before it, and whether its fault was told ahead of
+-- its end; and the types that fields have. `kinds` has how many items were refused for each kind of fault, if that is counted
 pub record Unwritten : Type 0 where
   pub made : Made
   pub pieces : List ℕ
   pub offset : ℕ
   pub kinds : Option Counts
   pub ahead : Bool
+  pub types : Types
 
 -- before the first item
-abbrev pub unwritten_of_none : Settings → Unwritten
-unwritten_of_none s =
-    record { made = made_of_none s; pieces = []; offset = s.first_offset; kinds = kinds_of_none s; ahead = false }
+abbrev pub unwritten_of_none : Settings → Types → Unwritten
+unwritten_of_none s types =
+    record { made = made_of_none s; pieces = []; offset = s.first_offset; kinds = kinds_of_none s; ahead = false; types = types }
 
 -- what a relay has not written yet
 abbrev pub unwritten_of : Pending → Unwritten
@@ -105,11 +107,18 @@ unwritten_of pending = record {
   offset = pending.offset;
   kinds = counts_if pending.kinds;
   ahead = pending.ahead;
+  types = types_of pending.types;
 }
 
 -- the place of the next item, by the settings
 abbrev pub next_place : Settings → Unwritten → Place
-next_place s u = record { file = s.file; number = u.made.carried + u.made.refused + 1; line = u.made.line; offset = u.offset }
+next_place s u = record {
+  file = s.file;
+  number = u.made.carried + u.made.refused + 1;
+  refused = u.made.refused;
+  line = u.made.line;
+  offset = u.offset;
+}
 
 -- nothing that was made is held: all of it was written
 abbrev pub HoldsNone : Pending → Type 0
@@ -127,36 +136,38 @@ abbrev pub counted : Pending → ℕ
 counted pending = pending.so_far.carried + pending.so_far.refused
 
 -- the place after these pieces
-abbrev pub place_past : Settings → Place → List (List ℕ) → Place
-place_past s place [] = place
-place_past s place (piece ∷ pieces) = place_past s (after_piece s place piece) pieces
+abbrev pub place_past : Settings → Types → Place → List (List ℕ) → Place
+place_past s types place [] = place
+place_past s types place (piece ∷ pieces) = place_past s (types_after s types piece) (after_piece s types place piece) pieces
 
 -- the place after what a call gave
-abbrev pub after_given : Settings → Place → Result (Bor (List ℕ)) PieceTooLong → Place
-after_given s place given = place_after place (length (items_given s given)) (newlines_given given) (len_given given)
+abbrev pub after_given : Settings → Types → Place → Result (Bor (List ℕ)) PieceTooLong → Place
+after_given s types place given = place_after place (items_given s types given) (newlines_given given) (len_given given)
 
 -- what is told of what a call gave, which is at this place
-abbrev pub told_given : Settings → Place → Result (Bor (List ℕ)) PieceTooLong → List ℕ
-told_given s place given = told_items s.faults place (stop_given (rules_of s.dialect) given) (items_given s given)
+abbrev pub told_given : Settings → Types → Place → Result (Bor (List ℕ)) PieceTooLong → List ℕ
+told_given s types place given = told_items s place (seen_given s given) (items_given s types given)
 
--- what a call gave was taken: its items and what is told of them, as refused what goes out of its piece, and the kind of its fault, if
--- kinds are counted
+-- what a call gave was taken: its items and what is told of them, as refused what goes out of its piece, the kind of its fault, if
+-- kinds are counted, and the types of its fields
 pub record TakesGiven (s : Settings) (old : Unwritten) (result : Result (Bor (List ℕ)) PieceTooLong) (new : Unwritten)
     : Type 0 where
-  pub batch : new.made.batch ≡ old.made.batch ++ items_batch (items_given s result)
-  pub faults : new.made.faults ≡ old.made.faults ++ told_given s (next_place s old) result
-  pub carried : new.made.carried ≡ old.made.carried + carried_items (items_given s result)
-  pub refused : new.made.refused ≡ old.made.refused + refused_items (items_given s result)
-  pub pieces : new.pieces ≡ old.pieces ++ refused_given s result
-  pub kinds : new.kinds ≡ kinds_after (items_given s result) old.kinds
+  pub batch : new.made.batch ≡ old.made.batch ++ items_batch (items_given s old.types result)
+  pub faults : new.made.faults ≡ old.made.faults ++ told_given s old.types (next_place s old) result
+  pub carried : new.made.carried ≡ old.made.carried + carried_items (items_given s old.types result)
+  pub refused : new.made.refused ≡ old.made.refused + refused_items (items_given s old.types result)
+  pub pieces : new.pieces ≡ old.pieces ++ refused_given s old.types result
+  pub kinds : new.kinds ≡ kinds_after (items_given s old.types result) old.kinds
   pub ahead : new.ahead ≡ old.ahead
+  pub types : new.types ≡ types_given s old.types result
 
 -- what came of a piece that is too long was taken ahead of its end: its item and what is told of it. The next place is still that
--- of the piece, but for the number
+-- of the piece, but for the number, and how many items were refused
 pub record TakesAhead (s : Settings) (old : Unwritten) (result : Result (Bor (List ℕ)) PieceTooLong) (new : Unwritten)
     : Type 0 where
   pub takes : TakesGiven s old result (record new { ahead = old.ahead })
-  pub place : next_place s new ≡ record (next_place s old) { number = (next_place s old).number + 1 }
+  pub place : next_place s new
+      ≡ record (next_place s old) { number = (next_place s old).number + 1; refused = (next_place s old).refused + 1 }
   pub ahead : new.ahead ≡ true
 
 -- a piece that was taken ahead has ended: the next place comes after it, and nothing else is made of it
@@ -167,7 +178,7 @@ pub record EndsAhead (old : Unwritten) (result : Result (Bor (List ℕ)) PieceTo
 
 -- what a call gave was taken, or it ended what was taken ahead
 abbrev pub TakesBy : (ahead : Bool) → Settings → (old : Unwritten) → Result (Bor (List ℕ)) PieceTooLong → (new : Unwritten) → Type 0
-TakesBy false s old result new = TakesGiven s old result new × (next_place s new ≡ after_given s (next_place s old) result)
+TakesBy false s old result new = TakesGiven s old result new × (next_place s new ≡ after_given s old.types (next_place s old) result)
 TakesBy true s old result new = EndsAhead old result new
 
 -- a stage of a relay: what it has not written yet, and what its writers tell
@@ -179,43 +190,49 @@ pub record Stage : Type 0 where
 abbrev pub stage_of : Pending → Told → Stage
 stage_of pending told = record { unwritten = unwritten_of pending; told = told }
 
+-- where a relay starts: what its writers tell, and the types that fields have
+pub record Start : Type 0 where
+  pub told : Told
+  pub types : Types
+
 -- a writer gained all of these bytes, but for what is left
 abbrev pub GainsBut : Option (List ℕ) → Option (List ℕ) → (all left : List ℕ) → Type 0
 GainsBut before after all left = (written : List ℕ) × Appends before after written × (all ≡ written ++ left)
 
--- what these pieces make, from the first one on, was written, or is held, and their items were counted
-pub record HasMade (s : Settings) (pieces : List (List ℕ)) (before : Told) (now : Stage) : Type 0 where
-  pub lines : GainsBut before.lines.bytes now.told.lines.bytes (items_batch (items_of s pieces)) now.unwritten.made.batch
-  pub faults : GainsBut before.faults.bytes now.told.faults.bytes (told_faults s pieces) now.unwritten.made.faults
-  pub refused : GainsBut before.refused.bytes now.told.refused.bytes (refused_pieces s pieces) now.unwritten.pieces
-  pub carried : now.unwritten.made.carried ≡ items_before s.numbering s.first + carried_items (items_of s pieces)
-  pub refusals : now.unwritten.made.refused ≡ refused_items (items_of s pieces)
-  pub kinds : now.unwritten.kinds ≡ kinds_after (items_of s pieces) (kinds_of_none s)
+-- what these pieces make, from the first one on, was written, or is held, their items were counted, and fields have their types
+pub record HasMade (s : Settings) (pieces : List (List ℕ)) (before : Start) (now : Stage) : Type 0 where
+  pub lines : GainsBut before.told.lines.bytes now.told.lines.bytes (items_batch (items_of s before.types pieces)) now.unwritten.made.batch
+  pub faults : GainsBut before.told.faults.bytes now.told.faults.bytes (told_faults s before.types pieces) now.unwritten.made.faults
+  pub refused : GainsBut before.told.refused.bytes now.told.refused.bytes (refused_pieces s before.types pieces) now.unwritten.pieces
+  pub carried : now.unwritten.made.carried ≡ items_before s.numbering s.first + carried_items (items_of s before.types pieces)
+  pub refusals : now.unwritten.made.refused ≡ refused_items (items_of s before.types pieces)
+  pub kinds : now.unwritten.kinds ≡ kinds_after (items_of s before.types pieces) (kinds_of_none s)
+  pub types : now.unwritten.types ≡ types_past s before.types pieces
 
 -- the pieces of which all was made: those that were taken, and the front of the next one, if that was taken ahead of its end
 abbrev pub made_of : (pieces : List (List ℕ)) → (ahead : Option (List ℕ)) → List (List ℕ)
 made_of pieces None = pieces
 made_of pieces (Some front) = pieces ++ front ∷ []
 
--- the next place: that of the next piece, with a number more if its item was counted ahead of its end
+-- the next place: that of the next piece, with a number more, and an item more that was refused, if its item was counted ahead of its end
 abbrev pub place_by : (ahead : Option (List ℕ)) → Place → Place
 place_by None place = place
-place_by (Some front) place = record place { number = place.number + 1 }
+place_by (Some front) place = record place { number = place.number + 1; refused = place.refused + 1 }
 
 -- these pieces were taken, from the first one on, and the front of the next one, if there is one here, ahead of its end
-pub record HasTaken (s : Settings) (pieces : List (List ℕ)) (ahead : Option (List ℕ)) (before : Told) (now : Stage) : Type 0 where
+pub record HasTaken (s : Settings) (pieces : List (List ℕ)) (ahead : Option (List ℕ)) (before : Start) (now : Stage) : Type 0 where
   pub made : HasMade s (made_of pieces ahead) before now
-  pub place : next_place s now.unwritten ≡ place_by ahead (place_past s (first_place s) pieces)
+  pub place : next_place s now.unwritten ≡ place_by ahead (place_past s before.types (first_place s) pieces)
   pub is_ahead : now.unwritten.ahead ≡ is_some ahead
 
 -- each writer gained a front of what these pieces make
-abbrev pub HasWritten : Settings → List (List ℕ) → (before after : Told) → Type 0
-HasWritten s pieces before after = GainsFronts before after
-    (items_batch (items_of s pieces)) (told_faults s pieces) (refused_pieces s pieces)
+abbrev pub HasWritten : Settings → List (List ℕ) → (before : Start) (after : Told) → Type 0
+HasWritten s pieces before after = GainsFronts before.told after
+    (items_batch (items_of s before.types pieces)) (told_faults s before.types pieces) (refused_pieces s before.types pieces)
 
 -- nothing of what was taken is lost from one stage to another; after a fault each writer has a front of it
 abbrev pub Writes : Result (Unit {0}) RunFault → (old new : Stage) → Type 0
-Writes result old new = (s : Settings) (pieces : List (List ℕ)) (ahead : Option (List ℕ)) (before : Told)
+Writes result old new = (s : Settings) (pieces : List (List ℕ)) (ahead : Option (List ℕ)) (before : Start)
     → HasTaken s pieces ahead before old
     → MatchResult result (λ _. HasTaken s pieces ahead before new) (λ _. HasWritten s (made_of pieces ahead) before new.told)
 
@@ -226,7 +243,7 @@ IsAhead s left (Some front) =
     IsTooLong s.limit front × IsLastPiece (rules_of s.dialect) front × ((more : List ℕ) × (left ≡ front ++ more))
 
 -- of what was given so far, all pieces were taken but for what is left, of which a front may be taken ahead
-pub record SoFar (s : Settings) (given left : List ℕ) (before : Told) (now : Stage) : Type 0 where
+pub record SoFar (s : Settings) (given left : List ℕ) (before : Start) (now : Stage) : Type 0 where
   pub pieces : List (List ℕ)
   pub ahead : Option (List ℕ)
   pub run : Run (rules_of s.dialect) given pieces left
@@ -234,7 +251,7 @@ pub record SoFar (s : Settings) (given left : List ℕ) (before : Told) (now : S
   pub taken : HasTaken s pieces ahead before now
 
 -- of what was given so far, pieces were taken, and maybe a front of the next one, and each writer has a front of what they make
-pub record SomeSoFar (s : Settings) (given : List ℕ) (before after : Told) : Type 0 where
+pub record SomeSoFar (s : Settings) (given : List ℕ) (before : Start) (after : Told) : Type 0 where
   pub pieces : List (List ℕ)
   pub ahead : Option (List ℕ)
   pub left : List ℕ
@@ -251,7 +268,7 @@ abbrev pub IsReady : Settings → HeldWithin → Pending → Type 0
 IsReady s stream pending = HasRules s stream × (counted pending < 2 ^ 64) × HoldsLess 65536 pending
 
 -- of what was given so far, all pieces that a newline ends were taken, and the stream holds what is left
-abbrev pub SoFarBy : Settings → (given : List ℕ) → HeldWithin → (before : Told) → (now : Stage) → Type 0
+abbrev pub SoFarBy : Settings → (given : List ℕ) → HeldWithin → (before : Start) → (now : Stage) → Type 0
 SoFarBy s given stream before now =
     (left : List ℕ) × Holds stream left × SoFar s given left before now × IsLastPiece (rules_of s.dialect) left
 
@@ -263,28 +280,28 @@ TakesFirst dialect text false left = IsLastPiece dialect left
 -- whatever came before, the first piece of what the stream holds was relayed; or none was, since no newline ends one
 abbrev pub RelaysFirst : Settings → Result Bool RunFault → (stream stream_after : HeldWithin) → (old new : Stage) → Type 0
 RelaysFirst s result stream stream_after old new =
-    (given text : List ℕ) (before : Told) → Holds stream text → SoFar s given text before old
+    (given text : List ℕ) (before : Start) → Holds stream text → SoFar s given text before old
     → MatchResult result
     (λ some. (left : List ℕ) × Holds stream_after left × SoFar s given left before new × TakesFirst (rules_of s.dialect) text some left)
     (λ _. SomeSoFar s given before new.told)
 
 -- whatever came before, if nothing of it was left, lines of so many of these bytes were relayed, up to the end of one
 abbrev pub RelaysLines : Settings → (bytes : List ℕ) → Result ℕ RunFault → (old new : Stage) → Type 0
-RelaysLines s bytes result old new = (given : List ℕ) (before : Told) → SoFar s given [] before old
+RelaysLines s bytes result old new = (given : List ℕ) (before : Start) → SoFar s given [] before old
     → MatchResult result (λ taken. SoFar s (given ++ take taken bytes) [] before new) (λ _. SomeSoFar s (given ++ bytes) before new.told)
 
 -- whatever came before, so much of a part was given too, and all pieces that a newline ends then were relayed
 abbrev pub RelaysPart : {T : Type 0} → Settings → (part : List ℕ) → Result T RunFault → (taken : T → List ℕ)
     → (stream stream_after : HeldWithin) → (old new : Stage) → Type 0
-RelaysPart s part result taken stream stream_after old new = (given : List ℕ) (before : Told) → SoFarBy s given stream before old
+RelaysPart s part result taken stream stream_after old new = (given : List ℕ) (before : Start) → SoFarBy s given stream before old
     → MatchResult result (λ x. SoFarBy s (given ++ taken x) stream_after before new) (λ _. SomeSoFar s (given ++ part) before new.told)
 
 -- whatever came before, the last piece was relayed, and that is the end
 abbrev pub RelaysLast : Settings → Result (Unit {0}) RunFault → (stream : HeldWithin) → (old new : Stage) → Type 0
-RelaysLast s result stream old new = (given : List ℕ) (before : Told) → SoFarBy s given stream before old
+RelaysLast s result stream old new = (given : List ℕ) (before : Start) → SoFarBy s given stream before old
     → MatchResult result
     (λ _. (pieces : List (List ℕ)) × Pieces (rules_of s.dialect) given pieces × HasTaken s pieces None before new)
-    (λ _. RelaysFronts s given (bytes_of before) (bytes_of new.told))
+    (λ _. RelaysFronts s before.types given (bytes_of before.told) (bytes_of new.told))
 
 -- if what a stream holds is too long already, and no newline ended it, it was taken ahead
 abbrev pub IsToldAhead : Settings → HeldWithin → (now : Unwritten) → Type 0
@@ -293,6 +310,6 @@ IsToldAhead s stream now =
 
 -- whatever came before, what a stream holds was taken ahead, or nothing was
 abbrev pub RelaysAhead : Settings → HeldWithin → (old new : Unwritten) → Type 0
-RelaysAhead s stream old new = (given : List ℕ) (before told : Told)
+RelaysAhead s stream old new = (given : List ℕ) (before : Start) (told : Told)
     → SoFarBy s given stream before (record { unwritten = old; told = told })
     → SoFarBy s given stream before (record { unwritten = new; told = told })

@@ -1,11 +1,12 @@
 -- What bytes give when they are relayed: the items of their pieces, of which one that is too long, or is not UTF-8, is one item
 -- without an answer, and what goes out for these items.
-use Rattle.std.specs.Prelude.{ℕ, ◌-◌, ◌%◌, ◌^◌, ◌==◌, nat_lt, max, Bool, true, false, not, List, [], ◌∷◌, ◌++◌, length, take, codes, decimal, map}
-use Rattle.std.specs.Prelude.{Option, Some, None, Result, Ok, Err, if◌then◌else◌}
+use Rattle.std.specs.Prelude.{◌&&◌, ℕ, ◌-◌, ◌%◌, ◌^◌, ◌==◌, nat_lt, max, Bool, true, false, not, List, [], ◌∷◌, ◌++◌, length, take, codes, decimal, map}
+use Rattle.std.specs.Prelude.{Option, Some, None, Result, Ok, Err, if◌then◌else◌, fold}
 use Rattle.std.specs.List.{flat_map, count_by}
+use Rattle.std.specs.Result.{result_unwrap_or}
 use Rattle.std.specs.Str.{bytes_eq, is_utf8}
+use Rattle.std.specs.Str.Lines.{strip_carriage_return}
 use Rattle.influxdb_line_protocol.specs.format.Bytes.{newline, tab}
-use Rattle.influxdb_line_protocol.specs.format.Dialects.{Dialect}
 use Rattle.influxdb_line_protocol.specs.format.Readings.{Fault}
 use Rattle.influxdb_line_protocol.specs.format.Points.{Point, built, built_all, is_admitted_point}
 use Rattle.influxdb_line_protocol.specs.format.Lines.{Line, front_before, point_of}
@@ -13,19 +14,29 @@ use Rattle.influxdb_line_protocol.specs.format.Items.{answers_of_piece}
 use Rattle.influxdb_line_protocol.specs.format.Trimming.{trimmed}
 use Rattle.lp_rebuild.specs.Rebuilding.{carried_point, is_carried_answer}
 use Rattle.influxdb_line_protocol.specs.code.{Keys.hash_of, Keys.series_key, Rules.rules_of}
+use Rattle.lp_relay.specs.declared.portable.Portable.{Portable}
 use Rattle.lp_relay.specs.declared.taking.LineForm.{LineForm}
 use Rattle.lp_relay.specs.declared.taking.LineForm.TheVariants.{Rebuilt, Verbatim, Canonical, Keyed, OfShard}
 use Rattle.lp_relay.specs.declared.taking.Settings.{Settings}
 use Rattle.lp_relay.specs.declared.taking.Shard.{Shard}
+use Rattle.lp_relay.specs.declared.field_types.{StrictTypes.StrictTypes, TypeFault.TypeFault}
 use Rattle.lp_relay.specs.Differing.{differing_part, part_text}
+use Rattle.lp_relay.specs.declared.times.TimeFault.{TimeFault}
+use Rattle.lp_relay.specs.FieldTypes.{Types, after_point}
+use Rattle.lp_relay.specs.LineTimes.{Timed, relayed, time_fault, timed}
+use Rattle.lp_relay.specs.Portables.{is_shown_portable, not_portable_text, told_of_bytes}
 
 -- an item: an answer; a line that is carried, and all that goes out for it; a line that is refused, with what is wrong with it, since
--- it is not as it would be written; or a piece that has no answer, since it is not UTF-8 or is too long, and then as many bytes of it
--- are kept, if any are. What may be refused for its text has what comes before that in its piece
+-- it is not as it would be written, or is not portable, or for the type of a field, or for its time; or a piece that has no answer, since it is
+-- not UTF-8 or is too long, and then as many bytes of it are kept, if any are. What may be refused for its text has what comes before that in
+-- its piece
 pub data Item : Type 0 where
   answered : (front : List ℕ) → Result Line Fault → Item
   put_out : (out : List ℕ) → Item
   not_as_written : (front wrong : List ℕ) → Item
+  not_portable : (front wrong : List ℕ) → Item
+  not_of_type : (front : List ℕ) → TypeFault → Item
+  not_of_time : (front : List ℕ) → TimeFault → Item
   not_utf8 : Item
   too_long : (kept : Option ℕ) → Item
 
@@ -74,6 +85,90 @@ item_of Keyed piece (Err fault) = answered (front_of piece) (Err fault)
 item_of (OfShard shard) piece (Ok line) = put_out (if is_of_shard shard (point_of line) then piece ++ newline ∷ [] else [])
 item_of (OfShard shard) piece (Err fault) = answered (front_of piece) (Err fault)
 
+-- whether an item is carried
+abbrev pub is_carried_item : Item → Bool
+is_carried_item (answered front answer) = is_carried_answer answer
+is_carried_item (put_out out) = true
+is_carried_item (not_as_written front wrong) = false
+is_carried_item (not_portable front wrong) = false
+is_carried_item (not_of_type front fault) = false
+is_carried_item (not_of_time front fault) = false
+is_carried_item not_utf8 = false
+is_carried_item (too_long kept) = false
+
+-- what goes out for an item: the line that is written again, or the text that goes out as it came and a newline
+abbrev pub item_line : Item → List ℕ
+item_line (answered front answer) = built_all (carried_point answer)
+item_line (put_out out) = out
+item_line (not_as_written front wrong) = []
+item_line (not_portable front wrong) = []
+item_line (not_of_type front fault) = []
+item_line (not_of_time front fault) = []
+item_line not_utf8 = []
+item_line (too_long kept) = []
+
+-- the line in what goes out for a piece: without its newline, and without the key before it
+abbrev pub line_in : LineForm → (piece out : List ℕ) → List ℕ
+line_in Keyed piece out = trimmed piece
+line_in other piece out = take (length out - 1) out
+
+-- an item whose line goes out only if it is portable: what is told of that line decides
+abbrev pub if_portable : Portable → (front line : List ℕ) → Item → Item
+if_portable p front line item =
+    let told = told_of_bytes p line in if is_shown_portable told then item else not_portable front (not_portable_text p.to told)
+
+-- whether something goes out for an item
+abbrev pub goes_out : Item → Bool
+goes_out item = is_carried_item item && nat_lt 0 (length (item_line item))
+
+-- an item of a piece, if its line may go out: each may, or those that are portable
+abbrev pub allowed : Option Portable → LineForm → (piece : List ℕ) → Item → Item
+allowed None lines piece item = item
+allowed (Some p) lines piece item =
+    if goes_out item then if_portable p (front_of piece) (line_in lines piece (item_line item)) item else item
+
+-- the item of an answer for a piece, whatever the types of its fields are
+abbrev pub item_by : Settings → List ℕ → Result Line Fault → Item
+item_by s piece answer = allowed s.portable s.lines piece (item_of s.lines piece answer)
+
+-- the types that fields have once an item of an answer is taken: if types stay, and something goes out for it, those of its fields too
+abbrev pub after_item : Option StrictTypes → Types → Result Line Fault → Item → Result Types TypeFault
+after_item None types answer item = Ok types
+after_item (Some strict) types (Ok line) item = if goes_out item then after_point strict.max_fields types (point_of line) else Ok types
+after_item (Some strict) types (Err fault) item = Ok types
+
+-- an item, if no field of its line is of another type
+abbrev pub if_typed : (front : List ℕ) → Item → Result Types TypeFault → Item
+if_typed front item (Ok types) = item
+if_typed front item (Err fault) = not_of_type front fault
+
+-- the item of an answer for a piece, by the settings and the types that fields have before it
+abbrev pub typed_item : Settings → Types → List ℕ → Result Line Fault → Item
+typed_item s types piece answer =
+    if_typed (front_of piece) (item_by s piece answer) (after_item s.types types answer (item_by s piece answer))
+
+-- the types that fields have after it: a line that is refused changes none
+abbrev pub types_after_answer : Settings → List ℕ → Types → Result Line Fault → Types
+types_after_answer s piece types answer = result_unwrap_or (after_item s.types types answer (item_by s piece answer)) types
+
+-- the item of what is relayed of a piece that has this before its text
+abbrev pub item_in : Settings → Types → (front : List ℕ) → Timed → Item
+item_in s types front (relayed piece answer) = typed_item s types piece answer
+item_in s types front (time_fault fault) = not_of_time front fault
+
+-- the types that fields have after it
+abbrev pub types_in_after : Settings → Types → Timed → Types
+types_in_after s types (relayed piece answer) = types_after_answer s piece types answer
+types_in_after s types (time_fault fault) = types
+
+-- the item of an answer for a piece, once its line has its time
+abbrev pub timed_item : Settings → Types → List ℕ → Result Line Fault → Item
+timed_item s types piece answer = item_in s types (front_of piece) (timed s.times piece answer)
+
+-- the types that fields have after it
+abbrev pub types_after_timed : Settings → List ℕ → Types → Result Line Fault → Types
+types_after_timed s piece types answer = types_in_after s types (timed s.times piece answer)
+
 -- whether a line that is as the builder writes it goes out as it is
 abbrev pub copies : LineForm → Bool
 copies Rebuilt = true
@@ -95,38 +190,42 @@ abbrev pub is_too_long : Option ℕ → List ℕ → Bool
 is_too_long None piece = false
 is_too_long (Some limit) piece = nat_lt limit (length piece)
 
--- the items of a piece that is not too long: those of its answers if it is UTF-8, and else one item without an answer
-unfoldable pub items_of_bytes : LineForm → Dialect → List ℕ → List Item
-items_of_bytes lines dialect piece = if is_utf8 piece then map (item_of lines piece) (answers_of_piece dialect piece) else not_utf8 ∷ []
+-- the line of a piece: the piece as it came, or without the carriage return at its end, if there is one and it is no byte of a line
+unfoldable pub line_of : Settings → List ℕ → List ℕ
+line_of s piece = if s.drops_returns then strip_carriage_return piece else piece
+
+-- the items of the line of a piece that is not too long: those of its answers if it is UTF-8, and else one item without an answer
+unfoldable pub items_of_bytes : Settings → Types → List ℕ → List Item
+items_of_bytes s types line =
+    if is_utf8 line then map (timed_item s types line) (answers_of_piece (rules_of s.dialect) line) else not_utf8 ∷ []
+
+-- the types that fields have after such a line
+unfoldable pub types_of_bytes : Settings → Types → List ℕ → Types
+types_of_bytes s types line =
+    if is_utf8 line then fold (types_after_timed s line) types (answers_of_piece (rules_of s.dialect) line) else types
 
 -- how many bytes are kept of a piece that is too long: as many as the limit, if refused pieces go out
 abbrev pub kept_of : Settings → Option ℕ
 kept_of s = if s.puts_refused then Some s.limit else None
 
--- the items of a piece: if it is too long, one item without an answer, whatever its bytes are
-unfoldable pub items_of_piece : Settings → List ℕ → List Item
-items_of_piece s piece =
-    if is_too_long (limit_of s.limit) piece then too_long (kept_of s) ∷ [] else items_of_bytes s.lines (rules_of s.dialect) piece
+-- the items of a piece: if it is too long, with the carriage return at its end, one item without an answer, whatever its bytes are
+unfoldable pub items_of_piece : Settings → Types → List ℕ → List Item
+items_of_piece s types piece =
+    if is_too_long (limit_of s.limit) piece then too_long (kept_of s) ∷ [] else items_of_bytes s types (line_of s piece)
 
--- the items of pieces, in order
-abbrev pub items_of : Settings → List (List ℕ) → List Item
-items_of s pieces = flat_map (items_of_piece s) pieces
+-- the types that fields have after a piece, by those that they have before it
+unfoldable pub types_after : Settings → Types → List ℕ → Types
+types_after s types piece = if is_too_long (limit_of s.limit) piece then types else types_of_bytes s types (line_of s piece)
 
--- whether an item is carried
-abbrev pub is_carried_item : Item → Bool
-is_carried_item (answered front answer) = is_carried_answer answer
-is_carried_item (put_out out) = true
-is_carried_item (not_as_written front wrong) = false
-is_carried_item not_utf8 = false
-is_carried_item (too_long kept) = false
+-- the types that fields have after pieces
+abbrev pub types_past : Settings → Types → List (List ℕ) → Types
+types_past s types [] = types
+types_past s types (piece ∷ pieces) = types_past s (types_after s types piece) pieces
 
--- what goes out for an item: the line that is written again, or the text that goes out as it came and a newline
-abbrev pub item_line : Item → List ℕ
-item_line (answered front answer) = built_all (carried_point answer)
-item_line (put_out out) = out
-item_line (not_as_written front wrong) = []
-item_line not_utf8 = []
-item_line (too_long kept) = []
+-- the items of pieces, in order, by the types that fields have before the first one
+abbrev pub items_of : Settings → Types → List (List ℕ) → List Item
+items_of s types [] = []
+items_of s types (piece ∷ pieces) = items_of_piece s types piece ++ items_of s (types_after s types piece) pieces
 
 -- what goes out for items, in order
 abbrev pub items_batch : List Item → List ℕ
@@ -143,14 +242,18 @@ abbrev pub refused_lines : Bool → List ℕ → List Item → List ℕ
 refused_lines goes_out piece items =
     if goes_out then flat_map (λ item. if is_carried_item item then [] else piece ++ newline ∷ []) items else []
 
--- what goes out of a piece as refused: of one that is too long its first bytes, as many as the limit
-unfoldable pub refused_piece : Settings → List ℕ → List ℕ
-refused_piece s piece =
-    refused_lines s.puts_refused (if is_too_long (limit_of s.limit) piece then take s.limit piece else piece) (items_of_piece s piece)
+-- what is kept of a piece: of one that is too long its first bytes, as many as the limit
+abbrev pub kept_bytes : Settings → List ℕ → List ℕ
+kept_bytes s piece = if is_too_long (limit_of s.limit) piece then take s.limit piece else piece
+
+-- what goes out of a piece as refused: what is kept of it
+unfoldable pub refused_piece : Settings → Types → List ℕ → List ℕ
+refused_piece s types piece = refused_lines s.puts_refused (kept_bytes s piece) (items_of_piece s types piece)
 
 -- what goes out of pieces as refused, in order
-abbrev pub refused_pieces : Settings → List (List ℕ) → List ℕ
-refused_pieces s pieces = flat_map (refused_piece s) pieces
+abbrev pub refused_pieces : Settings → Types → List (List ℕ) → List ℕ
+refused_pieces s types [] = []
+refused_pieces s types (piece ∷ pieces) = refused_piece s types piece ++ refused_pieces s (types_after s types piece) pieces
 
 -- how many items are carried
 abbrev pub carried_items : List Item → ℕ

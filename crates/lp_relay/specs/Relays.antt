@@ -1,5 +1,5 @@
 -- What a relay answers, and what it leaves in its reader and in its three writers.
-use Rattle.std.specs.Prelude.{◌≡◌, ◌≢◌, ◌⊎◌, ◌↔◌, ℕ, ◌<◌, ◌≤◌, List, [], length, Option, Some, None, Result, Err, IfOk, IfSome, true}
+use Rattle.std.specs.Prelude.{◌≡◌, ◌≢◌, ◌⊎◌, ◌↔◌, ℕ, ◌<◌, ◌≤◌, List, [], length, Option, Some, None, Result, Err, IfOk, IfSome, true, false}
 use Rattle.std.specs.Prelude.{OnOk, OnErr}
 use Rattle.std.specs.List.{All}
 use Rattle.std.specs.Str.{IsUtf8}
@@ -14,7 +14,8 @@ use Rattle.lp_rebuild.specs.declared.batch.Rebuilt.{Rebuilt}
 use Rattle.lp_rebuild.specs.Rebuilding.{RebuildsIn}
 use Rattle.lp_rebuild.specs.Running.{AppendsFront, ReaderTold, WriterTold}
 use Rattle.lp_relay.specs.Relaying.{first_of, limit_of, items_of, items_batch, carried_items, refused_items}
-use Rattle.lp_relay.specs.Relaying.{refused_pieces}
+use Rattle.lp_relay.specs.Relaying.{refused_pieces, types_past}
+use Rattle.lp_relay.specs.FieldTypes.{Types}
 use Rattle.lp_relay.specs.Kinds.{counts_if, counts_of, refused_kinds, sum_of}
 use Rattle.lp_relay.specs.Writers.{Known, Writers, bytes_of}
 use Rattle.lp_relay.specs.FaultsTold.{told_faults}
@@ -23,41 +24,47 @@ use Rattle.lp_relay.specs.declared.taking.Numbering.TheVariants as named
 use Rattle.lp_relay.specs.declared.taking.Settings.{Settings}
 use Rattle.lp_relay.specs.declared.telling.Faults.TheVariants.{Raw}
 
--- the first writer gained the batch of the items of these bytes, the second one their faults, and the third one the refused
--- pieces, if these go out, and these are their counts
-pub record RelaysAll (s : Settings) (bytes : List ℕ) (counts : Relayed) (before after : Known) : Type 0 where
+-- the first writer gained the batch of the items of these bytes, before which fields have these types, the second one their faults, and
+-- the third one the refused pieces, if these go out, and these are their counts
+pub record RelaysAll (s : Settings) (types : Types) (bytes : List ℕ) (counts : Relayed) (before after : Known) : Type 0 where
   pub pieces : List (List ℕ)
   pub are : Pieces (rules_of s.dialect) bytes pieces
-  pub batch : Appends before.lines after.lines (items_batch (items_of s pieces))
-  pub faults : Appends before.faults after.faults (told_faults s pieces)
-  pub put : Appends before.refused after.refused (refused_pieces s pieces)
-  pub carried : counts.carried ≡ carried_items (items_of s pieces)
-  pub refused : counts.refused ≡ refused_items (items_of s pieces)
-  pub kinds : counts_if counts.kinds ≡ refused_kinds s (items_of s pieces)
+  pub batch : Appends before.lines after.lines (items_batch (items_of s types pieces))
+  pub faults : Appends before.faults after.faults (told_faults s types pieces)
+  pub put : Appends before.refused after.refused (refused_pieces s types pieces)
+  pub carried : counts.carried ≡ carried_items (items_of s types pieces)
+  pub refused : counts.refused ≡ refused_items (items_of s types pieces)
+  pub kinds : counts_if counts.kinds ≡ refused_kinds s (items_of s types pieces)
   pub kinds_add_up : IfSome counts.kinds (λ kinds. sum_of (counts_of kinds) ≡ counts.refused)
+
+-- fields have these types after these bytes, by those that they have before
+pub record TypesAfter (s : Settings) (types : Types) (bytes : List ℕ) (after : Types) : Type 0 where
+  pub pieces : List (List ℕ)
+  pub are : Pieces (rules_of s.dialect) bytes pieces
+  pub types_are : after ≡ types_past s types pieces
 
 -- the first writer gained a front of the batch of the items of these bytes, the second one a front of their faults, and the third
 -- one a front of the refused pieces
-pub record RelaysFronts (s : Settings) (bytes : List ℕ) (before after : Known) : Type 0 where
+pub record RelaysFronts (s : Settings) (types : Types) (bytes : List ℕ) (before after : Known) : Type 0 where
   pub pieces : List (List ℕ)
   pub are : Pieces (rules_of s.dialect) bytes pieces
-  pub batch : AppendsFront before.lines after.lines (items_batch (items_of s pieces))
-  pub faults : AppendsFront before.faults after.faults (told_faults s pieces)
-  pub put : AppendsFront before.refused after.refused (refused_pieces s pieces)
+  pub batch : AppendsFront before.lines after.lines (items_batch (items_of s types pieces))
+  pub faults : AppendsFront before.faults after.faults (told_faults s types pieces)
+  pub put : AppendsFront before.refused after.refused (refused_pieces s types pieces)
 
 -- the first writer gained the batch of a rebuild, and these are its counts; if fault lines name items from 1 on, and are told as
--- they are, the second writer gained its faults
+-- they are, all of them, the second writer gained its faults
 pub record RelaysRebuilt (s : Settings) (r : Rebuilt) (counts : Relayed) (before after : Known) : Type 0 where
   pub batch : Appends before.lines after.lines r.batch.items
-  pub faults : s.numbering ≡ named.Items → first_of s.first ≡ 1 → s.faults ≡ Raw → Appends before.faults after.faults r.faults.items
+  pub faults : s.numbering ≡ named.Items → first_of s.first ≡ 1 → s.faults ≡ Raw → s.max_faults ≡ None → Appends before.faults after.faults r.faults.items
   pub carried : counts.carried ≡ r.carried
   pub refused : counts.refused ≡ r.refused
 
--- the first writer gained a front of the batch of a rebuild, and if fault lines name items from 1 on, and are told as they are, the
--- second one a front of its faults
+-- the first writer gained a front of the batch of a rebuild, and if fault lines name items from 1 on, and are told as they are, all of
+-- them, the second one a front of its faults
 abbrev pub RelaysRebuiltFronts : Settings → Rebuilt → (before after : Known) → Type 0
 RelaysRebuiltFronts s r before after = AppendsFront before.lines after.lines r.batch.items
-    × (s.numbering ≡ named.Items → first_of s.first ≡ 1 → s.faults ≡ Raw → AppendsFront before.faults after.faults r.faults.items)
+    × (s.numbering ≡ named.Items → first_of s.first ≡ 1 → s.faults ≡ Raw → s.max_faults ≡ None → AppendsFront before.faults after.faults r.faults.items)
 
 -- no piece of a text has more bytes than this
 abbrev pub HasShortPieces : Dialect → ℕ → List ℕ → Type 0
@@ -69,23 +76,24 @@ IfRebuilt dialect None text P = IsUtf8 text → (r : Rebuilt) → RebuildsIn dia
 IfRebuilt dialect (Some limit) text P =
     IsUtf8 text → HasShortPieces dialect limit text → (r : Rebuilt) → RebuildsIn dialect text r → P r
 
--- a relay by its settings: what it answers, and what it leaves in its reader and in its three writers
-pub record Relays (s : Settings) (result : Result Relayed RunFault) (reader reader_after : ReaderTold)
+-- a relay by its settings, before which fields have these types: what it answers, and what it leaves in its reader and in its three
+-- writers
+pub record Relays (s : Settings) (types : Types) (result : Result Relayed RunFault) (reader reader_after : ReaderTold)
     (before after : Writers WriterTold) : Type 0 where
   -- all was read, and the items of it were written
   pub all : IfOk result (λ counts. IfSome reader.bytes (λ bs.
-      (reader_after.bytes ≡ Some []) × RelaysAll s bs counts (bytes_of before) (bytes_of after)))
+      (reader_after.bytes ≡ Some []) × RelaysAll s types bs counts (bytes_of before) (bytes_of after)))
   -- all that was written to each writer was flushed
   pub flushed : OnOk result
       ((after.lines.is_flushed ≡ true) × (after.faults.is_flushed ≡ true) × (after.refused.is_flushed ≡ true))
   -- after a fault, each writer has a front of what was meant for it
-  pub part : OnErr result (IfSome reader.bytes (λ bs. RelaysFronts s bs (bytes_of before) (bytes_of after)))
-  -- if lines are written again, all that was read is UTF-8, and none of it too long, that is what a rebuild of it gives, but for
-  -- fault lines that name lines, or items from another number than 1 on, or are told on one line
-  pub rebuilt : s.lines ≡ going.Rebuilt → IfOk result (λ counts. IfSome reader.bytes (λ bs.
+  pub part : OnErr result (IfSome reader.bytes (λ bs. RelaysFronts s types bs (bytes_of before) (bytes_of after)))
+  -- if all lines are written again, all that was read is UTF-8, and none of it too long, that is what a rebuild of it gives. Fault lines
+  -- that name lines, or items from another number than 1 on, or that are told on one line, are others
+  pub rebuilt : s.lines ≡ going.Rebuilt → s.portable ≡ None → s.types ≡ None → s.times ≡ None → s.drops_returns ≡ false → IfOk result (λ counts. IfSome reader.bytes (λ bs.
       IfRebuilt (rules_of s.dialect) (limit_of s.limit) bs (λ r. RelaysRebuilt s r counts (bytes_of before) (bytes_of after))))
   -- after a fault, a front of that
-  pub rebuilt_part : s.lines ≡ going.Rebuilt → OnErr result (IfSome reader.bytes (λ bs.
+  pub rebuilt_part : s.lines ≡ going.Rebuilt → s.portable ≡ None → s.types ≡ None → s.times ≡ None → s.drops_returns ≡ false → OnErr result (IfSome reader.bytes (λ bs.
       IfRebuilt (rules_of s.dialect) (limit_of s.limit) bs (λ r. RelaysRebuiltFronts s r (bytes_of before) (bytes_of after))))
   -- `Read` is answered exactly if the reader failed
   pub read : (result ≡ Err Read) ↔ (reader.failures < reader_after.failures)

@@ -4,10 +4,12 @@
 //! put there once.
 ghost use Rattle.std.specs.Prelude.{◌≡◌, Option, Some, List, ℕ, map, OnOk};
 ghost use Rattle.lp_rebuild.specs.Devices.{CountsFailure};
+ghost use Rattle.lp_relay.specs.FieldTypes.{types_of};
 ghost use Rattle.lp_relay.specs.Inputs.{AddsUp, Opens, RelaysInputs, RelaysNext, inputs_told, settings_after, settings_for};
 
+use crate::field_types::KnownTypes;
 use crate::outputs::ThreeWriters;
-use crate::relaying::{Relayed, relay};
+use crate::relaying::{Relayed, relay_on};
 use crate::taking::{Numbering, Settings};
 use crate::telling::Faults;
 use influxdb_line_protocol::laws;
@@ -56,7 +58,8 @@ impl<'a> NextInput<&'a [u8]> for &'a [&'a [u8]] {
     }
 }
 
-// The settings for an input that comes after items that were counted so: its items are counted on, its lines from 1 on.
+// The settings for an input that comes after items that were counted so: its items are counted on, its lines from 1 on, and of its faults
+// fewer are told.
 fn settings_after<'n>(settings: Settings<'n>, so_far: Relayed) -> Settings<'n>
     ensures { result ≡ settings_after settings.entry so_far }
 {
@@ -68,12 +71,20 @@ fn settings_after<'n>(settings: Settings<'n>, so_far: Relayed) -> Settings<'n>
         Numbering::Lines => 1,
     };
     let faults = match settings.faults {
-        Faults::Json { .. } => Faults::Json { first_line: 1 },
+        Faults::Json { has_piece, .. } => Faults::Json {
+            first_line: 1,
+            has_piece,
+        },
         faults => faults,
+    };
+    let max_faults = match settings.max_faults {
+        Some(most) => Some(most.saturating_sub(so_far.refused)),
+        None => None,
     };
     Settings {
         first,
         faults,
+        max_faults,
         first_offset: 0,
         ..settings
     }
@@ -105,15 +116,16 @@ fn sum_of(so_far: Relayed, counts: Relayed) -> Relayed
     }
 }
 
-// Relays the next input, which has this name.
+// Relays the next input, which has this name, after others, of which these types are known.
 fn relay_next<R: Source, N: NextInput<R>, O: ThreeWriters>(
     alloc: Global,
     settings: Settings<'_>,
+    types: &mut KnownTypes,
     name: &str,
     inputs: &mut Inputs<R, N>,
     outputs: &mut O,
 ) -> Result<Relayed, RunFault>
-    ensures { RelaysNext settings.entry result
+    ensures { RelaysNext settings.entry (types_of types.old) (types_of types.new) result
         (inputs_told N.left R.failures inputs.old.next inputs.old.reader)
         (inputs_told N.left R.failures inputs.new.next inputs.new.reader) (O.told outputs.old) (O.told outputs.new) }
 {
@@ -121,21 +133,21 @@ fn relay_next<R: Source, N: NextInput<R>, O: ThreeWriters>(
     if inputs.next.open(&mut inputs.reader, name).is_err() {
         return Err(RunFault::Read);
     }
-    relay(alloc, settings, &mut inputs.reader, outputs)
+    relay_on(alloc, settings, types, &mut inputs.reader, outputs)
 }
 
-/// Relays the inputs of these names, one after another and each by itself, as [`relay`] does, and adds up their counts.
+/// Relays the inputs of these names, one after another and each by itself, as [`relay`](crate::relay) does, and adds up their counts.
 ///
 /// The first input is relayed by `settings`. Each other one is too, but its items are counted on from those before it, and its lines
-/// from 1 on. If there are several, `settings.file` is the name of each in turn, so each fault names its input, but not by `Faults::Raw`.
-/// A sum that no `usize` holds becomes `usize::MAX`.
+/// from 1 on, and `settings.max_faults` holds for all of them. If there are several, `settings.file` is the name of each in turn, so each fault names its input, but not by `Faults::Raw`.
+/// A sum that no `usize` holds becomes `usize::MAX`. If `settings.types` says that types stay, those of each input stay for the ones after it.
 ///
 /// # Errors
 ///
 /// After each of them, the inputs before one are written whole, and of that one each writer has a beginning of what was meant for it.
 ///
 /// * `Read` if an input could not be opened or read, and only there.
-/// * `OutOfMemory` and `Write` as [`relay`] answers them.
+/// * `OutOfMemory` and `Write` as [`relay`](crate::relay) answers them.
 pub fn relay_inputs<'n, R: Source, N: NextInput<R>, O: ThreeWriters>(
     alloc: Global,
     settings: Settings<'n>,
@@ -153,11 +165,13 @@ pub fn relay_inputs<'n, R: Source, N: NextInput<R>, O: ThreeWriters>(
         refused: 0,
         kinds: None,
     };
+    let mut types = KnownTypes::none(alloc);
     let mut own = settings;
     for name in names {
         let counts = relay_next(
             alloc,
             settings_for(several, name, own),
+            &mut types,
             name,
             inputs,
             outputs,

@@ -20,6 +20,8 @@ pub enum Kind {
     EndsWithBackslash,
     /// The line has no field.
     FieldSetMissing,
+    /// A field is of another type than before.
+    FieldTypeConflict,
     /// No space comes after the measurement.
     GenericParsingError,
     /// An integer is out of the range of `i64`.
@@ -30,14 +32,24 @@ pub enum Kind {
     NameNotAdmitted,
     /// The line is not as it would be written.
     NotAsWritten,
+    /// The line is not portable to the servers that the settings name.
+    NotPortable,
     /// The piece is not UTF-8.
     NotUtf8,
     /// A comma comes after the measurement, and no tag after it.
     TagSetMalformed,
+    /// A range of times is asked for, and the line has no time.
+    TimeMissing,
+    /// The time of the line is not within the range that is asked for.
+    TimeOutOfRange,
+    /// A timestamp in its unit is more nanoseconds than an `i64` holds.
+    TimeOverflow,
     /// A timestamp is out of the range of `i64`.
     TimestampValueInvalid,
     /// The piece has more bytes than the limit.
     TooLong,
+    /// A field is new, and the types of as many are kept as the settings allow.
+    TooManyFields,
     /// An unsigned integer is out of the range of `u64`.
     UintegerValueInvalid,
 }
@@ -47,15 +59,21 @@ pub const KINDS: &[Kind] = &[
     Kind::CannotParseEntireLine,
     Kind::EndsWithBackslash,
     Kind::FieldSetMissing,
+    Kind::FieldTypeConflict,
     Kind::GenericParsingError,
     Kind::IntegerValueInvalid,
     Kind::MeasurementValueInvalid,
     Kind::NameNotAdmitted,
     Kind::NotAsWritten,
+    Kind::NotPortable,
     Kind::NotUtf8,
     Kind::TagSetMalformed,
+    Kind::TimeMissing,
+    Kind::TimeOutOfRange,
+    Kind::TimeOverflow,
     Kind::TimestampValueInvalid,
     Kind::TooLong,
+    Kind::TooManyFields,
     Kind::UintegerValueInvalid,
 ];
 
@@ -68,15 +86,21 @@ impl Kind {
             Kind::CannotParseEntireLine => "cannot_parse_entire_line",
             Kind::EndsWithBackslash => "ends_with_backslash",
             Kind::FieldSetMissing => "field_set_missing",
+            Kind::FieldTypeConflict => "field_type_conflict",
             Kind::GenericParsingError => "generic_parsing_error",
             Kind::IntegerValueInvalid => "integer_value_invalid",
             Kind::MeasurementValueInvalid => "measurement_value_invalid",
             Kind::NameNotAdmitted => "name_not_admitted",
             Kind::NotAsWritten => "not_as_written",
+            Kind::NotPortable => "not_portable",
             Kind::NotUtf8 => "not_utf8",
             Kind::TagSetMalformed => "tag_set_malformed",
+            Kind::TimeMissing => "time_missing",
+            Kind::TimeOutOfRange => "time_out_of_range",
+            Kind::TimeOverflow => "time_overflow",
             Kind::TimestampValueInvalid => "timestamp_value_invalid",
             Kind::TooLong => "too_long",
+            Kind::TooManyFields => "too_many_fields",
             Kind::UintegerValueInvalid => "uinteger_value_invalid",
         }
     }

@@ -11,6 +11,7 @@
 
 mod cuts;
 mod differing;
+mod field_types;
 mod inputs;
 mod kinds;
 pub mod laws;
@@ -18,22 +19,27 @@ mod nowhere;
 mod objects;
 mod outputs;
 mod pieces;
+mod portable;
 mod refusals;
 mod relaying;
 mod taking;
 mod telling;
 mod texts;
+mod times;
 mod verdict;
 mod windows;
 
 pub use cuts::{part_ends, part_ends_at};
+pub use field_types::StrictTypes;
 pub use inputs::{Inputs, NextInput, relay_inputs};
 pub use kinds::{KINDS, Kind, KindCounts};
 pub use lp_scan::newlines::newlines_in;
 pub use nowhere::Nowhere;
 pub use objects::put_json_text;
 pub use outputs::{Outputs, ThreeWriters};
+pub use portable::Portable;
 pub use relaying::{Relayed, relay};
 pub use taking::{LineForm, Numbering, Settings, Shard};
 pub use telling::{Faults, tell_bytes};
+pub use times::{TimeUnit, Times};
 pub use windows::ReadAt;

@@ -1,13 +1,21 @@
 //! Tells faults as objects of JSON, each on one line.
-ghost use Rattle.std.specs.Prelude.{◌≡◌, ◌<◌, ◌≤◌, ◌++◌, decimal, drop, length, string_bytes, take, true, IsUtf8, OnOk, Some};
+//!
+//! The text of a fault may be as long as its line, so of a long one the start alone is told. An object that has its piece has it whole.
+ghost use Rattle.std.specs.Prelude.{◌≡◌, ◌<◌, ◌≤◌, ◌++◌, ◌∷◌, [], codes, decimal, drop, length, string_bytes, take, true, IsUtf8, OnOk, Some};
+ghost use Rattle.base64.specs.Engines.{standard};
+ghost use Rattle.base64.specs.GeneralPurpose.{encode_of};
 ghost use Rattle.influxdb_line_protocol.specs.code.Rules.{rules_of};
-ghost use Rattle.lp_relay.specs.Objects.{column_after, escape_of, fault_members, first_members, is_escaped, json_text};
-ghost use Rattle.lp_relay.specs.Objects.{line_or_none, object, object_start, stop_members};
-ghost use Rattle.lp_relay.specs.Refusals.{front_in, is_fault, reason_of, refusal_kind, stop_in, wrong_of};
+ghost use Rattle.influxdb_line_protocol.specs.format.Bytes.{newline};
+ghost use Rattle.lp_relay.specs.Objects.{bytes_given, bytes_string, column_after, cut_json_text, escape_of, fault_members, first_members, is_escaped};
+ghost use Rattle.lp_relay.specs.Objects.{json_text, length_member, line_or_none, object, object_head, object_start, over_given, piece_member, piece_name};
+ghost use Rattle.lp_relay.specs.Objects.{stop_members};
+ghost use Rattle.lp_relay.specs.Refusals.{front_in, given_of, is_fault, reason_of, refusal_kind, stop_in, wrong_of};
 
 use crate::pieces::Piece;
 use crate::refusals::Refusal;
-use crate::telling::{Place, hex_digit, put_number};
+use crate::telling::{MOST_TOLD, Place, hex_digit, put_number};
+use crate::texts::{text_of, utf8_front};
+use base64::engine::general_purpose::STANDARD;
 use influxdb_line_protocol::Dialect;
 use lp_events::stops::reading_stop;
 use lp_scan::newlines::newlines_in;
@@ -73,6 +81,18 @@ fn put_first(faults: &mut String, file: Option<&str>, number: usize) -> Result<(
     put_number(faults, number)
 }
 
+// Adds the member that tells how long a piece is.
+fn put_length(faults: &mut String, limit: usize, piece: Piece<'_>) -> Result<(), AllocError>
+    ensures { OnOk result (string_bytes faults.new ≡ string_bytes faults.old
+        ++ length_member (over_given limit (given_of piece.entry)) (bytes_given (given_of piece.entry))) }
+{
+    match piece {
+        Piece::Text(text) => put_after(faults, ",\"length\":", text.len()),
+        Piece::NoText(bytes) => put_after(faults, ",\"length\":", bytes.len()),
+        Piece::TooLong(_) => put_after(faults, ",\"longer_than\":", limit),
+    }
+}
+
 // Adds the start of the object of a piece at this place.
 fn put_start(faults: &mut String, place: Place<'_>, piece: Piece<'_>) -> Result<(), AllocError>
     ensures { OnOk result (string_bytes faults.new ≡ string_bytes faults.old ++ object_start place.entry (front_in piece.entry)) }
@@ -124,7 +144,7 @@ fn put_stop(faults: &mut String, place: Place<'_>, bytes: &[u8]) -> Result<(), A
     put_after(faults, ",\"stop_column\":", stop_column)
 }
 
-// Adds the members that tell where reading stops in a piece at this place, if its text is at fault.
+// Adds the members that tell where reading stops in a piece at this place, if its text is at fault, or where it is not UTF-8.
 fn put_stop_in(
     faults: &mut String,
     dialect: Dialect,
@@ -141,6 +161,7 @@ fn put_stop_in(
             let end = text.len().saturating_sub(left.len());
             put_stop(faults, place, &text.as_bytes()[..end])
         }
+        Piece::NoText(bytes) => put_stop(faults, place, utf8_front(bytes).as_bytes()),
         _ => Ok(()),
     }
 }
@@ -157,23 +178,37 @@ fn are_plain(bytes: &[u8]) -> bool
     are
 }
 
-// Escapes what follows these first bytes, for a string of JSON. Most texts have nothing to escape.
+// Adds a text as it stands in a string of JSON, or the characters of its start, and how many bytes it has.
+#[tactic(auto, using(crate::proofs::JsonTexts::json_whole, crate::proofs::JsonTexts::json_front))]
+fn put_cut_text(faults: &mut String, text: &str) -> Result<(), AllocError>
+    ensures { OnOk result (string_bytes faults.new ≡ string_bytes faults.old ++ cut_json_text text.now) }
+{
+    if text.len() <= MOST_TOLD {
+        return put_json_text(faults, text);
+    }
+    put_json_text(faults, utf8_front(&text.as_bytes()[..MOST_TOLD]))?;
+    write!(faults, ".. [{} bytes]", text.len())?;
+    Ok(())
+}
+
+// Escapes what follows these first bytes, for a string of JSON, and cuts it. Most texts are short, and have nothing to escape.
 fn escape_from(faults: &mut String, from: usize) -> Result<(), AllocError>
     requires front { IsUtf8 (take from (string_bytes faults.old)) }
     requires within { from ≤ length (string_bytes faults.old) }
     ensures { OnOk result (string_bytes faults.new
-        ≡ take from (string_bytes faults.old) ++ json_text (drop from (string_bytes faults.old))) }
+        ≡ take from (string_bytes faults.old) ++ cut_json_text (drop from (string_bytes faults.old))) }
 {
-    if are_plain(&faults.as_bytes()[from..]) {
+    let text = &faults.as_bytes()[from..];
+    if text.len() <= MOST_TOLD && are_plain(text) {
         return Ok(());
     }
     let text = faults.split_off(from)?;
-    put_json_text(faults, text.as_str())
+    put_cut_text(faults, text.as_str())
 }
 
-// Adds why an item is refused, as it stands in a string of JSON.
+// Adds why an item is refused, as it stands in a string of JSON, cut.
 fn put_wrong(faults: &mut String, refusal: &Refusal<'_>) -> Result<(), AllocError>
-    ensures { OnOk result (string_bytes faults.new ≡ string_bytes faults.old ++ json_text (wrong_of refusal.now)) }
+    ensures { OnOk result (string_bytes faults.new ≡ string_bytes faults.old ++ cut_json_text (wrong_of refusal.now)) }
 {
     let from = faults.len();
     write!(faults, "{refusal}")?;
@@ -192,19 +227,109 @@ fn put_fault(faults: &mut String, refusal: &Refusal<'_>) -> Result<(), AllocErro
     faults.push_str("\"")
 }
 
-// Adds the object of an item that is refused, and a newline.
-pub(crate) fn tell_as_object(
+// Adds the name of the member that has a piece, without the quote that ends it.
+fn put_piece_name(faults: &mut String, limit: usize, piece: Piece<'_>) -> Result<(), AllocError>
+    ensures { OnOk result (string_bytes faults.new ≡ string_bytes faults.old ++ piece_name (over_given limit (given_of piece.entry))) }
+{
+    match piece {
+        Piece::TooLong(_) => faults.push_str(",\"piece_start"),
+        Piece::Text(_) | Piece::NoText(_) => faults.push_str(",\"piece"),
+    }
+}
+
+// Adds the end of a name, and a text as a string of JSON.
+fn put_text(faults: &mut String, text: &str) -> Result<(), AllocError>
+    ensures { OnOk result (string_bytes faults.new
+        ≡ string_bytes faults.old ++ (codes "\":\"" ++ json_text text.now ++ codes "\"")) }
+{
+    faults.push_str("\":\"")?;
+    put_json_text(faults, text)?;
+    faults.push_str("\"")
+}
+
+// Adds the end of a name, and bytes in base64.
+fn put_base64(faults: &mut String, bytes: &[u8]) -> Result<(), AllocError>
+    ensures { OnOk result (string_bytes faults.new
+        ≡ string_bytes faults.old ++ (codes "_base64\":\"" ++ encode_of standard bytes.now ++ codes "\"")) }
+{
+    faults.push_str("_base64\":\"")?;
+    STANDARD.encode_string(bytes, faults)?;
+    faults.push_str("\"")
+}
+
+// Adds the end of a name, and bytes as a string of JSON: their text, or in base64 if they are not UTF-8.
+fn put_bytes(faults: &mut String, bytes: &[u8]) -> Result<(), AllocError>
+    ensures { OnOk result (string_bytes faults.new ≡ string_bytes faults.old ++ bytes_string bytes.now) }
+{
+    match text_of(bytes) {
+        Ok(text) => put_text(faults, text),
+        Err(_) => put_base64(faults, bytes),
+    }
+}
+
+// Adds the member that has a piece, if objects have it.
+fn put_piece(
     faults: &mut String,
-    dialect: Dialect,
+    limit: usize,
+    has_piece: bool,
+    piece: Piece<'_>,
+) -> Result<(), AllocError>
+    ensures { OnOk result (string_bytes faults.new ≡ string_bytes faults.old
+        ++ piece_member has_piece (over_given limit (given_of piece.entry)) (bytes_given (given_of piece.entry))) }
+{
+    if !has_piece {
+        return Ok(());
+    }
+    put_piece_name(faults, limit, piece)?;
+    put_bytes(faults, piece.bytes())
+}
+
+// How objects tell a piece: by this dialect and this limit, with the piece or without.
+#[derive(Clone, Copy)]
+pub(crate) struct Telling {
+    pub(crate) dialect: Dialect,
+    pub(crate) limit: usize,
+    pub(crate) has_piece: bool,
+}
+
+// Adds the members that each object has.
+fn put_head(
+    faults: &mut String,
+    telling: Telling,
     place: Place<'_>,
     refusal: &Refusal<'_>,
     piece: Piece<'_>,
+    line: Piece<'_>,
 ) -> Result<(), AllocError>
-    ensures { OnOk result (string_bytes faults.new
-        ≡ string_bytes faults.old ++ object place.entry (reason_of (rules_of dialect) piece.entry refusal.now)) }
+    ensures { OnOk result (string_bytes faults.new ≡ string_bytes faults.old
+        ++ object_head place.entry (reason_of (rules_of telling.dialect) telling.limit piece.entry line.entry refusal.now)) }
 {
-    put_start(faults, place, piece)?;
-    put_fault(faults, refusal)?;
-    put_stop_in(faults, dialect, place, refusal, piece)?;
+    put_start(faults, place, line)?;
+    put_length(faults, telling.limit, piece)?;
+    put_fault(faults, refusal)
+}
+
+// Adds the end of an object, and a newline.
+fn put_end(faults: &mut String) -> Result<(), AllocError>
+    ensures { OnOk result (string_bytes faults.new ≡ string_bytes faults.old ++ (codes "}" ++ newline ∷ [])) }
+{
     faults.push_str("}\n")
+}
+
+// Adds the object of the item of a piece with this line, which is refused, and a newline.
+pub(crate) fn tell_as_object(
+    faults: &mut String,
+    telling: Telling,
+    place: Place<'_>,
+    refusal: &Refusal<'_>,
+    piece: Piece<'_>,
+    line: Piece<'_>,
+) -> Result<(), AllocError>
+    ensures { OnOk result (string_bytes faults.new ≡ string_bytes faults.old
+        ++ object telling.has_piece place.entry (reason_of (rules_of telling.dialect) telling.limit piece.entry line.entry refusal.now)) }
+{
+    put_head(faults, telling, place, refusal, piece, line)?;
+    put_stop_in(faults, telling.dialect, place, refusal, line)?;
+    put_piece(faults, telling.limit, telling.has_piece, piece)?;
+    put_end(faults)
 }

@@ -1,7 +1,9 @@
 //! Pieces of the input.
 ghost use Rattle.std.specs.Prelude.{◌≡◌, length};
+ghost use Rattle.std.specs.Str.Lines.{strip_carriage_return};
+ghost use Rattle.lp_relay.specs.Objects.{bytes_given};
 ghost use Rattle.lp_relay.specs.Refusals.{IsPieceOf, front_in, given_of};
-ghost use Rattle.lp_relay.specs.RelaySteps.{bytes_given, len_given, newlines_given};
+ghost use Rattle.lp_relay.specs.RelaySteps.{len_given, newlines_given};
 
 use crate::texts::text_of;
 use influxdb_line_protocol::PieceTooLong;
@@ -28,6 +30,26 @@ pub(crate) fn piece_of<'a>(given: Result<&'a [u8], PieceTooLong<'a>>) -> Piece<'
         },
         Err(fault) => Piece::TooLong(fault),
     }
+}
+
+// A text without the carriage return at its end, if there is one.
+pub(crate) fn without_return(text: &str) -> &str
+    ensures { result.now ≡ strip_carriage_return text.now }
+{
+    match text.strip_suffix('\r') {
+        Some(line) => line,
+        None => text,
+    }
+}
+
+// Bytes without the carriage return at their end, if there is one.
+pub(crate) fn bytes_without_return(bytes: &[u8]) -> &[u8]
+    ensures { result.now ≡ strip_carriage_return bytes.now }
+{
+    if bytes.ends_with(b"\r") {
+        return &bytes[..bytes.len() - 1];
+    }
+    bytes
 }
 
 impl<'a> Piece<'a> {

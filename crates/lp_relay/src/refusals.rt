@@ -4,8 +4,12 @@ ghost use Rattle.lp_relay.specs.Objects.{fault_kind};
 ghost use Rattle.lp_relay.specs.Refusals.{is_fault, refusal_kind, wrong_of};
 ghost use Rattle.lp_values.specs.code.SpelledParts.{spelled_fault};
 
+use crate::field_types::TypeFault;
 use crate::kinds::Kind;
+use crate::portable::{servers_text, told_text};
+use crate::times::TimeFault;
 use influxdb_line_protocol::SpelledFault;
+use influxdb_line_protocol::portable::{Servers, Verdict};
 use lp_rebuild::LineRefusal;
 use std::fmt::{self, Display};
 
@@ -16,6 +20,12 @@ pub(crate) enum Refusal<'a> {
     Line(LineRefusal<'a>),
     /// Its line is not as it would be written: this is what is wrong.
     NotAsWritten(String),
+    /// Its line is not portable to these servers, of which this is told.
+    NotPortable(Servers, Verdict),
+    /// A field of its line is of another type than before, or is one too many.
+    NotOfType(TypeFault),
+    /// The time of its line does not fit, is out of range, or is not there.
+    NotOfTime(TimeFault),
     /// Its piece is not UTF-8.
     NotUtf8,
     /// Its piece is too long, and so many bytes of it are kept, if any are.
@@ -48,6 +58,12 @@ impl<'a> Refusal<'a> {
             Refusal::Line(LineRefusal::Fault(fault)) => kind_of(*fault),
             Refusal::Line(LineRefusal::NotAdmitted) => Kind::NameNotAdmitted,
             Refusal::NotAsWritten(_) => Kind::NotAsWritten,
+            Refusal::NotPortable(..) => Kind::NotPortable,
+            Refusal::NotOfType(TypeFault::Conflict(..)) => Kind::FieldTypeConflict,
+            Refusal::NotOfType(TypeFault::TooMany(..)) => Kind::TooManyFields,
+            Refusal::NotOfTime(TimeFault::Overflow(..)) => Kind::TimeOverflow,
+            Refusal::NotOfTime(TimeFault::OutOfRange(_)) => Kind::TimeOutOfRange,
+            Refusal::NotOfTime(TimeFault::Missing) => Kind::TimeMissing,
             Refusal::NotUtf8 => Kind::NotUtf8,
             Refusal::TooLong(_) => Kind::TooLong,
         }
@@ -69,6 +85,14 @@ impl<'a> fmt::Display for Refusal<'a> {
         match self {
             Refusal::Line(refusal) => refusal.fmt(f),
             Refusal::NotAsWritten(wrong) => f.write_str(wrong.as_str()),
+            Refusal::NotPortable(to, told) => write!(
+                f,
+                "not portable to {}: {}",
+                servers_text(*to),
+                told_text(*told)
+            ),
+            Refusal::NotOfType(fault) => fault.fmt(f),
+            Refusal::NotOfTime(fault) => fault.fmt(f),
             Refusal::NotUtf8 => f.write_str("the line is not UTF-8"),
             Refusal::TooLong(None) => f.write_str("the line is too long"),
             Refusal::TooLong(Some(kept)) => {

@@ -5,10 +5,12 @@ ghost use Rattle.influxdb_line_protocol.specs.format.Bytes.{newline};
 ghost use Rattle.influxdb_line_protocol.specs.code.Bounded.{most_given};
 ghost use Rattle.lp_relay.specs.RelaySteps.{HoldsLess, HoldsNone, IsReady, IsToldAhead, RelaysAhead, RelaysFirst, RelaysLast, RelaysLines};
 ghost use Rattle.lp_relay.specs.RelaySteps.{RelaysPart, Writes, counted, stage_of, unwritten_of};
-ghost use Rattle.lp_relay.specs.Relays.{Relays};
+ghost use Rattle.lp_relay.specs.FieldTypes.{no_types, types_of};
+ghost use Rattle.lp_relay.specs.Relays.{Relays, TypesAfter};
 ghost use Rattle.lp_relay.specs.Writers.{AreFlushed, CountsWriteFault};
 ghost use Rattle.lp_rebuild.specs.Running.{reader_told};
 
+use crate::field_types::KnownTypes;
 use crate::kinds::KindCounts;
 use crate::outputs::ThreeWriters;
 use crate::pieces::Piece;
@@ -22,13 +24,14 @@ use lp_rebuild::program::{BLOCK, read_block};
 use lp_rebuild::{RunFault, Source};
 use memchr::{memchr, memrchr};
 use std::alloc::{AllocError, Global};
+use std::mem;
 
 /// How many items a relay carried, and how many it refused.
 #[derive(Clone, Copy, Debug, PartialEq, Eq)]
 pub struct Relayed {
     /// How many items were read and not refused: they went out, but for the lines of other shards.
     pub carried: usize,
-    /// How many items have a fault line.
+    /// How many items were refused: each has a fault line, if it is one of those that are told.
     pub refused: usize,
     /// How many items were refused for each kind of fault, if the settings ask for that.
     pub kinds: Option<KindCounts>,
@@ -286,11 +289,19 @@ fn finish<O: ThreeWriters>(
 /// each line that can be read goes out as it came, also one that a rebuild would refuse for a name. By `LineForm::Keyed` it goes out after
 /// the key of its series, and by `LineForm::OfShard` only if it is of that shard.
 ///
+/// If `settings.portable` names servers, each line is looked at as it would go out, by whatever form: if it is not portable to them, it is
+/// refused, and its fault names the first clause that it breaks. A line that does not go out, since it is of another shard, is not looked at.
+///
+/// If `settings.types` says so, the first type of each field stays: a line that would go out, in whatever form, and has a field of another
+/// type than the first line of it that went out, is refused, and so is one that gives a field two types. A refused line gives no field a
+/// type, also one that is refused for another reason. What is known takes memory for each field, so a line with a new field beyond
+/// `max_fields` is refused too. [`relay_inputs`](crate::relay_inputs) knows the types of all its inputs.
+///
 /// If `settings.puts_refused` says so, the refused pieces of `outputs` gain the piece of each item that has a fault line, byte for
 /// byte as it came, and a newline; of a piece that is too long its first bytes, as many as the limit. Else they gain nothing.
 ///
 /// If `settings.counts_kinds` says so, the answer tells how many items were refused for each kind of fault; they add up to all that
-/// were.
+/// were. If `settings.max_faults` is a number, at most so many faults are told, those that come first; all else is as ever.
 ///
 /// What each read completes is written and flushed before the next read is asked for, and the rest at the end. So is the fault of a
 /// piece that is longer than `settings.limit`, as soon as so many bytes of it and one more have come. What is held of
@@ -320,20 +331,40 @@ pub fn relay<R: Source, O: ThreeWriters>(
     reader: &mut R,
     outputs: &mut O,
 ) -> Result<Relayed, RunFault>
-    ensures { Relays settings.entry result
+    ensures { Relays settings.entry no_types result
         (reader_told R.bytes R.failures reader.old) (reader_told R.bytes R.failures reader.new)
         (O.told outputs.old) (O.told outputs.new) }
+{
+    let mut types = KnownTypes::none(alloc);
+    relay_on(alloc, settings, &mut types, reader, outputs)
+}
+
+// The same after others, of which these types are known. After a fault fewer are.
+pub(crate) fn relay_on<R: Source, O: ThreeWriters>(
+    alloc: Global,
+    settings: Settings<'_>,
+    types: &mut KnownTypes,
+    reader: &mut R,
+    outputs: &mut O,
+) -> Result<Relayed, RunFault>
+    ensures relays { Relays settings.entry (types_of types.old) result
+        (reader_told R.bytes R.failures reader.old) (reader_told R.bytes R.failures reader.new)
+        (O.told outputs.old) (O.told outputs.new) }
+    ensures types { OnOk result (IfSome (R.bytes reader.old) (λ bs.
+        TypesAfter settings.entry (types_of types.old) bs (types_of types.new))) }
 {
     laws::pieces_join();
     laws::runs_give_pieces();
     laws::utf8_by_pieces();
     let mut stream = BoundedLineStream::new_in(alloc, settings.dialect, settings.limit);
-    let mut pending = nothing_made(alloc, settings);
+    let known = mem::replace(types, KnownTypes::none(alloc));
+    let mut pending = nothing_made(alloc, settings, known);
     let mut block = Vec::new(alloc);
     for _ in 0..u64::MAX {
         let n = read_block(reader, &mut block, 0)?;
         if n == 0 {
             finish(settings, &mut stream, &mut pending, outputs)?;
+            *types = mem::replace(&mut pending.types, KnownTypes::none(alloc));
             return Ok(Relayed {
                 carried: pending
                     .so_far

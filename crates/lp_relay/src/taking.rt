@@ -1,26 +1,31 @@
 //! What a relay takes of a piece of its input.
-ghost use Rattle.std.specs.Prelude.{◌≡◌, ◌≢◌, ◌+◌, ◌<◌, ◌≤◌, ◌++◌, ◌∷◌, [], List, false, true, ℕ, length, option_map, string_bytes, Err, IfOk, Ok, OnOk};
+ghost use Rattle.std.specs.Prelude.{◌≡◌, ◌≢◌, ◌+◌, ◌<◌, ◌≤◌, ◌++◌, ◌∷◌, [], List, false, true, ℕ, length, option_map, string_bytes, Err, IfOk, Ok, OnOk, Some};
 ghost use Rattle.influxdb_line_protocol.specs.code.Rules.{rules_of};
 ghost use Rattle.influxdb_line_protocol.specs.format.Dialects.{Dialect as AnyDialect};
 ghost use Rattle.influxdb_line_protocol.specs.format.Lines.{answer};
 ghost use Rattle.influxdb_line_protocol.specs.format.Bytes.{newline, tab};
-ghost use Rattle.influxdb_line_protocol.specs.code.Parsed.{parsed_point};
+ghost use Rattle.influxdb_line_protocol.specs.code.Parsed.{line_read, parsed_point};
 ghost use Rattle.influxdb_line_protocol.specs.format.Points.{IsAsWritten};
 ghost use Rattle.influxdb_line_protocol.specs.format.Trimming.{trimmed};
 ghost use Rattle.lp_relay.specs.Kinds.{counts_if, with_fault};
-ghost use Rattle.lp_relay.specs.Refusals.{EndsPiece, GaveSame, IsKnown, RefusesPiece, TakesItem, TakesPiece, given_of, reason_of, refusal_kind};
-ghost use Rattle.lp_relay.specs.Relaying.{Item, canonical_item, copies, front_of, is_of_shard, item_of, keyed_item, kept_of};
-ghost use Rattle.lp_relay.specs.FaultsTold.{first_line, line_after, told_fault};
+ghost use Rattle.lp_relay.specs.LineTimes.{relayed, timed};
+ghost use Rattle.lp_relay.specs.FieldTypes.{Types, types_of};
+ghost use Rattle.lp_relay.specs.Refusals.{EndsPiece, GaveSame, IsKnown, IsLineOf, KeepsItem, RefusesPiece, TakesItem, TakesPiece, given_of, line_piece, reason_of, refusal_kind};
+ghost use Rattle.lp_relay.specs.Relaying.{Item, allowed, canonical_item, copies, front_of, if_portable, is_of_shard, item_line, item_of, keyed_item, kept_of, line_in, line_of};
+ghost use Rattle.lp_relay.specs.FaultsTold.{first_line, is_told, line_after, told_at, told_fault};
 ghost use Rattle.lp_relay.specs.RelaySteps.{EndsAhead, HoldsLess, TakesAhead, TakesBy, TakesGiven, after_given, items_before, len_given, made};
-ghost use Rattle.lp_relay.specs.RelaySteps.{newlines_given, next_place};
+ghost use Rattle.lp_relay.specs.RelaySteps.{newlines_given, next_place, types_given};
 ghost use Rattle.lp_relay.specs.RelaySteps.{unwritten_of, unwritten_of_none};
 
 use crate::differing::{differing_part, part_text};
+use crate::field_types::{KnownTypes, StrictTypes};
 use crate::kinds::{Kind, KindCounts};
-use crate::objects::tell_as_object;
-use crate::pieces::{Piece, piece_of};
+use crate::objects::{Telling, tell_as_object};
+use crate::pieces::{Piece, bytes_without_return, piece_of, without_return};
+use crate::portable::{Portable, is_shown_portable, told_of_bytes};
 use crate::refusals::Refusal;
 use crate::telling::{Faults, Place, put_fault_line, put_on_one_line};
+use crate::times::{TimeChange, Times, change_of, piece_at};
 use crate::verdict::fault_of;
 use influxdb_line_protocol::{
     Dialect, ParsedLine, PieceTooLong, hash_series, is_admitted, is_as_written, laws,
@@ -81,13 +86,25 @@ pub struct Settings<'n> {
     pub limit: usize,
     /// What the fault lines name.
     pub numbering: Numbering,
+    /// Whether a carriage return at the end of a piece is no byte of its line, as of lines that end with a carriage return and a newline: it
+    /// is not read, and does not go out with the line. It counts for the limit, and refused pieces go out with it.
+    pub drops_returns: bool,
     /// How lines go out.
     pub lines: LineForm,
+    /// To which servers each line that goes out is portable, if it is to be: a line that is not, as it would go out, is refused.
+    pub portable: Option<Portable>,
+    /// Whether the first type of each field stays: then a line that would go out, and gives a field another type, is refused, and so is one
+    /// with a new field beyond the limit. A refused line gives no field a type.
+    pub types: Option<StrictTypes>,
+    /// With which time each line goes out, if the times of lines are looked at: else each goes out with its own, and one without a time has none.
+    pub times: Option<Times>,
     /// The number of the first item, or of the first line, that fault lines name: 2,001 if the input comes after 2,000 others. 0 is
     /// taken as 1.
     pub first: usize,
     /// How fault lines are told.
     pub faults: Faults,
+    /// How many faults are told at most, if not all are: the others are counted, and go out as refused, but are not told.
+    pub max_faults: Option<usize>,
     /// Whether each piece that is refused goes out too, to a writer of its own: of one that is too long its first bytes, as many as
     /// the limit.
     pub puts_refused: bool,
@@ -106,9 +123,14 @@ impl<'n> Default for Settings<'n> {
           dialect = Dialect.Crate;
           limit = usize.MAX;
           numbering = Numbering.Items;
+          drops_returns = false;
           lines = LineForm.Rebuilt;
+          portable = None;
+          types = None;
+          times = None;
           first = 1;
           faults = Faults.Raw;
+          max_faults = None;
           puts_refused = false;
           counts_kinds = false;
           file = None;
@@ -119,9 +141,14 @@ impl<'n> Default for Settings<'n> {
             dialect: Dialect::Crate,
             limit: usize::MAX,
             numbering: Numbering::Items,
+            drops_returns: false,
             lines: LineForm::Rebuilt,
+            portable: None,
+            types: None,
+            times: None,
             first: 1,
             faults: Faults::Raw,
+            max_faults: None,
             puts_refused: false,
             counts_kinds: false,
             file: None,
@@ -156,6 +183,8 @@ pub(crate) struct Pending {
     pub(crate) kinds: Option<KindCounts>,
     /// Whether the fault of the next piece was told ahead of its end, since it is too long already.
     pub(crate) ahead: bool,
+    /// The first types of the fields of the lines that went out, if these stay.
+    pub(crate) types: KnownTypes,
 }
 
 /// What came of a piece.
@@ -183,15 +212,15 @@ fn first_line(settings: Settings<'_>) -> Option<usize>
     ensures { result ≡ first_line settings.entry.faults settings.entry.numbering settings.entry.first }
 {
     match (settings.faults, settings.numbering) {
-        (Faults::Json { first_line }, _) => Some(first_line.max(1)),
+        (Faults::Json { first_line, .. }, _) => Some(first_line.max(1)),
         (_, Numbering::Items) => None,
         (_, Numbering::Lines) => Some(settings.first.max(1)),
     }
 }
 
-// Before the first item. It takes no memory.
-pub(crate) fn nothing_made(alloc: Global, settings: Settings<'_>) -> Pending
-    ensures made { unwritten_of result ≡ unwritten_of_none settings.entry }
+// Before the first item, if these types are known. It takes no memory.
+pub(crate) fn nothing_made(alloc: Global, settings: Settings<'_>, types: KnownTypes) -> Pending
+    ensures made { unwritten_of result ≡ unwritten_of_none settings.entry (types_of types) }
     ensures fits { result.so_far.carried + result.so_far.refused ≤ usize.MAX }
 {
     let so_far = Progress {
@@ -213,6 +242,7 @@ pub(crate) fn nothing_made(alloc: Global, settings: Settings<'_>) -> Pending
             None
         },
         ahead: false,
+        types,
     }
 }
 
@@ -289,6 +319,26 @@ fn put_keyed(batch: &mut Vec<u8>, key: &str, text: &str) -> Result<(), AllocErro
     copy_line(batch, text.as_bytes())
 }
 
+// Takes a line that was read: it goes out after the key of its series.
+#[inline(always)]
+fn put_by_key<'a>(
+    alloc: Global,
+    batch: &mut Vec<u8>,
+    line: &ParsedLine<'_>,
+    piece: &str,
+    text: &str,
+) -> Result<Taken<'a>, AllocError>
+    requires { text.now ≡ trimmed piece.now }
+    ensures { IfOk result (λ taken. TakesItem taken (item_of LineForm.Keyed piece.now (Ok (line_read line.now))) batch.old.items batch.new.items) }
+{
+    if !is_admitted(line) {
+        return Ok(Taken::Refused(Refusal::Line(LineRefusal::NotAdmitted)));
+    }
+    let key = line.series.key(alloc)?;
+    put_keyed(batch, key.as_str(), text)?;
+    Ok(Taken::Carried)
+}
+
 // Takes a line: it goes out after the key of its series.
 #[inline(never)]
 fn take_keyed<'a>(
@@ -305,13 +355,7 @@ fn take_keyed<'a>(
     if let Some(fault) = reader.read(text)? {
         return Ok(Taken::Refused(Refusal::Line(LineRefusal::Fault(fault))));
     }
-    let line = reader.line();
-    if !is_admitted(line) {
-        return Ok(Taken::Refused(Refusal::Line(LineRefusal::NotAdmitted)));
-    }
-    let key = line.series.key(reader.alloc)?;
-    put_keyed(batch, key.as_str(), text)?;
-    Ok(Taken::Carried)
+    put_by_key(reader.alloc, batch, reader.line(), piece, text)
 }
 
 // Whether a series is of a shard.
@@ -320,6 +364,24 @@ fn is_of_shard(alloc: Global, shard: Shard, line: &ParsedLine<'_>) -> Result<boo
 {
     let hash = hash_series(alloc, &line.series)?;
     Ok(hash % shard.count.max(1) == shard.number)
+}
+
+// Takes a line that was read: its piece goes out if it is of a shard.
+#[inline(always)]
+fn put_if_of_shard<'a>(
+    alloc: Global,
+    shard: Shard,
+    batch: &mut Vec<u8>,
+    line: &ParsedLine<'_>,
+    piece: &str,
+) -> Result<Taken<'a>, AllocError>
+    ensures { IfOk result (λ taken.
+        TakesItem taken (item_of (LineForm.OfShard shard) piece.now (Ok (line_read line.now))) batch.old.items batch.new.items) }
+{
+    if is_of_shard(alloc, shard, line)? {
+        copy_line(batch, piece.as_bytes())?;
+    }
+    Ok(Taken::Carried)
 }
 
 // Takes a line: it goes out as it came if it is of a shard.
@@ -338,11 +400,7 @@ fn take_of_shard<'a>(
     if let Some(fault) = reader.read(text)? {
         return Ok(Taken::Refused(Refusal::Line(LineRefusal::Fault(fault))));
     }
-    if is_of_shard(reader.alloc, shard, reader.line())? {
-        let came = piece.as_bytes();
-        copy_line(batch, came)?;
-    }
-    Ok(Taken::Carried)
+    put_if_of_shard(reader.alloc, shard, batch, reader.line(), piece)
 }
 
 // Takes a line: it goes out by the settings, or is refused.
@@ -368,6 +426,229 @@ fn take_line<'a>(
         LineForm::Keyed => take_keyed(batch, reader, piece, text),
         LineForm::OfShard(shard) => take_of_shard(shard, batch, reader, piece, text),
     }
+}
+
+// Takes a line that was read: it is written again.
+fn put_rebuilt<'a>(
+    alloc: Global,
+    batch: &mut Vec<u8>,
+    line: &ParsedLine<'_>,
+    piece: &str,
+) -> Result<Taken<'a>, AllocError>
+    requires { 0 < length line.now.field_set.items }
+    ensures { IfOk result (λ taken. TakesItem taken (item_of LineForm.Rebuilt piece.now (Ok (line_read line.now))) batch.old.items batch.new.items) }
+{
+    match batch::take_line(alloc, batch, line)? {
+        None => Ok(Taken::Carried),
+        Some(refusal) => Ok(Taken::Refused(Refusal::Line(refusal))),
+    }
+}
+
+// Takes a line that was read and has this text: it is written again, and taken back if that is another text.
+fn put_canonical<'a>(
+    alloc: Global,
+    batch: &mut Vec<u8>,
+    read: &ParsedLine<'_>,
+    piece: &str,
+    text: &str,
+) -> Result<Taken<'a>, AllocError>
+    requires text { text.now ≡ trimmed piece.now }
+    requires some { 0 < length read.now.field_set.items }
+    ensures { IfOk result (λ taken. TakesItem taken (item_of LineForm.Canonical piece.now (Ok (line_read read.now))) batch.old.items batch.new.items) }
+{
+    let start = batch.len();
+    if let Some(refusal) = batch::take_line(alloc, batch, read)? {
+        return Ok(Taken::Refused(Refusal::Line(refusal)));
+    }
+    let written = &batch[start..];
+    let line = &written[..written.len().saturating_sub(1)];
+    if line == text.as_bytes() {
+        return Ok(Taken::Carried);
+    }
+    let part = differing_part(text, written);
+    batch.truncate(start);
+    let wrong = part_text(alloc, part)?;
+    Ok(Taken::Refused(Refusal::NotAsWritten(wrong)))
+}
+
+// Takes a line that was read, and has this piece and this text: it goes out by the settings, or is refused.
+fn put_read<'a>(
+    alloc: Global,
+    lines: LineForm,
+    batch: &mut Vec<u8>,
+    line: &ParsedLine<'_>,
+    piece: &str,
+    text: &str,
+) -> Result<Taken<'a>, AllocError>
+    requires text { text.now ≡ trimmed piece.now }
+    requires some { 0 < length line.now.field_set.items }
+    ensures { IfOk result (λ taken. TakesItem taken (item_of lines piece.now (Ok (line_read line.now))) batch.old.items batch.new.items) }
+{
+    match lines {
+        LineForm::Rebuilt => put_rebuilt(alloc, batch, line, piece),
+        LineForm::Verbatim => {
+            copy_line(batch, piece.as_bytes())?;
+            Ok(Taken::Carried)
+        }
+        LineForm::Canonical => put_canonical(alloc, batch, line, piece, text),
+        LineForm::Keyed => put_by_key(alloc, batch, line, piece, text),
+        LineForm::OfShard(shard) => put_if_of_shard(alloc, shard, batch, line, piece),
+    }
+}
+
+// The line in what goes out for a piece that is left so if it is trimmed: without its newline, and without the key before it.
+fn line_in<'a>(lines: LineForm, text: &'a str, out: &'a [u8]) -> &'a [u8]
+    ensures { (piece : List ℕ) → text.now ≡ trimmed piece → result.now ≡ line_in lines piece out.now }
+{
+    match lines {
+        LineForm::Keyed => text.as_bytes(),
+        _ => &out[..out.len().saturating_sub(1)],
+    }
+}
+
+// Looks at a line that was added, which begins at this place of the batch: if it is not portable, it is taken back, and refused.
+fn allow_added<'a>(
+    alloc: Global,
+    lines: LineForm,
+    portable: &Portable,
+    batch: &mut Vec<u8>,
+    at: usize,
+    text: &str,
+) -> Result<Taken<'a>, AllocError>
+    requires { at < length batch.old.items }
+    ensures { IfOk result (λ after. (item : Item) (before piece : List ℕ) → at ≡ length before → text.now ≡ trimmed piece
+        → TakesItem Taken.Carried item before batch.old.items
+        → TakesItem after (if_portable portable.now (front_of piece) (line_in lines piece (item_line item)) item) before batch.new.items) }
+{
+    let told = told_of_bytes(alloc, portable, line_in(lines, text, &batch[at..]))?;
+    if is_shown_portable(told) {
+        return Ok(Taken::Carried);
+    }
+    batch.truncate(at);
+    Ok(Taken::Refused(Refusal::NotPortable(portable.to, told)))
+}
+
+// Takes a line back that was added, if the settings ask for portable lines and it is none. What came of the line begins at this place of
+// the batch.
+#[inline(always)]
+fn allow<'a>(
+    alloc: Global,
+    settings: &Settings<'_>,
+    batch: &mut Vec<u8>,
+    at: usize,
+    text: &str,
+    taken: Taken<'a>,
+) -> Result<Taken<'a>, AllocError>
+    ensures { IfOk result (λ after. (item : Item) (before piece : List ℕ) → at ≡ length before → text.now ≡ trimmed piece
+        → TakesItem taken.entry item before batch.old.items
+        → TakesItem after (allowed settings.now.portable settings.now.lines piece item) before batch.new.items) }
+{
+    let Some(portable) = settings.portable else {
+        return Ok(taken);
+    };
+    let Taken::Carried = taken else {
+        return Ok(taken);
+    };
+    if batch.len() <= at {
+        return Ok(taken);
+    }
+    allow_added(alloc, settings.lines, &portable, batch, at, text)
+}
+
+// Keeps the types of the fields of a line that was read and added, which begins at this place of the batch: if one is of another type than
+// before, or is one too many, the line is taken back, and refused.
+fn keep_read<'a>(
+    alloc: Global,
+    strict: StrictTypes,
+    types: &mut KnownTypes,
+    batch: &mut Vec<u8>,
+    line: &ParsedLine<'_>,
+    begin: usize,
+) -> Result<Taken<'a>, AllocError>
+    requires { begin < length batch.old.items }
+    ensures { IfOk result (λ after. KeepsItem (Some strict) (Ok (line_read line.now)) begin
+        Taken.Carried batch.old.items (types_of types.old) after batch.new.items (types_of types.new)) }
+{
+    let Some(fault) = types.keep(alloc, strict.max_fields, line)? else {
+        return Ok(Taken::Carried);
+    };
+    batch.truncate(begin);
+    Ok(Taken::Refused(Refusal::NotOfType(fault)))
+}
+
+// The same of a line that was added, and is read for that.
+#[inline(never)]
+fn keep_added<'a>(
+    strict: StrictTypes,
+    types: &mut KnownTypes,
+    batch: &mut Vec<u8>,
+    reader: &mut LineReader<'a>,
+    begin: usize,
+    text: &'a str,
+) -> Result<Taken<'a>, AllocError>
+    requires { begin < length batch.old.items }
+    ensures kept { IfOk result (λ after. KeepsItem (Some strict) (answer (rules_of reader.old.dialect) text.now) begin
+        Taken.Carried batch.old.items (types_of types.old) after batch.new.items (types_of types.new)) }
+    ensures dialect { reader.new.dialect ≡ reader.old.dialect }
+{
+    if let Some(_) = reader.read(text)? {
+        return Ok(Taken::Carried);
+    }
+    keep_read(reader.alloc, strict, types, batch, reader.line(), begin)
+}
+
+// Keeps the types of the fields of a line, if these are to stay and something was added for it. What came of the line begins at this place
+// of the batch.
+#[inline(always)]
+fn keep<'a>(
+    settings: &Settings<'_>,
+    types: &mut KnownTypes,
+    batch: &mut Vec<u8>,
+    reader: &mut LineReader<'a>,
+    begin: usize,
+    text: &'a str,
+    taken: Taken<'a>,
+) -> Result<Taken<'a>, AllocError>
+    ensures kept { IfOk result (λ after. KeepsItem settings.now.types (answer (rules_of reader.old.dialect) text.now) begin
+        taken.entry batch.old.items (types_of types.old) after batch.new.items (types_of types.new)) }
+    ensures dialect { reader.new.dialect ≡ reader.old.dialect }
+{
+    let Some(strict) = settings.types else {
+        return Ok(taken);
+    };
+    let Taken::Carried = taken else {
+        return Ok(taken);
+    };
+    if batch.len() <= begin {
+        return Ok(taken);
+    }
+    keep_added(strict, types, batch, reader, begin, text)
+}
+
+// Keeps the types of the fields of a line that was read, if these are to stay and something was added for it, which begins at this place of the
+// batch.
+fn keep_if_read<'a>(
+    alloc: Global,
+    settings: &Settings<'_>,
+    types: &mut KnownTypes,
+    batch: &mut Vec<u8>,
+    line: &ParsedLine<'_>,
+    begin: usize,
+    taken: Taken<'a>,
+) -> Result<Taken<'a>, AllocError>
+    ensures { IfOk result (λ after. KeepsItem settings.now.types (Ok (line_read line.now)) begin
+        taken.entry batch.old.items (types_of types.old) after batch.new.items (types_of types.new)) }
+{
+    let Some(strict) = settings.types else {
+        return Ok(taken);
+    };
+    let Taken::Carried = taken else {
+        return Ok(taken);
+    };
+    if batch.len() <= begin {
+        return Ok(taken);
+    }
+    keep_read(alloc, strict, types, batch, line, begin)
 }
 
 // How many bytes are kept of a piece that is too long, if any are.
@@ -424,6 +705,39 @@ fn count(kinds: &mut Option<KindCounts>, kind: Kind) -> Result<(), AllocError>
     }
 }
 
+// The line of a piece that is text.
+#[inline(always)]
+fn line_of<'a>(settings: &Settings<'_>, piece: &'a str) -> &'a str
+    ensures { result.now ≡ line_of settings.now piece.now }
+{
+    if settings.drops_returns {
+        without_return(piece)
+    } else {
+        piece
+    }
+}
+
+// The line of a piece that is no text.
+fn line_of_bytes<'a>(settings: &Settings<'_>, piece: &'a [u8]) -> &'a [u8]
+    ensures { result.now ≡ line_of settings.now piece.now }
+{
+    if !settings.drops_returns {
+        return piece;
+    }
+    bytes_without_return(piece)
+}
+
+// The line of a piece, if that is not too long.
+fn line_piece<'a>(settings: &Settings<'_>, piece: Piece<'a>) -> Piece<'a>
+    ensures { IsLineOf settings.now piece.entry result }
+{
+    match piece {
+        Piece::Text(text) => Piece::Text(line_of(settings, text)),
+        Piece::NoText(bytes) => Piece::NoText(line_of_bytes(settings, bytes)),
+        Piece::TooLong(fault) => Piece::TooLong(fault),
+    }
+}
+
 // Tells why an item is refused, as the settings say.
 fn tell(
     settings: &Settings<'_>,
@@ -433,13 +747,50 @@ fn tell(
     piece: Piece<'_>,
 ) -> Result<(), AllocError>
     ensures { OnOk result (string_bytes faults.new ≡ string_bytes faults.old
-        ++ told_fault settings.now.faults place.entry (reason_of (rules_of settings.now.dialect) piece.entry refusal.now)) }
+        ++ told_fault settings.now.faults place.entry
+        (reason_of (rules_of settings.now.dialect) settings.now.limit piece.entry (line_piece settings.now piece.entry) refusal.now)) }
 {
     match settings.faults {
         Faults::Raw => put_fault_line(faults, place, refusal),
         Faults::OneLine => put_on_one_line(faults, place, refusal),
-        Faults::Json { .. } => tell_as_object(faults, settings.dialect, place, refusal, piece),
+        Faults::Json { has_piece, .. } => {
+            let telling = Telling {
+                dialect: settings.dialect,
+                limit: settings.limit,
+                has_piece,
+            };
+            let line = line_piece(settings, piece);
+            tell_as_object(faults, telling, place, refusal, piece, line)
+        }
     }
+}
+
+// Whether a fault is told before which so many items were refused, if so many faults are told at most.
+fn is_told(most: Option<usize>, refused: usize) -> bool
+    ensures { result ≡ is_told most refused }
+{
+    match most {
+        Some(most) => refused < most,
+        None => true,
+    }
+}
+
+// Tells why an item is refused, unless as many faults were told as may be.
+fn tell_at(
+    settings: &Settings<'_>,
+    faults: &mut String,
+    place: Place<'_>,
+    refusal: &Refusal<'_>,
+    piece: Piece<'_>,
+) -> Result<(), AllocError>
+    ensures { OnOk result (string_bytes faults.new ≡ string_bytes faults.old
+        ++ told_at settings.now place.entry
+        (reason_of (rules_of settings.now.dialect) settings.now.limit piece.entry (line_piece settings.now piece.entry) refusal.now)) }
+{
+    if !is_told(settings.max_faults, place.refused) {
+        return Ok(());
+    }
+    tell(settings, faults, place, refusal, piece)
 }
 
 // Refuses the item of a piece: the kind of its fault is counted, it is told, and the piece, or its first bytes if it is too long, goes
@@ -453,21 +804,24 @@ fn refuse(
     piece: Piece<'_>,
 ) -> Result<(), AllocError>
     requires { pending.old.so_far.carried + pending.old.so_far.refused < usize.MAX }
-    ensures taken { OnOk result ((item : Item) → RefusesPiece settings.now piece.entry refusal.now item
-        → TakesGiven settings.now (unwritten_of pending.old) (given_of piece.entry) (unwritten_of pending.new)) }
+    ensures taken { OnOk result ((item : Item) (types : Types) → RefusesPiece settings.now types piece.entry refusal.now item
+        → types_of pending.old.types ≡ types_given settings.now types (given_of piece.entry)
+        → TakesGiven settings.now (record (unwritten_of pending.old) { types = types }) (given_of piece.entry) (unwritten_of pending.new)) }
     ensures counted { OnOk result
         ((pending.new.so_far.carried ≡ pending.old.so_far.carried) × (pending.new.so_far.refused ≡ pending.old.so_far.refused + 1)) }
     ensures place { (pending.new.so_far.line ≡ pending.old.so_far.line) × (pending.new.offset ≡ pending.old.offset) }
 {
+    let refused = pending.so_far.refused;
     pending.so_far.refused += 1;
     count(&mut pending.kinds, refusal.kind())?;
     let place = Place {
         file: settings.file,
         number: pending.so_far.carried + pending.so_far.refused,
+        refused,
         line: pending.so_far.line,
         offset: pending.offset,
     };
-    tell(settings, &mut pending.so_far.faults, place, refusal, piece)?;
+    tell_at(settings, &mut pending.so_far.faults, place, refusal, piece)?;
     if !settings.puts_refused {
         return Ok(());
     }
@@ -511,19 +865,118 @@ fn take_uncopied<'a>(
     pending: &mut Pending,
     reader: &mut LineReader<'a>,
     piece: &'a str,
+    line: &'a str,
     text: &'a str,
 ) -> Result<(), AllocError>
-    requires text { text.now ≡ trimmed piece.now }
+    requires line { line.now ≡ line_of settings.now piece.now }
+    requires text { text.now ≡ trimmed line.now }
     requires some { 0 < length text.now }
     requires dialect { reader.old.dialect ≡ settings.now.dialect }
+    requires untimed { settings.now.times ≡ None }
     requires unwritten { settings.now.lines ≡ LineForm.Canonical → ¬ (IsAsWritten text.now) }
     requires fits { pending.old.so_far.carried + pending.old.so_far.refused < usize.MAX }
     ensures taken { OnOk result (TakesGiven settings.now (unwritten_of pending.old) (Ok piece.entry) (unwritten_of pending.new)) }
     ensures counted { OnOk result (pending.new.so_far.carried + pending.new.so_far.refused ≤ usize.MAX) }
     ensures dialect { reader.new.dialect ≡ reader.old.dialect }
 {
-    let taken = take_line(settings, &mut pending.so_far.batch, reader, piece, text)?;
+    let batch = &mut pending.so_far.batch;
+    let start = batch.len();
+    let added = take_line(settings, batch, reader, line, text)?;
+    let allowed = allow(pending.alloc, settings, batch, start, text, added)?;
+    let types = &mut pending.types;
+    let taken = keep(settings, types, batch, reader, start, text, allowed)?;
     end_piece(settings, pending, taken, Piece::Text(piece))
+}
+
+// Takes a line that was read of the line of a piece, and goes out as that of a piece with its time.
+fn take_read(
+    settings: &Settings<'_>,
+    pending: &mut Pending,
+    line: &ParsedLine<'_>,
+    whole: &str,
+    came: &str,
+    piece: &str,
+    text: &str,
+) -> Result<(), AllocError>
+    requires line { came.now ≡ line_of settings.now whole.now }
+    requires text { text.now ≡ trimmed piece.now }
+    requires some { 0 < length (trimmed came.now) }
+    requires field { 0 < length line.now.field_set.items }
+    requires front { front_of piece.now ≡ front_of came.now }
+    requires timed { timed settings.now.times came.now (answer (rules_of settings.now.dialect) (trimmed came.now))
+        ≡ relayed piece.now (Ok (line_read line.now)) }
+    requires fits { pending.old.so_far.carried + pending.old.so_far.refused < usize.MAX }
+    ensures taken { OnOk result (TakesGiven settings.now (unwritten_of pending.old) (Ok whole.entry) (unwritten_of pending.new)) }
+    ensures counted { OnOk result (pending.new.so_far.carried + pending.new.so_far.refused ≤ usize.MAX) }
+{
+    let alloc = pending.alloc;
+    let batch = &mut pending.so_far.batch;
+    let start = batch.len();
+    let added = put_read(alloc, settings.lines, batch, line, piece, text)?;
+    let allowed = allow(alloc, settings, batch, start, text, added)?;
+    let types = &mut pending.types;
+    let taken = keep_if_read(alloc, settings, types, batch, line, start, allowed)?;
+    end_piece(settings, pending, taken, Piece::Text(whole))
+}
+
+// Takes a piece that is text, if the times of lines are looked at. Its line is read first, and if its time changes, it is that of a copy.
+#[inline(never)]
+fn take_timed<'a>(
+    times: &Times,
+    settings: &Settings<'_>,
+    pending: &mut Pending,
+    reader: &mut LineReader<'a>,
+    piece: &'a str,
+    line: &'a str,
+    text: &'a str,
+) -> Result<(), AllocError>
+    requires line { line.now ≡ line_of settings.now piece.now }
+    requires text { text.now ≡ trimmed line.now }
+    requires some { 0 < length text.now }
+    requires dialect { reader.old.dialect ≡ settings.now.dialect }
+    requires times { settings.now.times ≡ Some times.now }
+    requires fits { pending.old.so_far.carried + pending.old.so_far.refused < usize.MAX }
+    ensures taken { OnOk result (TakesGiven settings.now (unwritten_of pending.old) (Ok piece.entry) (unwritten_of pending.new)) }
+    ensures counted { OnOk result (pending.new.so_far.carried + pending.new.so_far.refused ≤ usize.MAX) }
+    ensures dialect { reader.new.dialect ≡ reader.old.dialect }
+{
+    laws::lines_are_points();
+    if let Some(fault) = reader.read(text)? {
+        let refusal = Refusal::Line(LineRefusal::Fault(fault));
+        return end_piece(
+            settings,
+            pending,
+            Taken::Refused(refusal),
+            Piece::Text(piece),
+        );
+    }
+    let came = reader.line().timestamp;
+    match change_of(times, came) {
+        TimeChange::Stays => take_read(settings, pending, reader.line(), piece, line, line, text),
+        TimeChange::Becomes(time) => {
+            reader.set_timestamp(time);
+            let copy = piece_at(pending.alloc, line, text, came, time)?;
+            let new = copy.as_str();
+            take_read(
+                settings,
+                pending,
+                reader.line(),
+                piece,
+                line,
+                new,
+                trimmed(new),
+            )
+        }
+        TimeChange::Wrong(fault) => {
+            let refusal = Refusal::NotOfTime(fault);
+            end_piece(
+                settings,
+                pending,
+                Taken::Refused(refusal),
+                Piece::Text(piece),
+            )
+        }
+    }
 }
 
 // Takes a piece that is text. It is called for each line, so that the test whether a line is as written is compiled once, in line here;
@@ -542,15 +995,24 @@ fn take_text<'a>(
     ensures dialect { reader.new.dialect ≡ reader.old.dialect }
 {
     laws::written_lines_stay();
-    let text = trimmed(piece);
+    let line = line_of(settings, piece);
+    let text = trimmed(line);
     if text.is_empty() {
         return end_piece(settings, pending, Taken::Blank, Piece::Text(piece));
     }
-    if copies(settings.lines) && is_as_written(text) {
-        copy_line(&mut pending.so_far.batch, text.as_bytes())?;
-        return end_piece(settings, pending, Taken::Carried, Piece::Text(piece));
+    if let Some(times) = &settings.times {
+        return take_timed(times, settings, pending, reader, piece, line, text);
     }
-    take_uncopied(settings, pending, reader, piece, text)
+    if copies(settings.lines) && is_as_written(text) {
+        let batch = &mut pending.so_far.batch;
+        let start = batch.len();
+        copy_line(batch, text.as_bytes())?;
+        let allowed = allow(pending.alloc, settings, batch, start, text, Taken::Carried)?;
+        let types = &mut pending.types;
+        let taken = keep(settings, types, batch, reader, start, text, allowed)?;
+        return end_piece(settings, pending, taken, Piece::Text(piece));
+    }
+    take_uncopied(settings, pending, reader, piece, line, text)
 }
 
 // Takes the item of a piece.
@@ -592,7 +1054,7 @@ pub(crate) fn take_piece<'a>(
     requires few { HoldsLess BLOCK pending.old }
     ensures taken { OnOk result (TakesGiven settings.now (unwritten_of pending.old) (given_of piece.entry) (unwritten_of pending.new)) }
     ensures start { OnOk result (next_place settings.now (unwritten_of pending.new)
-        ≡ after_given settings.now (next_place settings.now (unwritten_of pending.old)) (given_of piece.entry)) }
+        ≡ after_given settings.now (types_of pending.old.types) (next_place settings.now (unwritten_of pending.old)) (given_of piece.entry)) }
     ensures fits { OnOk result (pending.new.so_far.carried + pending.new.so_far.refused ≤ usize.MAX) }
     ensures dialect { reader.new.dialect ≡ reader.old.dialect }
 {

@@ -20,13 +20,21 @@ pub enum Faults {
     /// a fault line of more than 200 bytes the first 200, and how many it has, as in `.. [1234 bytes]`. If `file` of the settings names
     /// the input, that name comes before the line, with the same escapes and whole, as in `a.lp: item 7: ..`.
     OneLine,
-    /// Each as an object of JSON on one line, as `{"item":2,"line":7,"offset":31,"piece_line":7,"piece_offset":29,
+    /// Each as an object of JSON on one line, as `{"item":2,"line":7,"offset":31,"piece_line":7,"piece_offset":29,"length":6,
     /// "kind":"field_set_missing","text":"No fields were provided","stop_line":7,"stop_column":5}`: the number of the item, the line
     /// of the input on which its text begins, how many bytes come before that, the same two of its piece, which begins with the blanks
-    /// and comments before the text, the kind of its fault, what is wrong with it, and, if it is no line, at which byte reading stopped:
-    /// its line and its column. Lines are counted from `first_line`, whatever `numbering` of the settings says, where 0 is taken as 1, and
+    /// and comments before the text, how many bytes the piece has, the kind of its fault, what is wrong with it, and, if it is no line, at
+    /// which byte reading stopped, or, if it is not UTF-8, at which byte it is not: its line and its column. Of a piece that is too long
+    /// `longer_than` is told and no `length`: the limit, since its fault is told before its end has come. Of what is wrong, if that has
+    /// more than 200 bytes, the characters that end within the first 200 are told, and how many it has, as in `.. [1234 bytes]`.
+    ///
+    /// Lines are counted from `first_line`, whatever `numbering` of the settings says, where 0 is taken as 1, and
     /// columns from 1. If `file` of the settings names the input, that is the first member, as in `{"file":"a.lp","item":2,"line":7,..`.
-    Json { first_line: usize },
+    ///
+    /// If `has_piece` says so, the last member is the piece, whole, as in `"piece":" m f="`, or in base64 if it is not UTF-8, as
+    /// `"piece_base64"`. Of a piece that is too long its first bytes are told, as many as the limit: `"piece_start"`, or
+    /// `"piece_start_base64"`.
+    Json { first_line: usize, has_piece: bool },
 }
 
 /// Where an item is.
@@ -36,14 +44,16 @@ pub(crate) struct Place<'n> {
     pub(crate) file: Option<&'n str>,
     /// Its number.
     pub(crate) number: usize,
+    /// How many items were refused before it.
+    pub(crate) refused: usize,
     /// The line of the input on which its piece begins, if fault lines name lines.
     pub(crate) line: Option<usize>,
     /// How many bytes come before its piece.
     pub(crate) offset: usize,
 }
 
-// Of a fault line that is told on one line, so many bytes are told at most.
-const MOST_TOLD: usize = 200;
+/// Of a fault line that is told on one line, or of the text of an object, so many bytes are told at most.
+pub(crate) const MOST_TOLD: usize = 200;
 
 // The hexadecimal digit of a number below 16.
 pub(crate) fn hex_digit(n: u8) -> char

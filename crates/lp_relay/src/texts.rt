@@ -1,5 +1,6 @@
 //! Which bytes are text.
 ghost use Rattle.std.specs.Prelude.{◌≡◌, IsUtf8, MatchResult};
+ghost use Rattle.lp_relay.specs.Objects.{utf8_front};
 
 use simdutf8::basic::{self, Utf8Error};
 use std::str;
@@ -16,4 +17,14 @@ pub(crate) fn text_of(bytes: &[u8]) -> Result<&str, Utf8Error>
         return str::from_utf8(bytes).map_err(|_| Utf8Error);
     }
     basic::from_utf8(bytes)
+}
+
+// The longest front of bytes that is UTF-8.
+pub(crate) fn utf8_front(bytes: &[u8]) -> &str
+    ensures { result.now ≡ utf8_front bytes.now }
+{
+    match str::from_utf8(bytes) {
+        Ok(text) => text,
+        Err(fault) => str::from_utf8(&bytes[..fault.valid_up_to()]).unwrap_or(""),
+    }
 }

@@ -1,1 +1,2 @@
+pub mod TimeWords
 pub mod Words

@@ -1,20 +1,26 @@
 -- What words ask of the program.
-use Rattle.std.specs.Prelude.{ℕ, Bool, true, false, not, ◌&&◌, ◌||◌, List, [], ◌∷◌, length, bytes_eq, codes}
-use Rattle.std.specs.Prelude.{Option, Some, None, is_none, is_some, option_map, unwrap_or}
+use Rattle.std.specs.Prelude.{ℕ, pos, Bool, true, false, not, ◌&&◌, ◌||◌, List, [], ◌∷◌, length, bytes_eq, codes}
+use Rattle.std.specs.Prelude.{Option, Some, None, is_none, is_some, option_and_then, option_map, unwrap_or}
 use Rattle.std.specs.Prelude.{if◌then◌else◌}
 use Rattle.std.specs.Borrow.{Bor}
 use Rattle.std.specs.Option.{option_map_or}
 use Rattle.influxdb_line_protocol.specs.types.Dialect.{Dialect}
 use Rattle.influxdb_line_protocol.specs.types.Dialect.TheVariants.{Crate, Strict, NewlineDelimited}
+use Rattle.influxdb_line_protocol.specs.types.{Limits.Limits as Most, Servers.Servers}
+use Rattle.influxdb_line_protocol.specs.types.Servers.TheVariants.{Influx1, Victoria, All}
+use Rattle.lp_relay.specs.declared.{field_types.StrictTypes.StrictTypes, portable.Portable.Portable}
 use Rattle.lp_relay.specs.declared.telling.Faults.{Faults}
 use Rattle.lp_relay.specs.declared.telling.Faults.TheVariants.{Raw, OneLine, Json}
 use Rattle.lp_relay.specs.declared.taking.LineForm.{LineForm}
 use Rattle.lp_relay.specs.declared.taking.LineForm.TheVariants.{Rebuilt, Verbatim, Canonical}
 use Rattle.lp_relay.specs.declared.taking.Numbering.TheVariants as named
 use Rattle.lp_relay.specs.declared.taking.Settings.{Settings}
+use Rattle.lp_relay.specs.declared.times.{Times.Times, TimeUnit.TheVariants.Nanos}
 use Rattle.lp_relay_program.specs.declared.words.Given.{Given}
-use Rattle.lp_programs.specs.declared.{relays.Request.Request, batches.Limits.Limits}
-use Rattle.lp_programs.specs.Options.{are_inputs, asked_range, decimal, default_max_line, faults_form, first_number, is_one_if, names_file}
+use Rattle.lp_relay_program.specs.TimeWords.{asked_time, asked_times, unit_named}
+use Rattle.lp_programs.specs.declared.{relays.Request.Request, batches.Limits.Limits, refusals.OldPieces.OldPieces}
+use Rattle.lp_programs.specs.declared.refusals.OldPieces.TheVariants.{Refuse, Append, Replace}
+use Rattle.lp_programs.specs.Options.{asked_range, decimal, default_max_line, faults_form, first_number, is_one_if, named_inputs, names_file, names_input, told_file}
 use Rattle.lp_relay_program.specs.declared.words.Task.{Task}
 use Rattle.lp_relay_program.specs.declared.words.Task.TheVariants.{Relay, Cut, Help, Version}
 
@@ -23,8 +29,15 @@ abbrev pub nothing_given : Given
 nothing_given = record {
   strict = false;
   newline_delimited = false;
+  crlf = false;
   verbatim = false;
   canonical = false;
+  portable = None;
+  types = false;
+  max_fields = None;
+  time_unit = None;
+  default_time = None;
+  times = None;
   lines = false;
   first_item = None;
   first_line = None;
@@ -33,8 +46,11 @@ nothing_given = record {
   summary = false;
   check = false;
   faults = None;
+  max_faults = None;
   output = None;
   refused = None;
+  append = false;
+  replace = false;
   batch_lines = None;
   batch_bytes = None;
   range = None;
@@ -45,15 +61,21 @@ abbrev pub is_json : Option Faults → Bool
 is_json None = false
 is_json (Some Raw) = false
 is_json (Some OneLine) = false
-is_json (Some (Json first_line)) = true
+is_json (Some (Json first_line has_piece)) = true
 
 -- whether fault lines name lines of the input, and no items: objects name both
 abbrev pub names_lines : Given → Bool
 names_lines given = (given.lines || is_some given.first_line) && not (is_json given.faults)
 
+-- how faults are told, if objects name lines from this one on
+abbrev pub from_line : (first : ℕ) → Faults → Faults
+from_line first Raw = Raw
+from_line first OneLine = OneLine
+from_line first (Json line has_piece) = Json first has_piece
+
 -- how faults are told, with the number of the first line that objects name
 abbrev pub told_form : Given → Faults
-told_form given = if is_json given.faults then Json (unwrap_or given.first_line 1) else unwrap_or given.faults OneLine
+told_form given = from_line (unwrap_or given.first_line 1) (unwrap_or given.faults OneLine)
 
 -- the number of what fault lines name first
 abbrev pub first_named : Given → ℕ
@@ -71,15 +93,49 @@ lines_form given = if given.verbatim then Verbatim else (if given.canonical then
 abbrev pub first_offset : Given → ℕ
 first_offset given = option_map_or (λ range. range.from) given.range 0
 
+-- the servers that a word names
+abbrev pub servers_named : List ℕ → Option Servers
+servers_named word =
+    if bytes_eq word (codes "influx1") then Some Influx1
+    else (if bytes_eq word (codes "victoria") then Some Victoria else (if bytes_eq word (codes "all") then Some All else None))
+
+-- the limits of servers whose options are as they come
+abbrev pub usual_limits : Most
+usual_limits = record { line = 262144; tags = 29; earliest = pos 1000000; latest = pos 9223372036854775807 }
+
+-- to which servers lines are to be portable
+abbrev pub portable_form : List ℕ → Option Portable
+portable_form word = option_map (λ to. record { to = to; limits = usual_limits }) (servers_named word)
+
+-- whether the types of fields stay, and of how many at most: of a million, if no option says it
+abbrev pub types_form : Given → Option StrictTypes
+types_form given = if given.types then Some (record { max_fields = unwrap_or given.max_fields 1000000 }) else None
+
+-- with which times lines go out, if an option says so: timestamps that come are in nanoseconds, if no option says it
+abbrev pub times_form : Given → Option Times
+times_form given =
+    if is_none given.time_unit && is_none given.default_time && is_none given.times then None
+    else Some (record {
+      unit = unwrap_or given.time_unit Nanos;
+      missing = given.default_time;
+      from = option_and_then (λ range. range.from) given.times;
+      to = option_and_then (λ range. range.to) given.times;
+    })
+
 -- the settings of the options that were given: those that were not have their defaults
 abbrev pub given_settings : Given → Settings
 given_settings given = record {
   dialect = asked_dialect given;
   limit = unwrap_or given.max_line default_max_line;
+  drops_returns = given.crlf;
   lines = lines_form given;
+  portable = given.portable;
+  types = types_form given;
+  times = times_form given;
   numbering = if names_lines given then named.Lines else named.Items;
   first = first_named given;
   faults = told_form given;
+  max_faults = given.max_faults;
   puts_refused = is_some given.refused;
   counts_kinds = given.summary;
   file = None;
@@ -92,67 +148,139 @@ given_batches given =
     if is_some given.batch_lines || is_some given.batch_bytes
     then Some (record { lines = given.batch_lines; bytes = given.batch_bytes }) else None
 
+-- what becomes of the pieces that the file of refused pieces holds: a run is refused, unless an option says it
+abbrev pub given_old_pieces : Given → OldPieces
+given_old_pieces given = if given.append then Append else (if given.replace then Replace else Refuse)
+
 -- whether two options exclude each other: a check has no file for lines, and no batches, the number of the first item is none of a line,
--- lines go out in one way, and the rules are those of one dialect
+-- lines go out in one way, the rules are those of one dialect, and refused pieces are added to their file or replace it
 abbrev pub are_at_odds : Given → Bool
 are_at_odds given =
     (given.check && (is_some given.output || is_some given.batch_lines || is_some given.batch_bytes)) || (is_some given.first_item && names_lines given) || (given.verbatim && given.canonical)
-    || (given.strict && given.newline_delimited)
+    || (given.strict && given.newline_delimited) || (given.append && given.replace)
 
--- the relay of the options that were given and of the inputs that words name, if each names an input, just one does if a part of it is
--- asked for, and no options exclude each other
-abbrev pub request_of : Given → List (Bor (List ℕ)) → Option Request
-request_of given words =
-    if are_inputs words && is_one_if (is_some given.range) words && not (are_at_odds given)
+-- whether fields have a limit, but no types that stay
+abbrev pub lacks_types : Given → Bool
+lacks_types given = is_some given.max_fields && not given.types
+
+-- whether there are options of refused pieces without a file for these, or the pieces would go to standard output with the lines
+abbrev pub lacks_refused : Given → Bool
+lacks_refused given =
+    option_map_or (λ name. bytes_eq name.now (codes "-") && not given.check && is_none given.output) given.refused
+    (given.append || given.replace)
+
+-- the relay of the options that were given and of inputs of these names, if there is just one where a part of it is asked for, no options
+-- exclude each other, and none lacks the one that it needs
+abbrev pub request_with : Given → List (Bor (List ℕ)) → Option Request
+request_with given names =
+    if is_one_if (is_some given.range) names && not (are_at_odds given || lacks_types given || lacks_refused given)
     then Some (record {
-      relay = given_settings given;
+      relay = record (given_settings given) { file = told_file (told_form given) names };
       progress = given.progress;
       check = given.check;
       output = given.output;
       refused = given.refused;
+      old_pieces = given_old_pieces given;
       batches = given_batches given;
       range = given.range;
-      inputs = length words;
+      inputs = length names;
     })
     else None
 
--- the options with the one that a word names, if that was not given before and takes no word after it
-abbrev pub with_flag : Given → List ℕ → Option Given
-with_flag given word =
+-- the same, of the inputs that words name after the mark
+abbrev pub request_of : Given → List (Bor (List ℕ)) → Option Request
+request_of given words = option_and_then (request_with given) (named_inputs words)
+
+-- the options with the one that a word names, if that was not given before and says what becomes of old refused pieces
+abbrev pub with_old_pieces : Given → List ℕ → Option Given
+with_old_pieces given word =
+    if bytes_eq word (codes "--append") && not given.append then Some (record given { append = true })
+    else (if bytes_eq word (codes "--replace") && not given.replace then Some (record given { replace = true }) else None)
+
+-- the same, if it says how lines come or go out
+abbrev pub with_form : Given → List ℕ → Option Given
+with_form given word =
+    if bytes_eq word (codes "--crlf") && not given.crlf then Some (record given { crlf = true })
+    else (if bytes_eq word (codes "--verbatim") && not given.verbatim then Some (record given { verbatim = true })
+    else (if bytes_eq word (codes "--canonical") && not given.canonical then Some (record given { canonical = true })
+    else None))
+
+-- the same, if it takes no word after it and is none of these
+abbrev pub with_switch : Given → List ℕ → Option Given
+with_switch given word =
     if bytes_eq word (codes "--strict") && not given.strict then Some (record given { strict = true })
     else (if bytes_eq word (codes "--newline-delimited") && not given.newline_delimited
     then Some (record given { newline_delimited = true })
-    else (if bytes_eq word (codes "--verbatim") && not given.verbatim then Some (record given { verbatim = true })
-    else (if bytes_eq word (codes "--canonical") && not given.canonical then Some (record given { canonical = true })
     else (if bytes_eq word (codes "--lines") && not given.lines then Some (record given { lines = true })
     else (if bytes_eq word (codes "--progress") && not given.progress then Some (record given { progress = true })
     else (if bytes_eq word (codes "--summary") && not given.summary then Some (record given { summary = true })
     else (if bytes_eq word (codes "--check") && not given.check then Some (record given { check = true })
-    else None)))))))
+    else None)))))
 
--- the same, if the word after it says what it takes
-abbrev pub with_value : Given → List ℕ → Bor (List ℕ) → Option Given
-with_value given word value =
+-- the first of two that is there
+abbrev pub first_given : Option Given → Option Given → Option Given
+first_given (Some given) other = Some given
+first_given None other = other
+
+-- the options with the one that a word names, if that was not given before and takes no word after it
+abbrev pub with_flag : Given → List ℕ → Option Given
+with_flag given word = first_given (with_switch given word) (first_given (with_form given word) (with_old_pieces given word))
+
+-- the same, if the word after it is the number that it takes
+abbrev pub with_number : Given → List ℕ → Bor (List ℕ) → Option Given
+with_number given word value =
     if bytes_eq word (codes "--max-line") && is_none given.max_line
     then option_map (λ bytes. record given { max_line = Some bytes }) (decimal value.now)
     else (if bytes_eq word (codes "--first-item") && is_none given.first_item
     then option_map (λ first. record given { first_item = Some first }) (first_number value.now)
     else (if bytes_eq word (codes "--first-line") && is_none given.first_line
     then option_map (λ first. record given { first_line = Some first }) (first_number value.now)
-    else (if bytes_eq word (codes "--faults") && is_none given.faults
-    then option_map (λ form. record given { faults = Some form }) (faults_form value.now)
-    else (if (bytes_eq word (codes "--output") || bytes_eq word (codes "-o")) && is_none given.output && names_file value.now
-    then Some (record given { output = Some value })
-    else (if bytes_eq word (codes "--refused") && is_none given.refused && names_file value.now
-    then Some (record given { refused = Some value })
     else (if bytes_eq word (codes "--batch-lines") && is_none given.batch_lines
     then option_map (λ most. record given { batch_lines = Some most }) (first_number value.now)
     else (if bytes_eq word (codes "--batch-bytes") && is_none given.batch_bytes
     then option_map (λ most. record given { batch_bytes = Some most }) (first_number value.now)
-    else (if bytes_eq word (codes "--range") && is_none given.range
-    then option_map (λ range. record given { range = Some range }) (asked_range value.now) else None))))))))
+    else (if bytes_eq word (codes "--max-fields") && is_none given.max_fields
+    then option_map (λ most. record given { max_fields = Some most }) (decimal value.now)
+    else (if bytes_eq word (codes "--max-faults") && is_none given.max_faults
+    then option_map (λ most. record given { max_faults = Some most }) (decimal value.now) else None))))))
 
--- the relay that words ask for after the options given: each option is one that was not given before it, and inputs come last
+-- the same, if the word after it names a file
+abbrev pub with_file : Given → List ℕ → Bor (List ℕ) → Option Given
+with_file given word value =
+    if (bytes_eq word (codes "--output") || bytes_eq word (codes "-o")) && is_none given.output && names_file value.now
+    then Some (record given { output = Some value })
+    else (if bytes_eq word (codes "--refused") && is_none given.refused && names_input value.now
+    then Some (record given { refused = Some value }) else None)
+
+-- the same, if the word after it is another that it takes
+abbrev pub with_word : Given → List ℕ → Bor (List ℕ) → Option Given
+with_word given word value =
+    if bytes_eq word (codes "--faults") && is_none given.faults
+    then option_map (λ form. record given { faults = Some form }) (faults_form value.now)
+    else (if bytes_eq word (codes "--portable") && is_none given.portable
+    then option_map (λ portable. record given { portable = Some portable }) (portable_form value.now)
+    else (if bytes_eq word (codes "--types") && not given.types && bytes_eq value.now (codes "strict")
+    then Some (record given { types = true })
+    else (if bytes_eq word (codes "--range") && is_none given.range
+    then option_map (λ range. record given { range = Some range }) (asked_range value.now) else None)))
+
+-- the same, if it is of the times of lines
+abbrev pub with_times : Given → List ℕ → Bor (List ℕ) → Option Given
+with_times given word value =
+    if bytes_eq word (codes "--time-unit") && is_none given.time_unit
+    then option_map (λ unit. record given { time_unit = Some unit }) (unit_named value.now)
+    else (if bytes_eq word (codes "--default-time") && is_none given.default_time
+    then option_map (λ time. record given { default_time = Some time }) (asked_time value.now)
+    else (if bytes_eq word (codes "--times") && is_none given.times
+    then option_map (λ range. record given { times = Some range }) (asked_times value.now) else None))
+
+-- the same, if the word after it says what it takes
+abbrev pub with_value : Given → List ℕ → Bor (List ℕ) → Option Given
+with_value given word value =
+    first_given (with_number given word value)
+    (first_given (with_times given word value) (first_given (with_file given word value) (with_word given word value)))
+
+-- the relay that words in order ask for after the options given: each option is one that was not given before it
 abbrev mutual
   pub asked_request : Given → List (Bor (List ℕ)) → Option Request
   asked_request given [] = request_of given []
@@ -165,21 +293,23 @@ abbrev mutual
   asked_after given word (value ∷ words) =
       option_map_or (λ more. asked_request more words) (with_value given word.now value) (request_of given (word ∷ value ∷ words))
 
--- what one word alone asks for: `--help` or `-h` the usage, `--version` the version
+-- what one option alone asks for: `--help` or `-h` the usage, `--version` the version
 abbrev pub asked_alone : List (Bor (List ℕ)) → Option Task
 asked_alone [] = None
-asked_alone (word ∷ []) =
-    if bytes_eq word.now (codes "--help") || bytes_eq word.now (codes "-h") then Some Help
-    else (if bytes_eq word.now (codes "--version") then Some Version else None)
-asked_alone (word ∷ next ∷ words) = None
+asked_alone (word ∷ []) = None
+asked_alone (word ∷ mark ∷ []) =
+    if not (bytes_eq mark.now (codes "--")) then None
+    else (if bytes_eq word.now (codes "--help") || bytes_eq word.now (codes "-h") then Some Help
+    else (if bytes_eq word.now (codes "--version") then Some Version else None))
+asked_alone (word ∷ mark ∷ name ∷ words) = None
 
 -- `--cut` and a number ask for the ends of so many parts of the inputs that the other words name
 abbrev pub cut_task : Dialect → List (Bor (List ℕ)) → Option Task
 cut_task dialect [] = None
 cut_task dialect (word ∷ []) = None
-cut_task dialect (word ∷ count ∷ inputs) =
-    if bytes_eq word.now (codes "--cut") && are_inputs inputs
-    then option_map (λ parts. Cut dialect parts (length inputs)) (decimal count.now) else None
+cut_task dialect (word ∷ count ∷ words) =
+    if bytes_eq word.now (codes "--cut")
+    then option_and_then (λ names. option_map (λ parts. Cut dialect parts (length names)) (decimal count.now)) (named_inputs words) else None
 
 -- the cut that words ask for, first or after the option of a dialect
 abbrev pub asked_cut : List (Bor (List ℕ)) → Option Task
@@ -188,7 +318,7 @@ asked_cut (word ∷ words) =
     if bytes_eq word.now (codes "--strict") then cut_task Strict words
     else (if bytes_eq word.now (codes "--newline-delimited") then cut_task NewlineDelimited words else cut_task Crate (word ∷ words))
 
--- what the words after the program's name ask for
+-- what words in order ask for
 abbrev pub asked_task : List (Bor (List ℕ)) → Option Task
 asked_task words =
     if is_some (asked_alone words) then asked_alone words

@@ -2,8 +2,9 @@
 ghost use Rattle.std.specs.Prelude.{◌≡◌, IfNone, IfSome};
 ghost use Rattle.lp_relay_program.specs.Words.{asked_task};
 
-use crate::words::{HELP, Task, USAGE, VERSION, task_of};
+use crate::words::{HELP, MANUAL, Task, USAGE, options_in, task_of};
 use influxdb_line_protocol::Dialect;
+use lp_programs::arguments::refuse_words;
 use lp_programs::asked::{ReadsOn, part_ends_of};
 use lp_programs::endings::{Device, ending_of_cut, status_of_print};
 use lp_programs::errors::{LastErrors, Watched};
@@ -11,12 +12,15 @@ use lp_programs::inputs::{Inputs, SystemOpener};
 use lp_programs::places::file_len;
 use lp_programs::refusals::{names_of, refusal_of_parts};
 use lp_programs::relays::{end, refuse, refuse_files, relay};
+use lp_programs::speaking::Speaker;
+use lp_programs::version::print_version;
 use lp_rebuild::{Reading, RunFault};
 use lp_relay::part_ends_at;
+use std::cell::Cell;
 use std::fs::File;
 
-// The name of the program.
-const NAME: &str = "lp_relay";
+/// The name of the program.
+pub(crate) const NAME: &str = "lp_relay";
 
 // Where a file of so many bytes can be cut into parts. Blocks of it are read.
 fn ends_of_file<'n>(
@@ -52,7 +56,9 @@ fn ends_of<'n>(
             return ends_of_file(rt, dialect, count, name, len, errors);
         }
     }
-    let inputs = Inputs::new(SystemOpener::new(rt, &errors.input, None), names);
+    let is_marked = Cell::new(false);
+    let opener = SystemOpener::new(rt, &errors.input, &is_marked, None);
+    let inputs = Inputs::new(opener, names);
     let mut inputs = lp_relay::Inputs {
         reader: Reading::new(Watched::new(&errors.input, inputs)),
         next: ReadsOn,
@@ -87,24 +93,25 @@ fn cut(rt: &HostRuntime, dialect: Dialect, count: usize, names: &[&str]) -> u8 {
         Ok(()) => Ok(()),
         Err(fault) => Err(errors.now().failure(fault)),
     };
-    end(rt, NAME, ending_of_cut(answer))
+    end(rt, Speaker::by_texts(NAME), ending_of_cut(answer))
 }
 
-/// Prints how the program is called, since its words ask for nothing, and answers with the exit status.
-pub(crate) fn refuse_words(rt: &HostRuntime) -> u8
+// Says what is wrong with words that ask for nothing, and answers with the exit status.
+fn refuse_wrong(rt: &HostRuntime, words: &[&str]) -> u8
     ensures { result ≡ 2 }
 {
-    let _ = eprintln!(rt; "{USAGE}");
-    2
+    let wrong = MANUAL.wrong_words(rt.alloc(), words, options_in(words));
+    refuse_words(rt, NAME, wrong)
 }
 
 // Says why a cut into so many parts is refused, if it is.
 fn refuse_cut(rt: &HostRuntime, parts: usize, names: &[&str]) -> Option<u8>
     ensures { IfSome result (λ status. status ≡ 2) }
 {
-    match refuse(rt, NAME, refusal_of_parts(parts)) {
+    let program = Speaker::by_texts(NAME);
+    match refuse(rt, program, refusal_of_parts(parts)) {
         Some(status) => Some(status),
-        None => refuse_files(rt, NAME, names, None, None),
+        None => refuse_files(rt, program, names, None, None),
     }
 }
 
@@ -125,7 +132,7 @@ pub(crate) fn run_words(rt: &HostRuntime, words: &[&str]) -> u8
             }
         }
         Some(Task::Help) => status_of_print(println!(rt; "{USAGE}\n{HELP}")),
-        Some(Task::Version) => status_of_print(println!(rt; "lp_relay {VERSION}")),
-        None => refuse_words(rt),
+        Some(Task::Version) => print_version(rt, NAME),
+        None => refuse_wrong(rt, words),
     }
 }

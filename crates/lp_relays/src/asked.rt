@@ -1,7 +1,7 @@
 //! What the first cell of a row asks for: by which settings its text is relayed, and how it comes.
 
 use influxdb_line_protocol::Dialect;
-use lp_relay::{Faults, LineForm, Numbering, Settings, Shard};
+use lp_relay::{Faults, LineForm, Numbering, Settings, Shard, StrictTypes};
 use lp_vectors::rows::number_of;
 
 const ALL: &[Dialect] = &[Dialect::Crate, Dialect::Strict, Dialect::NewlineDelimited];
@@ -43,6 +43,7 @@ impl Asked {
             "both" => self.dialects = BOTH,
             "all" => self.dialects = ALL,
             "lines" => self.settings.numbering = Numbering::Lines,
+            "crlf" => self.settings.drops_returns = true,
             "verbatim" => self.settings.lines = LineForm::Verbatim,
             "canonical" => self.settings.lines = LineForm::Canonical,
             "keyed" => self.settings.lines = LineForm::Keyed,
@@ -59,8 +60,15 @@ impl Asked {
         match name {
             "limit" => self.settings.limit = number,
             "first" => self.settings.first = number,
-            "json" => self.settings.faults = Faults::Json { first_line: number },
+            "max_faults" => self.settings.max_faults = Some(number),
+            "json" | "json_text" => {
+                self.settings.faults = Faults::Json {
+                    first_line: number,
+                    has_piece: name == "json_text",
+                };
+            }
             "reads" => self.reads = Some(number),
+            "types" => self.settings.types = Some(StrictTypes { max_fields: number }),
             "shards" => self.settings.lines = shard(0, number),
             "shard" => match self.settings.lines {
                 LineForm::OfShard(of) => self.settings.lines = shard(

@@ -6,8 +6,9 @@ use Rattle.influxdb_line_protocol.specs.types.Dialect.{Dialect, TheVariants.Crat
 use Rattle.lp_relay.specs.declared.{taking.LineForm.LineForm, taking.Shard.Shard, telling.Faults.TheVariants.OneLine}
 use Rattle.lp_relay.specs.declared.taking.LineForm.TheVariants.{Verbatim, Keyed, OfShard}
 use Rattle.lp_relay.specs.declared.taking.Numbering.TheVariants as named
-use Rattle.lp_programs.specs.Options.{are_inputs, decimal, default_max_line, faults_form, first_number, names_file}
+use Rattle.lp_programs.specs.Options.{decimal, default_max_line, faults_form, first_number, named_inputs, names_file, told_file}
 use Rattle.lp_programs.specs.declared.relays.Request.{Request}
+use Rattle.lp_programs.specs.declared.refusals.OldPieces.TheVariants.{Refuse}
 use Rattle.lp_series_program.specs.declared.words.{Given.Given, Report.Report, Task.Task, Task.TheVariants.Relay, Task.TheVariants.Count, Task.TheVariants.Help, Task.TheVariants.Version}
 
 -- no option was given
@@ -53,28 +54,34 @@ abbrev pub are_at_odds : Given → Bool
 are_at_odds given =
     (given.strict && (given.newline_delimited || given.key)) || (given.key && is_some given.shard) || (is_relay given && asks_to_count given)
 
--- the relay of the options that were given, and of so many inputs. The kinds of faults are counted if lines are
-abbrev pub given_relay : Given → ℕ → Request
-given_relay given inputs = record {
+-- the relay of the options that were given, and of the inputs that words name. The kinds of faults are counted if lines are
+abbrev pub given_relay : Given → List (Bor (List ℕ)) → Request
+given_relay given words = record {
   relay = record {
     dialect = asked_dialect given;
     limit = unwrap_or given.max_line default_max_line;
+    drops_returns = false;
     lines = lines_form given;
+    portable = None;
+    types = None;
+    times = None;
     numbering = named.Items;
     first = 1;
     faults = unwrap_or given.faults OneLine;
+    max_faults = None;
     puts_refused = false;
     counts_kinds = not (is_relay given);
-    file = None;
+    file = told_file (unwrap_or given.faults OneLine) words;
     first_offset = 0;
   };
   progress = false;
   check = not (is_relay given);
   output = None;
   refused = None;
+  old_pieces = Refuse;
   batches = None;
   range = None;
-  inputs = inputs;
+  inputs = length words;
 }
 
 -- how it is told what was counted
@@ -86,12 +93,16 @@ given_report given = record {
   prometheus = given.prometheus;
 }
 
--- the task of the options that were given and of the inputs that words name, if each names an input and no options exclude each other
-abbrev pub task_given : Given → List (Bor (List ℕ)) → Option Task
-task_given given words =
-    if are_inputs words && not (are_at_odds given)
-    then Some (if is_relay given then Relay (given_relay given (length words)) else Count (given_relay given (length words)) (given_report given))
+-- the task of the options that were given and of inputs of these names, if no options exclude each other
+abbrev pub task_with : Given → List (Bor (List ℕ)) → Option Task
+task_with given names =
+    if not (are_at_odds given)
+    then Some (if is_relay given then Relay (given_relay given names) else Count (given_relay given names) (given_report given))
     else None
+
+-- the same, of the inputs that words name after the mark
+abbrev pub task_given : Given → List (Bor (List ℕ)) → Option Task
+task_given given words = option_and_then (task_with given) (named_inputs words)
 
 -- the options with the one that a word names, if that was not given before and takes no word after it
 abbrev pub with_flag : Given → List ℕ → Option Given
@@ -129,7 +140,7 @@ with_value given word value =
     else (if bytes_eq word (codes "--prometheus") && is_none given.prometheus && names_file value.now
     then Some (record given { prometheus = Some value }) else None)))))
 
--- the task that words ask for after the options given: each option is one that was not given before it, and inputs come last
+-- the task that words in order ask for after the options given: each option is one that was not given before it
 abbrev mutual
   pub asked_after_options : Given → List (Bor (List ℕ)) → Option Task
   asked_after_options given [] = task_given given []
@@ -142,10 +153,16 @@ abbrev mutual
   asked_after given word (value ∷ words) =
       option_map_or (λ more. asked_after_options more words) (with_value given word.now value) (task_given given (word ∷ value ∷ words))
 
--- what the words after the program's name ask for: `--help` or `-h` alone the usage, `--version` alone the version
+-- what one option alone asks for: `--help` or `-h` the usage, `--version` the version
+abbrev pub asked_alone : List (Bor (List ℕ)) → Option Task
+asked_alone [] = None
+asked_alone (word ∷ []) = None
+asked_alone (word ∷ mark ∷ []) =
+    if not (bytes_eq mark.now (codes "--")) then None
+    else (if bytes_eq word.now (codes "--help") || bytes_eq word.now (codes "-h") then Some Help
+    else (if bytes_eq word.now (codes "--version") then Some Version else None))
+asked_alone (word ∷ mark ∷ name ∷ words) = None
+
+-- what words in order ask for
 abbrev pub asked_task : List (Bor (List ℕ)) → Option Task
-asked_task [] = asked_after_options nothing_given []
-asked_task (word ∷ []) =
-    if bytes_eq word.now (codes "--help") || bytes_eq word.now (codes "-h") then Some Help
-    else (if bytes_eq word.now (codes "--version") then Some Version else asked_after_options nothing_given (word ∷ []))
-asked_task (word ∷ next ∷ words) = asked_after_options nothing_given (word ∷ next ∷ words)
+asked_task words = if is_some (asked_alone words) then asked_alone words else asked_after_options nothing_given words

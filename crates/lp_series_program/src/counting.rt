@@ -7,6 +7,7 @@ use crate::words::Report;
 use influxdb_line_protocol::Dialect;
 use lp_programs::Counts;
 use lp_programs::endings::Failure;
+use lp_programs::speaking::Speaker;
 use lp_programs::watched::Watcher;
 use lp_relay::KindCounts;
 use lp_series::SeriesCounter;
@@ -17,6 +18,8 @@ use std::time::Instant;
 #[derive(Drop)]
 pub(crate) struct Counting<'a, 'n> {
     rt: &'a HostRuntime,
+    // What says that a file of metrics is not of the owner of the old one.
+    program: Speaker<'a>,
     report: Report<'n>,
     read: Counts,
     counter: SeriesCounter,
@@ -33,12 +36,14 @@ impl<'a, 'n> Counting<'a, 'n> {
     /// Nothing was read so far. Lines longer than `limit` are not counted.
     pub(crate) fn new(
         rt: &'a HostRuntime,
+        program: Speaker<'a>,
         dialect: Dialect,
         limit: usize,
         report: Report<'n>,
     ) -> Self {
         Counting {
             rt,
+            program,
             report,
             read: Counts::none(),
             counter: SeriesCounter::new(rt.alloc(), dialect, limit, report.max_series),
@@ -79,7 +84,7 @@ impl<'a, 'n> Counting<'a, 'n> {
             items_refused: self.counter.refused(),
             refused,
         };
-        tell(self.rt, self.report, counted)
+        tell(self.rt, self.program, self.report, counted)
     }
 }
 

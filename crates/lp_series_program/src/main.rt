@@ -6,28 +6,22 @@ mod report;
 mod runs;
 mod words;
 
+use lp_programs::arguments::{arguments_of, refuse_memory};
 use lp_programs::places::Closed;
-use runs::{refuse_words, run_words};
-use std::env;
+use lp_programs::plain::words_in_order;
+use runs::run_words;
 use std::process::ExitCode;
-
-// The words after the program's name, or `None` if they cannot be read.
-fn arguments_of(rt: &HostRuntime) -> Option<Vec<String>> {
-    env::args(rt).ok()?.skip(1).collect(rt.alloc()).ok()
-}
+use words::{NAME, VALUED};
 
 fn main(rt: HostRuntime) -> ExitCode {
     let _closed = Closed::hold(&rt);
-    let Some(arguments) = arguments_of(&rt) else {
-        return ExitCode::from(refuse_words(&rt));
+    let arguments = match arguments_of(&rt, NAME) {
+        Ok(arguments) => arguments,
+        Err(status) => return ExitCode::from(status),
     };
-    let words: Result<Vec<&str>, _> = arguments
-        .iter()
-        .map(|word| word.as_str())
-        .collect(rt.alloc());
-    let status = match words {
+    let status = match words_in_order(rt.alloc(), VALUED, arguments.as_slice()) {
         Ok(words) => run_words(&rt, words.as_slice()),
-        Err(_) => refuse_words(&rt),
+        Err(_) => refuse_memory(&rt, NAME),
     };
     ExitCode::from(status)
 }

@@ -6,6 +6,7 @@ use crate::words::Report;
 use lp_programs::Counts;
 use lp_programs::endings::{Device, Failure};
 use lp_programs::relays::put_text;
+use lp_programs::speaking::Speaker;
 use lp_rebuild::RunFault;
 use lp_relay::{KINDS, KindCounts, put_json_text, tell_bytes};
 use lp_series::{FieldKinds, MeasurementCounts, SeriesCounts};
@@ -506,13 +507,14 @@ fn failure_of_output<'n>(error: io::Error) -> Failure<'n> {
     }
 }
 
-/// Tells what was counted, as a report says: to its file, or to standard output.
+/// Tells what was counted, as a report says: to its file, or to standard output. What is said of the file, the program says.
 ///
 /// # Errors
 ///
 /// `Write` if it cannot be written, and `OutOfMemory`.
 pub(crate) fn tell<'n>(
     rt: &HostRuntime,
+    program: Speaker<'_>,
     report: Report<'n>,
     counted: Counted<'_>,
 ) -> Result<(), Failure<'n>> {
@@ -527,7 +529,7 @@ pub(crate) fn tell<'n>(
         });
     };
     match report.prometheus {
-        Some(name) => put_text(rt, name, text.as_str()),
+        Some(name) => put_text(rt, program, name, text.as_str()),
         None => print!(rt; "{text}").map_err(|error| failure_of_output(error)),
     }
 }

@@ -3,15 +3,15 @@ ghost use Rattle.std.specs.Prelude.{◌≡◌, IfNone};
 ghost use Rattle.lp_series_program.specs.Words.{asked_task};
 
 use crate::counting::Counting;
-use crate::words::{HELP, Report, Task, USAGE, VERSION, task_of};
+use crate::words::{HELP, MANUAL, NAME, Report, Task, USAGE, options_in, task_of};
 use lp_programs::Totals;
+use lp_programs::arguments::refuse_words;
 use lp_programs::endings::{Failure, ending_of_relay, status_of_print};
 use lp_programs::refusals::names_of;
-use lp_programs::relays::{Request, end, refuse_files, relay, relay_to_files};
+use lp_programs::relays::{Request, end, refuse_files, relay, relay_to_files, remove_all_left};
+use lp_programs::speaking::Speaker;
+use lp_programs::version::print_version;
 use lp_rebuild::RunFault;
-
-// The name of the program.
-const NAME: &str = "lp_series";
 
 // How a count ended that a relay answered so: if memory was refused for it, or it could not be told, that is why.
 fn answer_of<'n>(
@@ -33,12 +33,19 @@ fn answer_of<'n>(
 // Counts the lines of the inputs of these names, and tells what was counted, also if the inputs could not be read to their end.
 fn count<'n>(
     rt: &HostRuntime,
+    program: Speaker<'_>,
     request: Request<'n>,
     names: &'n [&'n str],
     report: Report<'n>,
 ) -> Result<Totals, Failure<'n>> {
-    let counting = Counting::new(rt, request.relay.dialect, request.relay.limit, report);
-    let (answer, counting) = relay_to_files(rt, request, names, counting);
+    let counting = Counting::new(
+        rt,
+        program,
+        request.relay.dialect,
+        request.relay.limit,
+        report,
+    );
+    let (answer, counting) = relay_to_files(rt, program, request, names, counting);
     let totals = answer_of(answer, &counting);
     if counting.failure.is_some() {
         return totals;
@@ -61,19 +68,21 @@ fn count_files<'n>(
     names: &'n [&'n str],
     report: Report<'n>,
 ) -> u8 {
-    if let Some(status) = refuse_files(rt, NAME, names, report.prometheus, None) {
+    let program = Speaker::as_faults(NAME, request.relay.faults);
+    if let Some(status) = refuse_files(rt, program, names, report.prometheus, None) {
         return status;
     }
-    let answer = count(rt, request, names, report);
-    end(rt, NAME, ending_of_relay(request.relay, answer))
+    remove_all_left(rt, program, report.prometheus);
+    let answer = count(rt, program, request, names, report);
+    end(rt, program, ending_of_relay(request.relay, answer))
 }
 
-/// Prints how the program is called, since its words ask for nothing, and answers with the exit status.
-pub(crate) fn refuse_words(rt: &HostRuntime) -> u8
+// Says what is wrong with words that ask for nothing, and answers with the exit status.
+fn refuse_wrong(rt: &HostRuntime, words: &[&str]) -> u8
     ensures { result ≡ 2 }
 {
-    let _ = eprintln!(rt; "{USAGE}");
-    2
+    let wrong = MANUAL.wrong_words(rt.alloc(), words, options_in(words));
+    refuse_words(rt, NAME, wrong)
 }
 
 /// Does what the words ask for, and answers with the exit status.
@@ -90,7 +99,7 @@ pub(crate) fn run_words(rt: &HostRuntime, words: &[&str]) -> u8
             count_files(rt, request, names, report)
         }
         Some(Task::Help) => status_of_print(println!(rt; "{USAGE}\n{HELP}")),
-        Some(Task::Version) => status_of_print(println!(rt; "{NAME} {VERSION}")),
-        None => refuse_words(rt),
+        Some(Task::Version) => print_version(rt, NAME),
+        None => refuse_wrong(rt, words),
     }
 }

@@ -5,10 +5,16 @@ ghost use Rattle.lp_series_program.specs.Words.{given_relay, given_report, is_re
 
 use influxdb_line_protocol::Dialect;
 use lp_programs::options::{
-    DEFAULT_MAX_LINE, are_inputs, decimal_of, faults_form_of, first_number_of, is_file, place_of,
+    DEFAULT_MAX_LINE, decimal_of, faults_form_of, first_number_of, inputs_of, is_file, place_of,
+    told_file,
 };
+use lp_programs::refusals::OldPieces;
 use lp_programs::relays::Request;
+use lp_programs::wrong::Manual;
 use lp_relay::{Faults, LineForm, Numbering, Settings, Shard};
+
+/// The name of the program.
+pub(crate) const NAME: &str = "lp_series";
 
 /// How the program is called: the lines that it prints if its words ask for nothing, without the last newline.
 pub const USAGE: &str =
@@ -20,9 +26,6 @@ pub const USAGE: &str =
        lp_series --shard K/N [--strict | --newline-delimited] [--faults line|raw|json]
                  [--max-line BYTES] [FILE..]
        lp_series --help | --version";
-
-/// The version of this state, which `--version` prints: the newest of CHANGELOG.md.
-pub const VERSION: &str = "3.0.0";
 
 /// What `--help` prints after that, without the last newline.
 pub const HELP: &str =
@@ -55,13 +58,49 @@ file -x.
                      it, with newlines within; json: each as an object on one line
   --max-line BYTES   a longer line is passed over, and is a fault: 16777216 if it is not given
   --help, -h         prints this
-  --version          prints the version
+  --version          prints the version, and the kit that it is built by
 
-The options come in any order, each at most once, before the files.
+The options come in any order, each at most once, before, between or after the files. A value may
+stand after =, as in --every=60, and each word after -- names a FILE.
 
 Status 0: every item was read, and with --key written; 1: some item was not; 2: the input could not
 be read, memory ran out, an output could not be written, or is an input too, or the arguments are
 wrong; 141: nothing reads the output, which is said by no message.";
+
+/// Options that have a value after them.
+pub(crate) const VALUED: &[&str] = &[
+    "--every",
+    "--prometheus",
+    "--max-series",
+    "--shard",
+    "--faults",
+    "--max-line",
+];
+
+/// Options that exclude each other.
+const ODDS: &[(&str, &str, &str)] = &[
+    ("--strict", "--newline-delimited", ""),
+    ("--strict", "--key", ""),
+    ("--key", "--shard", ""),
+    ("--key", "--stats", ""),
+    ("--key", "--json", ""),
+    ("--key", "--every", ""),
+    ("--key", "--prometheus", ""),
+    ("--key", "--max-series", ""),
+    ("--shard", "--stats", ""),
+    ("--shard", "--json", ""),
+    ("--shard", "--every", ""),
+    ("--shard", "--prometheus", ""),
+    ("--shard", "--max-series", ""),
+];
+
+/// What messages know of the options.
+pub(crate) const MANUAL: Manual<'static> = Manual {
+    usage: USAGE,
+    help: HELP,
+    odds: ODDS,
+    needs: &[],
+};
 
 /// How many series are kept if the words do not say it.
 pub const DEFAULT_MAX_SERIES: usize = 1_000_000;
@@ -180,30 +219,37 @@ impl<'a> Given<'a> {
             || self.is_relay() && self.asks_to_count()
     }
 
-    // The relay of these options, and of so many inputs.
-    fn relay(self, inputs: usize) -> Request<'a>
-        ensures { result ≡ given_relay self.entry inputs }
+    // The relay of these options, and of the inputs that words name.
+    fn relay(self, words: &[&'a str]) -> Request<'a>
+        ensures { result ≡ given_relay self.entry words.now }
     {
+        let faults = self.faults.unwrap_or(Faults::OneLine);
         Request {
             relay: Settings {
                 dialect: self.dialect(),
                 limit: self.max_line.unwrap_or(DEFAULT_MAX_LINE),
+                drops_returns: false,
                 lines: self.lines(),
+                portable: None,
+                types: None,
+                times: None,
                 numbering: Numbering::Items,
                 first: 1,
-                faults: self.faults.unwrap_or(Faults::OneLine),
+                faults,
+                max_faults: None,
                 puts_refused: false,
                 counts_kinds: !self.is_relay(),
-                file: None,
+                file: told_file(faults, words),
                 first_offset: 0,
             },
             progress: false,
             check: !self.is_relay(),
             output: None,
             refused: None,
+            old_pieces: OldPieces::Refuse,
             batches: None,
             range: None,
-            inputs,
+            inputs: words.len(),
         }
     }
 
@@ -219,14 +265,15 @@ impl<'a> Given<'a> {
         }
     }
 
-    // The task of these options and inputs, if each word names an input, and no options exclude each other.
-    fn task(self, words: &[&str]) -> Option<Task<'a>>
+    // The task of these options, and of the inputs that words name after the mark, if no options exclude each other.
+    fn task(self, words: &[&'a str]) -> Option<Task<'a>>
         ensures { result ≡ task_given self.entry words.now }
     {
-        if !are_inputs(words) || self.are_at_odds() {
+        let names = inputs_of(words)?;
+        if self.are_at_odds() {
             return None;
         }
-        let request = self.relay(words.len());
+        let request = self.relay(names);
         if self.is_relay() {
             return Some(Task::Relay(request));
         }
@@ -267,6 +314,28 @@ impl<'a> Given<'a> {
         }
         Some(self)
     }
+
+    // These options and the one that the first words give, and the words after these.
+    fn with_first<'w>(self, words: &'w [&'a str]) -> Option<(Self, &'w [&'a str])> {
+        let [word, rest @ ..] = words else {
+            return None;
+        };
+        if let Some(more) = self.with_flag(word) {
+            return Some((more, rest));
+        }
+        let [value, rest @ ..] = rest else {
+            return None;
+        };
+        Some((self.with_value(word, value)?, rest))
+    }
+
+    // The same, or nothing more if these words give none.
+    fn with_next<'w>(self, words: &'w [&'a str]) -> (Self, &'w [&'a str]) {
+        if let Some(next) = self.with_first(words) {
+            return next;
+        }
+        (self, words)
+    }
 }
 
 // The shard whose number and count these words write, if there is one.
@@ -292,7 +361,7 @@ fn shard_of(word: &str) -> Option<Shard>
     shard_between(&word[..at], &word[at + 1..])
 }
 
-// The task that words ask for after the options given. No option is taken twice, so it calls itself a few times at most.
+// The task that words in order ask for after the options given. No option is taken twice, so it calls itself a few times at most.
 fn task_after<'a>(given: Given<'a>, words: &[&'a str]) -> Option<Task<'a>>
     ensures { result ≡ asked_after_options given.entry words.now }
 {
@@ -311,23 +380,34 @@ fn task_after<'a>(given: Given<'a>, words: &[&'a str]) -> Option<Task<'a>>
     }
 }
 
-/// What the words after the program's name ask for, or `None` if they are not as [`USAGE`] says. It takes no memory.
+/// How many words are options that can be read, with what each takes: all before the first word that is none.
+pub(crate) fn options_in(words: &[&str]) -> usize {
+    let mut given = Given::nothing();
+    let mut left = words;
+    for _ in 0..words.len() {
+        (given, left) = given.with_next(left);
+    }
+    words.len().saturating_sub(left.len())
+}
+
+/// What words in order ask for, or `None` if they are not as [`USAGE`] says: options, the mark `--`, and names of inputs, as
+/// `plain_words` of `lp_programs` gives them. It takes no memory.
 ///
 /// ```text
-/// task_of(&[])                              gives  a count of standard input, which keeps a million series
-/// task_of(&["--json", "a", "-"])            gives  one of the file `a`, and of standard input after it, told as an object
-/// task_of(&["--key", "a"])                  gives  the lines of the file `a`, each after its key
-/// task_of(&["--shard", "0/4"])              gives  the lines of shard 0 of 4
-/// task_of(&["--shard", "4/4"])              gives  None
-/// task_of(&["--key", "--json"])             gives  None
-/// task_of(&["--key", "--strict"])           gives  None
+/// task_of(&["--"])                          gives  a count of standard input, which keeps a million series
+/// task_of(&["--json", "--", "a", "-"])      gives  one of the file `a`, and of standard input after it, told as an object
+/// task_of(&["--key", "--", "a"])            gives  the lines of the file `a`, each after its key
+/// task_of(&["--shard", "0/4", "--"])        gives  the lines of shard 0 of 4
+/// task_of(&["--shard", "4/4", "--"])        gives  None
+/// task_of(&["--key", "--json", "--"])       gives  None
+/// task_of(&["--key", "--strict", "--"])     gives  None
 /// ```
 pub fn task_of<'a>(words: &[&'a str]) -> Option<Task<'a>>
     ensures { result ≡ asked_task words.now }
 {
     match words {
-        [word] if *word == "--help" || *word == "-h" => Some(Task::Help),
-        [word] if *word == "--version" => Some(Task::Version),
+        [word, mark] if *mark == "--" && (*word == "--help" || *word == "-h") => Some(Task::Help),
+        [word, mark] if *mark == "--" && *word == "--version" => Some(Task::Version),
         _ => task_after(Given::nothing(), words),
     }
 }

@@ -23,17 +23,17 @@ from .frames import Frames, from_frame, to_frame
 from .items import Fault, FaultKind, FloatText, Line, Side, Unsigned, Value
 from .parts import part_ends
 from .portable import CLAUSES, Limits, Servers, broken_clauses, is_portable, verdicts
-from .reading import Source, parse, split
+from .reading import Errors, Source, Unreadable, parse, split
 from .rebuilding import Rebuilt, rebuild
 from .rows import write_columns
 from .tables import Column, Columns, Table, columns
 from .writing import Builder, DuplicateTag, base, is_admitted, is_base_safe, key, show, write, write_many
 
 __all__ = [
-    "Builder", "CLAUSES", "Column", "Columns", "Dialect", "DuplicateTag", "Fault", "FaultKind", "FloatText", "Frames", "Limits", "Line",
-    "NotAdmitted", "Rebuilt", "Servers", "Side", "Source", "Table", "Unsigned", "Value", "__version__", "base", "broken_clauses",
-    "columns", "from_frame", "is_admitted", "is_base_safe", "is_portable", "key", "parse", "part_ends", "rebuild", "show", "split",
-    "to_frame", "verdicts", "write", "write_columns", "write_many",
+    "Builder", "CLAUSES", "Column", "Columns", "Dialect", "DuplicateTag", "Errors", "Fault", "FaultKind", "FloatText", "Frames", "Limits",
+    "Line", "NotAdmitted", "Rebuilt", "Servers", "Side", "Source", "Table", "Unreadable", "Unsigned", "Value", "__version__", "base",
+    "broken_clauses", "columns", "from_frame", "is_admitted", "is_base_safe", "is_portable", "key", "parse", "part_ends", "rebuild",
+    "show", "split", "to_frame", "verdicts", "write", "write_columns", "write_many",
 ]
 
 __version__ = "{}.{}.{}".format(_fast.version() // 10_000, _fast.version() // 100 % 100, _fast.version() % 100)

@@ -3,10 +3,11 @@
 from __future__ import annotations
 
 import sys
+from datetime import datetime
 from math import isfinite
 from typing import Any, List, Literal, NoReturn, Optional
 
-from .items import FloatText, Unsigned, Value, as_integer, short
+from .items import FloatText, Unsigned, Value, as_integer, nanoseconds_of, short
 
 
 class NotAdmitted(ValueError):
@@ -58,11 +59,16 @@ def within(number: int, least: int, end: int, what: str) -> int:
 
 def plain_timestamp(timestamp: Any) -> int:
     """A timestamp as an `int`."""
+    return as_time("the timestamp", "a timestamp", timestamp)
+
+
+def as_time(what: str, kind: str, time: Any) -> int:
+    """A time as nanoseconds of 64 bits; messages call it `what`, and what it should be `kind`."""
     try:
-        number = as_integer(timestamp)
+        number = nanoseconds_of(time) if isinstance(time, datetime) else as_integer(time)
     except TypeError:
-        raise TypeError(f"a timestamp is an int, not {told(timestamp)}") from None
-    return within(number, -(2**63), 2**63, "the timestamp")
+        raise TypeError(f"{kind} is an int or a datetime, not {told(time)}") from None
+    return within(number, -(2**63), 2**63, what)
 
 
 def _of_numpy(value: Any) -> Any:
@@ -132,7 +138,7 @@ def refuse(what: str, key: Any, value: Any) -> NoReturn:
         raise TypeError(f"a line is a Line, not {told(value)}")
     if what in ("tags", "fields"):
         raise TypeError(
-            f"each of the {what} is a pair, not {told(value)}" if key else f"the {what} are a list of pairs, not {told(value)}")
+            f"each of the {what} is a pair, not {told(value)}" if key else f"the {what} are a list of pairs or a dict, not {told(value)}")
     raise TypeError(f"{what if key is None else f'{what} {short(key)}'} is a str, not {told(value)}")
 
 

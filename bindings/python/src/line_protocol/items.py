@@ -5,10 +5,12 @@ from __future__ import annotations
 import re
 import reprlib
 import sys
+from collections.abc import Mapping as AnyMapping
 from dataclasses import dataclass, field
+from datetime import datetime, timezone
 from enum import IntEnum
 from operator import index
-from typing import Any, List, Optional, Tuple, Type, Union
+from typing import Any, List, Mapping, Optional, Sequence, Tuple, Type, Union
 
 from . import _fast
 
@@ -28,6 +30,21 @@ def as_integer(number: int) -> int:
     if isinstance(number, (bool, getattr(sys.modules.get("numpy"), "bool_", bool))):
         raise TypeError("'bool' object cannot be interpreted as an integer")
     return index(number)
+
+
+Time = Union[int, datetime]
+"""A time that is handed in: nanoseconds since 1970, or a `datetime`, which is UTC if it has no zone."""
+
+_START = datetime(1970, 1, 1, tzinfo=timezone.utc)
+
+
+def nanoseconds_of(time: datetime) -> int:
+    """A time in nanoseconds since 1970, exactly. It may be a Timestamp of pandas, which has nanoseconds, but not its NaT."""
+    if time != time:
+        raise ValueError(f"{time} is no time")
+    since = (time.replace(tzinfo=timezone.utc) if time.utcoffset() is None else time) - _START
+    seconds = since.days * 86_400 + since.seconds
+    return (seconds * 1_000_000 + since.microseconds) * 1_000 + getattr(since, "nanoseconds", 0)
 
 
 class Unsigned(int):
@@ -128,14 +145,30 @@ _MESSAGES = {
 """The texts of the faults, which docs/FORMAT.md lists."""
 
 
-@dataclass
+_NO_PAIRS: Tuple[()] = ()
+
+
+def _pairs_of(pairs: Any) -> Any:
+    """A list of the pairs of a `dict`, in its order; anything else as it is."""
+    if not isinstance(pairs, (list, tuple)) and isinstance(pairs, AnyMapping):
+        return list(pairs.items())
+    return [] if pairs is _NO_PAIRS else pairs
+
+
+@dataclass(init=False)
 class Line(_fast.LineMembers):
     """A line: its tags and fields are pairs, in the order of the text, and a key may come twice.
+
+    Tags and fields may be handed in as a `dict` too, and the timestamp as a `datetime`, which is UTC if it has no zone: the line has pairs and
+    nanoseconds then.
 
     A line that was read keeps the literals of its floats: `write` spells a float so as long as it stands where it was read.
 
     >>> Line("cpu", [("host", "a")], [("usage", 64)], 5)
     Line(measurement='cpu', tags=[('host', 'a')], fields=[('usage', 64)], timestamp=5)
+    >>> from datetime import datetime, timezone
+    >>> Line("cpu", {"host": "a"}, {"usage": 64}, datetime(2026, 1, 1, tzinfo=timezone.utc))
+    Line(measurement='cpu', tags=[('host', 'a')], fields=[('usage', 64)], timestamp=1767225600000000000)
     """
 
     __slots__ = ("__weakref__",)
@@ -144,6 +177,14 @@ class Line(_fast.LineMembers):
     tags: List[Tuple[str, str]] = field(default_factory=list)
     fields: List[Tuple[str, Value]] = field(default_factory=list)
     timestamp: Optional[int] = None
+
+    def __init__(
+            self, measurement: str, tags: Union[Sequence[Tuple[str, str]], Mapping[str, str]] = _NO_PAIRS,
+            fields: Union[Sequence[Tuple[str, Value]], Mapping[str, Value]] = _NO_PAIRS, timestamp: Optional[Time] = None) -> None:
+        self.measurement = measurement
+        self.tags = tags if type(tags) is list else _pairs_of(tags)
+        self.fields = fields if type(fields) is list else _pairs_of(fields)
+        self.timestamp = nanoseconds_of(timestamp) if isinstance(timestamp, datetime) else timestamp
 
     def __reduce__(self) -> Tuple[Any, ...]:
         members = (self.measurement, self.tags, self.fields, self.timestamp)

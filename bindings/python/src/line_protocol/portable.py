@@ -7,8 +7,8 @@ from dataclasses import dataclass
 from typing import Any, AnyStr, Dict, List, Literal, Optional, Tuple, Union
 
 from . import _fast
-from .checking import Dialect, as_dialect, told, within
-from .items import as_integer, short
+from .checking import Dialect, as_dialect, as_time, told
+from .items import Time, as_integer, short
 from .reading import as_lent
 
 CLAUSES: Dict[str, str] = {
@@ -19,7 +19,7 @@ CLAUSES: Dict[str, str] = {
     "measurement_escape": "a backslash or a quote is escaped in the measurement",
     "tag_escape": "a backslash is escaped in a tag key or a tag value",
     "tag_key_comma": "a comma is bare in a tag key",
-    "tag_value_equals": "an equals sign is bare in a tag value, and not its first byte",
+    "tag_value_equals": "an equals sign is bare in a tag value",
     "repeated_tag": "two tags have one key",
     "field_key_escape": "a backslash or a quote is escaped in a field key",
     "field_key_comma": "a comma is bare in a field key",
@@ -27,7 +27,7 @@ CLAUSES: Dict[str, str] = {
     "long_series": "the series, four bytes and a field key are longer than 65,535 bytes",
     "unsigned": "a value is an unsigned integer",
     "infinite_float": "a float is too large for a finite number",
-    "exponent": "a float has an exponent",
+    "rounded_float": "a float has an exponent, or takes over 310 bytes",
     "leading_nul": "the first field key begins with a byte 0",
     "time_out_of_range": "the timestamp is the greatest of 64 bits, or one of the two least",
     "tag_count": "the tags are 100, 200, 400, 800 and so on",
@@ -63,7 +63,8 @@ _NUMBERS = _LINE, _TAGS, _EARLIEST, _LATEST = _fast.limits()
 
 @dataclass(frozen=True)
 class Limits:
-    """What the options of a server change: how many bytes and how many tags a line may have, and which timestamps, in nanoseconds, are kept.
+    """What the options of a server change: how many bytes and how many tags a line may have, and which timestamps are kept, from
+    the earliest to the latest: nanoseconds, or a `datetime`, which is UTC if it has no zone.
 
     >>> Limits(tags=40)
     Limits(line=262144, tags=40, earliest=1000000, latest=9223372036854775807)
@@ -71,8 +72,8 @@ class Limits:
 
     line: int = _LINE
     tags: int = _TAGS
-    earliest: int = _EARLIEST
-    latest: int = _LATEST
+    earliest: Time = _EARLIEST
+    latest: Time = _LATEST
 
 
 _DEFAULT = Limits()
@@ -80,12 +81,12 @@ _DEFAULT = Limits()
 
 def _as_limit(what: str, number: Any) -> int:
     """A limit of a count, or of time."""
+    if what in ("earliest", "latest"):
+        return as_time(f"{what} of Limits", f"{what} of Limits", number)
     try:
         limit = as_integer(number)
     except TypeError:
         raise TypeError(f"{what} of Limits is an int, not {told(number)}") from None
-    if what in ("earliest", "latest"):
-        return within(limit, -(2**63), 2**63, f"{what} of Limits")
     if limit < 0:
         raise ValueError(f"{what} of Limits is {short(limit)}, and must not be less than 0")
     return min(limit, sys.maxsize)
@@ -124,7 +125,7 @@ def broken_clauses(
     Bytes need not be UTF-8.
 
     >>> broken_clauses("m f=1u,f=1e3")
-    ('unsigned', 'exponent', 'repeated_field')
+    ('unsigned', 'rounded_float', 'repeated_field')
     >>> broken_clauses("m f=1u", "victoria"), broken_clauses("m f=")
     ((), None)
     >>> CLAUSES["repeated_field"]

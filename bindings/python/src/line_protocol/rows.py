@@ -91,7 +91,14 @@ def _cells(what: str, column: Column, kinds: str, rows: Optional[int]) -> Tuple[
     missing = _missing(what, column.mask, len(values))
     if _is_array(values):
         values, missing = _unmasked(what, values, missing, kinds == "i")
-    return len(values), (*_handed(values, kinds), missing)
+    kind, cells = _handed(values, kinds)
+    return len(values), (kind, _without_nat(cells) if kinds == "i" and kind == MIXED else cells, missing)
+
+
+def _without_nat(times: List[Any]) -> List[Any]:
+    """Times that are objects, None in the place of each NaT of pandas."""
+    nat = getattr(sys.modules.get("pandas"), "NaT", None)
+    return times if nat is None else [None if time is nat else time for time in times]
 
 
 def _is_array(values: Any) -> bool:

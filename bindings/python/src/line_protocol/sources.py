@@ -22,8 +22,27 @@ _REFUSED = (type(iter("")), type(iter("é")))
 _BEGUN = (0, 0, 0, 0, 0, False)
 """The state of a line of which nothing was skipped yet."""
 
+_OF_GZIP = b"\x1f\x8b"
+"""What a file of gzip begins with. No UTF-8 does."""
+
+_LONGEST_PATH = 4096
+
 Refused = Tuple[FaultKind, bytes, int, int]
 """A line that is refused before it is read: why, its bytes, and how many newlines and bytes it takes."""
+
+
+def hint_on_text(text: Any) -> Optional[str]:
+    """What was meant by a text that can be no line, if it is the name of a file."""
+    if not isinstance(text, str) or len(text) > _LONGEST_PATH or "=" in text or "\n" in text or not os.path.isfile(text):
+        return None
+    return f"a str is a text, and there is a file of that name: pathlib.Path({short(text)}) is read as a path"
+
+
+def hint_on_bytes(start: bytes) -> Optional[str]:
+    """What to do with bytes that begin so, if they are none of lines."""
+    if not start.startswith(_OF_GZIP):
+        return None
+    return "it begins as what gzip made: gzip.open reads such a file, and gzip.decompress such bytes"
 
 
 def lends_bytes(source: Any) -> bool:

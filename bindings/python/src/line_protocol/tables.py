@@ -2,6 +2,7 @@
 
 from __future__ import annotations
 
+import warnings
 from array import array
 from dataclasses import dataclass, field
 from importlib import import_module
@@ -11,6 +12,7 @@ from . import _fast
 from .checking import Dialect, as_dialect
 from .items import Fault
 from .reading import Source, reader_of
+from .sources import hint_on_bytes, hint_on_text
 
 TAG = 0
 BOOLEAN = 5
@@ -160,6 +162,9 @@ def columns(
     """
     numpy = _numpy_of(use_numpy)
     tables, faults, keys = _fast.columns(reader_of(source, as_dialect(strict, dialect), max_line), series)
+    hint = hint_on_text(source) or (hint_on_bytes(faults[0].refused) if faults and faults[0].offset == 0 else None)
+    if hint:
+        warnings.warn(hint, stacklevel=2)
     tables.reverse()
     made: Dict[str, Table] = {}
     while tables:  # each is let go once its columns are made

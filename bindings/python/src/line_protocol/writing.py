@@ -6,7 +6,7 @@ from typing import Iterable, Iterator, List, Optional
 
 from . import _fast
 from .checking import Dialect, NotAdmitted, as_dialect, as_name, as_string, as_text, plain_timestamp, plain_value, refuse
-from .items import Line, Value
+from .items import Line, Time, Value
 
 
 class DuplicateTag(ValueError):
@@ -185,8 +185,8 @@ class Builder:
         line.fields.append((key, plain))
         return self
 
-    def timestamp(self, timestamp: int) -> Builder:
-        """Sets the timestamp, after the fields."""
+    def timestamp(self, timestamp: Time) -> Builder:
+        """Sets the timestamp, after the fields: nanoseconds, or a `datetime`, which is UTC if it has no zone."""
         line = self._open()
         if not line.fields or line.timestamp is not None:
             raise ValueError("one timestamp comes after the fields")

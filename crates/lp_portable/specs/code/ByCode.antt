@@ -5,7 +5,7 @@ use Rattle.lp_format.specs.format.{is_one_of, newline, quote, space, tab}
 use Rattle.lp_values.specs.{code.Texts.text_of}
 use Rattle.lp_lines.specs.{declared.parsed.ParsedLine.ParsedLine, code.Lookups.some_items, code.Parsed.field_of, code.Parsed.tag_of}
 use Rattle.lp_portable.specs.declared.{broken.Broken.Broken, limits.Limits.Limits}
-use Rattle.lp_portable.specs.format.Portable.{begins_with_nul, has_control, has_exponent}
+use Rattle.lp_portable.specs.format.Portable.{begins_with_nul, has_control, is_rounded}
 use Rattle.lp_portable.specs.format.Portable.{holds_text, is_finite, is_hundreds, is_outside, is_system_key}
 use Rattle.lp_portable.specs.format.Portable.{is_system_measurement, is_unsigned}
 use Rattle.lp_portable.specs.declared.{names.NameBreaks.NameBreaks, portable.Parts.Parts, portable.Repeats.Repeats}
@@ -37,7 +37,7 @@ broken_by_code limits text parts repeats names =
       long_series = names.keys.long;
       unsigned = list_any (λ f. is_unsigned (field_of f).value) parts.fields.now;
       infinite_float = list_any (λ f. not (is_finite (field_of f).value)) parts.fields.now;
-      exponent = list_any (λ f. has_exponent (field_of f).value) parts.fields.now;
+      rounded_float = list_any (λ f. is_rounded (field_of f).value) parts.fields.now;
       leading_nul = begins_with_nul (map field_of parts.fields.now);
       time_out_of_range = is_outside (negsuc 9223372036854775805) (pos 9223372036854775806) parts.timestamp;
       tag_count = is_hundreds (length parts.tags.now);

@@ -1,6 +1,6 @@
 -- Which lines servers read as the strict reader does: InfluxDB 1.x, and VictoriaMetrics, by what was measured of them.
 use Rattle.std.specs.Prelude.{◌≡◌, ℕ, ℤ, pos, negsuc, ◌+◌, ◌-◌, ◌==◌, ◌||◌, Bool, true, false, not, List, [], ◌∷◌, length, map, codes, nat_lt}
-use Rattle.std.specs.Prelude.{int_lt, slice_index, slice_index_or, bytes_eq, Option, Some, None, Ok, if◌then◌else◌}
+use Rattle.std.specs.Prelude.{int_lt, slice_index, slice_index_or, bytes_eq, Option, Some, None, Ok}
 use Rattle.std.specs.{Float.Float, Float.Parse.parse_float, Float.binary64, Float.float_is_finite, List.list_any, List.starts_with}
 use Rattle.lp_format.specs.format.{Fault, IsCutPiece, Line, Pair, Strict, Text, Value, answers_of_piece, boolean, float, integer, is_one_of}
 use Rattle.lp_format.specs.format.{backslash, comma, equals, nul, quote, some_tags, space, string, tab, trimmed}
@@ -42,14 +42,9 @@ has_marked_escape name = holds (backslash ∷ quote ∷ []) [] name
 abbrev pub is_long_after : ℕ → List ℕ → Bool
 is_long_after series_len key = nat_lt 65535 (series_len + 4 + length key)
 
--- a text without an equals sign that it begins with
-abbrev pub without_sign : List ℕ → List ℕ
-without_sign [] = []
-without_sign (b ∷ text) = if b == equals then text else b ∷ text
-
--- whether its value holds a bare equals sign after the first byte
+-- whether its value holds a bare equals sign
 abbrev pub has_sign : Pair (List ℕ) (List ℕ) → Bool
-has_sign t = holds [] (equals ∷ []) (without_sign t.value)
+has_sign t = holds [] (equals ∷ []) t.value
 
 -- whether two of these keys are the same
 abbrev pub has_repeats : List (List ℕ) → Bool
@@ -75,10 +70,10 @@ abbrev pub is_finite : Value Text → Bool
 is_finite (float literal) = is_finite_number (parse_float binary64 literal)
 is_finite other = true
 
--- whether a value is a float whose literal has an exponent
-abbrev pub has_exponent : Value Text → Bool
-has_exponent (float literal) = list_any (is_one_of (codes "eE")) literal
-has_exponent other = false
+-- whether a value is a float whose literal has an exponent, or takes over 310 bytes
+abbrev pub is_rounded : Value Text → Bool
+is_rounded (float literal) = list_any (is_one_of (codes "eE")) literal || nat_lt 310 (length literal)
+is_rounded other = false
 
 -- whether a text begins with this byte
 abbrev pub begins_with : ℕ → List ℕ → Bool
@@ -124,7 +119,7 @@ has_time_key line =
 -- The clauses of what is portable, each named by what breaks it, in the order in which they are told.
 pub data Clause : Type 0 where
   leading_blank trailing_space newline measurement_equals measurement_escape tag_escape tag_key_comma tag_value_equals repeated_tag : Clause
-  field_key_escape field_key_comma field_key_quote long_series unsigned infinite_float exponent leading_nul time_out_of_range tag_count : Clause
+  field_key_escape field_key_comma field_key_quote long_series unsigned infinite_float rounded_float leading_nul time_out_of_range tag_count : Clause
   time_name system_name repeated_field key_separator control_byte name_label long_tag_key long_tag_value long_metric_name long_labels : Clause
   too_many_tags long_line time_not_kept : Clause
 
@@ -145,7 +140,7 @@ breaks limits text line names measurement_escape = has_marked_escape names.measu
 breaks limits text line names tag_escape = list_any has_escape names.tags
 -- both end the tag there
 breaks limits text line names tag_key_comma = list_any has_comma names.tags
--- InfluxDB refuses the line
+-- InfluxDB refuses the line, or keeps the series in this spelling apart from the others, and loses either
 breaks limits text line names tag_value_equals = list_any has_sign names.tags
 -- InfluxDB refuses the line, and VictoriaMetrics keeps the last value alone
 breaks limits text line names repeated_tag = has_repeats (map (λ t. t.key.bytes) (some_tags line.tags))
@@ -161,8 +156,8 @@ breaks limits text line names long_series = list_any (is_long_after (length line
 breaks limits text line names unsigned = list_any (λ f. is_unsigned f.value) line.fields
 -- InfluxDB refuses the line
 breaks limits text line names infinite_float = list_any (λ f. not (is_finite f.value)) line.fields
--- VictoriaMetrics rounds it otherwise
-breaks limits text line names exponent = list_any (λ f. has_exponent f.value) line.fields
+-- VictoriaMetrics rounds it otherwise; 0 is stored for what is nearer to 0 than 308 decimals tell
+breaks limits text line names rounded_float = list_any (λ f. is_rounded f.value) line.fields
 -- InfluxDB skips a byte 0 before the first field key
 breaks limits text line names leading_nul = begins_with_nul line.fields
 -- InfluxDB refuses the line
@@ -202,7 +197,7 @@ is_of_influx leading_blank = false
 is_of_influx trailing_space = false
 is_of_influx newline = false
 is_of_influx field_key_quote = false
-is_of_influx exponent = false
+is_of_influx rounded_float = false
 is_of_influx name_label = false
 is_of_influx long_tag_key = false
 is_of_influx long_tag_value = false

@@ -1,5 +1,5 @@
 -- How the names of a line are spelled.
-use Rattle.std.specs.Prelude.{◌≡◌, ℕ, ◌==◌, ◌||◌, Bool, false, List, [], ◌∷◌, drop, length, if◌then◌else◌}
+use Rattle.std.specs.Prelude.{◌≡◌, ℕ, ◌==◌, ◌&&◌, ◌||◌, Bool, false, List, [], ◌∷◌, drop, length, if◌then◌else◌}
 use Rattle.lp_format.specs.format.{NameKind, a_measurement, after_comma, a_tag_key, a_tag_value, a_field_key, backslash, byte, equals, is_one_of, name}
 use Rattle.lp_format.specs.format.{Line, Pair, Reading, reads, some_tags, spaces, spelled, value, ◌>>=◌}
 
@@ -56,3 +56,10 @@ holds escaped bare [] = false
 holds escaped bare (b ∷ []) = is_one_of bare b
 holds escaped bare (b ∷ c ∷ rest) =
     if b == backslash then is_one_of escaped c || holds escaped bare rest else is_one_of bare b || holds escaped bare (c ∷ rest)
+
+-- the logical text for a reader that takes each backslash by itself: one goes if a known byte follows it, and else it stays
+abbrev pub without_each : List ℕ → List ℕ → List ℕ
+without_each known [] = []
+without_each known (b ∷ []) = b ∷ []
+without_each known (b ∷ c ∷ rest) =
+    if b == backslash && is_one_of known c then c ∷ without_each known rest else b ∷ without_each known (c ∷ rest)

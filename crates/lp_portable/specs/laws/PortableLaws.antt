@@ -1,12 +1,12 @@
 -- What portable lines are to each reader, and what the spelling of a line's names tells.
-use Rattle.std.specs.Prelude.{◌≡◌, ◌↔◌, ◌&&◌, ◌==◌, if◌then◌else◌, ℕ, true, false, List, [], ◌∷◌, map, Ok}
+use Rattle.std.specs.Prelude.{◌≡◌, ◌↔◌, ℕ, true, false, List, [], ◌∷◌, map, Ok}
 use Rattle.std.specs.List.{AllByRecursion, list_any}
 use Rattle.lp_format.specs.format.{Dialect, Strict, HasAnswers, HasNoNewline, Line, Pair, answer, backslash, bare, equals, quote, some_tags}
 use Rattle.lp_format.specs.format.{NameKind, a_field_key, a_measurement, a_tag_key, a_tag_value, is_escapable, is_one_of, logical, logical_tag}
 use Rattle.lp_format.specs.format.{without_escapes}
 use Rattle.lp_format.specs.laws.NamesOfLines.{IsOneLineIn}
 use Rattle.lp_portable.specs.format.Portable.{IsOneLine, IsPortable, Limits, all, influx1, victoria}
-use Rattle.lp_portable.specs.format.Spellings.{IsSpelled, Spelling, holds}
+use Rattle.lp_portable.specs.format.Spellings.{IsSpelled, Spelling, holds, without_each}
 
 -- Each line is all that is answered for its text, in the dialects of the crate and strict; and, if it holds no newline, where each
 -- newline ends a line.
@@ -22,13 +22,6 @@ pub record IsReadAlike (text : List ℕ) (line : Line) : Type 0 where
 -- So it is with a line that is portable to VictoriaMetrics.
 abbrev pub VictoriaLinesAreReadAlike : Type 0
 VictoriaLinesAreReadAlike = (limits : Limits) (text : List ℕ) (portable : IsPortable victoria limits text) → IsReadAlike text portable.line
-
--- the logical text for a reader that takes each backslash by itself: one goes if a known byte follows it, and else it stays
-abbrev pub without_each : List ℕ → List ℕ → List ℕ
-without_each known [] = []
-without_each known (b ∷ []) = b ∷ []
-without_each known (b ∷ c ∷ rest) =
-    if b == backslash && is_one_of known c then c ∷ without_each known rest else b ∷ without_each known (c ∷ rest)
 
 -- A name means the same to each reader for which a backslash escapes what it escapes here, but for these bytes, of which it may
 -- escape any. It does so whether or not the reader takes each backslash by itself.

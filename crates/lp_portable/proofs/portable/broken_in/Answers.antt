@@ -22,7 +22,7 @@ returns c = same_broken _ (broken_by_code c.args.limits.now c.args.text.now c.ar
     refl
     c.has_unsigned.ensures
     c.has_infinite.ensures
-    c.has_exponent.ensures
+    c.has_rounded.ensures
     c.begins_with_nul.ensures
     c.is_outside.ensures
     c.is_hundreds.ensures

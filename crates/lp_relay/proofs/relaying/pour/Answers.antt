@@ -27,6 +27,7 @@ returns-clause-writes g c s pieces ahead before h =
         carried = was.carried;
         refusals = was.refusals;
         kinds = was.kinds;
+        types = was.types;
       };
       place = h.place;
       is_ahead = h.is_ahead;

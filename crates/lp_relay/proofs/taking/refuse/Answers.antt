@@ -8,19 +8,19 @@ use Rattle.lp_relay.proofs.ToldLemmas.{put_asked, put_unasked, refuses}
 use Rattle.lp_relay.proofs.taking.refuse.Goals as goal
 
 pub returns-then-not-settings-clause-taken : goal.returns-then-not-settings-clause-taken
-returns-then-not-settings-clause-taken c item r =
+returns-then-not-settings-clause-taken c item types r kept =
     let unasked : c.args.settings.now.puts_refused ≡ false = grind (arith, nat_tests) in
-    refuses c.args.settings.now c.args.piece c.args.refusal.now item (unwritten_of c.args.pending.now) _ _ r (omega arith) refl c.in_ok-tell.ensures refl refl
+    refuses c.args.settings.now types c.args.piece c.args.refusal.now item (unwritten_of c.args.pending.now) _ _ r (omega arith) refl c.in_ok-tell_at.ensures refl refl
     (c.in_ok-count.ensures ∙ ap (λ k. option_map (with_fault k) (counts_if c.args.pending.now.kinds)) c.kind.ensures)
-    (put_unasked c.args.pending.now.pieces.items _ c.args.settings.now.puts_refused unasked) refl
+    (put_unasked c.args.pending.now.pieces.items _ c.args.settings.now.puts_refused unasked) refl kept
 
 pub returns-clause-taken : goal.returns-clause-taken
 returns-clause-taken c =
     let asked : c.args.settings.now.puts_refused ≡ true = grind (arith, nat_tests) in
     on_ok_weaker c.copy_line.result
-    (λ put item r.
-    refuses c.args.settings.now c.args.piece c.args.refusal.now item (unwritten_of c.args.pending.now) _ _ r (omega arith) refl c.in_ok-tell.ensures refl refl
+    (λ put item types r kept.
+    refuses c.args.settings.now types c.args.piece c.args.refusal.now item (unwritten_of c.args.pending.now) _ _ r (omega arith) refl c.in_ok-tell_at.ensures refl refl
     (c.in_ok-count.ensures ∙ ap (λ k. option_map (with_fault k) (counts_if c.args.pending.now.kinds)) c.kind.ensures)
     (put ∙ ap (λ (l : List ℕ). c.args.pending.now.pieces.items ++ (l ++ newline ∷ [])) c.bytes.ensures
-    ∙ put_asked c.args.pending.now.pieces.items _ c.args.settings.now.puts_refused asked) refl)
+    ∙ put_asked c.args.pending.now.pieces.items _ c.args.settings.now.puts_refused asked) refl kept)
     c.copy_line.ensures

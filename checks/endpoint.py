@@ -1,0 +1,484 @@
+#!/usr/bin/env python3
+"""Tries the program of examples/endpoint before influxd, which this starts and ends. checks/endpoint.sh calls it.
+
+    checks/endpoint.py ENDPOINT FOLDER [TRIAL..]
+
+ENDPOINT: the program, built. FOLDER: an empty folder for what it writes, and for the data of influxd. TRIAL: a name of TRIALS, if not all are
+wanted. It needs influxdb-python. Status 1: something is not as the page of the example says.
+"""
+
+import base64
+import gzip
+import json
+import os
+import resource
+import signal
+import socket
+import subprocess
+import sys
+import threading
+import time
+import urllib.error
+import urllib.parse
+import urllib.request
+from pathlib import Path
+
+import influxdb
+from influxdb.exceptions import InfluxDBClientError
+
+HERE = Path(__file__).resolve().parent
+USER, PASSWORD = "writer", "its password"
+MISSING = "No fields were provided"
+PANIC = "m" + "".join(f",t{n}=v" for n in range(100)) + " n=0i 1"
+DISK = Path(sys.argv[2]) / "disk"  # a small one, if it is mounted there
+CONFIGURATION = """reporting-disabled = true
+bind-address = "127.0.0.1:{backup}"
+[meta]
+  dir = "{folder}/meta"
+[data]
+  dir = "{folder}/data"
+  wal-dir = "{folder}/wal"
+  query-log-enabled = false
+[http]
+  bind-address = "127.0.0.1:{port}"
+  log-enabled = false
+  auth-enabled = true
+[monitor]
+  store-enabled = false
+"""
+
+
+class Fault(Exception):
+    """What is not as it should be, in words."""
+
+
+def want(what, got, wanted):
+    """Ends the check if something is not as it should be."""
+    if got != wanted:
+        raise Fault(f"{what}: {got!r}, where {wanted!r} is wanted")
+
+
+def free_ports(count):
+    """Ports that nothing listens on."""
+    sockets = [socket.create_server(("127.0.0.1", 0)) for _ in range(count)]
+    ports = [each.getsockname()[1] for each in sockets]
+    for each in sockets:
+        each.close()
+    return ports
+
+
+def call(method, url, body=None, headers=None):
+    """The status of an answer, its text and its headers; None if there is none."""
+    request = urllib.request.Request(url, body, headers or {}, method=method)
+    try:
+        with urllib.request.urlopen(request, timeout=30) as answer:
+            return answer.status, answer.read().decode(), answer.headers
+    except urllib.error.HTTPError as refused:
+        with refused:
+            return refused.code, refused.read().decode(), refused.headers
+    except (OSError, urllib.error.URLError):
+        return None, "", {}
+
+
+def until(what, condition, seconds=20):
+    """Waits until a condition holds."""
+    end = time.monotonic() + seconds
+    while not condition():
+        if time.monotonic() > end:
+            raise Fault(f"not in {seconds} seconds: {what}")
+        time.sleep(0.02)
+
+
+class Process:
+    """A program that listens on a port."""
+
+    def __init__(self, port, words, log, most_file=None):
+        self.port, self.words, self.log, self.most_file = port, words, log, most_file
+        self.url = f"http://127.0.0.1:{port}"
+        self.start()
+
+    def limit(self):
+        if self.most_file is not None:
+            resource.setrlimit(resource.RLIMIT_FSIZE, (self.most_file, self.most_file))
+
+    def start(self):
+        with open(self.log, "ab") as log:
+            self.process = subprocess.Popen(self.words, stdout=log, stderr=log, preexec_fn=self.limit)
+        until(f"{self.words[0]} listens", lambda: self.process.poll() is not None or call("GET", self.url + "/ping")[0] == 204)
+        want(f"the status of {self.words[0]}, whose log is {Path(self.log).read_text()[-500:]}", self.process.poll(), None)
+
+    def end(self, how=signal.SIGTERM):
+        """Ends it, and gives its status."""
+        if self.process.poll() is None:
+            self.process.send_signal(how)
+        return self.process.wait(60)
+
+    def peak(self):
+        """The most memory that it took, in kB."""
+        status = Path(f"/proc/{self.process.pid}/status").read_text()
+        return int(status.split("VmHWM:")[1].split()[0])
+
+
+class Influx(Process):
+    """The server, and what it has."""
+
+    def __init__(self, folder):
+        port, backup = free_ports(2)
+        (folder / "influxd").mkdir()
+        configuration = folder / "influxd.conf"
+        configuration.write_text(CONFIGURATION.format(port=port, backup=backup, folder=folder / "influxd"))
+        super().__init__(port, ["influxd", "-config", str(configuration)], folder / "influxd.log")
+        self.query(f"CREATE USER {USER} WITH PASSWORD '{PASSWORD}' WITH ALL PRIVILEGES")
+
+    def query(self, text, db=""):
+        """The rows that a query gives."""
+        words = urllib.parse.urlencode({"q": text, "db": db, "epoch": "ns", "u": USER, "p": PASSWORD})
+        status, answer, _ = call("POST", f"{self.url}/query?{words}")
+        want(f"the status of {text}, which gives {answer}", status, 200)
+        result = json.loads(answer)["results"][0]
+        if "error" in result:
+            raise Fault(f"{text}: {result['error']}")
+        return [row for series in result.get("series", []) for row in series["values"]]
+
+    def values(self, db, field="n", measurement="m"):
+        """The values of a field, in the order of their times."""
+        return [value for _, value in self.query(f'SELECT "{field}" FROM "{measurement}"', db)]
+
+    def failures(self):
+        """How many requests it answered by a status from 500 on, panics among them."""
+        words = urllib.parse.urlencode({"q": "SHOW STATS FOR 'httpd'", "u": USER, "p": PASSWORD})
+        (series,) = json.loads(call("GET", f"{self.url}/query?{words}")[1])["results"][0]["series"]
+        told = dict(zip(series["columns"], series["values"][0]))
+        return told["serverError"] + told["recoveredPanics"]
+
+
+class Trial:
+    """A database of its own and, before it, an endpoint with options of its own."""
+
+    def __init__(self, influx, folder, program, name, *options, most_file=None):
+        self.influx, self.db, self.folder = influx, name, folder / name
+        self.folder.mkdir()
+        influx.query(f"CREATE DATABASE {name}")
+        self.refused_path = self.folder / "refused.jsonl"
+        (port,) = free_ports(1)
+        words = [program, "-listen", f"127.0.0.1:{port}", "-server", influx.url, "-refused", str(self.refused_path), *options]
+        self.endpoint = Process(port, words, self.folder / "log", most_file)
+
+    def __enter__(self):
+        return self
+
+    def __exit__(self, *_):
+        self.endpoint.end(signal.SIGKILL)
+
+    def write(self, body, path="/write", headers=None, **query):
+        """The status and the text of an answer to a body."""
+        query = {"db": self.db, "u": USER, "p": PASSWORD, **query}
+        body = body if isinstance(body, bytes) else body.encode()
+        words = urllib.parse.urlencode({name: value for name, value in query.items() if value is not None})
+        status, text, headers = call("POST", f"{self.endpoint.url}{path}?{words}", body, headers)
+        want(f"Retry-After of {status}", headers.get("Retry-After"), "1" if status == 503 else None)
+        said = json.loads(text) if text else {}
+        return status, said.get("error", said.get("message", ""))
+
+    def refused(self):
+        """The lines that were refused, with their reasons."""
+        text = self.refused_path.read_text() if self.refused_path.exists() else ""
+        want("the end of the file of refused lines", text[-1:] in ("", "\n"), True)
+        return [json.loads(line) for line in text.split("\n")[:-1]]
+
+    def raw(self):
+        return [line["raw"] for line in self.refused()]
+
+    def metric(self, name):
+        text = call("GET", self.endpoint.url + "/metrics")[1]
+        return int(dict(line.split() for line in text.splitlines())["endpoint_" + name])
+
+    def drained(self):
+        until("the spool is empty", lambda: self.metric("spool_bytes") == 0)
+
+
+class Load:
+    """Threads that write lines of their own, and what they were answered by 204."""
+
+    def __init__(self, trial, threads=4):
+        self.trial, self.taken, self.going = trial, [[] for _ in range(threads)], True
+        self.threads = [threading.Thread(target=self.write, args=(number,)) for number in range(threads)]
+        for thread in self.threads:
+            thread.start()
+
+    def write(self, thread):
+        number = thread << 32
+        while self.going:
+            lines = range(number, number + 1 + number % 7)
+            number = lines.stop
+            body = "".join(f"m,w={thread} n={n}i {n}\n" for n in lines)
+            if self.trial.write(body)[0] == 204:
+                self.taken[thread] += lines
+
+    def stop(self):
+        """Ends the threads, and gives what was taken."""
+        self.going = False
+        for thread in self.threads:
+            thread.join()
+        return {n for taken in self.taken for n in taken}
+
+    def go_on(self, more):
+        """Waits until so many more lines were taken."""
+        wanted = sum(map(len, self.taken)) + more
+        until(f"{more} more lines are taken", lambda: sum(map(len, self.taken)) >= wanted)
+
+
+def answers(make):
+    """What is answered, kept and stored of bodies that come one by one."""
+    with make("answers") as trial:
+        client = influxdb.InfluxDBClient("127.0.0.1", trial.endpoint.port, USER, PASSWORD, trial.db)
+        want("ping", client.ping(), "endpoint")
+        want("write_points", client.write_points([{"measurement": "m", "tags": {"t": "a b"}, "fields": {"n": 1}, "time": 1}]), True)
+        try:
+            client.write(["m n=2i 2", "m n=", "m n=3i 3"], {"db": trial.db}, 204, "line")
+            raise Fault("influxdb-python says nothing of a refused line")
+        except InfluxDBClientError as error:
+            said = json.loads(error.content)["error"]
+            want("a partial batch", (error.code, said), (400, f"partial write: line 2: unable to parse 'm n=': {MISSING} dropped=1"))
+        want("what is stored", trial.influx.values(trial.db), [1, 2, 3])
+        (kept,) = trial.refused()
+        want("what is kept", (kept["raw"], kept["line"], kept["db"], kept["why"]), ("m n=", 2, "answers", MISSING))
+        want("an empty body", trial.write(""), (204, ""))
+        want("comments and blank lines", trial.write("# m n=4i 4\n\n \n# it's \"\nm n=4i 4"), (204, ""))
+        want("carriage returns", trial.write("m n=9i 9\r\nm n=5i 5\r")[0], 400)
+        want("no good line", trial.write("m n="), (400, f"line 1: unable to parse 'm n=': {MISSING}"))
+        said = "partial write: line 2: unable to parse '\ufffd n=1': the line is not UTF-8 dropped=1"
+        want("what is not UTF-8", trial.write(b"m n=6i 6\n\xff n=1"), (400, said))
+        want("how it is kept", trial.refused()[-1]["raw_base64"], "/yBuPTE=")
+        path = "/api/v2/write"
+        want("version 2", trial.write("m n=7i 7", path, db=None, bucket=f"{trial.db}/autogen", precision="ns"), (204, ""))
+        status, text, _ = call("POST", f"{trial.endpoint.url}{path}?bucket={trial.db}&u={USER}&p={urllib.parse.quote(PASSWORD)}", b"m n=8i 8\nm")
+        want("its answer", (status, json.loads(text)["code"]), (400, "invalid"))
+        want("what is stored then", trial.influx.values(trial.db), [1, 2, 3, 4, 6, 7, 8])
+        want("no database", trial.write("m n=1", db=None), (400, "database is required"))
+        want("another database", trial.write("m n=1", db="nowhere"), (404, 'database not found: "nowhere"'))
+        want("another password", trial.write("m n=1", p="x")[0], 401)
+        said = 'partial write: field type conflict: input field "n" on measurement "m" is type boolean, already exists as type integer dropped=1'
+        want("a type that differs", trial.write("m n=t 9"), (400, said))
+        want("GET", call("GET", trial.endpoint.url + "/write?db=x")[0], 405)
+        want("another path", call("GET", trial.endpoint.url + "/query")[0], 404)
+        want("health", json.loads(call("GET", trial.endpoint.url + "/health")[1])["status"], "pass")
+        want("the count of refused lines", trial.metric("refused_lines_total"), len(trial.refused()))
+
+
+def bodies(make):
+    """What is packed, in another precision, or too large."""
+    with make("bodies", "-max-body", "5000000", "-max-in-flight", "6000000", "-max-line", "100000") as trial:
+        packed = {"Content-Encoding": "gzip"}
+        want("gzip", trial.write(gzip.compress(b"m n=1i 1\n"), headers=packed), (204, ""))
+        want("half of it", trial.write(gzip.compress(b"m n=2i 2\n")[:-5], headers=packed)[0], 400)
+        want("no gzip", trial.write("m n=2i 2", headers=packed)[0], 400)
+        want("another packing", trial.write("m n=2i 2", headers={"Content-Encoding": "br"})[0], 415)
+        for name, line in ("one line", b"\0"), ("refused lines", b"x" * 99 + b"\n"), ("good lines", b"m n=2i\n"):
+            want(f"a bomb of {name}", trial.write(gzip.compress(line * (6 * 10**6 // len(line)), 1), headers=packed)[0], 413)
+        want("a long line", trial.write("m n=2i 2\nm s=\"" + "x" * 100000 + '"')[0], 400)
+        want("what is kept of it", [len(line["raw"]) for line in trial.refused()], [100000])
+        want("what was taken of memory is less than 100 MB", trial.endpoint.peak() < 100000, True)
+        units = {"n": 1, "ns": 1, "u": 10**3, "us": 10**3, "ms": 10**6, "s": 10**9, "m": 60 * 10**9, "h": 3600 * 10**9}
+        for name, unit in units.items():
+            want(f"precision {name}", trial.write(f"p,u={name} n={unit}i 400000", precision=name), (204, ""))
+        for at, value in trial.influx.query('SELECT n FROM p', trial.db):
+            want(f"a time in {value} nanoseconds", at, 400000 * value)
+        want("another precision", trial.write("m n=1", precision="d"), (400, 'invalid precision "d" (use n, u, ms, s, m or h)'))
+        header = {"Authorization": "Basic " + base64.b64encode(f"{USER}:{PASSWORD}".encode()).decode()}
+        want("credentials in a header", trial.write("m n=3i 3", u=None, p=None, headers=header), (204, ""))
+        want("no credentials", trial.write("m n=4i 4", u=None, p=None)[0], 401)
+        want("what is stored", trial.influx.values(trial.db), [1, 2, 3])
+        want("bytes in flight", trial.metric("in_flight_bytes"), 0)
+
+
+def killed(make):
+    """The endpoint and the server are killed under load, the endpoint also while lines are in its spool."""
+    with make("killed", "-spool", "spool") as trial:
+        load = Load(trial)
+        load.go_on(100)
+        trial.influx.end(signal.SIGKILL)
+        load.go_on(100)
+        trial.endpoint.end(signal.SIGKILL)
+        part = trial.folder / "spool" / f"{1 << 60:020d}.part"
+        part.write_text("{}\nm n=5i 5")
+        trial.endpoint.start()
+        load.go_on(100)
+        trial.influx.start()
+        load.go_on(100)
+        trial.endpoint.end(signal.SIGKILL)
+        trial.endpoint.start()
+        load.go_on(100)
+        taken = load.stop()
+        trial.drained()
+        lost = taken - set(trial.influx.values(trial.db))
+        want(f"the lines that were lost of {len(taken)}", lost, set())
+        want("what a killed endpoint has not finished is there", part.exists(), False)
+        return len(taken)
+
+
+def ended(make):
+    """The endpoint ends by SIGTERM under load, without a spool and with one."""
+    count = 0
+    for name, *options in ("ended",), ("ended_spool", "-spool", "spool"):
+        with make(name, *options) as trial:
+            load = Load(trial)
+            load.go_on(100)
+            want("the status of an endpoint that ended", trial.endpoint.end(), 0)
+            taken = load.stop()
+            want("the lines that were lost", taken - set(trial.influx.values(trial.db)), set())
+            count += len(taken)
+    return count
+
+
+def away(make):
+    """The server is away, and comes back: lines come in order, each as the same point however often it is sent."""
+    with make("away") as trial:
+        trial.influx.end()
+        want("an answer without a spool", trial.write("m n=1i 1")[0], 503)
+        trial.influx.start()
+        want("the next one", trial.write("m n=2i 2"), (204, ""))
+        want("what is stored", trial.influx.values(trial.db), [2])
+    with make("away_spool", "-spool", "spool") as trial:
+        trial.influx.end()
+        for n in range(100):
+            want("an answer with a spool", trial.write(f"m n={n}i 5\nt,u=ms n={n}i", precision="ms"), (204, ""))
+        want("a refused line meanwhile", trial.write("m n=\nm n=101i 6", precision="ms")[0], 400)
+        came = time.time_ns()
+        trial.endpoint.end()
+        trial.endpoint.start()
+        trial.influx.start()
+        trial.drained()
+        want("the last value of one time", trial.influx.values(trial.db), [99, 101])
+        times = [at for at, _ in trial.influx.query("SELECT n FROM t", trial.db)]
+        want("times of arrival", (len(times) > 1, all(came - 10**10 < at < came and at % 10**6 == 0 for at in times)), (True, True))
+
+
+def poisoned(make):
+    """Lines that the server refuses, or at which it panics, are in the spool among others."""
+    poisons = [PANIC, "m f=1,f=t 2", "m n=t 3", 'm n="x" 4', "m n=7u 5", "m,a=1,a=2 n=8i 6"]
+    with make("poisoned", "-spool", "spool") as trial:
+        want("the types of fields", trial.write("m n=0i,f=1 0"), (204, ""))
+        trial.influx.end()
+        for number, poison in enumerate(poisons, 1):
+            good = [f"m n={number * 100 + n}i {number * 100 + n}" for n in range(20)]
+            want("a batch", trial.write("\n".join(good[:7] + [poison] + good[7:])), (204, ""))
+        want("a batch of one line", trial.write(PANIC), (204, ""))
+        want("a batch of another database", trial.write("m n=1i 1\nm n=2i 2", db="nowhere"), (204, ""))
+        want("a batch of another policy", trial.write("m n=1i 1", rp="nowhere"), (204, ""))
+        want("a batch behind them", trial.write("m n=9999i 9999"), (204, ""))
+        trial.influx.start()
+        trial.drained()
+        wanted = [0] + [number * 100 + n for number in range(1, len(poisons) + 1) for n in range(20)] + [9999]
+        want("what is stored", trial.influx.values(trial.db), wanted)
+        want("what is kept", sorted(trial.raw()), sorted([*poisons, PANIC, "m n=1i 1\nm n=2i 2", "m n=1i 1"]))
+        want("the count of these", trial.metric("refused_later_total"), len(poisons) + 3)
+
+
+def portable(make):
+    """No line that is let out as portable makes the server fail."""
+    texts = [*hexadecimal("--rows"), *hexadecimal("--random", "1", "1500")]
+    with make("portable", "-spool", "spool", "-portable", "influx1") as trial:
+        before = trial.influx.failures()
+        said = f"partial write: line 2: unable to parse '{PANIC[:200]}': not portable: the tags are 100, 200, 400, 800 and so on dropped=1"
+        want("a line at which the server panics", trial.write(f"m n=1i 1\n{PANIC}"), (400, said))
+        want("a time of minutes", trial.write("m n=2i 153722868", precision="m")[0], 400)
+        counts = {}
+        for text in texts:
+            status, _ = trial.write(text)
+            counts[status] = counts.get(status, 0) + 1
+        want("answers by other statuses than 204 and 400", set(counts) - {204, 400}, set())
+        want("bodies in the spool", trial.metric("spooled_bodies_total"), 0)
+        want("what the server answered by 500 and more", trial.influx.failures(), before)
+        return counts
+
+
+def hexadecimal(*words):
+    """Texts of checks/portable.py."""
+    told = subprocess.run([sys.executable, "-B", str(HERE / "portable.py"), *words], stdout=subprocess.PIPE, check=True).stdout
+    return [bytes.fromhex(line.decode()) for line in told.splitlines()]
+
+
+def fill(trial, body_of):
+    """Writes bodies until three are answered by 503. Gives the numbers of the others, and of those three."""
+    taken, busy = [], []
+    for n in range(1, 1000):
+        status, _ = trial.write(body_of(n))
+        (busy if status == 503 else taken).append(n)
+        if len(busy) == 3:
+            return taken, busy
+    raise Fault(f"{trial.db}: nothing is full after {n} bodies")
+
+
+def full_refusals(trial):
+    """There is no room for refused lines: nothing of their bodies goes out, and no part of a line is kept."""
+    taken, busy = fill(trial, lambda n: f"m n={n}i {n}\n" + "x" * 700 + f"{n}")
+    want("the lines that are kept", [raw.lstrip("x") for raw in trial.raw()], [str(n) for n in taken])
+    want("what is stored", trial.influx.values(trial.db), taken)
+    want("a body without refused lines", trial.write("m n=2000i 2000"), (204, ""))
+    os.truncate(trial.refused_path, 0)
+    want("a refused line once there is room", trial.write("m n=2001i 2001\nx2001")[0], 400)
+    want("what is kept then", trial.raw(), ["x2001"])
+    want("what is stored then", trial.influx.values(trial.db), [*taken, 2000, 2001])
+    return len(taken)
+
+
+def full_spool(trial):
+    """There is no room in the spool: what is answered by 503 is not sent later."""
+    trial.influx.end()
+    taken, busy = fill(trial, lambda n: "".join(f'm,w={n} n={n}i,s="{"x" * 300}"\n' for _ in range(n)))
+    want("files that were not finished", list(trial.folder.glob("**/*.part")), [])
+    trial.endpoint.end(signal.SIGKILL)
+    trial.endpoint.start()
+    trial.influx.start()
+    trial.drained()
+    want("what is stored", sorted(trial.influx.values(trial.db)), taken)
+    return len(taken)
+
+
+def full(make):
+    """A disk is full, a file is as long as it may be, or the spool is."""
+    counts = []
+    with make("full_file", most_file=16384) as trial:
+        counts.append(full_refusals(trial))
+    with make("full_files", "-spool", "spool", most_file=16384) as trial:
+        counts.append(full_spool(trial))
+    with make("full_spool", "-spool", "spool", "-max-spool", "100000") as trial:
+        counts.append(full_spool(trial))
+    if os.path.ismount(DISK):
+        with make("full_disk", "-refused", f"{DISK}/refused.jsonl") as trial:
+            trial.refused_path = DISK / "refused.jsonl"
+            counts.append(full_refusals(trial))
+            os.remove(trial.refused_path)
+        with make("full_disk_spool", "-spool", f"{DISK}/spool") as trial:
+            counts.append(full_spool(trial))
+    return counts
+
+
+TRIALS = [answers, bodies, killed, ended, full, poisoned, portable, away]
+
+
+def main():
+    """Runs the trials, and says how long each took."""
+    program, folder = sys.argv[1], Path(sys.argv[2])
+    influx = Influx(folder)
+
+    def make(name, *options, **more):
+        return Trial(influx, folder, program, name, *(str(folder / name / each) if each == "spool" else each for each in options), **more)
+
+    try:
+        for trial in TRIALS:
+            if trial.__name__ in (sys.argv[3:] or [trial.__name__]):
+                began = time.monotonic()
+                said = trial(make)
+                print(f"endpoint: {trial.__name__}: {said or 'done'}, {time.monotonic() - began:.1f} s", flush=True)
+    except Fault as fault:
+        print(f"endpoint: {fault}")
+        return 1
+    finally:
+        influx.end()
+    return 0
+
+
+if __name__ == "__main__":
+    sys.exit(main())

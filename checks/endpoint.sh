@@ -1,0 +1,40 @@
+#!/usr/bin/env bash
+# Builds examples/endpoint, and tries what its page promises before a server of InfluxDB 1.x, with influxdb-python as a client: what it
+# answers; what it refuses, and keeps; lines while it is killed, or ended, or while the server is; full disks; and lines that the server cannot
+# take. What was answered by 204 must be in the server in the end. endpoint.py has the trials.
+#
+#   checks/endpoint.sh ARCHIVE
+#
+# ARCHIVE: the library, liblp_c.a. influxd listens on a free port of the loopback device, has its data in a temporary folder, and ends with
+# this script. What is missing is left out, and is named. It takes about a minute, and no network.
+set -euo pipefail
+here=$(cd "$(dirname "$0")" && pwd)
+. "$here/left_out.sh"
+if [ $# != 1 ] || [ ! -f "$1" ]; then
+    echo "usage: checks/endpoint.sh ARCHIVE" >&2
+    exit 2
+fi
+if ! command -v go >/dev/null; then
+    left_out checks/endpoint.sh "there is no go"
+    exit 0
+elif ! command -v influxd >/dev/null; then
+    left_out checks/endpoint.sh "there is no influxd"
+    exit 0
+fi
+# The first Python that has influxdb-python.
+for python in "${PYTHON:-python3}" /usr/bin/python3 ''; do
+    [ -z "$python" ] || ! "$python" -c 'import influxdb, sys; sys.exit(sys.version_info < (3, 10))' 2>/dev/null || break
+done
+if [ -z "$python" ]; then
+    left_out checks/endpoint.sh "there is no python3-influxdb, or no Python 3.10"
+    exit 0
+fi
+work=$(mktemp -d)
+mkdir "$work/disk"
+trap 'umount "$work/disk" 2>/dev/null || true; chmod -R u+w "$work"; rm -rf "$work"' EXIT
+mount -t tmpfs -o size=128k endpoint "$work/disk" 2>/dev/null ||
+    left_out "a full disk of checks/endpoint.sh" "no tmpfs can be mounted here"
+cp "$1" "$work/liblp_c.a"
+cd "$here/../examples/endpoint"
+GOCACHE=$work/cache GOPATH=$work/path GOFLAGS=-tags=lp_lib_dir GOPROXY=off CGO_ENABLED=1 CGO_LDFLAGS="-L$work" go build -o "$work/endpoint" .
+"$python" -B "$here/endpoint.py" "$work/endpoint" "$work"

@@ -1,0 +1,14 @@
+pub mod NameFronts
+pub mod Tags
+pub mod LiteralTexts
+pub mod Strings
+pub mod FieldTexts
+pub mod SpelledFields
+pub mod Times
+pub mod Starts
+pub mod Parts
+pub mod Law
+pub mod WorkedLines
+pub mod Reader
+pub mod Literals
+pub mod LineParts

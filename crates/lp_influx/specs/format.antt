@@ -1,0 +1,3 @@
+pub mod InfluxNames
+pub mod InfluxFields
+pub mod InfluxLines

@@ -1,0 +1,12 @@
+//! What InfluxDB 1.x reads of one line, as its parser was measured: a reader, and that it reads portable lines as the strict reader does.
+#![tactic(auto)]
+
+mod fields;
+pub mod laws;
+mod lines;
+mod names;
+mod numbers;
+mod read;
+mod values;
+
+pub use lines::{InfluxField, InfluxLine, InfluxTag, InfluxValue, influx_line};

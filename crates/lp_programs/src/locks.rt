@@ -1,0 +1,94 @@
+//! Locks of the files that runs write beside their places, and what runs that were ended have left there.
+//!
+//! Each run locks the file that it writes beside a place, and the system takes the lock away once the run ends, however that is. So a
+//! file of such a name that nobody locks is of a run that was ended, and the next run for the same place removes it. That reads the
+//! folder of the place once. Where files cannot be locked nothing is removed.
+
+use crate::places::folder_and_file;
+use std::fs::{self, File, TryLockError};
+use std::io;
+use std::os::unix::fs::MetadataExt;
+
+/// What comes in the name of a file beside its place after the name of that.
+pub(crate) const BESIDE: &str = ".lp_relay-";
+
+// Whether a text has a digit, and nothing else.
+fn is_number(text: &str) -> bool {
+    !text.is_empty() && text.bytes().all(|byte| byte.is_ascii_digit())
+}
+
+// Whether a name is that of a file beside the place of this file: with the number of a process and another one.
+fn is_beside(name: &str, file: &str) -> bool {
+    let Some(rest) = name.strip_prefix(file) else {
+        return false;
+    };
+    let Some(numbers) = rest.strip_prefix(BESIDE) else {
+        return false;
+    };
+    match numbers.split_once('-') {
+        Some((process, turn)) => is_number(process) && is_number(turn),
+        None => false,
+    }
+}
+
+// Whether a path is that of an open file, and no link.
+fn is_at(rt: &HostRuntime, path: &str, file: &File) -> bool {
+    match (file.metadata(), fs::symlink_metadata(rt, path)) {
+        (Ok(own), Ok(found)) => found.dev() == own.dev() && found.ino() == own.ino(),
+        _ => false,
+    }
+}
+
+/// Locks a file that was just made at this path. Answers whether it is this run's: another run may have locked it first, and removes it.
+pub(crate) fn lock_made(rt: &HostRuntime, path: &str, file: &File) -> bool {
+    match file.try_lock() {
+        Ok(()) => is_at(rt, path, file),
+        Err(TryLockError::WouldBlock) => false,
+        // Files cannot be locked there, so no run removes them.
+        Err(TryLockError::Error(_)) => true,
+    }
+}
+
+// Removes the file at this path if it is a regular file that no run has locked. Answers whether it did.
+fn remove_unlocked(rt: &HostRuntime, path: &str) -> io::Result<bool> {
+    if !fs::symlink_metadata(rt, path)?.is_file() {
+        return Ok(false);
+    }
+    let file = File::open(rt, path)?;
+    if file.try_lock().is_err() || !is_at(rt, path, &file) {
+        return Ok(false);
+    }
+    fs::remove_file(rt, path)?;
+    Ok(true)
+}
+
+/// The names of the files that runs have made beside a place, also of those that are not ended. A folder that cannot be read has none.
+///
+/// # Errors
+///
+/// If memory was refused.
+pub(crate) fn names_beside(rt: &HostRuntime, place: &str) -> io::Result<Vec<String>> {
+    let (folder, file) = folder_and_file(place);
+    let mut names = Vec::new(rt.alloc());
+    let Ok(entries) = fs::read_dir(&rt, folder) else {
+        return Ok(names);
+    };
+    for entry in entries {
+        let Ok(entry) = entry else {
+            continue;
+        };
+        if is_beside(entry.file_name(), file) {
+            names.push(String::from_str(rt.alloc(), entry.file_name())?)?;
+        }
+    }
+    Ok(names)
+}
+
+/// Removes the file of this name beside a place, if it is one that a run has left. Answers whether it did: what cannot be removed stays.
+pub(crate) fn remove_left(rt: &HostRuntime, place: &str, name: &str) -> bool {
+    let (folder, _) = folder_and_file(place);
+    match format!(in rt.alloc(); "{folder}/{name}") {
+        Ok(path) => remove_unlocked(rt, path.as_str()).unwrap_or(false),
+        Err(_) => false,
+    }
+}

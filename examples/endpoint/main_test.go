@@ -1,0 +1,338 @@
+package main
+
+import (
+	"bytes"
+	"compress/gzip"
+	"context"
+	"encoding/json"
+	"fmt"
+	"io"
+	"net/http"
+	"net/http/httptest"
+	"os"
+	"path/filepath"
+	"strings"
+	"sync"
+	"testing"
+	"time"
+
+	"influxdb_line_protocol/lineprotocol"
+)
+
+// A stub is in the place of the server. It keeps what it takes, in order; it does not take lines with `conflict` or `panic`, as InfluxDB does
+// not; and while it is away, or sick, it takes nothing.
+type stub struct {
+	*httptest.Server
+	mu         sync.Mutex
+	got        []string
+	asked      []*http.Request
+	away, sick bool
+}
+
+func newStub(t *testing.T) *stub {
+	s := &stub{}
+	s.Server = httptest.NewServer(http.HandlerFunc(s.serve))
+	t.Cleanup(s.Close)
+	return s
+}
+
+func (s *stub) serve(w http.ResponseWriter, r *http.Request) {
+	s.mu.Lock()
+	defer s.mu.Unlock()
+	text, _ := io.ReadAll(r.Body)
+	s.asked = append(s.asked, r)
+	switch {
+	case s.away:
+		w.WriteHeader(503)
+	case s.sick, bytes.Contains(text, []byte("panic")):
+		w.WriteHeader(500)
+	case r.URL.Query().Get("db") == "nowhere":
+		w.WriteHeader(404)
+		fmt.Fprint(w, `{"error":"database not found"}`)
+	case bytes.Contains(text, []byte("conflict")):
+		w.WriteHeader(400)
+		fmt.Fprint(w, `{"error":"partial write: field type conflict dropped=1"}`)
+	default:
+		s.got = append(s.got, string(text))
+		w.WriteHeader(204)
+	}
+}
+
+func (s *stub) set(away, sick bool) {
+	s.mu.Lock()
+	defer s.mu.Unlock()
+	s.away, s.sick = away, sick
+}
+
+// taken gives the lines that the stub took.
+func (s *stub) taken() string {
+	s.mu.Lock()
+	defer s.mu.Unlock()
+	return strings.Join(s.got, "")
+}
+
+// start makes an endpoint before a stub. It ends with the test, or before that.
+func start(t *testing.T, s *stub, folder string, words ...string) (address string, end func()) {
+	e, err := newEndpoint(append([]string{"-server", s.URL + "/", "-refused", filepath.Join(folder, "refused")}, words...))
+	if err != nil {
+		t.Fatal(err)
+	}
+	ctx, cancel := context.WithCancel(context.Background())
+	server := httptest.NewServer(e.routes())
+	var sending sync.WaitGroup
+	sending.Add(1)
+	go func() { (&sender{endpoint: e}).run(ctx); sending.Done() }()
+	end = func() { server.Close(); cancel(); sending.Wait() }
+	t.Cleanup(end)
+	return server.URL, end
+}
+
+// post gives the status of an answer, and its text.
+func post(t *testing.T, address, body string, header ...string) string {
+	request, err := http.NewRequest("POST", address, strings.NewReader(body))
+	if err != nil {
+		t.Fatal(err)
+	}
+	for _, each := range header {
+		name, value, _ := strings.Cut(each, ": ")
+		request.Header.Set(name, value)
+	}
+	response, err := http.DefaultClient.Do(request)
+	if err != nil {
+		t.Fatal(err)
+	}
+	defer response.Body.Close()
+	text, err := io.ReadAll(response.Body)
+	if err != nil {
+		t.Fatal(err)
+	}
+	return strings.TrimSpace(fmt.Sprint(response.StatusCode, " ", string(text)))
+}
+
+// get gives the text of an answer.
+func get(t *testing.T, address string) string {
+	response, err := http.Get(address)
+	if err != nil {
+		t.Fatal(err)
+	}
+	defer response.Body.Close()
+	text, err := io.ReadAll(response.Body)
+	if err != nil {
+		t.Fatal(err)
+	}
+	return string(text)
+}
+
+// fault gives what the module says of a line.
+func fault(line string) string {
+	d := lineprotocol.NewDecoderWithBytes([]byte(line))
+	d.Next()
+	return d.Fault().Err.Error()
+}
+
+func want(t *testing.T, what, got, wanted string) {
+	t.Helper()
+	if got != wanted {
+		t.Errorf("%s: got\n%s\nwant\n%s", what, got, wanted)
+	}
+}
+
+// refused gives the raw lines of the file of refused lines.
+func refused(t *testing.T, folder string) (all []string) {
+	text, err := os.ReadFile(filepath.Join(folder, "refused"))
+	if err != nil {
+		t.Fatal(err)
+	}
+	for _, line := range strings.SplitAfter(string(text), "\n") {
+		var letter struct {
+			Raw   string
+			Bytes []byte `json:"raw_base64"`
+		}
+		if line != "" && json.Unmarshal([]byte(line), &letter) != nil || letter.Raw == "" && letter.Bytes == nil && line != "" {
+			all = append(all, "no letter: "+line)
+		} else if line != "" {
+			all = append(all, letter.Raw+string(letter.Bytes))
+		}
+	}
+	return all
+}
+
+func wait(t *testing.T, what string, condition func() bool) {
+	for end := time.Now().Add(time.Minute); !condition(); time.Sleep(5 * time.Millisecond) {
+		if time.Now().After(end) {
+			t.Fatalf("not in time: %s", what)
+		}
+	}
+}
+
+func pack(text string) string {
+	var packed bytes.Buffer
+	w := gzip.NewWriter(&packed)
+	io.WriteString(w, text)
+	w.Close()
+	return packed.String()
+}
+
+func TestAnswers(t *testing.T) {
+	s, folder := newStub(t), t.TempDir()
+	address, _ := start(t, s, folder, "-max-body", "1000", "-max-line", "100")
+	write := address + "/write?db=x"
+	long := "m s=\"" + strings.Repeat("x", 100) + `"`
+	for _, row := range []struct{ body, answer string }{
+		{"m f=1\n", ""},
+		{"", ""},
+		{"# it's \"\n\nm f=2", ""},
+		{"m f=3\nm f=\nm s=\"a\nb\" 3\n", "partial write: line 2: unable to parse 'm f=': " + fault("m f=") + " dropped=1"},
+		{"m f=1\r\n", "line 1: unable to parse 'm f=1\r': " + fault("m f=1\r")},
+		{"\xff f=1", "line 1: unable to parse '\xff f=1': " + fault("\xff")},
+		{long, "line 1: unable to parse '" + long[:100] + "': the line is too long"},
+		{"m f=4\n m=\" f=5", "partial write: line 2: unable to parse ' m=\" f=5': what is there is not one line for the strict reader dropped=1"},
+		{"m f=\"open\nm f=6", "line 1: unable to parse 'm f=\"open\nm f=6': " + fault("m f=\"")},
+		{"m conflict=1", "partial write: field type conflict dropped=1"},
+		{"m f=\nm conflict=1", "partial write: line 1: unable to parse 'm f=': " + fault("m f=") + "\nfield type conflict dropped=1 dropped=1"},
+	} {
+		wanted := "204"
+		if row.answer != "" {
+			text, _ := json.Marshal(map[string]string{"error": row.answer})
+			wanted = "400 " + string(text)
+		}
+		want(t, fmt.Sprintf("%.40q", row.body), post(t, write, row.body), wanted)
+	}
+	want(t, "a panic of the server", post(t, write, "m panic=1"), `500 {"error":""}`)
+	want(t, "a body too large", post(t, write, strings.Repeat("m f=1\n", 200)), `413 {"error":"Request Entity Too Large"}`)
+	want(t, "too much to keep", post(t, write, strings.Repeat("m\n", 100)), `413 {"error":"Request Entity Too Large"}`)
+	want(t, "what goes on", s.taken(), "m f=1\nm f=2\nm f=3\nm s=\"a\nb\" 3\nm f=4\n")
+	want(t, "what is kept", fmt.Sprintf("%q", refused(t, folder)), fmt.Sprintf("%q", []string{"m f=", "m f=1\r", "\xff f=1", long[:100], " m=\" f=5", "m f=\"open\nm f=6", "m f="}))
+}
+
+func TestTargets(t *testing.T) {
+	s, folder := newStub(t), t.TempDir()
+	address, _ := start(t, s, folder, "-max-body", "1000")
+	for _, row := range []struct{ path, header, answer, query string }{
+		{"/write?db=x&rp=y&u=me&p=a+b&precision=us&q=1", "Authorization: Basic abc", "204", "db=x&p=a+b&precision=u&rp=y&u=me"},
+		{"/api/v2/write?bucket=x/y&org=o&precision=s", "Authorization: Token a:b", "204", "db=x&precision=s&rp=y"},
+		{"/write?db=nowhere", "A: b", `404 {"error":"database not found"}`, "db=nowhere&precision=n"},
+	} {
+		want(t, row.path, post(t, address+row.path, "m f=1", row.header), row.answer)
+		asked := s.asked[len(s.asked)-1]
+		want(t, "what is asked", asked.URL.Path+" "+asked.URL.Query().Encode(), "/write "+row.query)
+		_, given, _ := strings.Cut(row.header, "Authorization: ")
+		want(t, "the credentials", asked.Header.Get("Authorization"), given)
+	}
+	asked := len(s.asked)
+	for _, row := range []struct{ path, body, header, answer string }{
+		{"/write", "", "A: b", `400 {"error":"database is required"}`},
+		{"/write?db=x&precision=d", "", "A: b", `400 {"error":"invalid precision \"d\" (use n, u, ms, s, m or h)"}`},
+		{"/api/v2/write?bucket=x", "m", "A: b", `400 {"code":"invalid","message":"line 1: unable to parse 'm': ` + fault("m") + `"}`},
+		{"/api/v2/write?bucket=x", pack(strings.Repeat("m", 1001)), "Content-Encoding: gzip", `413 {"code":"request too large","message":"Request Entity Too Large"}`},
+		{"/write?db=x", pack("m f=1")[:20], "Content-Encoding: gzip", `400 {"error":"the body cannot be read: unexpected EOF"}`},
+		{"/write?db=x", "m f=1", "Content-Encoding: gzip", `400 {"error":"gzip: unexpected EOF"}`},
+		{"/write?db=x", "m f=1", "Content-Encoding: br", `415 {"error":"Content-Encoding: br"}`},
+		{"/query", "", "A: b", `404 {"error":"there is no /query"}`},
+		{"/ping", "", "A: b", "204"},
+	} {
+		want(t, row.path, post(t, address+row.path, row.body, row.header), row.answer)
+	}
+	want(t, "gzip", post(t, address+"/write?db=x", pack("m f=1"), "Content-Encoding: gzip"), "204")
+	want(t, "how often the server is asked", fmt.Sprint(len(s.asked)-asked), "1")
+}
+
+// What is not portable is refused, also by the time that it has in its precision.
+func TestPortable(t *testing.T) {
+	s, folder := newStub(t), t.TempDir()
+	address, _ := start(t, s, folder, "-portable", "all", "-spool", filepath.Join(folder, "spool"))
+	for _, row := range []struct{ precision, line, why string }{
+		{"n", "m f=1,f=t", "two fields have one key"},
+		{"n", "m f=1 999999", "the timestamp is before or after what is kept"},
+		{"n", "m f=1 1000000", ""},
+		{"u", "m f=1 999", "the timestamp is before or after what is kept"},
+		{"u", "m f=1 1000", ""},
+		{"s", "m f=1 0", "the timestamp is before or after what is kept"},
+		{"s", "m f=1 9223372036", ""},
+		{"s", "m f=1 9223372037", "the timestamp is out of range in this precision"},
+		{"h", "m f=1 2562048", "the timestamp is out of range in this precision"},
+	} {
+		answer := "204"
+		if row.why != "" {
+			answer = fmt.Sprintf("400 {\"error\":\"line 1: unable to parse '%s': not portable: %s\"}", row.line, row.why)
+		}
+		want(t, row.precision+" "+row.line, post(t, address+"/write?db=x&precision="+row.precision, row.line), answer)
+	}
+}
+
+// The spool keeps order over a restart, and what the server refuses of it is found.
+func TestSpool(t *testing.T) {
+	s, folder := newStub(t), t.TempDir()
+	spool := filepath.Join(folder, "spool")
+	s.set(true, false)
+	address, end := start(t, s, folder, "-spool", spool)
+	var wanted, poisons []string
+	for n := 0; n < 20; n++ {
+		before, after := fmt.Sprintf("m f=%d %d\n", n, n), fmt.Sprintf("m g=%d %d\n", n, n)
+		poison := []string{"m panic=1 1", "m conflict=1 1", "m s=\"a\nconflict\" 1"}[n%3]
+		want(t, "a body", post(t, address+"/write?db=x&p=secret", before+poison+"\n"+after), "204")
+		wanted, poisons = append(wanted, before, after), append(poisons, poison)
+	}
+	want(t, "of another database", post(t, address+"/write?db=nowhere", "m f=1 1\nm f=2 2"), "204")
+	want(t, "without a time", post(t, address+"/write?db=x&precision=h", "m f=1"), "204")
+	wanted, poisons = append(wanted, fmt.Sprintf("m f=1 %d\n", time.Now().Unix()/3600)), append(poisons, "m f=1 1\nm f=2 2")
+	end()
+	if err := os.WriteFile(filepath.Join(spool, "00000000000000000000.part"), []byte("{}\nm f="), 0o600); err != nil {
+		t.Fatal(err)
+	}
+	start(t, s, folder, "-spool", spool)
+	s.set(false, true) // it answers 500 to all, and no line is to be blamed
+	time.Sleep(100 * time.Millisecond)
+	want(t, "what is refused of a sick server", fmt.Sprint(refused(t, folder)), "[]")
+	s.set(false, false)
+	wait(t, "the spool is empty", func() bool { files, err := os.ReadDir(spool); return err == nil && len(files) == 0 })
+	var came []string // each line once: some are sent again
+	for _, line := range strings.SplitAfter(s.taken(), "\n") {
+		if !strings.Contains(strings.Join(came, ""), line) {
+			came = append(came, line)
+		}
+	}
+	want(t, "what the server has", strings.Join(came, ""), strings.Join(wanted, ""))
+	want(t, "what is refused", fmt.Sprintf("%q", refused(t, folder)), fmt.Sprintf("%q", poisons))
+	if text, _ := os.ReadFile(filepath.Join(folder, "refused")); bytes.Contains(text, []byte("secret")) {
+		t.Error("a password is kept with a refused line")
+	}
+}
+
+// Where nothing can be kept, nothing is sent, and the client is told to come again.
+func TestFull(t *testing.T) {
+	s, folder := newStub(t), t.TempDir()
+	address, _ := start(t, s, folder, "-spool", filepath.Join(folder, "spool"), "-max-spool", "9000", "-max-body", "1000", "-max-in-flight", "263144")
+	refusedFile := filepath.Join(folder, "refused")
+	if err := os.WriteFile(refusedFile, []byte(`{"raw":"of a run that was killed`), 0o600); err != nil {
+		t.Fatal(err)
+	}
+	want(t, "after a part of a line", post(t, address+"/write?db=x", "m"), `400 {"error":"line 1: unable to parse 'm': `+fault("m")+`"}`)
+	want(t, "what is kept", fmt.Sprintf("%q", refused(t, folder)[1:]), `["m"]`)
+	os.Remove(refusedFile)
+	os.Mkdir(refusedFile, 0o700)
+	if answer := post(t, address+"/write?db=x", "m f=1\nm"); !strings.HasPrefix(answer, `503 {"error":"open `) {
+		t.Errorf("where refused lines cannot be kept: %s", answer)
+	}
+	s.set(true, false)
+	want(t, "one body", post(t, address+"/write?db=x", "m f=2 2"), "204")
+	want(t, "the next one", post(t, address+"/write?db=x", "m f=3 3"), "204")
+	if answer := post(t, address+"/write?db=x", "m f=4 4"); !strings.HasPrefix(answer, `503 {"error":"cannot keep the lines: the spool would have `) {
+		t.Errorf("where the spool is full: %s", answer)
+	}
+	s.set(false, false)
+	wait(t, "the spool is sent", func() bool { return s.taken() == "m f=2 2\nm f=3 3\n" })
+	slow, bytes := io.Pipe()
+	request, _ := http.NewRequest("POST", address+"/write?db=x", slow)
+	done := make(chan error)
+	go func() { _, err := http.DefaultClient.Do(request); done <- err }()
+	t.Cleanup(func() { bytes.Close() }) // before that of the endpoint, which waits for its clients
+	bytes.Write([]byte("m f=5 5\n"))
+	wait(t, "its first line is in flight", func() bool { return strings.Contains(get(t, address+"/metrics"), "in_flight_bytes 262152\n") })
+	want(t, "others", post(t, address+"/write?db=x", strings.Repeat("#", 999)), `503 {"error":"too many bytes are in flight"}`)
+	bytes.Close()
+	if err := <-done; err != nil {
+		t.Error(err)
+	}
+	want(t, "then", post(t, address+"/write?db=x", strings.Repeat("#", 999)), "204")
+}
