@@ -151,8 +151,8 @@ if [ -n "$program" ]; then
     refused "--max-line: an empty word is no number" --max-line ""
     refused "--max-line: 18446744073709551616 is out of range" --max-line 18446744073709551616
     refused "--first-item: 0 is out of range" --first-item 0
-    refused "--faults takes line, raw or json, not yaml" --faults yaml
-    refused "--faults takes line, raw or json, not an empty word" --faults ""
+    refused "--faults takes line, raw, json or json+text, not yaml" --faults yaml
+    refused "--faults takes line, raw, json or json+text, not an empty word" --faults ""
     refused "--types takes strict, not loose" --types loose
     refused "--output: --lines is no name of a file" --output --lines
     refused "--refused: an empty word is no name of a file" --refused ""

@@ -200,7 +200,7 @@ if strace -o "$work/trace" true 2>"$work/err"; then
     [ "$status $calls" = "1 fsync fsync rename rename fsync fsync" ] || lost "both files come to their places by: $calls"
     printf 'old\n' | tee out >refused
     # The ends of parts, if a signal interrupts a read at a place.
-    run strace -qq -o "$work/trace" -e trace=pread64 -e inject=pread64:error=EINTR:when=1 "$relay" --cut 2 b
+    run strace -qq -o "$work/trace" -P "$work/files/b" -e trace=pread64 -e inject=pread64:error=EINTR:when=1 "$relay" --cut 2 b
     [ "$status $(paste -sd ' ' "$work/out")" = "0 7 9" ] || lost "a read at a place that is interrupted ends the run"
 else
     left_out "files on the device" "there is no strace, or it may not watch, for checks/losses.sh"
@@ -219,7 +219,7 @@ mark='the input begins with a byte order mark, which is part of its first line\n
 by_parts() { head -c "$1" "$2"; sleep 0.3; tail -c +"$(($1 + 1))" "$2"; }
 given 2 '' "${unread}packed: $gzip" packed
 given 2 'm a=1i\n' "${unread}packed: $gzip" a packed b
-given 2 '' "${unread}packed: $gzip" --refused refused packed
+given 2 '' "${unread}packed: $gzip" --replace --refused refused packed
 given 2 '' "${unread}zstd: the input is zstd: use zstdcat\n" zstd
 given 1 '\xef\xbb\xbfm c=3i\n' "lp_relay: marked: ${mark}item 2: $x\n" marked
 given 1 'm a=1i\n\xef\xbb\xbfm c=3i\n' "lp_relay: marked: ${mark}marked: item 3: $x\n" a marked
@@ -261,11 +261,11 @@ for form in "" --verbatim --canonical --newline-delimited; do
     given 0 "$(cat unix)\\n" '' --crlf ${form:+"$form"} unix
 done
 trailing="Could not parse entire line. Found trailing content: '"
-given 1 'm s="a\r\nb"\nn f=1i\n' "line 5: $x\nline 6: $trailing\\\\r'\n" --crlf --lines --refused refused mixed
+given 1 'm s="a\r\nb"\nn f=1i\n' "line 5: $x\nline 6: $trailing\\\\r'\n" --crlf --lines --replace --refused refused mixed
 holds refused ' x\r\nm a=1i\r\r\n'
-told='{"item":2,"line":5,"offset":20,"piece_line":5,"piece_offset":19,"kind":"generic_parsing_error"'
+told='{"file":"mixed","item":2,"line":5,"offset":20,"piece_line":5,"piece_offset":19,"length":3,"kind":"generic_parsing_error"'
 told="$told,\"text\":\"$x\",\"stop_line\":5,\"stop_column\":3}\\n"
-told=$told'{"item":3,"line":6,"offset":23,"piece_line":6,"piece_offset":23,"kind":"cannot_parse_entire_line"'
+told=$told'{"file":"mixed","item":3,"line":6,"offset":23,"piece_line":6,"piece_offset":23,"length":8,"kind":"cannot_parse_entire_line"'
 told="$told,\"text\":\"$trailing\\\\u000d'\",\"stop_line\":6,\"stop_column\":7}\\n"
 given 1 'm s="a\r\nb"\nn f=1i\n' "$told" --crlf --faults json mixed
 given 0 'm a=1i\n' '' --crlf --max-line 7 wide

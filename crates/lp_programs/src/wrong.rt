@@ -231,6 +231,9 @@ impl<'a> Manual<'a> {
         if self.is_given(options, "--range") && names.len() != 1 {
             return Wrong::OneFile(names.len());
         }
+        if options.iter().any(|word| *word == "-") {
+            return Wrong::Needs("--refused -", "--check or --output");
+        }
         Wrong::Other
     }
 

@@ -553,28 +553,6 @@ impl<'a> Given<'a> {
         }
     }
 
-    // These options and the one that the first words give, and the words after these.
-    fn with_first<'w>(self, words: &'w [&'a str]) -> Option<(Self, &'w [&'a str])> {
-        let [word, rest @ ..] = words else {
-            return None;
-        };
-        if let Some(more) = self.with_flag(word) {
-            return Some((more, rest));
-        }
-        let [value, rest @ ..] = rest else {
-            return None;
-        };
-        Some((self.with_value(word, value)?, rest))
-    }
-
-    // The same, or nothing more if these words give none.
-    fn with_next<'w>(self, words: &'w [&'a str]) -> (Self, &'w [&'a str]) {
-        if let Some(next) = self.with_first(words) {
-            return next;
-        }
-        (self, words)
-    }
-
     // Whether two options exclude each other: a check has no file for lines, and no batches, the number of the first item is none of a line, lines
     // go out in one way, the rules are those of one dialect, and refused pieces are added to their file or replace it.
     fn are_at_odds(self) -> bool
@@ -682,14 +660,26 @@ fn request_after<'a>(given: Given<'a>, words: &[&'a str]) -> Option<Request<'a>>
     }
 }
 
+// How many of these words are options that can be read after the options given, with what each takes. It calls itself for each.
+fn options_after<'a>(given: Given<'a>, words: &[&'a str]) -> usize {
+    let [word, rest @ ..] = words else {
+        return 0;
+    };
+    if let Some(more) = given.with_flag(word) {
+        return options_after(more, rest).saturating_add(1);
+    }
+    let [value, rest @ ..] = rest else {
+        return 0;
+    };
+    match given.with_value(word, value) {
+        Some(more) => options_after(more, rest).saturating_add(2),
+        None => 0,
+    }
+}
+
 /// How many words are options that can be read, with what each takes: all before the first word that is none.
 pub(crate) fn options_in(words: &[&str]) -> usize {
-    let mut given = Given::nothing();
-    let mut left = words;
-    for _ in 0..words.len() {
-        (given, left) = given.with_next(left);
-    }
-    words.len().saturating_sub(left.len())
+    options_after(Given::nothing(), words)
 }
 
 // The cut that words ask for: of the inputs that the last ones name.

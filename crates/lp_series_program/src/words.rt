@@ -314,28 +314,6 @@ impl<'a> Given<'a> {
         }
         Some(self)
     }
-
-    // These options and the one that the first words give, and the words after these.
-    fn with_first<'w>(self, words: &'w [&'a str]) -> Option<(Self, &'w [&'a str])> {
-        let [word, rest @ ..] = words else {
-            return None;
-        };
-        if let Some(more) = self.with_flag(word) {
-            return Some((more, rest));
-        }
-        let [value, rest @ ..] = rest else {
-            return None;
-        };
-        Some((self.with_value(word, value)?, rest))
-    }
-
-    // The same, or nothing more if these words give none.
-    fn with_next<'w>(self, words: &'w [&'a str]) -> (Self, &'w [&'a str]) {
-        if let Some(next) = self.with_first(words) {
-            return next;
-        }
-        (self, words)
-    }
 }
 
 // The shard whose number and count these words write, if there is one.
@@ -380,14 +358,26 @@ fn task_after<'a>(given: Given<'a>, words: &[&'a str]) -> Option<Task<'a>>
     }
 }
 
+// How many of these words are options that can be read after the options given, with what each takes. It calls itself for each.
+fn options_after<'a>(given: Given<'a>, words: &[&'a str]) -> usize {
+    let [word, rest @ ..] = words else {
+        return 0;
+    };
+    if let Some(more) = given.with_flag(word) {
+        return options_after(more, rest).saturating_add(1);
+    }
+    let [value, rest @ ..] = rest else {
+        return 0;
+    };
+    match given.with_value(word, value) {
+        Some(more) => options_after(more, rest).saturating_add(2),
+        None => 0,
+    }
+}
+
 /// How many words are options that can be read, with what each takes: all before the first word that is none.
 pub(crate) fn options_in(words: &[&str]) -> usize {
-    let mut given = Given::nothing();
-    let mut left = words;
-    for _ in 0..words.len() {
-        (given, left) = given.with_next(left);
-    }
-    words.len().saturating_sub(left.len())
+    options_after(Given::nothing(), words)
 }
 
 /// What words in order ask for, or `None` if they are not as [`USAGE`] says: options, the mark `--`, and names of inputs, as
