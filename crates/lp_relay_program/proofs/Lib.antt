@@ -1,1 +1,2 @@
+pub mod TimeLemmas
 pub mod LastWords

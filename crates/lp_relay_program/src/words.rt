@@ -1,6 +1,6 @@
 //! What the words after the program's name ask for.
 ghost use Rattle.std.specs.Prelude.{◌≡◌};
-ghost use Rattle.lp_relay_program.specs.Words.{are_at_odds, asked_alone, asked_by_one, asked_cut, asked_dialect, asked_request, asked_task, cut_task};
+ghost use Rattle.lp_relay_program.specs.Words.{are_at_odds, asked_alone, asked_cut, asked_dialect, asked_request, asked_task, cut_task};
 ghost use Rattle.lp_relay_program.specs.Words.{first_given, first_named, first_offset, given_batches, given_old_pieces, given_settings, is_json, lacks_refused, lacks_types, names_lines, told_form};
 ghost use Rattle.lp_relay_program.specs.Words.{nothing_given, portable_form, request_of, servers_named, times_form, types_form, with_file, with_flag, with_form, with_number, with_old_pieces, with_switch, with_times, with_value, with_word};
 
@@ -710,6 +710,23 @@ fn cut_of<'a>(words: &[&str]) -> Option<Task<'a>>
     }
 }
 
+// What one option alone asks for.
+fn alone_of<'a>(words: &[&str]) -> Option<Task<'a>>
+    ensures { result ≡ asked_alone words.now }
+{
+    let [word, mark] = words else {
+        return None;
+    };
+    if *mark != "--" {
+        return None;
+    }
+    match *word {
+        "--help" | "-h" => Some(Task::Help),
+        "--version" => Some(Task::Version),
+        _ => None,
+    }
+}
+
 /// What words in order ask for, or `None` if they are not as [`USAGE`] says: options, the mark `--`, and names of inputs, as
 /// `plain_words` of `lp_programs` gives them.
 ///
@@ -733,12 +750,11 @@ fn cut_of<'a>(words: &[&str]) -> Option<Task<'a>>
 pub fn task_of<'a>(words: &[&'a str]) -> Option<Task<'a>>
     ensures { result ≡ asked_task words.now }
 {
-    match words {
-        [word, mark] if *mark == "--" && (*word == "--help" || *word == "-h") => Some(Task::Help),
-        [word, mark] if *mark == "--" && *word == "--version" => Some(Task::Version),
-        _ => match cut_of(words) {
-            Some(task) => Some(task),
-            None => Some(Task::Relay(request_after(Given::nothing(), words)?)),
-        },
+    if let Some(task) = alone_of(words) {
+        return Some(task);
     }
+    if let Some(task) = cut_of(words) {
+        return Some(task);
+    }
+    Some(Task::Relay(request_after(Given::nothing(), words)?))
 }
