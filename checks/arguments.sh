@@ -392,7 +392,7 @@ if [ -n "$program" ]; then
         --canonical --time-unit ms
     wanted 0 "m a=1  07 ${newline}m s=\"at 5${newline}b\" -7${newline}n,t=u b=2i 5${newline}m a=1,b=t 9223372036854776$newline" "" \
         --default-time 5 --verbatim --time-unit ns
-    wanted 1 "m a=1 7${newline}m a=1,b=t 9223372036854776$newline" \
+    wanted 1 "m a=1 7${newline}m a=1,b=true 9223372036854776$newline" \
         "item 2: time out of range: -7${newline}item 3: time missing: the line has no timestamp$newline" --times 7..
     wanted 1 "m s=\"at 5${newline}b\" -7000${newline}n,t=u b=2i 6$newline" \
         "item 1: time out of range: 7000${newline}item 4: time overflow: 9223372036854776 microseconds do not fit 64 bits in nanoseconds$newline" \
@@ -518,6 +518,7 @@ else
     left_out "calls that a signal interrupts" "there is no strace, or it may not watch, for checks/arguments.sh"
 fi
 for program in ${rebuild:+"$rebuild"} "$relay"; do
+    : >"$work/err"
     printf 'm a=1i\nx\n' | "$program" 2>/dev/full >"$work/out" && status=0 || status=$?
     stopped "" "standard error is full, and $program has a fault to write"
 done

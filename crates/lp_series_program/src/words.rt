@@ -1,6 +1,6 @@
 //! What the words after the program's name ask for.
 ghost use Rattle.std.specs.Prelude.{◌≡◌};
-ghost use Rattle.lp_series_program.specs.Words.{are_at_odds, asked_after_options, asked_dialect, asked_shard, asked_task, asks_to_count};
+ghost use Rattle.lp_series_program.specs.Words.{asked_alone, are_at_odds, asked_after_options, asked_dialect, asked_shard, asked_task, asks_to_count};
 ghost use Rattle.lp_series_program.specs.Words.{given_relay, given_report, is_relay, lines_form, nothing_given, shard_between, task_given, with_flag, with_value};
 
 use influxdb_line_protocol::Dialect;
@@ -19,11 +19,11 @@ pub(crate) const NAME: &str = "lp_series";
 /// How the program is called: the lines that it prints if its words ask for nothing, without the last newline.
 pub const USAGE: &str =
     "usage: lp_series [--stats] [--json] [--every SECONDS] [--prometheus FILE] [--max-series N]
-                 [--strict | --newline-delimited] [--faults line|raw|json] [--max-line BYTES]
-                 [FILE..]
-       lp_series --key [--newline-delimited] [--faults line|raw|json] [--max-line BYTES]
-                 [FILE..]
-       lp_series --shard K/N [--strict | --newline-delimited] [--faults line|raw|json]
+                 [--strict | --newline-delimited] [--faults line|raw|json|json+text]
+                 [--max-line BYTES] [FILE..]
+       lp_series --key [--newline-delimited] [--faults line|raw|json|json+text]
+                 [--max-line BYTES] [FILE..]
+       lp_series --shard K/N [--strict | --newline-delimited] [--faults line|raw|json|json+text]
                  [--max-line BYTES] [FILE..]
        lp_series --help | --version";
 
@@ -55,7 +55,8 @@ file -x.
                      reads the newline-delimited dialect: that of --strict, but each newline ends a
                      line, whatever is open, so that no line takes in the next one
   --faults FORM      line, as if it is not given: each fault on one line; raw: as lp_rebuild writes
-                     it, with newlines within; json: each as an object on one line
+                     it, with newlines within; json: each as an object on one line; json+text: the
+                     same with the text of what is refused
   --max-line BYTES   a longer line is passed over, and is a fault: 16777216 if it is not given
   --help, -h         prints this
   --version          prints the version, and the kit that it is built by
@@ -380,6 +381,23 @@ pub(crate) fn options_in(words: &[&str]) -> usize {
     options_after(Given::nothing(), words)
 }
 
+// What one option alone asks for.
+fn alone_of<'a>(words: &[&str]) -> Option<Task<'a>>
+    ensures { result ≡ asked_alone words.now }
+{
+    let [word, mark] = words else {
+        return None;
+    };
+    if *mark != "--" {
+        return None;
+    }
+    match *word {
+        "--help" | "-h" => Some(Task::Help),
+        "--version" => Some(Task::Version),
+        _ => None,
+    }
+}
+
 /// What words in order ask for, or `None` if they are not as [`USAGE`] says: options, the mark `--`, and names of inputs, as
 /// `plain_words` of `lp_programs` gives them. It takes no memory.
 ///
@@ -395,9 +413,8 @@ pub(crate) fn options_in(words: &[&str]) -> usize {
 pub fn task_of<'a>(words: &[&'a str]) -> Option<Task<'a>>
     ensures { result ≡ asked_task words.now }
 {
-    match words {
-        [word, mark] if *mark == "--" && (*word == "--help" || *word == "-h") => Some(Task::Help),
-        [word, mark] if *mark == "--" && *word == "--version" => Some(Task::Version),
-        _ => task_after(Given::nothing(), words),
+    match alone_of(words) {
+        Some(task) => Some(task),
+        None => task_after(Given::nothing(), words),
     }
 }
