@@ -738,13 +738,19 @@ lines='m a=1i\n'
 kept 0 '' '' a
 lines='m a=1i\nm b=2i\n'
 kept 1 'x\n' '{"file":"b","item":3,"line":2,'"$kind" --faults json a b
-# A refused piece of 9 MB, and its object, which is told whole, and what comes after them.
+# A refused piece of 9 MB, and its object, whose text is cut and whose piece is whole, and what comes after them.
 { printf 'm a=1i '; head -c 9000000 /dev/zero | tr '\0' x; printf '\ny\n'; } >large
-"$relay" --faults json --replace --refused refused large >"$work/out" 2>"$work/err" && exit 1
+"$relay" --faults json+text --replace --refused refused large >"$work/out" 2>"$work/err" && exit 1
 if ! cmp refused large || [ -s "$work/out" ] || [ "$(wc -l <"$work/err")" != 2 ] || [ "$(wc -c <"$work/err")" -lt 9000000 ]; then
     echo "arguments: a refused piece of 9 MB does not go out, or is not told, whole"
     exit 1
 fi
+"$relay" --faults json large >"$work/out" 2>"$work/err" && exit 1
+if [ "$(wc -l <"$work/err")" != 2 ] || [ "$(wc -c <"$work/err")" -ge 2000 ]; then
+    echo "arguments: an object tells the text of a piece of 9 MB without cutting it"
+    exit 1
+fi
+rm large
 # What the file of refused pieces holds stays, unless an option says what becomes of it: not one byte is read then.
 printf 'old\n' >refused
 lines='m b=2i\n'
@@ -782,7 +788,7 @@ exec 3>>refused
 flock 3
 given 2 '' "${unwritten}refused: another run appends to it\n" --refused refused --append b
 exec 3>&-
-rm bad refused large
+rm bad refused
 names >"$work/names"
 # Pieces go out as they come: to a process, a FIFO, a device, and standard error.
 for option in "" --append --replace; do
