@@ -42,7 +42,7 @@ def go_together(one, other, ways):
 def options_of_series(known):
     """The options of lp_series. An option of lp_relay that has the same name, one of `known`, is told as that one."""
     heads = re.findall(r"^  (--[a-z-]+)((?: [A-Z/]+)?)(?:, (-[a-z]))?(?:\n)? {2,}((?:.|\n(?!  -|\n))*)", text_of_series("HELP"), re.M)
-    values = dict(re.findall(r"(--[a-z-]+) ([a-z]+(?:\|[a-z]+)+)", text_of_series("USAGE")))
+    values = dict(re.findall(r"(--[a-z-]+) ([a-z]+(?:\|[a-z+]+)+)", text_of_series("USAGE")))
     ways, found = forms(), []
     for word, argument, short, does in heads:
         lines = {"does": [" ".join(does.split())]}

@@ -122,7 +122,7 @@ def cases(program, found):
 def with_unless(found):
     """Three options of which one lets two others go together, and two of these."""
     texts = {unless for option in found for unless in option.rivals.values() if unless}
-    lets = [option for option in found if " ".join(as_given(option)) in texts]
+    lets = [option for option in found if " ".join(as_given(option)).startswith(tuple(texts))]
     return [words for words in permutations(found, 3) if words[1] in lets and any(words[0].rivals.values())]
 
 

@@ -1,14 +1,15 @@
 # Completes the words of lp_relay for fish, as its usage has them: an option once, and none that is at odds with one that was given;
 # --help and --version alone, and --cut first or after a dialect.
 
-# Tells whether an option can come: none of these words was given; "A unless B" counts if B was not given.
+# Tells whether an option can come: none of these words was given; "A unless B" counts if nothing was
+# given that begins with B.
 function __lp_relay_can
     set -l given (commandline -opc)
     for taken in $argv
         set -l words (string split -- " unless " $taken)
         contains -- $words[1] $given
         or continue
-        test (count $words) = 2; and string match -q -- "* $words[2] *" " $given "
+        test (count $words) = 2; and string match -q -- "* $words[2]*" " $given"
         or return 1
     end
     return 0

@@ -1,14 +1,15 @@
 # Completes the words of lp_series for fish, as its usage has them: an option once, and none that is at odds with one that was given;
 # --help and --version alone.
 
-# Tells whether an option can come: none of these words was given; "A unless B" counts if B was not given.
+# Tells whether an option can come: none of these words was given; "A unless B" counts if nothing was
+# given that begins with B.
 function __lp_series_can
     set -l given (commandline -opc)
     for taken in $argv
         set -l words (string split -- " unless " $taken)
         contains -- $words[1] $given
         or continue
-        test (count $words) = 2; and string match -q -- "* $words[2] *" " $given "
+        test (count $words) = 2; and string match -q -- "* $words[2]*" " $given"
         or return 1
     end
     return 0
@@ -47,7 +48,7 @@ complete -c lp_series -l strict -d 'reads the strict dialect' \
     -n '__lp_series_can --strict --help -h --version --key --newline-delimited'
 complete -c lp_series -l newline-delimited -d 'reads the newline-delimited dialect' \
     -n '__lp_series_can --newline-delimited --help -h --version --strict'
-complete -c lp_series -l faults -d 'how faults are told' -x -a 'line raw json json' \
+complete -c lp_series -l faults -d 'how faults are told' -x -a 'line raw json json+text' \
     -n '__lp_series_follows --faults; or __lp_series_can --faults --help -h --version'
 complete -c lp_series -l max-line -d 'a longer line is passed over, and is a fault' -x \
     -n '__lp_series_follows --max-line; or __lp_series_can --max-line --help -h --version'
