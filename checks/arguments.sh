@@ -151,6 +151,8 @@ if [ -n "$program" ]; then
     refused "--max-line: an empty word is no number" --max-line ""
     refused "--max-line: 18446744073709551616 is out of range" --max-line 18446744073709551616
     refused "--first-item: 0 is out of range" --first-item 0
+    refused "--first-item: 9223372036854775808 is out of range" --first-item 9223372036854775808
+    refused "--first-line: 18446744073709551615 is out of range" --first-line 18446744073709551615
     refused "--faults takes line, raw, json or json+text, not yaml" --faults yaml
     refused "--faults takes line, raw, json or json+text, not an empty word" --faults ""
     refused "--types takes strict, not loose" --types loose
@@ -192,7 +194,8 @@ if [ -n "$program" ]; then
     wanted 2 "" "$usage" --progress --loose
     wanted 2 "" "${unread}progress: $none$newline" progress
     wanted 1 "" "item 7: ${strict_fault#item 1: }" --strict --first-item 7
-    wanted 1 "" "line 18446744073709551613: ${strict_fault#item 1: }" --first-line 18446744073709551613 --strict --check
+    wanted 1 "" "line 9223372036854775807: ${strict_fault#item 1: }" --first-line 9223372036854775807 --strict --check
+    wanted 1 "" "item 9223372036854775807: ${strict_fault#item 1: }" --first-item 9223372036854775807 --strict --check
     wanted 0 "$loose" "" --first-item 1
     for option in --first-item --first-line; do
         wanted 2 "" "$usage" "$option" 0

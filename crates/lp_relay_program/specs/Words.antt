@@ -1,5 +1,5 @@
 -- What words ask of the program.
-use Rattle.std.specs.Prelude.{ℕ, pos, Bool, true, false, not, ◌&&◌, ◌||◌, List, [], ◌∷◌, length, bytes_eq, codes}
+use Rattle.std.specs.Prelude.{ℕ, ◌^◌, nat_lt, pos, Bool, true, false, not, ◌&&◌, ◌||◌, List, [], ◌∷◌, length, bytes_eq, codes}
 use Rattle.std.specs.Prelude.{Option, Some, None, is_none, is_some, option_and_then, option_map, unwrap_or}
 use Rattle.std.specs.Prelude.{if◌then◌else◌}
 use Rattle.std.specs.Borrow.{Bor}
@@ -92,6 +92,10 @@ lines_form given = if given.verbatim then Verbatim else (if given.canonical then
 -- where the input begins in its file: at the range, if one is asked for
 abbrev pub first_offset : Given → ℕ
 first_offset given = option_map_or (λ range. range.from) given.range 0
+
+-- the number of the first item or line that a word writes: at least 1, and less than 2^63, so that those after it have numbers too
+abbrev pub start_number : List ℕ → Option ℕ
+start_number word = option_and_then (λ first. if nat_lt first (2 ^ 63) then Some first else None) (first_number word)
 
 -- the servers that a word names
 abbrev pub servers_named : List ℕ → Option Servers
@@ -232,9 +236,9 @@ with_number given word value =
     if bytes_eq word (codes "--max-line") && is_none given.max_line
     then option_map (λ bytes. record given { max_line = Some bytes }) (decimal value.now)
     else (if bytes_eq word (codes "--first-item") && is_none given.first_item
-    then option_map (λ first. record given { first_item = Some first }) (first_number value.now)
+    then option_map (λ first. record given { first_item = Some first }) (start_number value.now)
     else (if bytes_eq word (codes "--first-line") && is_none given.first_line
-    then option_map (λ first. record given { first_line = Some first }) (first_number value.now)
+    then option_map (λ first. record given { first_line = Some first }) (start_number value.now)
     else (if bytes_eq word (codes "--batch-lines") && is_none given.batch_lines
     then option_map (λ most. record given { batch_lines = Some most }) (first_number value.now)
     else (if bytes_eq word (codes "--batch-bytes") && is_none given.batch_bytes

@@ -2,7 +2,7 @@
 ghost use Rattle.std.specs.Prelude.{◌≡◌};
 ghost use Rattle.lp_relay_program.specs.Words.{are_at_odds, asked_alone, asked_cut, asked_dialect, asked_request, asked_task, cut_task};
 ghost use Rattle.lp_relay_program.specs.Words.{first_given, first_named, first_offset, given_batches, given_old_pieces, given_settings, is_json, lacks_refused, lacks_types, names_lines, told_form};
-ghost use Rattle.lp_relay_program.specs.Words.{nothing_given, portable_form, request_of, servers_named, times_form, types_form, with_file, with_flag, with_form, with_number, with_old_pieces, with_switch, with_times, with_value, with_word};
+ghost use Rattle.lp_relay_program.specs.Words.{nothing_given, portable_form, request_of, servers_named, start_number, times_form, types_form, with_file, with_flag, with_form, with_number, with_old_pieces, with_switch, with_times, with_value, with_word};
 
 use crate::time_words::{TimeRange, time_of, times_of, unit_of};
 use influxdb_line_protocol::Dialect;
@@ -465,10 +465,10 @@ impl<'a> Given<'a> {
         match word {
             "--max-line" if self.max_line.is_none() => self.max_line = Some(decimal_of(value)?),
             "--first-item" if self.first_item.is_none() => {
-                self.first_item = Some(first_number_of(value)?);
+                self.first_item = Some(start_number_of(value)?);
             }
             "--first-line" if self.first_line.is_none() => {
-                self.first_line = Some(first_number_of(value)?);
+                self.first_line = Some(start_number_of(value)?);
             }
             "--batch-lines" if self.batch_lines.is_none() => {
                 self.batch_lines = Some(first_number_of(value)?);
@@ -609,6 +609,13 @@ impl<'a> Given<'a> {
             inputs: names.len(),
         })
     }
+}
+
+// The number of the first item or line that a word writes: so small that those after it have numbers too.
+fn start_number_of(word: &str) -> Option<usize>
+    ensures { result ≡ start_number word.now }
+{
+    first_number_of(word).filter(|first| *first < 1 << 63)
 }
 
 // The servers that a word names.
