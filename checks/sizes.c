@@ -43,7 +43,7 @@ static const struct piece SHORT[] = {
     {"  x", NULL, "A generic parsing error occurred: TakeWhile1", GENERIC, 3, 2},
     {"m a=9223372036854775808i", NULL, "Unable to parse integer value '9223372036854775808'", INTEGER, 4, 0},
     {",x", NULL, "Invalid measurement was provided", MEASUREMENT, 0, 0},
-    {"\xff", NULL, "the line is not UTF-8", NOT_UTF8, NONE, 0},
+    {"\xff", NULL, "the line is not UTF-8", NOT_UTF8, 0, 0},
     {"m, a=1i", NULL, "Tag Set Malformed", TAGS, 2, 0},
     {"m a=1i 9223372036854775808", NULL, "Unable to parse timestamp value '9223372036854775808'", TIMESTAMP, 7, 0},
     {"m s=\"\n123456789012345678901234\"", NULL, "the line is too long", TOO_LONG, NONE, 0},
@@ -108,13 +108,17 @@ static enum form form_of(const struct relay *relay) {
     return has(relay, 'v') ? VERBATIM : has(relay, 'c') ? CANONICAL : REBUILT;
 }
 
-/* Puts the members of an object after the number of its item. */
-static void put_places(struct text *err, const struct piece *piece, struct place place, const char *kind, const char *wrong) {
-    const size_t line = place.newlines + 1;
+/* Puts the members of an object after the number of its item. Of what is wrong 200 bytes are told. */
+static void put_places(struct relay *relay, const struct piece *piece, struct place place, const char *kind, const char *wrong) {
+    struct text *err = &relay->err;
+    const size_t line = place.newlines + 1, len = strlen(wrong);
     put_form(err, "\"line\":%zu,\"offset\":%zu", line + newlines_in(piece->text, piece->front), place.bytes + piece->front);
     put_form(err, ",\"piece_line\":%zu,\"piece_offset\":%zu", line, place.bytes);
+    if (piece->kind == TOO_LONG) put_form(err, ",\"longer_than\":%zu", relay->limit);
+    else put_form(err, ",\"length\":%zu", strlen(piece->text));
     put_form(err, ",\"kind\":\"%s\",\"text\":\"", kind);
-    put_text(err, wrong);
+    put(err, wrong, len > 200 ? 200 : len);
+    if (len > 200) put_form(err, ".. [%zu bytes]", len);
     put_text(err, "\"");
     if (piece->stop == NONE) return;
     size_t stop = (size_t)piece->stop, column = 1;
@@ -128,7 +132,7 @@ static void put_fault(struct relay *relay, const struct piece *piece, struct pla
     struct text *err = &relay->err;
     if (has(relay, 'j')) {
         put_form(err, "{\"item\":%zu,", place.items);
-        put_places(err, piece, place, NAMES[piece->kind], wrong);
+        put_places(relay, piece, place, NAMES[piece->kind], wrong);
         put_text(err, "}\n");
         return;
     }
