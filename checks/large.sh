@@ -22,7 +22,7 @@ for form in "" --verbatim --canonical; do
     status=${PIPESTATUS[1]}
     { read -r fault && read -r counts; } <err
     if [[ "$status $fault" != "1 {\"item\":$((count + 1)),\"line\":$((count + 1)),\"offset\":$bytes,"* ]] ||
-        [[ $counts != "$((bytes + 2)) bytes, $((count + 1)) lines, $((count + 1)) items: $count carried, 1 refused: "* ]]; then
+        [[ $counts != "{\"summary\":{\"bytes\":$((bytes + 2)),\"lines\":$((count + 1)),\"items\":$((count + 1)),\"carried\":$count,\"refused\":1,"* ]]; then
         echo "large: of $((bytes + 2)) bytes lp_relay $form says, with status $status,"
         head -n 10 err
         exit 1

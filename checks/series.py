@@ -111,7 +111,7 @@ def counted(text, lines):
 def refused_of(relay, *words):
     """How many items were refused for each kind of fault, as the relay's summary tells it."""
     told = subprocess.run([relay, "--check", "--verbatim", "--faults", "json", "--summary", *words], stderr=subprocess.PIPE, check=False).stderr
-    return {kind.decode(): int(count) for count, kind in re.findall(rb"(\d+) (\w+)", told.splitlines()[-1].partition(b" refused: ")[2])}
+    return json.loads(told.splitlines()[-1])["summary"]["kinds"]
 
 
 def differs(what, given, wanted):
