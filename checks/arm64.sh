@@ -129,9 +129,9 @@ run_programs() {
         "$work/bin/$program" <"$top/examples/two_lines.lp" >"$work/out" 2>"$work/err" && status=0 || status=$?
         equal "what $program gives for the two lines" "cpu usage=64i|item 2: No fields were provided|1" "$(cat "$work/out")|$(cat "$work/err")|$status"
     done
-    "$top/checks/arguments.sh" "$work/bin/lp_rebuild" "$work/bin/lp_relay" >"$work/log" 2>&1 || { cat "$work/log" >&2; fail "arguments are not as they should be"; }
+    EMULATED=1 "$top/checks/arguments.sh" "$work/bin/lp_rebuild" "$work/bin/lp_relay" >"$work/log" 2>&1 || { cat "$work/log" >&2; fail "arguments are not as they should be"; }
     told+=("programs with $(tail -n 1 "$work/log" | sed 's/^arguments: //')")
-    "$top/checks/series_arguments.sh" "$work/bin/lp_series" >"$work/log" 2>&1 || { cat "$work/log" >&2; fail "arguments of lp_series are not as they should be"; }
+    EMULATED=1 "$top/checks/series_arguments.sh" "$work/bin/lp_series" >"$work/log" 2>&1 || { cat "$work/log" >&2; fail "arguments of lp_series are not as they should be"; }
     told+=("lp_series with $(tail -n 1 "$work/log" | sed 's/^series_arguments: //')")
 }
 

@@ -660,7 +660,7 @@ complete_series() {
         done
         completed "${others[*]}" lp_series "${words[@]}" --
     done
-    completed "line raw json" lp_series --key --faults ""
+    completed "line raw json json+text" lp_series --key --faults ""
     for option in --every --max-series --shard --max-line; do completed "" lp_series "$option" ""; done
     for option in "" --json --prometheus; do completed "$top/launch.sh" lp_series ${option:+"$option"} "$top/lau"; done
 }
@@ -697,9 +697,9 @@ complete_all() {
     local others
     others=$(options '\nplace:' | paste -sd ' ')
     completed "$(options '\nlp_rebuild:' | paste -sd ' ')" lp_rebuild ""
-    completed "line raw json" lp_relay --strict --faults ""
+    completed "line raw json json+text" lp_relay --strict --faults ""
     completed "raw" lp_relay --faults r
-    completed "json" lp_relay --faults j
+    completed "json json+text" lp_relay --faults j
     completed "--strict" lp_rebuild --s
     completed "" lp_rebuild --strict ""
     offered "" lp_relay ""
@@ -717,7 +717,7 @@ complete_all() {
     offered "--faults --first-item $others" lp_relay --faults json --first-item 7 --
     offered "--max-line $others" lp_relay --max-line 7 ""
     completed "" lp_relay --first-item ""
-    completed "--max-line" lp_relay --m
+    completed "--max-line" lp_relay --max-l
     completed "" lp_relay --max-line ""
     completed "" lp_relay --cut ""
     completed "$top/launch.sh" lp_relay --strict --cut 4 "$top/lau"

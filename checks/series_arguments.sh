@@ -338,6 +338,8 @@ fail_devices() {
         "$series" "$words" </dev/null >/dev/full 2>"$work/err" && status=0 || status=$?
         stopped 2 "" "the output of $words is full"
     done
+    # The memory of an emulator, which is to be said by EMULATED, is its own.
+    [ -z "${EMULATED-}" ] || return 0
     (ulimit -v 20000 && exec "$series") <"$work/long" >"$work/out" 2>"$work/err" && status=0 || status=$?
     stopped 2 "lp_series: out of memory" "there is memory for less than 200,000 series"
 }
