@@ -549,8 +549,8 @@ install_wheel() {
     "$work/environment/bin/python" -m pip install --quiet --no-index --disable-pip-version-check "${wheel[@]}" >"$work/log" 2>&1 ||
         fail "the wheel is not installed: $(cat "$work/log")"
     equal "the version of the wheel" "$version" "$("$work/environment/bin/python" -c 'import line_protocol; print(line_protocol.__version__)')"
-    "$work/environment/bin/python" "$top/bindings/python/example.py" >"$work/out" && grep -q '^disk usage ' "$work/out" ||
-        fail "the example in Python does not run over the wheel"
+    "$work/environment/bin/python" "$top/bindings/python/example.py" >"$work/out" || fail "the example in Python does not run over the wheel"
+    grep -q '^disk usage ' "$work/out" || fail "the example in Python says something else over the wheel"
     told+=("a wheel, which pip installs without a network")
 }
 
