@@ -153,8 +153,8 @@ if [ -n "$program" ]; then
     refused "--first-item: 0 is out of range" --first-item 0
     refused "--first-item: 9223372036854775808 is out of range" --first-item 9223372036854775808
     refused "--first-line: 18446744073709551615 is out of range" --first-line 18446744073709551615
-    refused "--faults takes line, raw, json or json+text, not yaml" --faults yaml
-    refused "--faults takes line, raw, json or json+text, not an empty word" --faults ""
+    refused "--faults takes line, raw, json, json+text or editor, not yaml" --faults yaml
+    refused "--faults takes line, raw, json, json+text or editor, not an empty word" --faults ""
     refused "--types takes strict, not loose" --types loose
     refused "--output: --lines is no name of a file" --output --lines
     refused "--refused: an empty word is no name of a file" --refused ""
@@ -581,6 +581,8 @@ given 1 'm b=2i\nm a=1i\n' "b: line 2: $x\n" --lines b a
 given 1 'm a=1i\nm b=2i\n' "b: line 2: $x\n" --lines e a e e b e
 given 1 'm b=2i\nm b=2i\n' "b: item 11: $x\nb: item 13: $x\n" --first-item 10 b b
 given 1 'm b=2i\nm b=2i\n' "b: line 11: $x\nb: line 2: $x\n" --first-line 10 b b
+given 1 'm b=2i\nm b=2i\n' "b:11:2: $x\nb:2:2: $x\n" --first-line 10 --faults editor b b
+given 1 'm b=2i\n' "b:2:2: $x\n" --faults editor b
 given 1 'm a=1i\nm b=2i\n' "item 3: $x\n" --faults raw a b
 kind='"offset":7,"piece_line":2,"piece_offset":7,"length":1,"kind":"generic_parsing_error","text":"'"$x"'","stop_line":2,"stop_column":2}\n'
 given 1 'm b=2i\n' '{"file":"b","item":2,"line":2,'"$kind" --faults json b

@@ -51,6 +51,8 @@ names >"$work/names"
 given 1 'm b=2i\nm b=2i\nm b=2i\nm b=2i\nm b=2i\n' "b: item 2: $x\nb: item 4: $x\nb: item 6: $x\nb: item 8: $x\nb: item 10: $x
 45 bytes, 10 lines, 10 items: 5 carried, 5 refused: 5 generic_parsing_error\n" --summary b b b b b
 given 1 'm a=1i\n' "-: item 2: $x\n" a -
+given 1 'm a=1i\n' "-:1:2: $x\n" --faults=editor a -
+given 1 '' "-:1:2: $x\n" --faults editor
 # The input that failed, of which the file before it would be suspected.
 run "$relay" a - <&-
 want 2 'm a=1i\n' "${unread}Bad file descriptor (os error 9)\n"

@@ -101,7 +101,7 @@ refuse_words() {
     said "--every: 0 is out of range" --every 0
     said "--every: 7s is no number" --every 7s
     said "--shard: 4/4 is no K/N" --shard 4/4
-    said "--faults takes line, raw, json or json+text, not Line" --faults Line
+    said "--faults takes line, raw, json, json+text or editor, not Line" --faults Line
     said "--prometheus: --json is no name of a file" --prometheus --json
     said "--strict cannot be given with --key" --key --strict
     said "--shard cannot be given with --every" --every 7 --shard 0/2

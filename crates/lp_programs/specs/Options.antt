@@ -2,7 +2,7 @@
 use Rattle.std.specs.Prelude.{ℕ, ◌+◌, ◌^◌, nat_lt, take, drop, slice_index, Bool, false, true, not, ◌&&◌, ◌||◌, ◌==◌, List, [], ◌∷◌, length, bytes_eq, codes}
 use Rattle.std.specs.Prelude.{Option, Some, None, option_map, option_and_then, if◌then◌else◌}
 use Rattle.std.specs.{Borrow.Bor, List.list_all, List.position, Str.all_ascii_digits, Str.Parse.digits_value}
-use Rattle.lp_relay.specs.declared.telling.{Faults.Faults, Faults.TheVariants.Raw, Faults.TheVariants.OneLine, Faults.TheVariants.Json}
+use Rattle.lp_relay.specs.declared.telling.{Faults.Faults, Faults.TheVariants.Raw, Faults.TheVariants.OneLine, Faults.TheVariants.Editor, Faults.TheVariants.Json}
 use Rattle.lp_programs.specs.declared.options.Range.{Range}
 
 -- how many bytes a line may have if no option says it: 16 MiB
@@ -38,25 +38,34 @@ is_one_if asked words = not asked || length words == 1
 abbrev pub first_number : List ℕ → Option ℕ
 first_number word = option_and_then (λ first. if first == 0 then None else Some first) (decimal word)
 
--- how faults are told, as a word says: each on one line, as they are, or as objects, which name lines from 1 on, without their pieces or
--- with them
+-- how faults are told, as a word says: each on one line, as they are, as objects without their pieces or with them, or for editors; objects
+-- and lines for editors name lines from 1 on
 abbrev pub faults_form : List ℕ → Option Faults
 faults_form word =
     if bytes_eq word (codes "line") then Some OneLine
     else (if bytes_eq word (codes "raw") then Some Raw
     else (if bytes_eq word (codes "json") then Some (Json 1 false)
-    else (if bytes_eq word (codes "json+text") then Some (Json 1 true) else None)))
+    else (if bytes_eq word (codes "json+text") then Some (Json 1 true)
+    else (if bytes_eq word (codes "editor") then Some (Editor 1) else None))))
 
 -- whether faults are told as objects
 abbrev pub are_objects : Faults → Bool
 are_objects Raw = false
 are_objects OneLine = false
 are_objects (Json first_line has_piece) = true
+are_objects (Editor first_line) = false
 
--- the name that objects tell of their file, if words name one input, and that is a file
+-- whether faults name their file if there is one alone: objects and lines for editors do
+abbrev pub name_one_file : Faults → Bool
+name_one_file Raw = false
+name_one_file OneLine = false
+name_one_file (Json first_line has_piece) = true
+name_one_file (Editor first_line) = true
+
+-- the name that objects and lines for editors tell of their file, if words name one input, and that is a file
 abbrev pub told_file : Faults → List (Bor (List ℕ)) → Option (Bor (List ℕ))
 told_file faults [] = None
-told_file faults (word ∷ []) = if are_objects faults && not (bytes_eq word.now (codes "-")) then Some word else None
+told_file faults (word ∷ []) = if name_one_file faults && not (bytes_eq word.now (codes "-")) then Some word else None
 told_file faults (word ∷ next ∷ words) = None
 
 -- the place that a range ends before, as a word writes it: none if it has no byte

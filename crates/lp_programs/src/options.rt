@@ -97,6 +97,7 @@ pub fn faults_form_of(word: &str) -> Option<Faults>
             first_line: 1,
             has_piece: true,
         }),
+        "editor" => Some(Faults::Editor { first_line: 1 }),
         _ => None,
     }
 }
@@ -108,12 +109,20 @@ pub fn are_objects(faults: Faults) -> bool
     matches!(faults, Faults::Json { .. })
 }
 
-/// The name that objects tell of their file, if words name one input, and that is a file. If they name several, each object tells its own.
+// Whether faults name their file if there is one alone: objects and lines for editors do.
+fn name_one_file(faults: Faults) -> bool
+    ensures { result ≡ name_one_file faults }
+{
+    matches!(faults, Faults::Json { .. } | Faults::Editor { .. })
+}
+
+/// The name that objects and lines for editors tell of their file, if words name one input, and that is a file. If they name several, each
+/// tells its own.
 pub fn told_file<'a>(faults: Faults, words: &[&'a str]) -> Option<&'a str>
     ensures { result ≡ told_file faults words.now }
 {
     match words {
-        [word] if are_objects(faults) && *word != "-" => Some(*word),
+        [word] if name_one_file(faults) && *word != "-" => Some(*word),
         _ => None,
     }
 }

@@ -7,7 +7,8 @@ use Rattle.influxdb_line_protocol.specs.format.Bytes.{newline, newlines_in}
 use Rattle.lp_relay.specs.declared.taking.{Numbering.Numbering, Settings.Settings}
 use Rattle.lp_relay.specs.declared.taking.Numbering.TheVariants as named
 use Rattle.lp_relay.specs.declared.telling.{Faults.Faults, Place.Place}
-use Rattle.lp_relay.specs.declared.telling.Faults.TheVariants.{Raw, OneLine, Json}
+use Rattle.lp_relay.specs.declared.telling.Faults.TheVariants.{Raw, OneLine, Json, Editor}
+use Rattle.lp_relay.specs.Editors.{editor_line}
 use Rattle.lp_relay.specs.Objects.{Reason, Seen, item_front, item_kind, item_text, object, seen_of_piece}
 use Rattle.lp_relay.specs.FieldTypes.{Types}
 use Rattle.lp_relay.specs.Relaying.{Item, first_of, items_of_piece, refused_items, types_after}
@@ -28,11 +29,12 @@ file_before None = []
 file_before (Some name) = flat_map told_byte name.now ++ codes ": "
 
 -- what is told of an item at a place that is refused for this: its fault line as it is; that on one line, after the name of the file;
--- or its object, with its piece or without
+-- its object, with its piece or without; or its line for editors
 abbrev pub told_fault : Faults → Place → Reason → List ℕ
 told_fault Raw place why = fault_text place why.wrong ++ newline ∷ []
 told_fault OneLine place why = file_before place.file ++ on_one_line (fault_text place why.wrong) ++ newline ∷ []
 told_fault (Json first_line has_piece) place why = object has_piece place why
+told_fault (Editor first_line) place why = editor_line place why
 
 -- whether a fault is told before which so many items were refused, if so many faults are told at most
 abbrev pub is_told : (most : Option ℕ) → (refused : ℕ) → Bool
@@ -92,11 +94,12 @@ abbrev pub first_named : Numbering → ℕ → Option ℕ
 first_named named.Items first = None
 first_named named.Lines first = Some (first_of first)
 
--- the same, by how faults are told: an object always names its line
+-- the same, by how faults are told: an object and a line for editors always name their line
 abbrev pub first_line : Faults → Numbering → ℕ → Option ℕ
 first_line Raw numbering first = first_named numbering first
 first_line OneLine numbering first = first_named numbering first
 first_line (Json line has_piece) numbering first = Some (first_of line)
+first_line (Editor line) numbering first = Some (first_of line)
 
 -- the place of the first item
 abbrev pub first_place : Settings → Place

@@ -9,7 +9,7 @@ use Rattle.lp_relay.specs.declared.taking.Numbering.{Numbering}
 use Rattle.lp_relay.specs.declared.taking.Numbering.TheVariants as named
 use Rattle.lp_relay.specs.declared.taking.Settings.{Settings}
 use Rattle.lp_relay.specs.declared.telling.Faults.{Faults}
-use Rattle.lp_relay.specs.declared.telling.Faults.TheVariants.{Raw, OneLine, Json}
+use Rattle.lp_relay.specs.declared.telling.Faults.TheVariants.{Raw, OneLine, Json, Editor}
 use Rattle.lp_relay.specs.Kinds.{Counts, counts_if}
 use Rattle.lp_relay.specs.Relaying.{first_of}
 use Rattle.lp_relay.specs.FieldTypes.{Types, no_types}
@@ -45,6 +45,7 @@ abbrev pub faults_after : Faults → Faults
 faults_after Raw = Raw
 faults_after OneLine = OneLine
 faults_after (Json first_line has_piece) = Json 1 has_piece
+faults_after (Editor first_line) = Editor 1
 
 -- how many of its faults are told at most, if so many are of all inputs
 abbrev pub most_after : Option ℕ → Relayed → Option ℕ

@@ -1,6 +1,7 @@
 pub mod Cuts
 pub mod CutSteps
 pub mod Differing
+pub mod Editors
 pub mod FaultsTold
 pub mod FieldTypes
 pub mod Inputs

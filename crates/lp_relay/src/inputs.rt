@@ -75,6 +75,7 @@ fn settings_after<'n>(settings: Settings<'n>, so_far: Relayed) -> Settings<'n>
             first_line: 1,
             has_piece,
         },
+        Faults::Editor { .. } => Faults::Editor { first_line: 1 },
         faults => faults,
     };
     let max_faults = match settings.max_faults {

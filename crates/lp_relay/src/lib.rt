@@ -11,6 +11,7 @@
 
 mod cuts;
 mod differing;
+mod editors;
 mod field_types;
 mod inputs;
 mod kinds;

@@ -1,7 +1,7 @@
 //! Tells faults as objects of JSON, each on one line.
 //!
 //! The text of a fault may be as long as its line, so of a long one the start alone is told. An object that has its piece has it whole.
-ghost use Rattle.std.specs.Prelude.{◌≡◌, ◌<◌, ◌≤◌, ◌++◌, ◌∷◌, [], codes, decimal, drop, length, string_bytes, take, true, IsUtf8, OnOk, Some};
+ghost use Rattle.std.specs.Prelude.{◌≡◌, ◌<◌, ◌≤◌, ◌++◌, ◌∷◌, [], codes, decimal, drop, length, option_map, string_bytes, take, true, IsUtf8, OnOk, Some};
 ghost use Rattle.base64.specs.Engines.{standard};
 ghost use Rattle.base64.specs.GeneralPurpose.{encode_of};
 ghost use Rattle.influxdb_line_protocol.specs.code.Rules.{rules_of};
@@ -110,7 +110,7 @@ fn put_start(faults: &mut String, place: Place<'_>, piece: Piece<'_>) -> Result<
 
 // Adds a number after these bytes.
 #[inline(always)]
-fn put_after(members: &mut String, head: &str, value: usize) -> Result<(), AllocError>
+pub(crate) fn put_after(members: &mut String, head: &str, value: usize) -> Result<(), AllocError>
     ensures { OnOk result (string_bytes members.new ≡ string_bytes members.old ++ (head.now ++ decimal value)) }
 {
     members.push_str(head)?;
@@ -144,6 +144,25 @@ fn put_stop(faults: &mut String, place: Place<'_>, bytes: &[u8]) -> Result<(), A
     put_after(faults, ",\"stop_column\":", stop_column)
 }
 
+// The bytes of the line of a piece before the byte at which reading stops, if its text is at fault, or at which it is not UTF-8.
+pub(crate) fn stop_of<'p>(
+    dialect: Dialect,
+    refusal: &Refusal<'_>,
+    piece: Piece<'p>,
+) -> Option<&'p [u8]>
+    ensures { option_map (λ s. s.now) result ≡ stop_in (is_fault refusal.now) (rules_of dialect) piece.entry }
+{
+    match piece {
+        Piece::Text(text) if refusal.is_fault() => {
+            let left = reading_stop(dialect, trimmed(text)).rest;
+            let end = text.len().saturating_sub(left.len());
+            Some(&text.as_bytes()[..end])
+        }
+        Piece::NoText(bytes) => Some(utf8_front(bytes).as_bytes()),
+        _ => None,
+    }
+}
+
 // Adds the members that tell where reading stops in a piece at this place, if its text is at fault, or where it is not UTF-8.
 fn put_stop_in(
     faults: &mut String,
@@ -155,14 +174,9 @@ fn put_stop_in(
     ensures { OnOk result (string_bytes faults.new ≡ string_bytes faults.old
         ++ stop_members (line_or_none place.entry.line) (stop_in (is_fault refusal.now) (rules_of dialect) piece.entry)) }
 {
-    match piece {
-        Piece::Text(text) if refusal.is_fault() => {
-            let left = reading_stop(dialect, trimmed(text)).rest;
-            let end = text.len().saturating_sub(left.len());
-            put_stop(faults, place, &text.as_bytes()[..end])
-        }
-        Piece::NoText(bytes) => put_stop(faults, place, utf8_front(bytes).as_bytes()),
-        _ => Ok(()),
+    match stop_of(dialect, refusal, piece) {
+        Some(bytes) => put_stop(faults, place, bytes),
+        None => Ok(()),
     }
 }
 

@@ -18,6 +18,7 @@ ghost use Rattle.lp_relay.specs.RelaySteps.{newlines_given, next_place, types_gi
 ghost use Rattle.lp_relay.specs.RelaySteps.{unwritten_of, unwritten_of_none};
 
 use crate::differing::{differing_part, part_text};
+use crate::editors::tell_for_editors;
 use crate::field_types::{KnownTypes, StrictTypes};
 use crate::kinds::{Kind, KindCounts};
 use crate::objects::{Telling, tell_as_object};
@@ -212,7 +213,9 @@ fn first_line(settings: Settings<'_>) -> Option<usize>
     ensures { result ≡ first_line settings.entry.faults settings.entry.numbering settings.entry.first }
 {
     match (settings.faults, settings.numbering) {
-        (Faults::Json { first_line, .. }, _) => Some(first_line.max(1)),
+        (Faults::Json { first_line, .. } | Faults::Editor { first_line }, _) => {
+            Some(first_line.max(1))
+        }
         (_, Numbering::Items) => None,
         (_, Numbering::Lines) => Some(settings.first.max(1)),
     }
@@ -761,6 +764,15 @@ fn tell(
             };
             let line = line_piece(settings, piece);
             tell_as_object(faults, telling, place, refusal, piece, line)
+        }
+        Faults::Editor { .. } => {
+            let telling = Telling {
+                dialect: settings.dialect,
+                limit: settings.limit,
+                has_piece: false,
+            };
+            let line = line_piece(settings, piece);
+            tell_for_editors(faults, telling, place, refusal, piece, line)
         }
     }
 }

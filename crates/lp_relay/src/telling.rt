@@ -35,6 +35,13 @@ pub enum Faults {
     /// `"piece_base64"`. Of a piece that is too long its first bytes are told, as many as the limit: `"piece_start"`, or
     /// `"piece_start_base64"`.
     Json { first_line: usize, has_piece: bool },
+    /// Each on one line that editors go by, and what reads the messages of compilers: `a.lp:7:5: No fields were provided (at "NaN")`. It
+    /// has the name of the file, a dash if `file` of the settings names none, and the line and the column at which reading stopped, or
+    /// at which the piece is not UTF-8, or else at which its text begins.
+    ///
+    /// Lines are counted from `first_line`, as with `Json`, and columns from 1, in characters. What is wrong has the escapes of `OneLine`, and
+    /// is cut as there. What was found where reading stopped comes after it: the bytes there before a blank, a comma or a newline.
+    Editor { first_line: usize },
 }
 
 /// Where an item is.
@@ -102,7 +109,7 @@ pub fn tell_bytes(line: &mut String, bytes: &[u8]) -> Result<(), AllocError>
 
 // Adds a text as it is told on one line.
 #[tactic(auto, using(crate::proofs::OneLine::told_whole, crate::proofs::OneLine::told_front))]
-fn tell_text(faults: &mut String, text: &[u8]) -> Result<(), AllocError>
+pub(crate) fn tell_text(faults: &mut String, text: &[u8]) -> Result<(), AllocError>
     ensures { OnOk result (string_bytes faults.new ≡ string_bytes faults.old ++ on_one_line text.now) }
 {
     if text.len() <= MOST_TOLD {
@@ -218,4 +225,16 @@ pub(crate) fn put_on_one_line(
     put_fault_text(faults, place, refusal)?;
     tell_from(faults, from)?;
     faults.push_str("\n")
+}
+
+// Adds on one line what is wrong with an item.
+pub(crate) fn put_wrong_on_one_line(
+    faults: &mut String,
+    refusal: &Refusal<'_>,
+) -> Result<(), AllocError>
+    ensures { OnOk result (string_bytes faults.new ≡ string_bytes faults.old ++ on_one_line (wrong_of refusal.now)) }
+{
+    let from = faults.len();
+    write!(faults, "{refusal}")?;
+    tell_from(faults, from)
 }

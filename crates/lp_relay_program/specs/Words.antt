@@ -10,7 +10,7 @@ use Rattle.influxdb_line_protocol.specs.types.{Limits.Limits as Most, Servers.Se
 use Rattle.influxdb_line_protocol.specs.types.Servers.TheVariants.{Influx1, Victoria, All}
 use Rattle.lp_relay.specs.declared.{field_types.StrictTypes.StrictTypes, portable.Portable.Portable}
 use Rattle.lp_relay.specs.declared.telling.Faults.{Faults}
-use Rattle.lp_relay.specs.declared.telling.Faults.TheVariants.{Raw, OneLine, Json}
+use Rattle.lp_relay.specs.declared.telling.Faults.TheVariants.{Raw, OneLine, Json, Editor}
 use Rattle.lp_relay.specs.declared.taking.LineForm.{LineForm}
 use Rattle.lp_relay.specs.declared.taking.LineForm.TheVariants.{Rebuilt, Verbatim, Canonical}
 use Rattle.lp_relay.specs.declared.taking.Numbering.TheVariants as named
@@ -62,18 +62,20 @@ is_json None = false
 is_json (Some Raw) = false
 is_json (Some OneLine) = false
 is_json (Some (Json first_line has_piece)) = true
+is_json (Some (Editor first_line)) = false
 
 -- whether fault lines name lines of the input, and no items: objects name both
 abbrev pub names_lines : Given → Bool
 names_lines given = (given.lines || is_some given.first_line) && not (is_json given.faults)
 
--- how faults are told, if objects name lines from this one on
+-- how faults are told, if objects and lines for editors name lines from this one on
 abbrev pub from_line : (first : ℕ) → Faults → Faults
 from_line first Raw = Raw
 from_line first OneLine = OneLine
 from_line first (Json line has_piece) = Json first has_piece
+from_line first (Editor line) = Editor first
 
--- how faults are told, with the number of the first line that objects name
+-- how faults are told, with the number of the first line that objects and lines for editors name
 abbrev pub told_form : Given → Faults
 told_form given = from_line (unwrap_or given.first_line 1) (unwrap_or given.faults OneLine)
 

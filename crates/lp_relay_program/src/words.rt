@@ -22,7 +22,7 @@ pub const USAGE: &str =
     "usage: lp_relay [--strict | --newline-delimited] [--crlf] [--verbatim | --canonical]
                 [--portable influx1|victoria|all] [--types strict] [--max-fields N]
                 [--time-unit s|ms|us|ns] [--default-time NS] [--times FROM..TO]
-                [--faults line|raw|json|json+text] [--max-faults N] [--max-line BYTES]
+                [--faults line|raw|json|json+text|editor] [--max-faults N] [--max-line BYTES]
                 [--first-item N | [--lines] [--first-line N]] [--progress] [--summary]
                 [--check | [--output FILE] [--batch-lines N] [--batch-bytes N]] [--refused FILE]
                 [--append | --replace] [--range FROM..TO] [FILE..]
@@ -77,7 +77,8 @@ FILE that is - is standard input; ./-x names a file -x.
                      names its FILE, the item, where its text and its piece begin, how long that
                      is, the kind of the fault, what is wrong, cut after 200 bytes, and where
                      reading stopped; json+text: the same with the piece, whole. By both, the
-                     counts of --summary and why the run failed are objects too
+                     counts of --summary and why the run failed are objects too; editor: each as
+                     FILE:LINE:COLUMN: and what is wrong, as editors go by, and what was found there
   --max-faults N     tells at most N faults; the others are counted, and go to --refused, as ever,
                      and a last line says how many were not told
   --max-line BYTES   a longer line is passed over, and is a fault: 16777216 if it is not given
@@ -263,7 +264,7 @@ impl<'a> Given<'a> {
         (self.lines || self.first_line.is_some()) && !is_json(self.faults)
     }
 
-    // How faults are told, with the number of the first line that objects name.
+    // How faults are told, with the number of the first line that objects and lines for editors name.
     fn told_form(self) -> Faults
         ensures { result ≡ told_form self.entry }
     {
@@ -271,6 +272,9 @@ impl<'a> Given<'a> {
             Faults::Json { has_piece, .. } => Faults::Json {
                 first_line: self.first_line.unwrap_or(1),
                 has_piece,
+            },
+            Faults::Editor { .. } => Faults::Editor {
+                first_line: self.first_line.unwrap_or(1),
             },
             form => form,
         }

@@ -67,6 +67,7 @@ impl Asked {
                     has_piece: name == "json_text",
                 };
             }
+            "editor" => self.settings.faults = Faults::Editor { first_line: number },
             "reads" => self.reads = Some(number),
             "types" => self.settings.types = Some(StrictTypes { max_fields: number }),
             "shards" => self.settings.lines = shard(0, number),

@@ -19,11 +19,11 @@ pub(crate) const NAME: &str = "lp_series";
 /// How the program is called: the lines that it prints if its words ask for nothing, without the last newline.
 pub const USAGE: &str =
     "usage: lp_series [--stats] [--json] [--every SECONDS] [--prometheus FILE] [--max-series N]
-                 [--strict | --newline-delimited] [--faults line|raw|json|json+text]
+                 [--strict | --newline-delimited] [--faults line|raw|json|json+text|editor]
                  [--max-line BYTES] [FILE..]
-       lp_series --key [--newline-delimited] [--faults line|raw|json|json+text]
+       lp_series --key [--newline-delimited] [--faults line|raw|json|json+text|editor]
                  [--max-line BYTES] [FILE..]
-       lp_series --shard K/N [--strict | --newline-delimited] [--faults line|raw|json|json+text]
+       lp_series --shard K/N [--strict | --newline-delimited] [--faults line|raw|json|json+text|editor]
                  [--max-line BYTES] [FILE..]
        lp_series --help | --version";
 
@@ -56,7 +56,8 @@ file -x.
                      line, whatever is open, so that no line takes in the next one
   --faults FORM      line, as if it is not given: each fault on one line; raw: as lp_rebuild writes
                      it, with newlines within; json: each as an object on one line; json+text: the
-                     same with the text of what is refused
+                     same with the text of what is refused; editor: each as FILE:LINE:COLUMN: and
+                     what is wrong
   --max-line BYTES   a longer line is passed over, and is a fault: 16777216 if it is not given
   --help, -h         prints this
   --version          prints the version, and the kit that it is built by

@@ -58,7 +58,7 @@ complete -c lp_relay -l first-item -d 'the number of the first item, in faults' 
     -n '__lp_relay_follows --first-item; or __lp_relay_can --first-item --cut --help -h --version "--lines unless --faults json" "--first-line unless --faults json"'
 complete -c lp_relay -l first-line -d 'the number of the first line, in faults, which name lines then' -x \
     -n '__lp_relay_follows --first-line; or __lp_relay_can --first-line --cut --help -h --version "--first-item unless --faults json"'
-complete -c lp_relay -l faults -d 'how faults are told' -x -a 'line raw json json+text' \
+complete -c lp_relay -l faults -d 'how faults are told' -x -a 'line raw json json+text editor' \
     -n '__lp_relay_follows --faults; or __lp_relay_can --faults --cut --help -h --version'
 complete -c lp_relay -l max-faults -d 'tells at most so many faults' -x \
     -n '__lp_relay_follows --max-faults; or __lp_relay_can --max-faults --cut --help -h --version'

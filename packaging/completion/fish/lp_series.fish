@@ -48,7 +48,7 @@ complete -c lp_series -l strict -d 'reads the strict dialect' \
     -n '__lp_series_can --strict --help -h --version --key --newline-delimited'
 complete -c lp_series -l newline-delimited -d 'reads the newline-delimited dialect' \
     -n '__lp_series_can --newline-delimited --help -h --version --strict'
-complete -c lp_series -l faults -d 'how faults are told' -x -a 'line raw json json+text' \
+complete -c lp_series -l faults -d 'how faults are told' -x -a 'line raw json json+text editor' \
     -n '__lp_series_follows --faults; or __lp_series_can --faults --help -h --version'
 complete -c lp_series -l max-line -d 'a longer line is passed over, and is a fault' -x \
     -n '__lp_series_follows --max-line; or __lp_series_can --max-line --help -h --version'
