@@ -161,6 +161,8 @@ if [ -n "$program" ]; then
     refused "--range: 7 is no FROM..TO" --range 7 x
     refused "--range takes one FILE, not 0" --range 0..7
     refused "--range takes one FILE, not 2" --range 0..7 x y
+    refused "--now takes one FILE, not 2" --now x y
+    refused "--now cannot be given with --default-time" --default-time 7 --now
     refused "--check cannot be given with --output" --check -o x
     refused "--batch-lines cannot be given with --check" --check --batch-lines 7
     refused "--first-item cannot be given with --lines" --lines --first-item 7
@@ -678,6 +680,19 @@ for range in "" 7 7. . .. ..7 7...8 7..x x..7 7..-1 +1..2 7..1844674407370955161
 done
 given 2 '' "lp_relay: --range takes one FILE, not 0$try" --range 0..
 given 2 '' "lp_relay: --range takes one FILE, not 2$try" --range 0..7 a b
+given 2 '' "lp_relay: --now takes one FILE, not 2$try" --now a b
+# A line without a timestamp has the time of the read with which it ended, which is later if the input pauses, and the last one that of the end.
+start=$(date +%s%N)
+{ printf 'm a=1i\nm b=2i 7\nx\nm c' && sleep 0.3 && printf '=3i\ny\nm d=4i'; } | "$relay" --verbatim --now >"$work/out" 2>"$work/err" \
+    && status=0 || status=$?
+end=$(date +%s%N)
+{ read -r a _ first && read -r b && read -r c _ second && read -r d _ third && ! read -r _; } <"$work/out"
+printf 'item 3: %s\nitem 5: %s\n' "$x" "$x" | cmp - "$work/err"
+if [ "$status $a $b $c $d" != "1 m m b=2i 7 m m" ] || ((first < start || second < first + 200000000 || third < second || end < third)); then
+    echo "arguments: with --now, from $start to $end, the status is $status, and the relay gives"
+    cat "$work/out"
+    exit 1
+fi
 given 2 '' "lp_relay: --range is given twice$try" --range 0..7 --range 0..7 b
 for name in $(seq 300); do printf 'm f=%si' "$name" >"$work/many-$name"; printf 'm f=%si\n' "$name"; done >"$work/many"
 given 0 "$(cat "$work/many")\\n" '' $(seq -f "$work/many-%g" 300)

@@ -113,3 +113,4 @@ refusal_text BatchesUnnamed = codes "batches need an --output with one %0Nd in t
 refusal_text (BatchIsThere name) = codes "a batch is there already: " ++ told_name name.now
 refusal_text (RefusedIsBatch name) = codes "the file of --refused is named as a batch: " ++ told_name name.now
 refusal_text (PartsOutOfRange parts) = codes "--cut takes from 1 to 1000000 parts, not " ++ decimal parts
+refusal_text NoClock = codes "--now: the time of the system cannot be read"

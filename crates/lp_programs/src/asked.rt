@@ -5,7 +5,8 @@ ghost use Rattle.std.specs.Result.{result_map_both};
 ghost use Rattle.influxdb_line_protocol.specs.code.Rules.{rules_of};
 ghost use Rattle.lp_relay.specs.Cuts.{ArePartEnds};
 ghost use Rattle.lp_relay.specs.Inputs.{RelaysInputs, inputs_of, inputs_told};
-ghost use Rattle.lp_rebuild.specs.Running.{CountsReadFault};
+ghost use Rattle.lp_rebuild.specs.Running.{CountsReadFault, reader_told};
+ghost use Rattle.lp_relay.specs.Reads.{RelaysNow};
 ghost use Rattle.lp_programs.specs.Counted.{totals_of};
 ghost use Rattle.lp_programs.specs.Joined.{JoinsNext, ended, joined};
 
@@ -14,7 +15,9 @@ use crate::summary::Totals;
 use influxdb_line_protocol::Dialect;
 use lp_rebuild::program::read_block;
 use lp_rebuild::{DeviceFault, RunFault, Source};
-use lp_relay::{Inputs, NextInput, Settings, ThreeWriters, part_ends, relay_inputs};
+use lp_relay::{
+    Clock, Inputs, NextInput, Settings, ThreeWriters, part_ends, relay_inputs, relay_now,
+};
 use std::alloc::{AllocError, Global};
 
 /// For a reader that begins the next input by itself, with the first read after the end of one.
@@ -49,6 +52,28 @@ pub fn relay_each<'n, R: Source, N: NextInput<CountedSource<R>>, O: ThreeWriters
 {
     let items = relay_inputs(alloc, settings, names, inputs, outputs)?;
     Ok(inputs.reader.totals(items))
+}
+
+/// Relays an input by these settings, as [`relay_now`] does, and tells what was read and what came of it.
+///
+/// # Errors
+///
+/// Those of [`relay_now`].
+pub fn relay_by_clock<R: Source, C: Clock, O: ThreeWriters>(
+    alloc: Global,
+    settings: Settings<'_>,
+    reader: &mut CountedSource<R>,
+    clock: &mut C,
+    outputs: &mut O,
+) -> Result<Totals, RunFault>
+    ensures relays { RelaysNow settings.entry (result_map_both (λ totals. totals.counts) (λ fault. fault) result)
+        (reader_told ⟦<CountedSource<R> as Source>⟧.bytes ⟦<CountedSource<R> as Source>⟧.failures reader.old)
+        (reader_told ⟦<CountedSource<R> as Source>⟧.bytes ⟦<CountedSource<R> as Source>⟧.failures reader.new)
+        (C.told clock.old) (C.told clock.new) (O.told outputs.old) (O.told outputs.new) }
+    ensures counted { IfOk result (λ totals. totals ≡ totals_of reader.new.counts totals.counts) }
+{
+    let items = relay_now(alloc, settings, reader, clock, outputs)?;
+    Ok(reader.totals(items))
 }
 
 // Adds a newline to a text that does not end with one, if it has a byte.

@@ -8,6 +8,7 @@ pub mod asked;
 pub mod batch_names;
 pub mod batches;
 mod beside;
+mod clock;
 mod counted;
 pub mod endings;
 pub mod errors;

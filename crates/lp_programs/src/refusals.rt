@@ -69,6 +69,8 @@ pub enum Refusal<'a> {
     RefusedIsBatch(&'a str),
     /// No part is asked for, or so many that their ends are not held.
     PartsOutOfRange(usize),
+    /// The time of the system cannot be read, or an `i64` does not hold it in nanoseconds.
+    NoClock,
 }
 
 // Whether both are files, and one.
@@ -306,6 +308,7 @@ impl<'a> fmt::Display for Refusal<'a> {
             Refusal::PartsOutOfRange(parts) => {
                 write!(f, "--cut takes from 1 to 1000000 parts, not {parts}")
             }
+            Refusal::NoClock => f.write_str("--now: the time of the system cannot be read"),
         }
     }
 }

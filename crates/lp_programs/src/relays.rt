@@ -2,10 +2,11 @@
 ghost use Rattle.std.specs.Prelude.{◌≡◌, IfOk, IfSome};
 ghost use Rattle.lp_programs.specs.Files.{Each, IsBeside};
 
-use crate::asked::{ReadsOn, relay_each};
+use crate::asked::{ReadsOn, relay_by_clock, relay_each};
 use crate::batch_names::batch_names_of;
 use crate::batches::{Batches, Limits};
 use crate::beside::{Destination, Destinations, FileBeside, System};
+use crate::clock::SystemClock;
 use crate::counted::CountedSource;
 use crate::endings::{Ending, Failure, ending_of_relay};
 use crate::errors::{LastErrors, Watched};
@@ -34,6 +35,8 @@ use std::io::{self, ErrorKind, IsTerminal, Write};
 pub struct Request<'a> {
     /// How lines are read and written, what the fault lines name, and whether the counts of items are told at the end.
     pub relay: Settings<'a>,
+    /// Whether a line without a timestamp has the time of the read with which it ended. There is one input then, or none is named.
+    pub now: bool,
     /// Whether progress is shown.
     pub progress: bool,
     /// Whether the lines are only checked, and none is written.
@@ -52,9 +55,10 @@ pub struct Request<'a> {
     pub inputs: usize,
 }
 
-// Relays the inputs of these names over these devices.
+// Relays the inputs of these names over these devices, by a clock, if it is to tell the times of lines.
 fn relay_over<R: Source + Drop, W: Watcher + Drop, O: ThreeWriters + Drop>(
     alloc: Global,
+    clock: Option<SystemClock<'_, HostRuntime>>,
     request: Request<'_>,
     names: &[&str],
     reader: R,
@@ -66,7 +70,16 @@ fn relay_over<R: Source + Drop, W: Watcher + Drop, O: ThreeWriters + Drop>(
         reader: CountedSource::new(request.relay.counts_kinds, reader),
         next: ReadsOn,
     };
-    let answer = relay_each(alloc, request.relay, names, &mut inputs, &mut outputs);
+    let answer = match clock {
+        Some(mut clock) => relay_by_clock(
+            alloc,
+            request.relay,
+            &mut inputs.reader,
+            &mut clock,
+            &mut outputs,
+        ),
+        None => relay_each(alloc, request.relay, names, &mut inputs, &mut outputs),
+    };
     (answer, inputs.reader.into_inner().into_watcher())
 }
 
@@ -120,7 +133,12 @@ fn relay_inputs<'n, W: Watcher + Drop, L: Write + Drop>(
         faults: MeteredSink::new(shown, Counted::Faults, true, faults),
         refused: Writing::new(Watched::new(&errors.refused, outs.refused)),
     };
-    let answer = relay_over(rt.alloc(), request, names, reader, watcher, outputs);
+    let clock = if request.now {
+        SystemClock::new(rt)
+    } else {
+        None
+    };
+    let answer = relay_over(rt.alloc(), clock, request, names, reader, watcher, outputs);
     if let Some(meter) = shown {
         meter.finish();
     }
@@ -435,6 +453,7 @@ pub fn refuse_request(
     ensures { IfSome result (λ status. status ≡ 2) }
 {
     let refusal = match (request.range, names) {
+        _ if request.now && SystemClock::new(rt).is_none() => Some(Refusal::NoClock),
         (Some(range), [name]) => range_refusal_at(rt, range, name),
         _ => None,
     };

@@ -53,8 +53,8 @@ pub enum Wrong<'a> {
     AroundCut,
     /// A word has no byte.
     Empty,
-    /// A part of so many files is asked for.
-    OneFile(usize),
+    /// An option takes one file, and not so many.
+    OneFile(&'a str, usize),
     /// A word is not UTF-8.
     NotUtf8(&'a [u8]),
     /// Anything else.
@@ -229,7 +229,10 @@ impl<'a> Manual<'a> {
             }
         }
         if self.is_given(options, "--range") && names.len() != 1 {
-            return Wrong::OneFile(names.len());
+            return Wrong::OneFile("--range", names.len());
+        }
+        if self.is_given(options, "--now") && names.len() > 1 {
+            return Wrong::OneFile("--now", names.len());
         }
         if options.iter().any(|word| *word == "-") {
             return Wrong::Needs("--refused -", "--check or --output");
@@ -289,7 +292,7 @@ fn show_one<W: fmt::Write>(wrong: Wrong<'_>, f: &mut fmt::Formatter<W>) -> fmt::
             "--cut comes first, or after --strict or --newline-delimited alone",
         ),
         Wrong::Empty => f.write_str("an empty word is no name of a file"),
-        Wrong::OneFile(count) => write!(f, "--range takes one FILE, not {count}"),
+        Wrong::OneFile(option, count) => write!(f, "{option} takes one FILE, not {count}"),
         _ => f.write_str("these words ask for nothing"),
     }
 }

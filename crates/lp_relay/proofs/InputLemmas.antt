@@ -25,9 +25,7 @@ nothing_put exist s types text a =
     record {
       pieces = p.0;
       are = p.1;
-      batch = front_none _ _;
-      faults = front_none _ _;
-      put = front_none _ _;
+      relays = record { batch = front_none _ _; faults = front_none _ _; put = front_none _ _ };
     }
 
 -- so it is of the next text, if that is known
@@ -169,7 +167,7 @@ inputs_failed s names name taken (Err e) fault inputs mid after a b c so_far typ
     }
 
 -- no device failed
-none_fail : (total : Relayed) (f f1 : ℕ) (a b : Told) → f1 ≡ f → CountsNone (failures_of a) (failures_of b) → TellsFaults (Ok total) f f1 a b
+pub none_fail : (total : Relayed) (f f1 : ℕ) (a b : Told) → f1 ≡ f → CountsNone (failures_of a) (failures_of b) → TellsFaults (Ok total) f f1 a b
 none_fail total f f1 a b e n = record { read = grind (arith); write = grind (arith); utf8 = grind (arith); counts = grind (arith) }
 
 -- after the last input

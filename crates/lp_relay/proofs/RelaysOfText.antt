@@ -189,11 +189,11 @@ all_rebuilt law unique s types text counts before after again each any untimed k
     (λ fit u r h.
     let same = pieces_of_rebuilt law unique s types text all.pieces again each any untimed kept all.are fit u r h in
     record {
-      batch = subst (Appends before.lines after.lines) (lines_of_answers s types all.pieces h.answers same ∙ sym h.batch) all.batch;
+      batch = subst (Appends before.lines after.lines) (lines_of_answers s types all.pieces h.answers same ∙ sym h.batch) all.relays.batch;
       faults = λ named first raw told. subst (Appends before.faults after.faults)
-          (faults_of_rebuilt s types all.pieces h.answers same named first raw told ∙ sym h.faults) all.faults;
-      carried = all.carried ∙ carried_of_answers s types all.pieces h.answers same ∙ sym h.carried;
-      refused = all.refused ∙ refused_of_answers s types all.pieces h.answers same ∙ sym h.refused;
+          (faults_of_rebuilt s types all.pieces h.answers same named first raw told ∙ sym h.faults) all.relays.faults;
+      carried = all.relays.carried ∙ carried_of_answers s types all.pieces h.answers same ∙ sym h.carried;
+      refused = all.relays.refused ∙ refused_of_answers s types all.pieces h.answers same ∙ sym h.refused;
     })
 
 -- and a beginning is a beginning of that
@@ -204,7 +204,7 @@ fronts_rebuilt law unique s types text before after again each any untimed kept 
     if_rebuilt unique (rules_of s.dialect) (limit_of s.limit) text some.pieces (λ r. RelaysRebuiltFronts s r before after) some.are
     (λ fit u r h.
     let same = pieces_of_rebuilt law unique s types text some.pieces again each any untimed kept some.are fit u r h in (
-      subst (AppendsFront before.lines after.lines) (lines_of_answers s types some.pieces h.answers same ∙ sym h.batch) some.batch,
+      subst (AppendsFront before.lines after.lines) (lines_of_answers s types some.pieces h.answers same ∙ sym h.batch) some.relays.batch,
       λ named first raw told. subst (AppendsFront before.faults after.faults)
-          (faults_of_rebuilt s types some.pieces h.answers same named first raw told ∙ sym h.faults) some.faults,
+          (faults_of_rebuilt s types some.pieces h.answers same named first raw told ∙ sym h.faults) some.relays.faults,
     ))

@@ -19,7 +19,7 @@ use Rattle.influxdb_line_protocol.specs.types.PieceTooLong.{PieceTooLong}
 use Rattle.lp_relay.specs.declared.taking.Settings.{Settings}
 use Rattle.lp_relay.specs.declared.relaying.Relayed.{Relayed}
 use Rattle.lp_relay.specs.Kinds.{counts_if}
-use Rattle.lp_relay.specs.Relays.{RelaysAll, RelaysFronts, TypesAfter}
+use Rattle.lp_relay.specs.Relays.{RelaysAll, RelaysFronts, RelaysPieces, TypesAfter}
 use Rattle.lp_relay.specs.Relaying.{items_of, items_batch, refused_pieces, types_past}
 use Rattle.lp_relay.specs.RelaySteps.{HasRules, HasTaken, HasWritten, SoFar, SoFarBy, SomeSoFar, Stage, Start, TakesAhead, TakesBy, Unwritten}
 use Rattle.lp_relay.specs.RelaySteps.{Writes, items_before, made_of, place_past, unwritten_of_none}
@@ -81,7 +81,7 @@ pub so_far_ended : (s : Settings) (given : List ℕ) (a : Start) (now : Stage) �
 so_far_ended s given a now h = h.taken.is_ahead ∙ none_ahead s h.ahead h.is_ahead
 
 -- nothing was taken ahead
-unahead : (s : Settings) (pieces : List (List ℕ)) (ahead : Option (List ℕ)) (a : Start) (now : Stage) → HasTaken s pieces ahead a now
+pub unahead : (s : Settings) (pieces : List (List ℕ)) (ahead : Option (List ℕ)) (a : Start) (now : Stage) → HasTaken s pieces ahead a now
     → now.unwritten.ahead ≡ false → HasTaken s pieces None a now
 unahead s pieces None a now h is = h
 unahead s pieces (Some front) a now h is = absurd (cc (h.is_ahead, is))
@@ -171,12 +171,14 @@ fronts_of s given pieces others all a c h is are =
     record {
       pieces = all;
       are = are;
-      batch = front_more _ _ _ (items_batch (items_of s past others)) _ h.0
-          (ap (λ l. items_batch (items_of s a.types l)) is ∙ ap items_batch (items_append s a.types pieces others)
-          ∙ batch_append xs (items_of s past others));
-      faults = front_more _ _ _ (told_from s past (place_past s a.types (first_place s) pieces) others) _ h.1
-          (ap (told_from s a.types (first_place s)) is ∙ told_append s a.types (first_place s) pieces others);
-      put = front_more _ _ _ _ _ h.2 (ap (λ l. refused_pieces s a.types l) is ∙ put_append s a.types pieces others);
+      relays = record {
+        batch = front_more _ _ _ (items_batch (items_of s past others)) _ h.0
+            (ap (λ l. items_batch (items_of s a.types l)) is ∙ ap items_batch (items_append s a.types pieces others)
+            ∙ batch_append xs (items_of s past others));
+        faults = front_more _ _ _ (told_from s past (place_past s a.types (first_place s) pieces) others) _ h.1
+            (ap (told_from s a.types (first_place s)) is ∙ told_append s a.types (first_place s) pieces others);
+        put = front_more _ _ _ _ _ h.2 (ap (λ l. refused_pieces s a.types l) is ∙ put_append s a.types pieces others);
+      };
     }
 
 -- so it is if a front of the next piece was taken ahead
@@ -212,25 +214,20 @@ read_none r m t given bytes n none h k =
     subst (Consumes r t) (append-nil given) (Consumes-trans r m t given [] h (subst (λ i. Consumes m t (take i bytes)) none k))
 
 -- all was read
-all_read : (a b : Option (List ℕ)) (bs : List ℕ) (P : List ℕ → Type 0) → Consumes a b bs → IsAtEnd b → P bs
+pub all_read : (a b : Option (List ℕ)) (bs : List ℕ) (P : List ℕ → Type 0) → Consumes a b bs → IsAtEnd b → P bs
     → IfSome a (λ xs. (b ≡ Some []) × P xs)
 all_read x b bs x3 p q h = grind (arith, append-nil)
 
--- at the end, if all pieces were taken and nothing is held, all was written
-pub so_far_all : (s : Settings) (r t : Option (List ℕ)) (given : List ℕ) (pieces : List (List ℕ)) (counts : Relayed) (a : Start)
-    (end : Stage) → Consumes r t given → IsAtEnd t → Pieces (rules_of s.dialect) given pieces → HasTaken s pieces None a end
+-- if these pieces were taken and nothing is held, they were relayed
+pub pieces_relayed : (s : Settings) (pieces : List (List ℕ)) (counts : Relayed) (a : Start) (end : Stage) → HasTaken s pieces None a end
     → end.unwritten.made.batch ≡ [] → end.unwritten.made.faults ≡ [] → end.unwritten.pieces ≡ []
     → counts.carried + items_before s.numbering s.first ≡ end.unwritten.made.carried → counts.refused ≡ end.unwritten.made.refused
-    → counts_if counts.kinds ≡ end.unwritten.kinds
-    → IfSome r (λ bs. (t ≡ Some []) × RelaysAll s a.types bs counts (bytes_of a.told) (bytes_of end.told))
-so_far_all s r t given pieces counts a end read at_end are h no_batch no_faults no_pieces carried refused kinds =
+    → counts_if counts.kinds ≡ end.unwritten.kinds → RelaysPieces s a.types pieces counts (bytes_of a.told) (bytes_of end.told)
+pieces_relayed s pieces counts a end h no_batch no_faults no_pieces carried refused kinds =
     let items = items_of s a.types pieces in
     let kinds_are = kinds ∙ h.made.kinds ∙ kinds_of_all s items in
     let refusals = refused ∙ h.made.refusals in
-    all_read r t given (λ bs. RelaysAll s a.types bs counts (bytes_of a.told) (bytes_of end.told)) read at_end
-    (record {
-      pieces = pieces;
-      are = are;
+    record {
       batch = but_none _ _ _ _ h.made.lines no_batch;
       faults = but_none _ _ _ _ h.made.faults no_faults;
       put = but_none _ _ _ _ h.made.refused no_pieces;
@@ -238,7 +235,16 @@ so_far_all s r t given pieces counts a end read at_end are h no_batch no_faults 
       refused = refusals;
       kinds = kinds_are;
       kinds_add_up = counts_add_up s items counts.kinds counts.refused kinds_are refusals;
-    })
+    }
+
+-- at the end, if all pieces were taken and nothing is held, all was written
+pub so_far_all : (s : Settings) (r t : Option (List ℕ)) (given : List ℕ) (pieces : List (List ℕ)) (counts : Relayed) (a : Start)
+    (end : Stage) → Consumes r t given → IsAtEnd t → Pieces (rules_of s.dialect) given pieces
+    → RelaysPieces s a.types pieces counts (bytes_of a.told) (bytes_of end.told)
+    → IfSome r (λ bs. (t ≡ Some []) × RelaysAll s a.types bs counts (bytes_of a.told) (bytes_of end.told))
+so_far_all s r t given pieces counts a end read at_end are relays =
+    all_read r t given (λ bs. RelaysAll s a.types bs counts (bytes_of a.told) (bytes_of end.told)) read at_end
+    (record { pieces = pieces; are = are; relays = relays })
 
 -- so it is of the types that fields have then
 pub types_all : (s : Settings) (r t : Option (List ℕ)) (given : List ℕ) (pieces : List (List ℕ)) (a : Start) (end : Stage)

@@ -10,6 +10,7 @@ pub mod LineTimes
 pub mod Objects
 pub mod Parts
 pub mod Portables
+pub mod Reads
 pub mod Relaying
 pub mod RelaySteps
 pub mod Relays

@@ -24,11 +24,9 @@ use Rattle.lp_relay.specs.declared.taking.Numbering.TheVariants as named
 use Rattle.lp_relay.specs.declared.taking.Settings.{Settings}
 use Rattle.lp_relay.specs.declared.telling.Faults.TheVariants.{Raw}
 
--- the first writer gained the batch of the items of these bytes, before which fields have these types, the second one their faults, and
+-- the first writer gained the batch of the items of these pieces, before which fields have these types, the second one their faults, and
 -- the third one the refused pieces, if these go out, and these are their counts
-pub record RelaysAll (s : Settings) (types : Types) (bytes : List ℕ) (counts : Relayed) (before after : Known) : Type 0 where
-  pub pieces : List (List ℕ)
-  pub are : Pieces (rules_of s.dialect) bytes pieces
+pub record RelaysPieces (s : Settings) (types : Types) (pieces : List (List ℕ)) (counts : Relayed) (before after : Known) : Type 0 where
   pub batch : Appends before.lines after.lines (items_batch (items_of s types pieces))
   pub faults : Appends before.faults after.faults (told_faults s types pieces)
   pub put : Appends before.refused after.refused (refused_pieces s types pieces)
@@ -37,20 +35,30 @@ pub record RelaysAll (s : Settings) (types : Types) (bytes : List ℕ) (counts :
   pub kinds : counts_if counts.kinds ≡ refused_kinds s (items_of s types pieces)
   pub kinds_add_up : IfSome counts.kinds (λ kinds. sum_of (counts_of kinds) ≡ counts.refused)
 
+-- the pieces of these bytes were relayed so
+pub record RelaysAll (s : Settings) (types : Types) (bytes : List ℕ) (counts : Relayed) (before after : Known) : Type 0 where
+  pub pieces : List (List ℕ)
+  pub are : Pieces (rules_of s.dialect) bytes pieces
+  pub relays : RelaysPieces s types pieces counts before after
+
 -- fields have these types after these bytes, by those that they have before
 pub record TypesAfter (s : Settings) (types : Types) (bytes : List ℕ) (after : Types) : Type 0 where
   pub pieces : List (List ℕ)
   pub are : Pieces (rules_of s.dialect) bytes pieces
   pub types_are : after ≡ types_past s types pieces
 
--- the first writer gained a front of the batch of the items of these bytes, the second one a front of their faults, and the third
--- one a front of the refused pieces
-pub record RelaysFronts (s : Settings) (types : Types) (bytes : List ℕ) (before after : Known) : Type 0 where
-  pub pieces : List (List ℕ)
-  pub are : Pieces (rules_of s.dialect) bytes pieces
+-- the first writer gained a front of the batch of the items of these pieces, the second one a front of their faults, and the third one a
+-- front of the refused pieces
+pub record RelaysPiecesFronts (s : Settings) (types : Types) (pieces : List (List ℕ)) (before after : Known) : Type 0 where
   pub batch : AppendsFront before.lines after.lines (items_batch (items_of s types pieces))
   pub faults : AppendsFront before.faults after.faults (told_faults s types pieces)
   pub put : AppendsFront before.refused after.refused (refused_pieces s types pieces)
+
+-- of the pieces of these bytes each writer gained a front
+pub record RelaysFronts (s : Settings) (types : Types) (bytes : List ℕ) (before after : Known) : Type 0 where
+  pub pieces : List (List ℕ)
+  pub are : Pieces (rules_of s.dialect) bytes pieces
+  pub relays : RelaysPiecesFronts s types pieces before after
 
 -- the first writer gained the batch of a rebuild, and these are its counts; if fault lines name items from 1 on, and are told as
 -- they are, all of them, the second writer gained its faults

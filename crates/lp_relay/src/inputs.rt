@@ -100,7 +100,7 @@ fn settings_for<'n>(several: bool, name: &'n str, settings: Settings<'n>) -> Set
 }
 
 // The counts of an input and of what came before it. A sum that no `usize` holds becomes `usize::MAX`.
-fn sum_of(so_far: Relayed, counts: Relayed) -> Relayed
+pub(crate) fn sum_of(so_far: Relayed, counts: Relayed) -> Relayed
     ensures { AddsUp so_far counts result }
 {
     let kinds = match (so_far.kinds, counts.kinds) {

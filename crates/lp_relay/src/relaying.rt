@@ -1,10 +1,10 @@
 //! From a reader to three writers, line by line as they come.
-ghost use Rattle.std.specs.Prelude.{◌≡◌, ◌≢◌, ◌+◌, ◌<◌, ◌≤◌, ◌++◌, ◌∷◌, [], length, take, true, IfOk, IfSome, OnOk};
+ghost use Rattle.std.specs.Prelude.{◌≡◌, ◌≢◌, ◌+◌, ◌-◌, ◌<◌, ◌≤◌, ◌++◌, ◌∷◌, [], length, take, true, false, IfOk, IfSome, OnOk};
 ghost use Rattle.std.specs.List.{All};
 ghost use Rattle.influxdb_line_protocol.specs.format.Bytes.{newline};
 ghost use Rattle.influxdb_line_protocol.specs.code.Bounded.{most_given};
 ghost use Rattle.lp_relay.specs.RelaySteps.{HoldsLess, HoldsNone, IsReady, IsToldAhead, RelaysAhead, RelaysFirst, RelaysLast, RelaysLines};
-ghost use Rattle.lp_relay.specs.RelaySteps.{RelaysPart, Writes, counted, stage_of, unwritten_of};
+ghost use Rattle.lp_relay.specs.RelaySteps.{RelaysPart, Writes, counted, items_before, stage_of, unwritten_of};
 ghost use Rattle.lp_relay.specs.FieldTypes.{no_types, types_of};
 ghost use Rattle.lp_relay.specs.Relays.{Relays, TypesAfter};
 ghost use Rattle.lp_relay.specs.Writers.{AreFlushed, CountsWriteFault};
@@ -63,6 +63,7 @@ fn pour_full<O: ThreeWriters>(pending: &mut Pending, outputs: &mut O) -> Result<
     ensures held { OnOk result (HoldsLess BLOCK pending.new) }
     ensures counts { CountsWriteFault result (O.told outputs.old) (O.told outputs.new) }
     ensures same { counted pending.new ≡ counted pending.old }
+    ensures ahead { pending.new.ahead ≡ pending.old.ahead }
 {
     if pending.so_far.batch.len() < BLOCK
         && pending.so_far.faults.len() < BLOCK
@@ -74,7 +75,7 @@ fn pour_full<O: ThreeWriters>(pending: &mut Pending, outputs: &mut O) -> Result<
 }
 
 // Writes all that is held, and flushes.
-fn pour_and_flush<O: ThreeWriters>(pending: &mut Pending, outputs: &mut O) -> Result<(), RunFault>
+pub(crate) fn pour_and_flush<O: ThreeWriters>(pending: &mut Pending, outputs: &mut O) -> Result<(), RunFault>
     ensures writes { Writes result (stage_of pending.old (O.told outputs.old)) (stage_of pending.new (O.told outputs.new)) }
     ensures none { OnOk result (HoldsNone pending.new) }
     ensures counts { CountsWriteFault result (O.told outputs.old) (O.told outputs.new) }
@@ -98,6 +99,7 @@ fn relay_piece<O: ThreeWriters>(
     ensures fewer { IfOk result (λ some. some ≡ true → most_given stream.new < most_given stream.old) }
     ensures relays { RelaysFirst settings.entry result stream.old stream.new
         (stage_of pending.old (O.told outputs.old)) (stage_of pending.new (O.told outputs.new)) }
+    ensures unahead { OnOk result (pending.old.ahead ≡ false → pending.new.ahead ≡ false) }
     ensures counts { CountsWriteFault result (O.told outputs.old) (O.told outputs.new) }
 {
     laws::pieces_join();
@@ -123,6 +125,7 @@ fn relay_pieces<O: ThreeWriters>(
     ensures ready { OnOk result (IsReady settings.entry stream.new pending.new) }
     ensures relays { RelaysPart settings.entry part.now result (λ _. part.now) stream.old stream.new
         (stage_of pending.old (O.told outputs.old)) (stage_of pending.new (O.told outputs.new)) }
+    ensures unahead { OnOk result (pending.old.ahead ≡ false → pending.new.ahead ≡ false) }
     ensures counts { CountsWriteFault result (O.told outputs.old) (O.told outputs.new) }
 {
     if stream.push(part).is_err() {
@@ -157,6 +160,7 @@ fn relay_lines<O: ThreeWriters>(
         (stage_of pending.old (O.told outputs.old)) (stage_of pending.new (O.told outputs.new)) }
     ensures held { OnOk result (HoldsLess BLOCK pending.new) }
     ensures fits { OnOk result (counted pending.new ≤ usize.MAX) }
+    ensures unahead { OnOk result (pending.old.ahead ≡ false → pending.new.ahead ≡ false) }
     ensures counts { CountsWriteFault result (O.told outputs.old) (O.told outputs.new) }
 {
     laws::pieces_join();
@@ -199,6 +203,7 @@ fn relay_begun<O: ThreeWriters>(
     ensures ready { OnOk result (IsReady settings.entry stream.new pending.new) }
     ensures relays { RelaysPart settings.entry part.now result (λ n. take n part.now) stream.old stream.new
         (stage_of pending.old (O.told outputs.old)) (stage_of pending.new (O.told outputs.new)) }
+    ensures unahead { OnOk result (pending.old.ahead ≡ false → pending.new.ahead ≡ false) }
     ensures counts { CountsWriteFault result (O.told outputs.old) (O.told outputs.new) }
 {
     laws::pieces_join();
@@ -236,6 +241,26 @@ fn relay_ahead(
     }
 }
 
+// Takes a part of the text, and each piece that is there then.
+pub(crate) fn relay_complete<O: ThreeWriters>(
+    settings: Settings<'_>,
+    stream: &mut BoundedLineStream,
+    pending: &mut Pending,
+    part: &[u8],
+    outputs: &mut O,
+) -> Result<(), RunFault>
+    requires ready { IsReady settings stream.old pending.old }
+    requires block { length part.now ≤ BLOCK }
+    ensures ready { OnOk result (IsReady settings.entry stream.new pending.new) }
+    ensures relays { RelaysPart settings.entry part.now result (λ _. part.now) stream.old stream.new
+        (stage_of pending.old (O.told outputs.old)) (stage_of pending.new (O.told outputs.new)) }
+    ensures unahead { OnOk result (pending.old.ahead ≡ false → pending.new.ahead ≡ false) }
+    ensures counts { CountsWriteFault result (O.told outputs.old) (O.told outputs.new) }
+{
+    let given = relay_begun(settings, stream, pending, part, outputs)?;
+    relay_pieces(settings, stream, pending, &part[given..], outputs)
+}
+
 // Takes a part of the text, and each piece that is there then, and what comes after them if that is too long already. All that these
 // make is written and flushed.
 fn relay_part<O: ThreeWriters>(
@@ -255,8 +280,7 @@ fn relay_part<O: ThreeWriters>(
     ensures counts { CountsWriteFault result (O.told outputs.old) (O.told outputs.new) }
     ensures flushed { OnOk result (AreFlushed (O.told outputs.new)) }
 {
-    let given = relay_begun(settings, stream, pending, part, outputs)?;
-    relay_pieces(settings, stream, pending, &part[given..], outputs)?;
+    relay_complete(settings, stream, pending, part, outputs)?;
     if relay_ahead(&settings, stream, pending).is_err() {
         return Err(RunFault::OutOfMemory);
     }
@@ -264,7 +288,7 @@ fn relay_part<O: ThreeWriters>(
 }
 
 // Takes the last piece, writes all that is held, and flushes.
-fn finish<O: ThreeWriters>(
+pub(crate) fn finish<O: ThreeWriters>(
     settings: Settings<'_>,
     stream: &mut BoundedLineStream,
     pending: &mut Pending,
@@ -282,6 +306,22 @@ fn finish<O: ThreeWriters>(
         return Err(RunFault::OutOfMemory);
     }
     pour_and_flush(pending, outputs)
+}
+
+// What was counted by these settings.
+pub(crate) fn counts_of(settings: Settings<'_>, pending: &Pending) -> Relayed
+    ensures carried { result.carried ≡ pending.so_far.carried - items_before settings.entry.numbering settings.entry.first }
+    ensures refused { result.refused ≡ pending.so_far.refused }
+    ensures kinds { result.kinds ≡ pending.kinds }
+{
+    Relayed {
+        carried: pending
+            .so_far
+            .carried
+            .saturating_sub(items_before(settings)),
+        refused: pending.so_far.refused,
+        kinds: pending.kinds,
+    }
 }
 
 /// Relays the lines that `reader` gives, as they come: each that [`rebuild`](lp_rebuild::rebuild) would write again goes to the
@@ -364,15 +404,9 @@ pub(crate) fn relay_on<R: Source, O: ThreeWriters>(
         let n = read_block(reader, &mut block, 0)?;
         if n == 0 {
             finish(settings, &mut stream, &mut pending, outputs)?;
+            let counts = counts_of(settings, &pending);
             *types = mem::replace(&mut pending.types, KnownTypes::none(alloc));
-            return Ok(Relayed {
-                carried: pending
-                    .so_far
-                    .carried
-                    .saturating_sub(items_before(settings)),
-                refused: pending.so_far.refused,
-                kinds: pending.kinds,
-            });
+            return Ok(counts);
         }
         relay_part(settings, &mut stream, &mut pending, &block[..n], outputs)?;
     }

@@ -37,6 +37,7 @@ nothing_given = record {
   max_fields = None;
   time_unit = None;
   default_time = None;
+  now = false;
   times = None;
   lines = false;
   first_item = None;
@@ -159,11 +160,12 @@ abbrev pub given_old_pieces : Given → OldPieces
 given_old_pieces given = if given.append then Append else (if given.replace then Replace else Refuse)
 
 -- whether two options exclude each other: a check has no file for lines, and no batches, the number of the first item is none of a line,
--- lines go out in one way, the rules are those of one dialect, and refused pieces are added to their file or replace it
+-- lines go out in one way, the rules are those of one dialect, refused pieces are added to their file or replace it, and one time is that
+-- of lines without a timestamp
 abbrev pub are_at_odds : Given → Bool
 are_at_odds given =
     (given.check && (is_some given.output || is_some given.batch_lines || is_some given.batch_bytes)) || (is_some given.first_item && names_lines given) || (given.verbatim && given.canonical)
-    || (given.strict && given.newline_delimited) || (given.append && given.replace)
+    || (given.strict && given.newline_delimited) || (given.append && given.replace) || (given.now && is_some given.default_time)
 
 -- whether fields have a limit, but no types that stay
 abbrev pub lacks_types : Given → Bool
@@ -175,13 +177,15 @@ lacks_refused given =
     option_map_or (λ name. bytes_eq name.now (codes "-") && not given.check && is_none given.output) given.refused
     (given.append || given.replace)
 
--- the relay of the options that were given and of inputs of these names, if there is just one where a part of it is asked for, no options
--- exclude each other, and none lacks the one that it needs
+-- the relay of the options that were given and of inputs of these names, if there is just one if a part of it is asked for, no more than
+-- one by the time of each read, no options exclude each other, and none lacks the one that it needs
 abbrev pub request_with : Given → List (Bor (List ℕ)) → Option Request
 request_with given names =
-    if is_one_if (is_some given.range) names && not (are_at_odds given || lacks_types given || lacks_refused given)
+    if is_one_if (is_some given.range) names && not (given.now && nat_lt 1 (length names))
+        && not (are_at_odds given || lacks_types given || lacks_refused given)
     then Some (record {
       relay = record (given_settings given) { file = told_file (told_form given) names };
+      now = given.now;
       progress = given.progress;
       check = given.check;
       output = given.output;
@@ -209,7 +213,7 @@ with_form given word =
     if bytes_eq word (codes "--crlf") && not given.crlf then Some (record given { crlf = true })
     else (if bytes_eq word (codes "--verbatim") && not given.verbatim then Some (record given { verbatim = true })
     else (if bytes_eq word (codes "--canonical") && not given.canonical then Some (record given { canonical = true })
-    else None))
+    else (if bytes_eq word (codes "--now") && not given.now then Some (record given { now = true }) else None)))
 
 -- the same, if it takes no word after it and is none of these
 abbrev pub with_switch : Given → List ℕ → Option Given

@@ -21,7 +21,7 @@ use lp_relay::{Faults, LineForm, Numbering, Portable, Settings, StrictTypes, Tim
 pub const USAGE: &str =
     "usage: lp_relay [--strict | --newline-delimited] [--crlf] [--verbatim | --canonical]
                 [--portable influx1|victoria|all] [--types strict] [--max-fields N]
-                [--time-unit s|ms|us|ns] [--default-time NS] [--times FROM..TO]
+                [--time-unit s|ms|us|ns] [--default-time NS | --now] [--times FROM..TO]
                 [--faults line|raw|json|json+text|editor] [--max-faults N] [--max-line BYTES]
                 [--first-item N | [--lines] [--first-line N]] [--progress] [--summary]
                 [--check | [--output FILE] [--batch-lines N] [--batch-bytes N]] [--refused FILE]
@@ -66,6 +66,9 @@ FILE that is - is standard input; ./-x names a file -x.
                      64 bits hold then is refused. By ns, or if it is not given, it stays as it came
   --default-time NS  the time, in nanoseconds, of each line that comes without a timestamp; of two
                      lines of one series and one time servers keep the last
+  --now              gives each line that comes without a timestamp the time of the read with which
+                     it ended; one FILE, or standard input. All lines that end with one read have
+                     one time, and of two of one series servers keep the last
   --times FROM..TO   refuses each line whose time, in nanoseconds, is before FROM, or not before TO,
                      or that has none; one of the two may be missing, as in FROM.. or ..TO
   --lines            names the line of the input in each fault, instead of the number of the item
@@ -117,10 +120,10 @@ FILE that is - is standard input; ./-x names a file -x.
 The options of a relay come in any order, each at most once, before, between or after the files. A
 value may stand after =, as in --max-line=80, and each word after -- names a FILE. Not --check with
 --output, --batch-lines or --batch-bytes, not both --verbatim and --canonical, not both --strict
-and --newline-delimited, not both --append and --replace, nor --first-item with --lines or
---first-line, but with --faults json, which names items and lines. --batch-lines and
---batch-bytes need --output, --max-fields needs --types, --append and --replace need --refused.
---cut PARTS comes first, or after --strict or --newline-delimited.
+and --newline-delimited, not both --append and --replace, not both --default-time and --now, nor
+--first-item with --lines or --first-line, but with --faults json, which names items and lines.
+--batch-lines and --batch-bytes need --output, --max-fields needs --types, --append and --replace
+need --refused. --cut PARTS comes first, or after --strict or --newline-delimited.
 
 Status 0: every item was carried; 1: some item was not; 2: the input could not be read, memory
 ran out, an output could not be written, or is an input too, or the arguments are wrong; 141:
@@ -152,6 +155,7 @@ pub(crate) const VALUED: &[&str] = &[
 pub(crate) const ODDS: &[(&str, &str, &str)] = &[
     ("--newline-delimited", "--strict", ""),
     ("--canonical", "--verbatim", ""),
+    ("--now", "--default-time", ""),
     ("--first-item", "--lines", "--faults json"),
     ("--first-item", "--first-line", "--faults json"),
     ("--check", "--output", ""),
@@ -203,6 +207,7 @@ pub(crate) struct Given<'a> {
     max_fields: Option<usize>,
     time_unit: Option<TimeUnit>,
     default_time: Option<i64>,
+    now: bool,
     times: Option<TimeRange>,
     lines: bool,
     first_item: Option<usize>,
@@ -237,6 +242,7 @@ impl<'a> Given<'a> {
             max_fields: None,
             time_unit: None,
             default_time: None,
+            now: false,
             times: None,
             lines: false,
             first_item: None,
@@ -421,6 +427,7 @@ impl<'a> Given<'a> {
             "--crlf" if !self.crlf => self.crlf = true,
             "--verbatim" if !self.verbatim => self.verbatim = true,
             "--canonical" if !self.canonical => self.canonical = true,
+            "--now" if !self.now => self.now = true,
             _ => return None,
         }
         Some(self)
@@ -558,7 +565,8 @@ impl<'a> Given<'a> {
     }
 
     // Whether two options exclude each other: a check has no file for lines, and no batches, the number of the first item is none of a line, lines
-    // go out in one way, the rules are those of one dialect, and refused pieces are added to their file or replace it.
+    // go out in one way, the rules are those of one dialect, refused pieces are added to their file or replace it, and one time is that of lines
+    // without a timestamp.
     fn are_at_odds(self) -> bool
         ensures { result ≡ are_at_odds self.entry }
     {
@@ -567,6 +575,7 @@ impl<'a> Given<'a> {
             || self.verbatim && self.canonical
             || self.strict && self.newline_delimited
             || self.append && self.replace
+            || self.now && self.default_time.is_some()
     }
 
     // Whether fields have a limit, but no types that stay.
@@ -586,13 +595,13 @@ impl<'a> Given<'a> {
         }
     }
 
-    // The request of these options, and of the inputs that words name after the mark, if there is just one where a part of it is asked
-    // for, no options exclude each other, and none lacks the one that it needs.
+    // The request of these options, and of the inputs that words name after the mark, if there is just one if a part of it is asked for, no
+    // more than one by the time of each read, no options exclude each other, and none lacks the one that it needs.
     fn request(self, words: &[&'a str]) -> Option<Request<'a>>
         ensures { result ≡ request_of self.entry words.now }
     {
         let names = inputs_of(words)?;
-        if !is_one_if(self.range.is_some(), names) {
+        if !is_one_if(self.range.is_some(), names) || self.now && names.len() > 1 {
             return None;
         }
         if self.are_at_odds() || self.lacks_types() || self.lacks_refused() {
@@ -603,6 +612,7 @@ impl<'a> Given<'a> {
                 file: told_file(self.told_form(), names),
                 ..self.settings()
             },
+            now: self.now,
             progress: self.progress,
             check: self.check,
             output: self.output,

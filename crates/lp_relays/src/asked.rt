@@ -23,6 +23,8 @@ pub struct Asked {
     pub settings: Settings<'static>,
     /// How many bytes come at each read, if the row says so.
     pub reads: Option<usize>,
+    /// The time of the first read, if lines without a timestamp have that of a read: each one after it has one more.
+    pub now: Option<i64>,
     /// How often a cell comes that has a number between braces.
     pub times: usize,
 }
@@ -69,6 +71,7 @@ impl Asked {
             }
             "editor" => self.settings.faults = Faults::Editor { first_line: number },
             "reads" => self.reads = Some(number),
+            "now" => self.now = Some(number as i64),
             "types" => self.settings.types = Some(StrictTypes { max_fields: number }),
             "shards" => self.settings.lines = shard(0, number),
             "shard" => match self.settings.lines {
@@ -99,6 +102,7 @@ pub fn asked_by(words: &str) -> Option<Asked> {
         dialects: CRATE,
         settings: Settings::default(),
         reads: None,
+        now: None,
         times: 1,
     };
     for word in words.split(' ') {

@@ -21,7 +21,7 @@ fn relay_agrees(
         dialect,
         ..Settings::default()
     };
-    let wrote = relayed(alloc, settings, way, text.as_bytes());
+    let wrote = relayed(alloc, settings, None, way, text.as_bytes());
     if let Ok(counts) = wrote.answer
         && counts.carried == rebuilt.carried
         && counts.refused == rebuilt.refused

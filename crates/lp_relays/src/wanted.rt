@@ -74,7 +74,7 @@ pub fn relay_gives(
     cells: &[Vec<u8>],
 ) -> Result<(), Unlike> {
     for way in ways(alloc, asked.reads, text.len())?.iter() {
-        let Wrote { answer, outputs } = relayed(alloc, asked.settings, *way, text);
+        let Wrote { answer, outputs } = relayed(alloc, asked.settings, asked.now, *way, text);
         let by = format!(in alloc; "relayed by {way:?} in {:?}", asked.settings.dialect)?;
         let written = [
             outputs.lines.as_slice(),

@@ -1,7 +1,7 @@
 //! The ways by which a text comes to a relay, and what the relay gives.
 
 use lp_rebuild::{DeviceFault, Kept, RunFault, Source};
-use lp_relay::{Inputs, Outputs, Relayed, Settings, relay, relay_inputs};
+use lp_relay::{Clock, Inputs, Outputs, Relayed, Settings, relay, relay_inputs, relay_now};
 use lp_vectors::cuts::CutSource;
 use std::alloc::{AllocError, Global};
 
@@ -67,18 +67,49 @@ pub fn relayed_each(alloc: Global, settings: Settings<'_>, texts: &[&[u8]]) -> W
     Wrote { answer, outputs }
 }
 
-// Relays what a source gives.
-fn relayed_from<R: Source>(alloc: Global, settings: Settings<'_>, reader: &mut R) -> Wrote {
+// A clock that tells one more at each time.
+struct Ticks {
+    next: i64,
+}
+
+impl Clock for Ticks {
+    ghost use Rattle.std.specs.Prelude.{None};
+
+    ghost told = { λ _. None };
+
+    fn now(&mut self) -> i64 {
+        let time = self.next;
+        self.next = time.saturating_add(1);
+        time
+    }
+}
+
+// Relays what a source gives, with the time of each read, from one on, if that is asked for.
+fn relayed_from<R: Source>(
+    alloc: Global,
+    settings: Settings<'_>,
+    now: Option<i64>,
+    reader: &mut R,
+) -> Wrote {
     let mut outputs = kept(alloc);
-    let answer = relay(alloc, settings, reader, &mut outputs);
+    let answer = match now {
+        Some(next) => relay_now(alloc, settings, reader, &mut Ticks { next }, &mut outputs),
+        None => relay(alloc, settings, reader, &mut outputs),
+    };
     Wrote { answer, outputs }
 }
 
-/// Relays a text that comes so.
-pub fn relayed(alloc: Global, settings: Settings<'_>, way: Way, text: &[u8]) -> Wrote {
+/// Relays a text that comes so, with the time of each read, from one on, if that is asked for.
+pub fn relayed(
+    alloc: Global,
+    settings: Settings<'_>,
+    now: Option<i64>,
+    way: Way,
+    text: &[u8],
+) -> Wrote {
     match way {
-        Way::Reads(len) => relayed_from(alloc, settings, &mut Blocks { left: text, len }),
-        Way::Cut(cuts) => relayed_from(alloc, settings, &mut CutSource::new(text, cuts)),
+        Way::Reads(len) => relayed_from(alloc, settings, now, &mut Blocks { left: text, len }),
+        Way::Cut(cuts) => relayed_from(alloc, settings, now, &mut CutSource::new(text, cuts)),
     }
 }
 

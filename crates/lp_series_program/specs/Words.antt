@@ -74,6 +74,7 @@ given_relay given words = record {
     file = told_file (unwrap_or given.faults OneLine) words;
     first_offset = 0;
   };
+  now = false;
   progress = false;
   check = not (is_relay given);
   output = None;

@@ -244,6 +244,7 @@ impl<'a> Given<'a> {
                 file: told_file(faults, words),
                 first_offset: 0,
             },
+            now: false,
             progress: false,
             check: !self.is_relay(),
             output: None,

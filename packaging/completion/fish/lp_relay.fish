@@ -49,7 +49,9 @@ complete -c lp_relay -l max-fields -d 'of how many fields --types keeps the type
 complete -c lp_relay -l time-unit -d 'in which unit timestamps come' -x -a 's ms us ns' \
     -n '__lp_relay_follows --time-unit; or __lp_relay_can --time-unit --cut --help -h --version'
 complete -c lp_relay -l default-time -d 'the time of lines without a timestamp' -x \
-    -n '__lp_relay_follows --default-time; or __lp_relay_can --default-time --cut --help -h --version'
+    -n '__lp_relay_follows --default-time; or __lp_relay_can --default-time --cut --help -h --version --now'
+complete -c lp_relay -l now -d 'gives lines without a timestamp the time of their read' \
+    -n '__lp_relay_can --now --cut --help -h --version --default-time'
 complete -c lp_relay -l times -d 'refuses lines with times out of a range' -x \
     -n '__lp_relay_follows --times; or __lp_relay_can --times --cut --help -h --version'
 complete -c lp_relay -l lines -d 'names the line of the input in each fault' \

@@ -4,9 +4,10 @@ use Rattle.std.proofs.KnownBytes.{Consumes-nil, Consumes-trans, Consumes-whole}
 use Rattle.lp_rebuild.specs.declared.program.RunFault.TheVariants.{OutOfMemory}
 use Rattle.lp_relay.specs.FieldTypes.{types_of}
 use Rattle.lp_relay.specs.RelaySteps.{items_before, unwritten_of_none}
+use Rattle.lp_relay.specs.Kinds.{counts_if}
 use Rattle.lp_relay.specs.Relays.{RelaysFronts, TypesAfter}
 use Rattle.lp_relay.specs.Writers.{bytes_of}
-use Rattle.lp_relay.proofs.RelaysSoFar.{fronts_so_far, read_none, so_far_all, so_far_none, some_so_far, types_all}
+use Rattle.lp_relay.proofs.RelaysSoFar.{fronts_so_far, pieces_relayed, read_none, so_far_all, so_far_none, some_so_far, types_all}
 use Rattle.lp_relay.proofs.RelayEnds.{ended, failed, none_twice, read_fault, write_fault}
 use Rattle.lp_relay.proofs.relaying.relay_on.Goals as goal
 
@@ -62,11 +63,13 @@ returns-then-n-eq0-clause-relays g c =
     let read = c.in_ok-n.ensures in
     let done = c.in_ok-finish.ensures in
     let all = done.relays h.so_far.0 _ h.so_far.2 in
-    let carried : c.saturating_sub.result + items_before c.args.settings.numbering c.args.settings.first ≡ c.finish.new.pending.so_far.carried =
-    omega (arith, c.saturating_sub.ensures, c.items_before.ensures, all.2.made.carried) in
+    let carried : c.counts_of.result.carried + items_before c.args.settings.numbering c.args.settings.first ≡ c.finish.new.pending.so_far.carried =
+    omega (arith, c.counts_of.ensures.carried, all.2.made.carried) in
     ended c.utf8_by_pieces.ensures c.pieces_join.ensures.one _ _ _ _ _ _ _
     (so_far_all c.args.settings _ _ h.so_far.0 all.0 _ _ _ (read_none _ _ _ _ _ c.in_ok-n.n c.if-n-eq0.true h.so_far.1 read.ok)
-    (read.end c.if-n-eq0.true) all.1 all.2 done.none.0 done.none.1 done.none.2 carried refl refl)
+    (read.end c.if-n-eq0.true) all.1
+    (pieces_relayed c.args.settings all.0 _ _ _ all.2 done.none.0 done.none.1 done.none.2 carried c.counts_of.ensures.refused
+    (ap counts_if c.counts_of.ensures.kinds)))
     done.flushed (read.counts ∙ h.reader_unfailed) (none_twice _ _ _ h.unfailed done.counts)
 
 pub returns-in_err-relay_part-clause-relays : goal.returns-in_err-relay_part-clause-relays
