@@ -5,6 +5,7 @@ use lp_relay::Clock;
 use std::time::{self, SystemTime, UNIX_EPOCH};
 
 /// The clock of the system. If it cannot be read, it tells the last time once more.
+#[derive(Clone, Copy)]
 pub(crate) struct SystemClock<'a, R> {
     rt: &'a R,
     last: i64,
