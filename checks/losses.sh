@@ -145,6 +145,15 @@ printf 'lp_relay: removed %s, which an ended run had left\n' "$left" out.lp_rela
 exec 5<&-
 rm -r out.lp_relay-* x.out*
 printf 'old\n' >out
+# A place with a name as long as names may be, also one that has no room for a whole character there.
+for long in "$(printf 'n%.0s' {1..255})" "x$(printf 'ö%.0s' {1..127})"; do
+    front=$(printf '%.224s' "$long")
+    touch "${front}.lp_relay-4194305-0" "${front%?}.lp_relay-4194305-0"
+    run "$relay" -o "$long" a
+    holds "$long" 'm a=1i\n'
+    names | grep -c -F .lp_relay- | grep -q -x 1 || lost "what is beside a long name"
+    rm "$long" ./*.lp_relay-*
+done
 # The lines of a run that goes on, if another one for the place begins.
 begin -o out
 run "$relay" -o out a

@@ -6,7 +6,7 @@ ghost use Rattle.lp_programs.specs.Files.{new_file};
 ghost use Rattle.lp_programs.specs.Destinations.{GoesTo, PiecesGoTo, is_nowhere};
 
 use crate::files::{FileState, Files, Maker, Output, Stage};
-use crate::locks::{BESIDE, lock_made};
+use crate::locks::{BESIDE, front_of_name, lock_made};
 use crate::places::{folder_and_file, is_mounted, place_of};
 use crate::speaking::{Notice, Speaker};
 use crate::streams::Stream;
@@ -249,7 +249,12 @@ fn check_free(rt: &HostRuntime, place: &str) -> io::Result<()> {
 // A name beside a place.
 fn name_beside(rt: &HostRuntime, place: &str, turn: u32) -> io::Result<String> {
     let id = process::id(rt.process());
-    Ok(format!(in rt.alloc(); "{place}{BESIDE}{id}-{turn}")?)
+    let (folder, file) = folder_and_file(place);
+    let front = front_of_name(file);
+    if front.len() == file.len() {
+        return Ok(format!(in rt.alloc(); "{place}{BESIDE}{id}-{turn}")?);
+    }
+    Ok(format!(in rt.alloc(); "{folder}/{front}{BESIDE}{id}-{turn}")?)
 }
 
 // Makes a file beside a place, by a name that no file has, and locks it.

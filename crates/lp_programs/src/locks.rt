@@ -12,6 +12,14 @@ use std::os::unix::fs::MetadataExt;
 /// What comes in the name of a file beside its place after the name of that.
 pub(crate) const BESIDE: &str = ".lp_relay-";
 
+// So many bytes of the name of a place begin the name of a file beside it, at most: a file system takes names of 255 bytes.
+const MOST_OF_NAME: usize = 224;
+
+/// What the names of files beside the place of this file begin with: its name, or the first characters of a long one.
+pub(crate) fn front_of_name<'a>(file: &'a str) -> &'a str {
+    &file[..file.floor_char_boundary(MOST_OF_NAME)]
+}
+
 // Whether a text has a digit, and nothing else.
 fn is_number(text: &str) -> bool {
     !text.is_empty() && text.bytes().all(|byte| byte.is_ascii_digit())
@@ -19,7 +27,7 @@ fn is_number(text: &str) -> bool {
 
 // Whether a name is that of a file beside the place of this file: with the number of a process and another one.
 fn is_beside(name: &str, file: &str) -> bool {
-    let Some(rest) = name.strip_prefix(file) else {
+    let Some(rest) = name.strip_prefix(front_of_name(file)) else {
         return false;
     };
     let Some(numbers) = rest.strip_prefix(BESIDE) else {

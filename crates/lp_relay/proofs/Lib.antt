@@ -27,6 +27,7 @@ pub mod InputLemmas
 pub mod VerdictLemmas
 pub mod WorkedShards
 pub mod PortableLemmas
+pub mod ReadLemmas
 pub mod TypeLemmas
 pub mod TimedPieces
 pub mod FieldTypeLemmas

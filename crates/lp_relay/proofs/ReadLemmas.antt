@@ -1,8 +1,7 @@
 -- What a relay with the time of each read has relayed so far.
-use Rattle.std.proofs.Common.{◌≡◌, ◌⊎◌, inl, inr, ℕ, ℤ, List, [], ◌∷◌, ◌++◌, map, Option, Some, None, IfSome, Result, Ok, Err, IsErr, IsErrAnd}
-use Rattle.std.proofs.Common.{false, refl, sym, ap, subst, ◌∙◌, append-nil, append_assoc, arith}
+use Rattle.std.proofs.Common.{◌≡◌, inl, inr, ℕ, ℤ, pos, List, [], ◌∷◌, ◌++◌, Option, Some, None, IfSome, Result, Ok, Err, IsErr}
+use Rattle.std.proofs.Common.{refl, sym, ap, subst, ◌∙◌, append-nil, append_assoc}
 use Rattle.std.specs.Io.KnownBytes.{Consumes, IsAtEnd}
-use Rattle.std.specs.List.{flat_map}
 use Rattle.std.proofs.lemmas.Grind.{flat_map-append}
 use Rattle.std.proofs.lemmas.List.{map-append}
 use Rattle.std.proofs.lemmas.Option.{IfSome_then}
@@ -21,8 +20,9 @@ use Rattle.lp_relay.specs.FieldTypes.{Types, no_types}
 use Rattle.lp_relay.specs.Inputs.{AddsUp, TellsFaults, nothing_relayed}
 use Rattle.lp_relay.specs.Reads.{EndsRead, GivesPieces, Read, RelaysByReads, RelaysNow, RelaysReads, RelaysReads.none, RelaysReads.more, RelaysReadsFront}
 use Rattle.lp_relay.specs.Reads.{TellsTimes, pieces_of, settings_at, settings_then, times_of}
+use Rattle.lp_relay.specs.Relaying.{types_past}
 use Rattle.lp_relay.specs.Relays.{RelaysFronts, RelaysPieces, RelaysPiecesFronts}
-use Rattle.lp_relay.specs.RelaySteps.{SoFar, SoFarBy, SomeSoFar, Stage, Start, Unwritten, unwritten_of_none}
+use Rattle.lp_relay.specs.RelaySteps.{SoFar, SoFarBy, SomeSoFar, Start, Unwritten, unwritten_of_none}
 use Rattle.lp_relay.specs.Writers.{AreFlushed, Known, Told, bytes_of}
 use Rattle.lp_relay.proofs.PassLemmas.{front_none}
 use Rattle.lp_relay.proofs.RelayLemmas.{taken_none}
@@ -43,9 +43,9 @@ so_far_held s a stream now text holds is_last is = (
 
 -- whatever comes after, each writer has a front of what was meant for it
 pub fronts_and_more : PiecesExist → PiecesAreUnique → RunsGivePieces → (s : Settings) (given : List ℕ) (a : Start) (c : Told)
-    → SomeSoFar s given a c → (more : List ℕ) → RelaysFronts s a.types (given ++ more) (bytes_of a.told) (bytes_of c)
-fronts_and_more exist unique give s given a c h more =
-    fronts_so_far exist unique give s (Some (given ++ more)) (Some more) given a c refl h
+    → SomeSoFar s given a c → (t : List ℕ) → RelaysFronts s a.types (given ++ t) (bytes_of a.told) (bytes_of c)
+fronts_and_more exist unique give s given a c h t =
+    fronts_so_far exist unique give s (Some (given ++ t)) (Some t) given a c refl h
 
 -- a clock that told no time more
 times_none : (told : Option (List ℤ)) → TellsTimes told told []
@@ -62,11 +62,11 @@ times_more (Some ts) b c times time h k =
 -- the pieces of these and of others
 pub gives_more : (d : Dialect) (given left part after : List ℕ) (pieces others : List (List ℕ)) → GivesPieces d given pieces left
     → GivesPieces d (left ++ part) others after → GivesPieces d (given ++ part) (pieces ++ others) after
-gives_more d given left part after pieces others h k more rest are =
-    subst (Pieces d ((given ++ part) ++ more)) (sym (append_assoc pieces others rest))
-    (subst (λ l. Pieces d l (pieces ++ (others ++ rest))) (sym (append_assoc given part more))
-    (h (part ++ more) (others ++ rest)
-    (subst (λ l. Pieces d l (others ++ rest)) (append_assoc left part more) (k more rest are))))
+gives_more d given left part after pieces others h k t rest are =
+    subst (Pieces d ((given ++ part) ++ t)) (sym (append_assoc pieces others rest))
+    (subst (λ l. Pieces d l (pieces ++ (others ++ rest))) (sym (append_assoc given part t))
+    (h (part ++ t) (others ++ rest)
+    (subst (λ l. Pieces d l (others ++ rest)) (append_assoc left part t) (k t rest are))))
 
 -- the pieces of reads, and of one more
 pieces_more : (reads : List Read) (read : Read) → pieces_of (reads ++ read ∷ []) ≡ pieces_of reads ++ read.pieces
@@ -103,7 +103,7 @@ reads_none s reader stream told a types read holds is_last empty =
       read = read;
       holds = holds;
       is_last = is_last;
-      gives = λ more others are. are;
+      gives = λ t others are. are;
       relays = subst (λ t. RelaysReads s a [] nothing_relayed s t a) (sym empty) none;
       times = times_none told;
       dialect = refl;
@@ -167,17 +167,17 @@ reads_all s r0 r1 r2 stream c0 c1 c2 a b c so_far counts total own timed types p
     })
 
 -- nothing was relayed after these reads
-pub front_of_reads : PiecesExist → (s : Settings) (r0 r1 r2 : Option (List ℕ)) (stream : HeldWithin) (c0 c1 : Option (List ℤ)) (a b : Known)
+pub front_of_reads : PiecesExist → (s : Settings) (r0 r1 : Option (List ℕ)) (stream : HeldWithin) (c0 c1 : Option (List ℤ)) (a b : Known)
     (so_far : Relayed) (own : Settings) (types : Types) → ReadSoFar s r0 r1 stream c0 c1 a b so_far own types
     → IfSome r0 (λ bs. RelaysReadsFront s bs c0 c1 a b)
-front_of_reads exist s None r1 r2 stream c0 c1 a b so_far own types h = tt
-front_of_reads exist s (Some x) None r2 stream c0 c1 a b so_far own types h = absurd h.read
-front_of_reads exist s (Some x) (Some y) r2 stream c0 c1 a b so_far own types h =
+front_of_reads exist s None r1 stream c0 c1 a b so_far own types h = tt
+front_of_reads exist s (Some x) None stream c0 c1 a b so_far own types h = absurd h.read
+front_of_reads exist s (Some x) (Some y) stream c0 c1 a b so_far own types h =
     let d = rules_of s.dialect in
     let rest = exist d (h.left ++ y) in
     record {
       reads = h.reads;
-      time = 0;
+      time = pos 0;
       rest = rest.0;
       so_far = so_far;
       now = own;
@@ -194,7 +194,7 @@ pub front_after_read : (s : Settings) (r0 r1 r2 : Option (List ℕ)) (stream : H
     (so_far : Relayed) (own timed : Settings) (types : Types) (part : List ℕ) (time : ℤ)
     → (h : ReadSoFar s r0 r1 stream c0 c1 a b so_far own types) → Consumes r1 r2 part
     → IfSome c1 (λ ts. c2 ≡ Some (ts ++ time ∷ [])) → timed ≡ settings_at time own
-    → ((more : List ℕ) → RelaysFronts timed types ((h.left ++ part) ++ more) b c)
+    → ((t : List ℕ) → RelaysFronts timed types ((h.left ++ part) ++ t) b c)
     → IfSome r0 (λ bs. RelaysReadsFront s bs c0 c2 a c)
 front_after_read s None r1 r2 stream c0 c1 c2 a b c so_far own timed types part time h read tick timed_is fronts = tt
 front_after_read s (Some x) None r2 stream c0 c1 c2 a b c so_far own timed types part time h read tick timed_is fronts = absurd h.read
@@ -213,7 +213,7 @@ front_after_read s (Some x) (Some y) (Some z) stream c0 c1 c2 a b c so_far own t
       mid = b;
       are = subst (λ l. Pieces d l (pieces_of h.reads ++ f.pieces)) (sym (h.read ∙ ap (λ l. h.given ++ l) read))
           (h.gives (part ++ z) f.pieces
-          (subst (λ l. Pieces d l f.pieces) (append_assoc h.left part z) (subst (λ k. Pieces (rules_of k) _ f.pieces) dialect f.are)));
+          (subst (λ l. Pieces d l f.pieces) (append_assoc h.left part z) (subst (λ k. Pieces (rules_of k) ((h.left ++ part) ++ z) f.pieces) dialect f.are)));
       relays = h.relays;
       fronts = subst (λ k. RelaysPiecesFronts k types f.pieces b c) timed_is f.relays;
       times = inr (times_more c0 c1 c2 (times_of h.reads) time h.times tick);
@@ -257,3 +257,17 @@ pub now_failed : (s : Settings) (result : Result Relayed RunFault) (reader reade
 now_failed s (Ok counts) reader reader_after told told_after before after is fronts faults = absurd (cc)
 now_failed s (Err fault) reader reader_after told told_after before after is fronts faults =
     record { all = tt; flushed = tt; part = fronts; faults = faults }
+
+-- all was relayed
+pub now_ended : (s : Settings) (counts : Relayed) (reader reader_after : ReaderTold) (told told_after : Option (List ℤ)) (before after : Told)
+    → IfSome reader.bytes (λ bs. (reader_after.bytes ≡ Some []) × RelaysByReads s bs counts told told_after (bytes_of before) (bytes_of after))
+    → AreFlushed after → TellsFaults (Ok counts) reader.failures reader_after.failures before after
+    → RelaysNow s (Ok counts) reader reader_after told told_after before after
+now_ended s counts reader reader_after told told_after before after all flushed faults =
+    record { all = all; flushed = flushed; part = tt; faults = faults }
+
+-- what the stream holds is a last piece by the settings of a read too
+pub held_last : (s own timed : Settings) (time : ℤ) (left : List ℕ) → own.dialect ≡ s.dialect → timed ≡ settings_at time own
+    → IsLastPiece (rules_of s.dialect) left → IsLastPiece (rules_of timed.dialect) left
+held_last s own timed time left same timed_is is_last =
+    subst (λ d. IsLastPiece (rules_of d) left) (sym (ap (λ (k : Settings). k.dialect) timed_is ∙ same)) is_last

@@ -1,5 +1,5 @@
 -- Pieces and their lines, which have no carriage return at their end if it is dropped.
-use Rattle.std.proofs.Common.{◌≡◌, ◌≢◌, ◌-◌, ◌==◌, ℕ, Bool, false, true, List, [], ◌∷◌, ◌++◌, length, take, slice_index, cond}
+use Rattle.std.proofs.Common.{◌≡◌, ◌≢◌, ◌-◌, ◌==◌, ℕ, Bool, false, List, [], ◌∷◌, ◌++◌, length, take, slice_index, cond}
 use Rattle.std.proofs.Common.{refl, sym, subst, arith, inl, inr}
 use Rattle.std.specs.Str.{IsUtf8}
 use Rattle.std.specs.Str.Lines.{strip_carriage_return}

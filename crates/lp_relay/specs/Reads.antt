@@ -1,5 +1,5 @@
 -- What a relay leaves that gives each line without a timestamp the time of the read with which its piece ended.
-use Rattle.std.specs.Prelude.{◌≡◌, ◌⊎◌, ℕ, ℤ, ◌^◌, ◌-◌, min, List, [], ◌∷◌, ◌++◌, map, Option, Some, None, option_map, unwrap_or}
+use Rattle.std.specs.Prelude.{◌≡◌, ◌⊎◌, ℕ, ℤ, ◌^◌, ◌-◌, min, List, [], ◌∷◌, ◌++◌, map, Option, Some, None, unwrap_or}
 use Rattle.std.specs.Prelude.{Result, IfOk, IfSome, OnOk, OnErr, MatchResult}
 use Rattle.std.specs.List.{flat_map}
 use Rattle.influxdb_line_protocol.specs.format.Dialects.{Dialect}
@@ -91,7 +91,7 @@ pub data RelaysReads (s : Settings) (before : Known) : List Read → Relayed →
       → RelaysPieces (settings_at read.time now) types read.pieces counts mid after
       → AddsUp so_far counts total
       → RelaysReads s before (reads ++ read ∷ []) total (settings_then (settings_at read.time now) types read.pieces counts)
-          (types_past (settings_at read.time now) types read.pieces) after
+      (types_past (settings_at read.time now) types read.pieces) after
 
 -- these bytes were relayed whole, by reads at the times that the clock told
 pub record RelaysByReads (s : Settings) (bytes : List ℕ) (counts : Relayed) (told told_after : Option (List ℤ)) (before after : Known)
@@ -133,8 +133,8 @@ pub record RelaysNow (s : Settings) (result : Result Relayed RunFault) (reader r
 
 -- whatever comes after, these pieces and the pieces of what is left are those of what was given
 abbrev pub GivesPieces : Dialect → (given : List ℕ) → List (List ℕ) → (left : List ℕ) → Type 0
-GivesPieces dialect given pieces left = (more : List ℕ) (others : List (List ℕ))
-    → Pieces dialect (left ++ more) others → Pieces dialect (given ++ more) (pieces ++ others)
+GivesPieces dialect given pieces left = (t : List ℕ) (others : List (List ℕ))
+    → Pieces dialect (left ++ t) others → Pieces dialect (given ++ t) (pieces ++ others)
 
 -- the pieces that ended with a part were relayed, and this is left of it and of the text before it
 pub record EndsRead (s : Settings) (types types_after : Types) (given left : List ℕ) (end : ReadEnd) (before after : Known) : Type 0 where
@@ -152,7 +152,7 @@ RelaysRead s part result types types_after stream stream_after before after =
     (text : List ℕ) → Holds stream text → IsLastPiece (rules_of s.dialect) text
     → MatchResult result
     (λ end. (left : List ℕ) × Holds stream_after left × EndsRead s types types_after (text ++ part) left end (bytes_of before) (bytes_of after))
-    (λ _. (more : List ℕ) → RelaysFronts s types ((text ++ part) ++ more) (bytes_of before) (bytes_of after))
+    (λ _. (t : List ℕ) → RelaysFronts s types ((text ++ part) ++ t) (bytes_of before) (bytes_of after))
 
 -- what the stream held was relayed, with its last piece
 abbrev pub RelaysRest : Settings → Result Relayed RunFault → Types → (stream : HeldWithin) → (before after : Told) → Type 0

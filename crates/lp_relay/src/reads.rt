@@ -2,7 +2,7 @@
 //!
 //! What each read ends is relayed by itself, by settings that go on after the reads before it: only the stream, which holds the line that has
 //! not ended yet, is handed on. So nothing else needs to know of times that change, and each read takes memory for its outputs anew.
-ghost use Rattle.std.specs.Prelude.{◌≡◌, ◌∷◌, ◌++◌, ◌≤◌, [], List, ℤ, Option, Some, IfSome, OnOk, length};
+ghost use Rattle.std.specs.Prelude.{◌≡◌, ◌∷◌, ◌++◌, ◌≤◌, [], List, ℤ, Option, Some, IfOk, IfSome, OnOk, length};
 ghost use Rattle.lp_rebuild.specs.Running.{reader_told};
 ghost use Rattle.lp_relay.specs.FaultsTold.{first_place};
 ghost use Rattle.lp_relay.specs.FieldTypes.{types_of};
@@ -90,13 +90,16 @@ fn faults_from(faults: Faults, line: usize) -> Faults
 
 // The settings that go on after what was taken, of which these are the counts.
 fn settings_from<'n>(settings: Settings<'n>, pending: &Pending, counts: Relayed) -> Settings<'n>
-    ensures { result ≡ settings_from settings.entry (next_place settings.entry (unwritten_of pending.now)) counts.entry }
+    ensures { result ≡ settings_from settings.entry (next_place settings.entry (unwritten_of pending.now)) counts }
 {
     let so_far = &pending.so_far;
     let line = so_far.line.unwrap_or(0);
     let numbering = numbering_from(settings);
     let first = match numbering {
-        Numbering::Items => so_far.carried.saturating_add(so_far.refused).saturating_add(1),
+        Numbering::Items => so_far
+            .carried
+            .saturating_add(so_far.refused)
+            .saturating_add(1),
         Numbering::Lines => line,
     };
     let max_faults = match settings.max_faults {
@@ -124,7 +127,7 @@ fn relay_read<'n, O: ThreeWriters>(
 ) -> Result<ReadEnd<'n>, RunFault>
     requires rules { HasRules settings stream.old }
     requires block { length part.now ≤ BLOCK }
-    ensures rules { OnOk result (HasRules settings.entry stream.new) }
+    ensures rules { IfOk result (λ end. HasRules end.settings stream.new) }
     ensures relays { RelaysRead settings.entry part.now result (types_of types.old) (types_of types.new) stream.old stream.new
         (O.told outputs.old) (O.told outputs.new) }
     ensures counts { CountsWriteFault result (O.told outputs.old) (O.told outputs.new) }
@@ -167,9 +170,7 @@ fn relay_rest<O: ThreeWriters>(
 /// All lines that end with one read have the same time. Of two points of one series without a timestamp that come with one read a server
 /// keeps one. `settings.times` says what else becomes of times: a line that gets its time so is refused if that is not within the range.
 ///
-/// The fault of a piece that is longer than `settings.limit` is told once its end has come. If faults are objects or lines for editors, they
-/// name items from `settings.first` on only if `settings.numbering` says so, as with [`relay`](crate::relay), and from the second read on
-/// the items are counted on.
+/// The fault of a piece that is longer than `settings.limit` is told once its end has come.
 ///
 /// # Errors
 ///
@@ -196,18 +197,18 @@ pub fn relay_now<R: Source, C: Clock, O: ThreeWriters>(
         refused: 0,
         kinds: None,
     };
-    let mut now = settings;
+    let mut own = settings;
     let mut block = Vec::new(alloc);
     for _ in 0..u64::MAX {
         let n = read_block(reader, &mut block, 0)?;
-        let timed = settings_at(now, clock.now());
+        let timed = settings_at(own, clock.now());
         if n == 0 {
             let counts = relay_rest(alloc, timed, &mut types, &mut stream, outputs)?;
             return Ok(sum_of(total, counts));
         }
         let end = relay_read(alloc, timed, &mut types, &mut stream, &block[..n], outputs)?;
         total = sum_of(total, end.counts);
-        now = end.settings;
+        own = end.settings;
     }
     Err(RunFault::OutOfMemory)
 }

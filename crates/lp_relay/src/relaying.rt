@@ -75,7 +75,10 @@ fn pour_full<O: ThreeWriters>(pending: &mut Pending, outputs: &mut O) -> Result<
 }
 
 // Writes all that is held, and flushes.
-pub(crate) fn pour_and_flush<O: ThreeWriters>(pending: &mut Pending, outputs: &mut O) -> Result<(), RunFault>
+pub(crate) fn pour_and_flush<O: ThreeWriters>(
+    pending: &mut Pending,
+    outputs: &mut O,
+) -> Result<(), RunFault>
     ensures writes { Writes result (stage_of pending.old (O.told outputs.old)) (stage_of pending.new (O.told outputs.new)) }
     ensures none { OnOk result (HoldsNone pending.new) }
     ensures counts { CountsWriteFault result (O.told outputs.old) (O.told outputs.new) }
@@ -310,9 +313,9 @@ pub(crate) fn finish<O: ThreeWriters>(
 
 // What was counted by these settings.
 pub(crate) fn counts_of(settings: Settings<'_>, pending: &Pending) -> Relayed
-    ensures carried { result.carried ≡ pending.so_far.carried - items_before settings.entry.numbering settings.entry.first }
-    ensures refused { result.refused ≡ pending.so_far.refused }
-    ensures kinds { result.kinds ≡ pending.kinds }
+    ensures carried { result.carried ≡ pending.now.so_far.carried - items_before settings.entry.numbering settings.entry.first }
+    ensures refused { result.refused ≡ pending.now.so_far.refused }
+    ensures kinds { result.kinds ≡ pending.now.kinds }
 {
     Relayed {
         carried: pending

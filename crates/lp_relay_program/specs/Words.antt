@@ -182,7 +182,7 @@ lacks_refused given =
 abbrev pub request_with : Given → List (Bor (List ℕ)) → Option Request
 request_with given names =
     if is_one_if (is_some given.range) names && not (given.now && nat_lt 1 (length names))
-        && not (are_at_odds given || lacks_types given || lacks_refused given)
+    && not (are_at_odds given || lacks_types given || lacks_refused given)
     then Some (record {
       relay = record (given_settings given) { file = told_file (told_form given) names };
       now = given.now;

@@ -14,7 +14,7 @@ returns-clause-relays g c given before h =
     let s = c.args.settings in
     let told = g.O.ThreeWriters.told c.relay_pieces.new.outputs in
     subst
-        (λ l. MatchResult c.relay_pieces.result (λ _. SoFarBy s l c.relay_pieces.new.stream before (stage_of c.relay_pieces.new.pending told))
-        (λ _. SomeSoFar s l before told))
-        (rest_is given c.args.part.now n)
-        (c.relay_pieces.ensures.relays (given ++ take n c.args.part.now) before (c.in_ok-given.ensures.relays given before h))
+    (λ l. MatchResult c.relay_pieces.result (λ _. SoFarBy s l c.relay_pieces.new.stream before (stage_of c.relay_pieces.new.pending told))
+    (λ _. SomeSoFar s l before told))
+    (rest_is given c.args.part.now n)
+    (c.relay_pieces.ensures.relays (given ++ take n c.args.part.now) before (c.in_ok-given.ensures.relays given before h))

@@ -21,6 +21,7 @@ loop-piece-init g c =
       fits = omega (arith, c.requires.fits);
       held = c.requires.few;
       relays = λ given before h. so_far_given c.args.settings given [] [] before _ h;
+      unahead = λ is. is;
       unfailed = record { lines = refl; faults = refl; refused = refl };
     }
 
@@ -50,6 +51,7 @@ loop-piece-preserved g c =
           (h.relays given before old) line c.if-piece-settings.false
           (at_no_fault c.take_piece.result c.if-is_err.ensures.value taken.taken)
           (at_no_fault c.take_piece.result c.if-is_err.ensures.value taken.start));
+      unahead = λ is. poured.ahead ∙ (at_no_fault c.take_piece.result c.if-is_err.ensures.value taken.taken).ahead ∙ h.unahead is;
       unfailed = none_twice _ _ _ h.unfailed poured.counts;
     }
 
@@ -67,3 +69,9 @@ returns-in_err-pour_full-clause-relays g c given before old =
     (h.relays given before old) line c.if-piece-settings.false
     (at_no_fault c.take_piece.result c.if-is_err.ensures.value c.take_piece.ensures.taken)
     (at_no_fault c.take_piece.result c.if-is_err.ensures.value c.take_piece.ensures.start))))
+
+pub returns-then-is_none-clause-unahead : goal.returns-then-is_none-clause-unahead
+returns-then-is_none-clause-unahead g c is = c.loop-piece.invariant.unahead is
+
+pub returns-clause-unahead : goal.returns-clause-unahead
+returns-clause-unahead g c is = c.loop-piece.invariant.unahead is

@@ -1,5 +1,5 @@
 use Rattle.influxdb_line_protocol.specs.code.Rules.{rules_of}
-use Rattle.std.proofs.Common.{◌≡◌, ◌<◌, ◌≤◌, ◌^◌, ◌++◌, [], List, length, take, ℕ}
+use Rattle.std.proofs.Common.{◌≡◌, ◌<◌, ◌≤◌, ◌^◌, ◌++◌, [], List, false, length, take, ℕ}
 use Rattle.influxdb_line_protocol.specs.format.Pieces.{most_pieces}
 use Rattle.lp_relay.specs.RelaySteps.{HoldsLess, SoFar, Start, counted, stage_of}
 use Rattle.lp_relay.specs.Writers.{CountsNone, failures_of}
@@ -17,6 +17,7 @@ invariant-loop-piece g l = record {
   relays : (given : List ℕ) (before : Start)
       → SoFar l.fn.settings given [] before (stage_of l.initial.pending (g.O.ThreeWriters.told l.initial.outputs))
       → SoFar l.fn.settings (given ++ take l.taken l.bytes) [] before (stage_of l.pending (g.O.ThreeWriters.told l.outputs));
+  unahead : l.initial.pending.ahead ≡ false → l.pending.ahead ≡ false;
   unfailed : CountsNone (failures_of (g.O.ThreeWriters.told l.initial.outputs)) (failures_of (g.O.ThreeWriters.told l.outputs));
 }
 

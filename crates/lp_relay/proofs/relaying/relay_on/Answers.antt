@@ -3,7 +3,7 @@ use Rattle.std.specs.Io.KnownBytes.{Consumes}
 use Rattle.std.proofs.KnownBytes.{Consumes-nil, Consumes-trans, Consumes-whole}
 use Rattle.lp_rebuild.specs.declared.program.RunFault.TheVariants.{OutOfMemory}
 use Rattle.lp_relay.specs.FieldTypes.{types_of}
-use Rattle.lp_relay.specs.RelaySteps.{items_before, unwritten_of_none}
+use Rattle.lp_relay.specs.RelaySteps.{Start, items_before, stage_of, unwritten_of_none}
 use Rattle.lp_relay.specs.Kinds.{counts_if}
 use Rattle.lp_relay.specs.Relays.{RelaysFronts, TypesAfter}
 use Rattle.lp_relay.specs.Writers.{bytes_of}
@@ -62,14 +62,15 @@ returns-then-n-eq0-clause-relays g c =
     let h = c.loop.invariant in
     let read = c.in_ok-n.ensures in
     let done = c.in_ok-finish.ensures in
-    let all = done.relays h.so_far.0 _ h.so_far.2 in
-    let carried : c.counts_of.result.carried + items_before c.args.settings.numbering c.args.settings.first ≡ c.finish.new.pending.so_far.carried =
-    omega (arith, c.counts_of.ensures.carried, all.2.made.carried) in
+    let start : Start = record { told = g.O.ThreeWriters.told c.args.outputs.now; types = types_of c.args.types.now } in
+    let all = done.relays h.so_far.0 start h.so_far.2 in
+    let carried : c.counts_of-counts.result.carried + items_before c.args.settings.numbering c.args.settings.first ≡ c.finish.new.pending.so_far.carried =
+    omega (arith, c.counts_of-counts.ensures.carried, all.2.made.carried) in
     ended c.utf8_by_pieces.ensures c.pieces_join.ensures.one _ _ _ _ _ _ _
-    (so_far_all c.args.settings _ _ h.so_far.0 all.0 _ _ _ (read_none _ _ _ _ _ c.in_ok-n.n c.if-n-eq0.true h.so_far.1 read.ok)
+    (so_far_all c.args.settings _ _ h.so_far.0 all.0 _ start (stage_of c.finish.new.pending (g.O.ThreeWriters.told c.finish.new.outputs)) (read_none _ _ _ _ _ c.in_ok-n.n c.if-n-eq0.true h.so_far.1 read.ok)
     (read.end c.if-n-eq0.true) all.1
-    (pieces_relayed c.args.settings all.0 _ _ _ all.2 done.none.0 done.none.1 done.none.2 carried c.counts_of.ensures.refused
-    (ap counts_if c.counts_of.ensures.kinds)))
+    (pieces_relayed c.args.settings all.0 _ start (stage_of c.finish.new.pending (g.O.ThreeWriters.told c.finish.new.outputs)) all.2 done.none.0 done.none.1 done.none.2 carried c.counts_of-counts.ensures.refused
+    (ap counts_if c.counts_of-counts.ensures.kinds)))
     done.flushed (read.counts ∙ h.reader_unfailed) (none_twice _ _ _ h.unfailed done.counts)
 
 pub returns-in_err-relay_part-clause-relays : goal.returns-in_err-relay_part-clause-relays

@@ -1,4 +1,3 @@
-use Rattle.std.proofs.Common.{◌++◌}
 use Rattle.std.proofs.lemmas.Result.{MatchResult-weaker}
 use Rattle.lp_relay.specs.RelaySteps.{stage_of}
 use Rattle.lp_rebuild.proofs.Parts.{at_no_fault}

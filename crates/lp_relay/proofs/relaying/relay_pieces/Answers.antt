@@ -20,6 +20,7 @@ loop-init g c =
         at_no_fault c.push.result c.if-is_err.ensures.value c.push.ensures.ok h.0 h.1,
         so_far_given c.args.settings given h.0 c.args.part.now before _ h.2,
       );
+      unahead = λ is. is;
       unfailed = record { lines = refl; faults = refl; refused = refl };
     }
 
@@ -38,6 +39,7 @@ loop-preserved g c =
           let p = c.loop.invariant.relays given before h in
           let q = relayed.relays (given ++ c.args.part.now) p.0 before p.1 p.2 in
           (q.0, q.1, q.2);
+      unahead = λ is. relayed.unahead (c.loop.invariant.unahead is);
       unfailed = none_twice _ _ _ c.loop.invariant.unfailed relayed.counts;
     }
 
@@ -46,3 +48,6 @@ returns-clause-relays g c given before h =
     let p = c.loop.invariant.relays given before h in
     let q = c.in_ok-relay_piece.ensures.relays (given ++ c.args.part.now) p.0 before p.1 p.2 in
     (q.0, q.1, q.2, subst (λ some. TakesFirst (rules_of c.args.settings.dialect) p.0 some q.0) c.if-branch.false q.3)
+
+pub returns-clause-unahead : goal.returns-clause-unahead
+returns-clause-unahead g c is = c.in_ok-relay_piece.ensures.unahead (c.loop.invariant.unahead is)

@@ -1,4 +1,4 @@
-use Rattle.std.proofs.Common.{◌++◌, List, ℕ}
+use Rattle.std.proofs.Common.{◌≡◌, ◌++◌, List, false, ℕ}
 use Rattle.influxdb_line_protocol.specs.code.Bounded.{Holds, most_given}
 use Rattle.lp_relay.specs.RelaySteps.{IsReady, SoFar, SoFarBy, Start, stage_of}
 use Rattle.lp_relay.specs.Writers.{CountsNone, failures_of}
@@ -11,6 +11,7 @@ invariant-loop g l = record {
       → SoFarBy l.fn.settings given l.fn.stream before (stage_of l.initial.pending (g.O.ThreeWriters.told l.initial.outputs))
       → (left : List ℕ) × Holds l.stream left
       × SoFar l.fn.settings (given ++ l.part) left before (stage_of l.pending (g.O.ThreeWriters.told l.outputs));
+  unahead : l.initial.pending.ahead ≡ false → l.pending.ahead ≡ false;
   unfailed : CountsNone (failures_of (g.O.ThreeWriters.told l.initial.outputs)) (failures_of (g.O.ThreeWriters.told l.outputs));
 }
 
