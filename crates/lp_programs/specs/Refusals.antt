@@ -7,7 +7,7 @@ use Rattle.lp_relay.specs.Told.{told_byte}
 use Rattle.lp_programs.specs.declared.refusals.{FileId.FileId, Located.Located, OldPieces.OldPieces, Refusal.Refusal}
 use Rattle.lp_programs.specs.declared.refusals.OldPieces.TheVariants.{Refuse, Append, Replace}
 use Rattle.lp_programs.specs.declared.refusals.Refusal.TheVariants.{BatchIsThere, BatchesUnnamed, FaultsAreInput, OutputIsFaults, OutputIsInput, RefusedHolds, RefusedIsFaults, StreamsUnseen, RefusedIsBatch, RefusedIsInput, RefusedIsOutput}
-use Rattle.lp_programs.specs.declared.refusals.Refusal.TheVariants.{PartsOutOfRange, RangeIsBackwards, RangeIsPastEnd, RangeOfNoFile}
+use Rattle.lp_programs.specs.declared.refusals.Refusal.TheVariants.{NoClock, PartsOutOfRange, RangeIsBackwards, RangeIsPastEnd, RangeOfNoFile}
 use Rattle.lp_programs.specs.declared.options.Range.{Range}
 use Rattle.lp_programs.specs.Batches.{batch_names}
 

@@ -1,7 +1,7 @@
 //! What words say that take one form in all programs: numbers, names of files, ranges, and how faults are told.
 ghost use Rattle.std.specs.Prelude.{◌≡◌, ◌<◌, ◌==◌, IfSome, length, nat_lt, option_map, slice_index};
 ghost use Rattle.std.specs.List.{list_all, position};
-ghost use Rattle.lp_programs.specs.Options.{are_objects, asked_range, decimal, faults_form, first_number, is_one_if, named_inputs, names_file, names_input, range_between, range_end, told_file};
+ghost use Rattle.lp_programs.specs.Options.{are_objects, asked_range, decimal, faults_form, first_number, is_one_if, named_inputs, names_file, names_input, range_between, range_end, name_one_file, told_file};
 
 use lp_relay::Faults;
 
