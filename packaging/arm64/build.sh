@@ -29,6 +29,8 @@ compile() {
 }
 
 [ $# = 1 ] || { echo "usage: packaging/arm64/build.sh FOLDER" >&2; exit 2; }
+cc=${CC:-aarch64-linux-gnu-gcc}
+command -v "$cc" >/dev/null || { echo "arm64: there is no $cc, which links the programs; Debian's package gcc-aarch64-linux-gnu has it" >&2; exit 1; }
 crates=(lp_rebuild_program lp_relay_program lp_series_program lp_c)
 build_if_changed arm64 "${crates[@]}" || exit 1
 kit=$(kit)
@@ -38,7 +40,7 @@ verdicts "${crates[@]}" | grep -v "^\(lp_c\|lp_[a-z]*_program\): " >"$made/verdi
 compile lp_c "$made/liblp_c.a" --crate-type staticlib
 for crate in "${crates[@]:0:3}"; do
     compile "$crate" "$made/$crate.o"
-    "${CC:-aarch64-linux-gnu-gcc}" -O2 -Wl,-z,relro,-z,now "$made/$crate.o" "$here/os.c" "$top/bindings/c/heap.c" -lm -o "$made/$crate"
+    "$cc" -O2 -Wl,-z,relro,-z,now "$made/$crate.o" "$here/os.c" "$top/bindings/c/heap.c" -lm -o "$made/$crate"
 done
 mkdir -p "$1"
 cp "$made"/{"${crates[0]}","${crates[1]}","${crates[2]}",liblp_c.a,verdicts} "$1"
