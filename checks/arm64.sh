@@ -27,6 +27,8 @@ work=$(mktemp -d)
 trap 'chmod -R u+w "$work"; rm -rf "$work"' EXIT
 emulated=(qemu-aarch64 -L "/usr/$cross")
 flags=(-std=c11 -O2 -Wall -Wextra -Wpedantic -Werror "-I$top/include")
+set -E
+trap 'echo "arm64: line $LINENO: a command ended with status $?: $BASH_COMMAND" >&2' ERR
 told=()
 
 fail() {
