@@ -233,6 +233,10 @@ build_go() {
     fi
     tar -C "$work" -xzf "$work/alone/influxdb-line-protocol-go-$version-aarch64-linux.tgz"
     cp -R "$top"/bindings/go/{*_test.go,testdata} "$module"
+    (cd "$module" && GOCACHE=$work/cache GOFLAGS=-modcacherw GOPROXY=off GOARCH=amd64 CGO_ENABLED=1 go build .) >"$work/log" 2>&1 &&
+        fail "Go builds over the library of another processor"
+    grep -qF "#error the library here is for aarch64: influxdb-line-protocol-go-$version-PROCESSOR-linux.tgz has that of another processor" "$work/log" ||
+        fail "for another processor Go says: $(cat "$work/log")"
     (cd "$module" && GOCACHE=$work/cache GOPATH=$work/path GOFLAGS=-modcacherw GOPROXY=off GOARCH=arm64 CGO_ENABLED=1 CC=$cross-gcc \
         go test -c -o tests .) >"$work/log" 2>&1 || { cat "$work/log" >&2; fail "the tests in Go are not built"; }
     (cd "$top/bindings/go" && "${emulated[@]}" "$module/tests" -test.v) >"$work/log" 2>&1 || { cat "$work/log" >&2; fail "a test in Go fails"; }
@@ -260,6 +264,9 @@ build_rust() {
         CARGO_TARGET_DIR="$work/target" CARGO_TARGET_AARCH64_UNKNOWN_LINUX_GNU_LINKER="$cross-gcc" \
         CARGO_TARGET_AARCH64_UNKNOWN_LINUX_GNU_RUNNER="${emulated[*]}" cargo test --tests --target "$target" "${flags[@]}") >"$work/log" 2>&1 ||
         { cat "$work/log" >&2; fail "a test in Rust fails, or is not built"; }
+    (cd "$crate" && env -u LP_LIB_DIR CARGO_TARGET_DIR="$work/target" cargo build "${flags[@]}") >"$work/out" 2>&1 || true
+    grep -qE "native/liblp_c.a is for aarch64, and this build for x86_64: bin/dist packs a crate for each$" "$work/out" ||
+        fail "for another processor cargo says: $(cat "$work/out")"
     passed=$(awk '/^test result: ok/ { passed += $4 } END { print passed + 0 }' "$work/log")
     [ "$passed" -gt 0 ] || fail "no test in Rust is run"
     told+=("$passed tests in Rust")
