@@ -23,7 +23,7 @@ compile() {
     for low in "${below[@]}"; do words+=(-L "dependency=$top/crates/$low/out/rlib"); done
     [ ! -f "$top/crates/$crate/src/main.rt" ] || source=src/main.rt
     (cd "$top/crates/$crate" && rattle build --crate-name "$crate" "$source" "${words[@]}" -L "dependency=$kit/rlibs" --links "$crate=" \
-        --antt-project "$kit/rattle/logic/antt-project.json" --logic-built "$kit/logic_built" --toolchain "$kit/toolchain" --jobs 2 \
+        --antt-project "$kit/rattle/logic/antt-project.json" --logic-built "$kit/logic_built" --toolchain "$kit/toolchain" --jobs "${RT_JOBS:-2}" \
         --incremental out/incremental --target "$target" -o "$2" "${@:3}") >"$made/log" 2>&1 || { cat "$made/log" >&2; echo "arm64: $crate was not built" >&2; exit 1; }
     sed -n "s/^logic=/$crate: &/p" "$made/log" >>"$made/verdicts"
 }
