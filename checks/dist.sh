@@ -291,6 +291,7 @@ refuse_records() {
     refused "verify: $bad/none is no record of bin/dist: No such file or directory" 1 "$repo/bin/verify" "$bad/none"
     change_record '[]' && refused "verify: * is no record of bin/dist: *" 1 "$repo/bin/verify" "$bad/RECORD.json"
     change_record '{**record, "files": {"a": 1}}' && refused "verify: * is no record of bin/dist: *" 1 "$repo/bin/verify" "$bad/RECORD.json"
+    change_record '{**record, "clean": None}' && refused "verify: * is no record of bin/dist: *" 1 "$repo/bin/verify" "$bad/RECORD.json"
     change_record '{**record, "commit": None}' && refused "verify: * names no commit: *" 1 "$repo/bin/verify" "$bad/RECORD.json"
     change_record '{**record, "clean": False}' && refused "verify: * tells of files that were made with changes *" 1 "$repo/bin/verify" "$bad/RECORD.json"
     change_record '{**record, "commit": "0" * 40}' && refused "verify: commit 0* is not to be had from $repo: *" 1 "$repo/bin/verify" "$bad/RECORD.json"
