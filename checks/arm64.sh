@@ -1,22 +1,34 @@
 #!/usr/bin/env bash
 # Makes what bin/dist makes for ARM64, twice, unpacks the packages, and runs what they have under qemu: the programs with their arguments and
-# files, and C and Go over the library; compares what both processors give for 100,000 texts; and calls each function of
+# files, and C, Go, Rust and Python over the library; compares what both processors give for 100,000 texts; and calls each function of
 # packaging/arm64/os.c. What is missing here is left out.
 #
 #     checks/arm64.sh                    proves and builds first what was not built from these sources
 #     checks/arm64.sh FOLDER [COUNT]     takes files that were built before, as bin/dist does, those for ARM64 of FOLDER/arm64; COUNT texts
+#
+# Python is that of Debian's libpython3-dev:arm64, which is installed, or unpacked with what it depends on into the folder that PYTHON_ROOT
+# names. Rust takes a cargo whose rustc has the library of Rust for aarch64-unknown-linux-gnu.
 set -euo pipefail
 top=$(cd "$(dirname "$0")/.." && pwd)
 . "$top/checks/left_out.sh"
 . "$top/launch.sh"
 cross=aarch64-linux-gnu count=${2:-100000}
-for tool in "$cross-gcc" qemu-aarch64 dpkg-deb python3 "${CC:-cc}"; do
-    command -v "$tool" >/dev/null || { left_out checks/arm64.sh "there is no $tool"; exit 0; }
-done
+. "$top/bindings/rust/flags.sh"
+while read -r tool package; do
+    command -v "$tool" >/dev/null || { left_out checks/arm64.sh "there is no $tool: Debian's package $package has it"; exit 0; }
+done <<TOOLS
+$cross-gcc gcc-$cross
+qemu-aarch64 qemu-user
+dpkg-deb dpkg
+python3 python3
+${CC:-cc} gcc
+TOOLS
 work=$(mktemp -d)
 trap 'chmod -R u+w "$work"; rm -rf "$work"' EXIT
 emulated=(qemu-aarch64 -L "/usr/$cross")
 flags=(-std=c11 -O2 -Wall -Wextra -Wpedantic -Werror "-I$top/include")
+set -E
+trap 'echo "arm64: line $LINENO: a command ended with status $?: $BASH_COMMAND" >&2' ERR
 told=()
 
 fail() {
@@ -79,13 +91,18 @@ refused() {
 }
 # What is said of another processor, and of what is missing, before anything is made.
 refuse() {
-    local dist=$top/bin/dist word
+    local dist=$top/bin/dist word wheel=$work/alone/influxdb_line_protocol-$version-cp38-abi3-manylinux2014_aarch64.whl
     refusals=0
     mkdir "$work/bare" "$work/wrong"
     for word in riscv64 "" ARM64 x86_64; do
         refused "dist: --arch $word: nothing is made for that: it is amd64, arm64 or all" 2 "$dist" --arch "$word" --built "$built" "$work/no"
     done
     refused "dist: there is no no-gcc, which compiles for arm64; *" 1 env CC=no-gcc "$dist" --arch arm64 --built "$built" "$work/no"
+    refused "arm64: there is no no-gcc, which links the programs; *" 1 env CC=no-gcc "$top/packaging/arm64/build.sh" "$work/no"
+    # shellcheck disable=SC2016
+    printf '#!/bin/sh\n[ "$1" = -dumpmachine ] && echo aarch64-linux-gnu\n' >"$work/bare/gcc"
+    chmod +x "$work/bare/gcc"
+    refused "dist: $work/bare/gcc finds no header of the C library; *" 1 env CC="$work/bare/gcc" "$dist" --arch arm64 --built "$built" "$work/no"
     refused "dist: ${CC:-cc} compiles for *, and not for arm64" 1 env CC="${CC:-cc}" "$dist" --arch arm64 --built "$built" "$work/no"
     refused "dist: $cross-gcc compiles for aarch64-linux-gnu, and not for amd64" 1 env CC="$cross-gcc" "$dist" --built "$built" "$work/no"
     refused "dist: $built/arm64/lp_rebuild_program is for the processor AArch64, and not for amd64" 1 "$dist" --built "$built/arm64" "$work/no"
@@ -95,8 +112,17 @@ refuse() {
     refused "install: $work/bare/arm64/*: there is no such file" 1 "$dist" --arch all --built "$work/bare" "$work/no"
     equal "what is made where something is refused" "" "$(ls -A "$work/no")"
     if [ "$(dpkg --print-architecture)" = amd64 ]; then
-        dpkg --simulate --install "$work/alone/influxdb-line-protocol_${version}_arm64.deb" >"$work/out" 2>&1 && fail "dpkg takes the package of another processor"
+        # By a dpkg of its own, since the one of this machine may take packages for ARM64.
+        mkdir -p "$work/dpkg/updates" "$work/dpkg/info"
+        touch "$work/dpkg/status"
+        dpkg --admindir="$work/dpkg" --simulate --install "$work/alone/influxdb-line-protocol_${version}_arm64.deb" >"$work/out" 2>&1 &&
+            fail "dpkg takes the package of another processor"
         grep -qF "package architecture (arm64) does not match system (amd64)" "$work/out" || fail "of another processor dpkg says: $(cat "$work/out")"
+        refusals=$((refusals + 1))
+    fi
+    if [ -e "$wheel" ] && [ "$(uname -m)" = x86_64 ] && python3 -m pip --version >/dev/null 2>&1; then
+        refused "ERROR: $(basename "$wheel") is not a supported wheel on this platform." 1 \
+            python3 -m pip install --no-index --no-deps --disable-pip-version-check --target "$work/no" "$wheel"
     fi
     told+=("$refusals refusals")
 }
@@ -147,7 +173,12 @@ compare_texts() {
         [ "$(wc -l <"$work/given")" -ge "$count" ] || fail "$program.c says too little"
         same "what $program.c prints" "$work/wanted" "$work/given"
     done
-    python3 -c 'import sys; sys.stdout.buffer.writelines(bytes.fromhex(line) + b"\n" for line in sys.stdin)' <"$work/texts" >"$work/lines"
+    python3 - "$work/texts" "$work/lines" "$work/lines-lp_rebuild" <<'CODE'
+import pathlib, sys
+texts = [bytes.fromhex(line) + b"\n" for line in open(sys.argv[1])]
+pathlib.Path(sys.argv[2]).write_bytes(b"".join(texts))
+pathlib.Path(sys.argv[3]).write_bytes(b"".join(text for text in texts if text.decode(errors="ignore").encode() == text))
+CODE
     while read -r program words; do
         run_both "$program" "$words"
     done <<'TEXT'
@@ -165,14 +196,15 @@ lp_series --newline-delimited --shard 1/3
 TEXT
     told+=("what the library and the programs give for $count texts, byte for byte")
 }
-# run_both PROGRAM WORDS: what a program gives for the texts, with these words.
+# run_both PROGRAM WORDS: what a program gives for the texts, with these words. lp_rebuild takes those that are UTF-8.
 run_both() {
-    local suffix words
+    local suffix words lines=$work/lines
+    [ ! -e "$lines-$1" ] || lines+=-$1
     read -ra words <<<"$2"
     for suffix in "" -x86_64; do
-        "$work/bin/$1$suffix" "${words[@]}" <"$work/lines" >"$work/out$suffix" 2>"$work/err$suffix" && echo 0 >>"$work/err$suffix" || echo "$?" >>"$work/err$suffix"
+        "$work/bin/$1$suffix" "${words[@]}" <"$lines" >"$work/out$suffix" 2>"$work/err$suffix" && echo 0 >>"$work/err$suffix" || echo "$?" >>"$work/err$suffix"
     done
-    [ -s "$work/out" ] || [ "$1 $2" = "lp_rebuild " ] || fail "$1 $2 writes nothing"
+    [ -s "$work/out" ] || fail "$1 $2 writes nothing"
     same "what $1 $2 writes" "$work/out-x86_64" "$work/out"
     same "what $1 $2 says" "$work/err-x86_64" "$work/err"
 }
@@ -201,10 +233,67 @@ build_go() {
     fi
     tar -C "$work" -xzf "$work/alone/influxdb-line-protocol-go-$version-aarch64-linux.tgz"
     cp -R "$top"/bindings/go/{*_test.go,testdata} "$module"
+    (cd "$module" && GOCACHE=$work/cache GOFLAGS=-modcacherw GOPROXY=off GOARCH=amd64 CGO_ENABLED=1 go build .) >"$work/log" 2>&1 &&
+        fail "Go builds over the library of another processor"
+    grep -qF "#error the library here is for aarch64: influxdb-line-protocol-go-$version-PROCESSOR-linux.tgz has that of another processor" "$work/log" ||
+        fail "for another processor Go says: $(cat "$work/log")"
     (cd "$module" && GOCACHE=$work/cache GOPATH=$work/path GOFLAGS=-modcacherw GOPROXY=off GOARCH=arm64 CGO_ENABLED=1 CC=$cross-gcc \
         go test -c -o tests .) >"$work/log" 2>&1 || { cat "$work/log" >&2; fail "the tests in Go are not built"; }
     (cd "$top/bindings/go" && "${emulated[@]}" "$module/tests" -test.v) >"$work/log" 2>&1 || { cat "$work/log" >&2; fail "a test in Go fails"; }
     told+=("$(grep -c '^--- PASS' "$work/log") tests in Go")
+}
+
+# The tests of the packed crate.
+build_rust() {
+    local crate=$work/influxdb-line-protocol-rust target=aarch64-unknown-linux-gnu passed
+    if ! command -v cargo >/dev/null || ! command -v rustc >/dev/null; then
+        left_out "Rust on ARM64" "there is no cargo, or no rustc"
+        return
+    fi
+    if [ ! -d "$(rustc --print target-libdir --target "$target" 2>/dev/null)" ]; then
+        left_out "Rust on ARM64" "rustc has no library of Rust for $target: rustup target add, or Debian's libstd-rust-dev:arm64, brings it"
+        return
+    fi
+    tar -C "$work" -xzf "$work/alone/influxdb-line-protocol-rust-$version-aarch64-linux.tgz"
+    cp -R "$top/bindings/rust/tests" "$crate"
+    if ! find_crates "$crate" "$work/log"; then
+        left_out "Rust on ARM64" "$found"
+        return
+    fi
+    (cd "$crate" && env -u LP_LIB_DIR LP_ANSWERS="$top/crates/lp_answers/data/answers.tsv" LP_PORTABLE="$top/checks/portable_rows.txt" \
+        CARGO_TARGET_DIR="$work/target" CARGO_TARGET_AARCH64_UNKNOWN_LINUX_GNU_LINKER="$cross-gcc" \
+        CARGO_TARGET_AARCH64_UNKNOWN_LINUX_GNU_RUNNER="${emulated[*]}" cargo test --tests --target "$target" "${flags[@]}") >"$work/log" 2>&1 ||
+        { cat "$work/log" >&2; fail "a test in Rust fails, or is not built"; }
+    (cd "$crate" && env -u LP_LIB_DIR CARGO_TARGET_DIR="$work/target" cargo build "${flags[@]}") >"$work/out" 2>&1 || true
+    grep -qE "native/liblp_c.a is for aarch64, and this build for x86_64: bin/dist packs a crate for each$" "$work/out" ||
+        fail "for another processor cargo says: $(cat "$work/out")"
+    passed=$(awk '/^test result: ok/ { passed += $4 } END { print passed + 0 }' "$work/log")
+    [ "$passed" -gt 0 ] || fail "no test in Rust is run"
+    told+=("$passed tests in Rust")
+}
+
+# The wheel, in a Python for ARM64: its example, and some of its tests.
+run_python() {
+    local root=${PYTHON_ROOT:-} wheel=$work/alone/influxdb_line_protocol-$version-cp38-abi3-manylinux2014_aarch64.whl library name python
+    library=$(compgen -G "$root/usr/lib/$cross/libpython3.*.so" | tail -n 1) || true
+    name=$(basename "$library" .so)
+    name=${name#lib}
+    if [ -z "$library" ] || [ ! -e "$root/usr/include/$cross/$name/pyconfig.h" ]; then
+        left_out "Python on ARM64" "there is no $root/usr/lib/$cross/libpython3.*.so with its headers: Debian's package libpython3-dev:arm64 has them"
+        return
+    fi
+    [ -e "$wheel" ] || fail "bin/dist makes no wheel for ARM64, and the headers of Python are here"
+    mkdir "$work/wheel"
+    python3 -m zipfile -e "$wheel" "$work/wheel"
+    printf '#include <Python.h>\nint main(int count, char **words) { return Py_BytesMain(count, words); }\n' >"$work/python.c"
+    "$cross-gcc" -I"$root/usr/include/$name" -idirafter "$root/usr/include" "$work/python.c" -L"${library%/*}" -l"$name" \
+        -Wl,--unresolved-symbols=ignore-in-shared-libs -o "$work/python"
+    python=("${emulated[@]}" -E "LD_LIBRARY_PATH=${library%/*}:$root/lib/$cross" -E "PYTHONHOME=$root/usr" -E "PYTHONPATH=$work/wheel" "$work/python" -B)
+    "${python[@]}" "$top/bindings/python/example.py" >"$work/out" || fail "the example in Python does not run over the wheel"
+    grep -q '^disk usage ' "$work/out" || fail "the example in Python says something else over the wheel: $(cat "$work/out")"
+    (cd "$top/bindings/python/tests" && "${python[@]}" -m unittest test_answers test_builder test_columns test_writing) >"$work/out" 2>"$work/log" ||
+        { cat "$work/log" >&2; fail "a test in Python fails"; }
+    told+=("$(sed -n 's/^Ran \([0-9]*\) tests.*/\1/p' "$work/log") tests in Python over the wheel, and its example")
 }
 
 look_at_dist
@@ -212,8 +301,8 @@ refuse
 call_os
 build_c
 build_go
-left_out "Rust on ARM64" "the crate is not built for it here"
-left_out "Python on ARM64" "there is no Python for it here, and no header of it"
+build_rust
+run_python
 run_programs
 compare_texts
 echo "arm64: $(printf '%s; ' "${told[@]}" | sed 's/; $//')"

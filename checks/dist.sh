@@ -23,6 +23,8 @@ SOURCE_COMMIT=$(commit) # of the copies that are made here too
 export SOURCE_COMMIT
 work=$(mktemp -d)
 trap 'rm -rf --one-file-system "$work"' EXIT
+set -E
+trap 'echo "dist: line $LINENO: a command ended with status $?: $BASH_COMMAND" >&2' ERR
 told=()
 
 fail() {
@@ -162,7 +164,7 @@ look_at_library() {
     equal "the names of the shared library" $'libinfluxdb_line_protocol.so.'"${version%%.*}"$'\nlibinfluxdb_line_protocol.so.'"$version" \
         "$(dpkg-deb -c "${packages[1]}" | sed -n 's,.*/\(lib[^ ]*\.so[^ ]*\)\( ->.*\)\?$,\1,p' | LC_ALL=C sort)"
     for file in "$work/$name"/bin/* "$work/$name/lib/libinfluxdb_line_protocol.so.$version"; do
-        ! readelf -SW "$file" | grep -q '\.symtab\|\.debug' || fail "$file is not stripped"
+        [[ ! $(readelf -SW "$file") =~ \.symtab|\.debug ]] || fail "$file is not stripped"
     done
 }
 # lintian has nothing to say of the packages.
@@ -259,9 +261,9 @@ assert record["kit"] == "a stub of the check" and record["logic"] == "check" and
 names = ["lp_rebuild_program", "lp_relay_program", "lp_series_program", "lp_c"]
 assert record["verdicts"] == {"x86_64": dict.fromkeys(names, "logic=proved of the check")} and all(record["tools"].values())
 CODE
-    "$repo/bin/verify" "$record" >"$work/said"
+    "$repo/bin/verify" "$record" >"$work/said" || fail "of what was just made bin/verify says: $(cat "$work/said")"
     equal "what bin/verify says" "verify: $(wc -l <"$to/SHA256SUMS" | awk '{ print $1 + 1 }') files of commit $commit are the same" "$(cat "$work/said")"
-    "$repo/bin/verify" --built "$work/built" "$record" >"$work/said"
+    "$repo/bin/verify" --built "$work/built" "$record" >"$work/said" || fail "of the same built files bin/verify says: $(cat "$work/said")"
     differ_from_record
     refuse_records
     told+=("a record, by which the same is made again")
@@ -289,6 +291,7 @@ refuse_records() {
     refused "verify: $bad/none is no record of bin/dist: No such file or directory" 1 "$repo/bin/verify" "$bad/none"
     change_record '[]' && refused "verify: * is no record of bin/dist: *" 1 "$repo/bin/verify" "$bad/RECORD.json"
     change_record '{**record, "files": {"a": 1}}' && refused "verify: * is no record of bin/dist: *" 1 "$repo/bin/verify" "$bad/RECORD.json"
+    change_record '{**record, "clean": None}' && refused "verify: * is no record of bin/dist: *" 1 "$repo/bin/verify" "$bad/RECORD.json"
     change_record '{**record, "commit": None}' && refused "verify: * names no commit: *" 1 "$repo/bin/verify" "$bad/RECORD.json"
     change_record '{**record, "clean": False}' && refused "verify: * tells of files that were made with changes *" 1 "$repo/bin/verify" "$bad/RECORD.json"
     change_record '{**record, "commit": "0" * 40}' && refused "verify: commit 0* is not to be had from $repo: *" 1 "$repo/bin/verify" "$bad/RECORD.json"
@@ -374,7 +377,15 @@ refused() {
     fi
 }
 
-# What is said of wrong arguments, and of built files that are missing, empty or no archive. Nothing is made then.
+# Makes an archive that says another version of itself.
+make_other() {
+    printf '#include <stdint.h>\nuint32_t lp_version(void);\nuint32_t lp_version(void) { return 20100; }\n' >"$work/other.c"
+    "${CC:-cc}" -O2 -fPIC -c "$work/other.c" -o "$work/other.o"
+    objcopy --redefine-sym lp_version=lp_version_before "$work/built/liblp_c.a" "$1"
+    ar rsD "$1" "$work/other.o"
+}
+
+# What is said of wrong arguments, and of built files that are missing, empty, no archive or of another version. Nothing is made then.
 refuse_arguments() {
     local file script
     for script in install dist; do
@@ -398,6 +409,13 @@ refuse_arguments() {
     cp "$work"/built/lp_* "$work/text"
     echo "no archive" >"$work/text/liblp_c.a"
     refused "*liblp_c.a*" 1 "$top/bin/install" --built "$work/text" "$work/no/here"
+    make_other "$work/text/liblp_c.a"
+    for script in install dist; do
+        refused "install: $work/text/liblp_c.a is of version 2.1.0, and these sources are of $version: *" 1 \
+            "$top/bin/$script" --built "$work/text" "$work/no"
+    done
+    refused "influxdb-line-protocol: $work/text/liblp_c.a is of version 2.1.0, and the package is of version $version: *" 1 \
+        env ARCHIVE="$work/text/liblp_c.a" "${PYTHON:-python3}" -B "$top/bindings/python/build_backend.py" --wheel "$work/no"
     rmdir "$work/no" || fail "something was missing, and something is made"
 }
 
@@ -507,6 +525,14 @@ build_go() {
     cp -R "$prefix/$documents/examples/endpoint" "$work/go"
     (cd "$work/go/endpoint" && go mod edit -replace "influxdb_line_protocol/lineprotocol=$module" && go build -o endpoint .) >"$work/log" 2>&1 ||
         fail "the endpoint of the examples is not built over the packed module: $(cat "$work/log")"
+    # A library of another version ends the program as it starts.
+    cp -R "$module" "$work/go/other"
+    make_other "$work/go/other/liblp_c.a"
+    (cd "$work/go" && go mod edit -replace "influxdb_line_protocol/lineprotocol=$work/go/other" && go build -o other_prog .) >"$work/log" 2>&1 ||
+        fail "over another version no program in Go was built: $(cat "$work/log")"
+    ! "$work/go/other_prog" >"$work/out" 2>"$work/err" || fail "a program in Go runs over the library of another version"
+    equal "what a program in Go says of another version" "panic: lineprotocol: the library is of version 2.1.0: this module needs one of version 3" \
+        "$(head -n 1 "$work/err")"
     told+=("a program in Go over the packed module and over the installed library, and the endpoint of the examples")
 }
 

@@ -1,10 +1,11 @@
 #!/usr/bin/env python3
 """Prints the record of what bin/dist made, which bin/verify reads:
 
-    packaging/record.py FOLDER ARCH TIME LOG GIVEN FILE..
+    packaging/record.py FOLDER ARCH TIME LOG GIVEN VERDICTS FILE..
 
 FOLDER has the files. ARCH is what they were asked for, TIME the time in them, LOG a log of the gate or empty, and GIVEN the folder of what was
-built before, or empty. What cannot be told here, as the kit where there is none, is null.
+built before, or empty. VERDICTS has what the kit said of each crate, a file verdicts-PROCESSOR for each. What cannot be told here, as the kit
+where there is none, is null.
 """
 
 import datetime
@@ -15,7 +16,6 @@ import pathlib
 import re
 import subprocess
 import sys
-import tarfile
 
 TOP = pathlib.Path(__file__).resolve().parent.parent
 
@@ -33,13 +33,8 @@ def sum_of(path):
 
 
 def verdicts_in(path):
-    """What the kit said of each crate, by the tar file of the programs; nothing where it does not tell."""
-    with tarfile.open(path) as tar:
-        for member in tar:
-            if member.name.endswith("/VERDICTS"):
-                lines = tar.extractfile(member).read().decode().splitlines()
-                return dict(line.split(": ", 1) for line in lines)
-    return {}
+    """What the kit said of each crate; nothing where there is no such file."""
+    return dict(line.split(": ", 1) for line in path.read_text(encoding="utf-8").splitlines()) if path.exists() else {}
 
 
 def gate_of(log):
@@ -50,10 +45,11 @@ def gate_of(log):
     return {"last": last, "ended": ended.isoformat(), "sha256": sum_of(path)}
 
 
-def record(folder, arch, time, log, given, *files):
+def record(folder, arch, time, log, given, verdicts, *files):
     folder, kit, commit = pathlib.Path(folder), said_by("rt", "version"), said_by("git", "-C", str(TOP), "rev-parse", "HEAD")
-    tools = [os.environ.get("CC", "cc"), os.environ.get("STRIP", "strip"), "dpkg-deb", "gzip", *["aarch64-linux-gnu-gcc"] * (arch == "all")]
-    programs = {found[1]: name for name in files if (found := re.fullmatch(r"influxdb-line-protocol-[0-9.]+-(\w+)-linux\.tar\.gz", name))}
+    tools = [os.environ.get("CC", "cc"), os.environ.get("STRIP", "strip"), "dpkg-deb", "gzip", os.environ.get("PYTHON", "python3"),
+             *["aarch64-linux-gnu-gcc"] * (arch == "all")]
+    processors = [found[1] for name in files if (found := re.fullmatch(r"influxdb-line-protocol-[0-9.]+-(\w+)-linux\.tar\.gz", name))]
     return {
         "arch": arch,
         "commit": commit,
@@ -63,7 +59,7 @@ def record(folder, arch, time, log, given, *files):
         "kit": kit,
         "logic": kit and kit.split()[-1],
         "tools": {tool: (said_by(tool, "--version") or "").partition("\n")[0] for tool in tools},
-        "verdicts": {processor: verdicts_in(folder / name) for processor, name in sorted(programs.items())},
+        "verdicts": {processor: verdicts_in(pathlib.Path(verdicts, f"verdicts-{processor}")) for processor in sorted(processors)},
         "gate": gate_of(log) if log else None,
         "files": {name: sum_of(folder / name) for name in files},
     }

@@ -43,9 +43,17 @@ import "C"
 
 import (
 	"errors"
+	"fmt"
 	"math"
 	"unsafe"
 )
+
+// Another major version of the library has other calls and structs, so a program over it ends as it starts.
+func init() {
+	if version := uint32(C.lp_version()); version/10000 != 3 {
+		panic(fmt.Sprintf("lineprotocol: the library is of version %d.%d.%d: this module needs one of version 3", version/10000, version/100%100, version%100))
+	}
+}
 
 // The first byte of a slice, for C, which wants a place also where there are no bytes.
 func first(bytes []byte) *C.uint8_t {

@@ -6,7 +6,9 @@
     python3 build_backend.py --sdist FOLDER       packs the sources there, those of the library among them
 
 It takes the archive that bindings/build.sh makes, and lets that make it where there is none, but the kit: ARCHIVE names another archive. CC names
-the compiler, and CFLAGS more of its flags. With --refuse each request of the library for memory can be refused, for the tests.
+the compiler, and CFLAGS more of its flags. With --refuse each request of the library for memory can be refused, for the tests. If CC compiles
+for another processor, it takes the headers that Debian's package libpython3-dev has for that: PYTHON_ROOT names a folder that this was unpacked
+into with what it depends on, / by default.
 
 A wheel is for each Linux of manylinux2014, as `readelf` sees of the extension, or is not made: WHEEL_PLATFORM names another platform, for
 which nothing is looked at. The same sources, archive and compiler give the same bytes: the time of all files is SOURCE_DATE_EPOCH, or else
@@ -41,13 +43,15 @@ PACKAGE = "line_protocol"
 EXTENSION = "_fast.abi3.so"
 NAME = "influxdb_line_protocol"
 
-MANYLINUX = "manylinux2014_x86_64"
-NEWEST = {"GLIBC": (2, 17), "GCC": (4, 8, 0)}
-"""The newest versions of symbols that a machine of that platform has for sure (PEP 599)."""
+MANYLINUX = "manylinux2014"
+LOADERS = {"x86_64": "ld-linux-x86-64.so.2", "aarch64": "ld-linux-aarch64.so.1"}
+"""The processors of its platforms that wheels are made for, and the loader of each."""
 
-LIBRARIES = frozenset(
-    "libc.so.6 libm.so.6 libpthread.so.0 libdl.so.2 librt.so.1 libgcc_s.so.1 ld-linux-x86-64.so.2".split())
-"""Libraries that it has."""
+NEWEST = {"GLIBC": (2, 17), "GCC": (4, 8, 0)}
+"""The newest versions of symbols that a machine of such a platform has for sure (PEP 599)."""
+
+LIBRARIES = frozenset("libc.so.6 libm.so.6 libpthread.so.0 libdl.so.2 librt.so.1 libgcc_s.so.1".split())
+"""Libraries that it has, beside the loader."""
 
 ARCHIVE = TOP / "crates" / "lp_c" / "out" / "liblp_c.a"
 KIT = "/opt/rattle/bin"
@@ -91,29 +95,79 @@ def _archive() -> Path:
     return ARCHIVE
 
 
-def _needed() -> List[Path]:
-    """The archive, and the folder of the header of Python."""
+def _compiler() -> List[str]:
+    """The words that call the compiler."""
+    return shlex.split(os.environ.get("CC") or "cc")
+
+
+def _own_platform() -> str:
+    """The platform of machines like this one."""
+    return re.sub("[-.]", "_", sysconfig.get_platform())
+
+
+def _platform() -> str:
+    """The platform that the compiler compiles for."""
+    own = _own_platform()
+    try:
+        said = subprocess.run(
+            [*_compiler(), "-dumpmachine"], stdout=subprocess.PIPE, stderr=subprocess.DEVNULL, universal_newlines=True, check=True).stdout
+    except (OSError, subprocess.CalledProcessError):
+        return own
+    machine = said.partition("-")[0]
+    return f"linux_{machine}" if "linux" in said and machine in LOADERS and own.replace("linux_", "") in LOADERS else own
+
+
+def _headers() -> List[str]:
+    """The flags that name the folders of Python's headers: of this Python, or of Debian's for another processor."""
+    if _platform() == _own_platform():
+        include = Path(sysconfig.get_path("include"))
+        if not (include / "Python.h").is_file():
+            _fail(f"there is no {include / 'Python.h'}: the headers of Python come with it, or in Debian with python3-dev")
+        return [f"-I{include}"]
+    machine = _platform().replace("linux_", "")
+    root = Path(os.environ.get("PYTHON_ROOT") or "/", "usr", "include")
+    found = sorted(root.glob(f"{machine}-linux-gnu/python3.*/pyconfig.h"))
+    if not found:
+        _fail(f"there is no {root}/{machine}-linux-gnu/python3.*/pyconfig.h, by which the extension is compiled for {machine}: Debian's package "
+              "libpython3-dev for that processor has it, and PYTHON_ROOT names a folder into which it was unpacked")
+    return [f"-I{root / found[-1].parent.name}", f"-idirafter{root}"]
+
+
+def _needed() -> Tuple[Path, List[str]]:
+    """The archive, and the flags that name the folders of Python's headers."""
     version()
-    archive = _archive()
-    include = Path(sysconfig.get_path("include"))
-    if not (include / "Python.h").is_file():
-        _fail(f"there is no {include / 'Python.h'}: the headers of Python come with it, or in Debian with python3-dev")
-    return [archive, include]
+    return _archive(), _headers()
 
 
 def compile_extension(out: Path, is_refusing: bool = False) -> None:
     """Compiles the extension into a file."""
-    archive, include = _needed()
-    compiler = shlex.split(os.environ.get("CC") or "cc")
+    archive, headers = _needed()
+    compiler = _compiler()
     flags = ["-std=c11", "-O2", "-Wall", "-Wextra", "-fPIC", "-shared", *shlex.split(os.environ.get("CFLAGS", ""))]
     shown = ["-DLP_REFUSE"] if is_refusing else [f"-Wl,--version-script,{HERE / 'shown.map'}"]
     sources = [*sorted((HERE / "fast").glob("*.c")), TOP / "bindings" / "c" / "heap.c"]
-    command = [*compiler, *flags, *shown, f"-I{include}", f"-I{TOP / 'include'}", *map(str, sources), str(archive), "-o", str(out)]
+    command = [*compiler, *flags, *shown, *headers, f"-I{TOP / 'include'}", *map(str, sources), str(archive), "-o", str(out)]
     if shutil.which(compiler[0]) is None:
         _fail(f"there is no {compiler[0]}, which compiles the extension: CC names another C compiler")
     done = subprocess.run(command, stdout=subprocess.PIPE, stderr=subprocess.STDOUT, universal_newlines=True, check=False)
     if done.returncode != 0:
         _fail(f"{' '.join(command)}\n{done.stdout}")
+
+
+def check_version(extension: Path) -> None:
+    """Ends if the library in an extension that this Python loads is of another version than the package."""
+    if _platform() != _own_platform():
+        return
+    program = ("import sys, importlib.util as util; spec = util.spec_from_file_location('_fast', sys.argv[1]); "
+               "fast = util.module_from_spec(spec); spec.loader.exec_module(fast); print(fast.version())")
+    done = subprocess.run(
+        [sys.executable, "-c", program, str(extension)], stdout=subprocess.PIPE, stderr=subprocess.PIPE, universal_newlines=True, check=False)
+    lacks = re.search(r"undefined symbol: (lp_\w+)", done.stderr)
+    number = int(done.stdout) if done.stdout.strip().isdigit() else None
+    found = version() if number is None else f"{number // 10_000}.{number // 100 % 100}.{number % 100}"
+    if lacks or found != version():
+        _fail(f"{_archive()} {f'has no {lacks[1]}' if lacks else f'is of version {found}'}, and the package is of version {version()}: "
+              "bindings/build.sh makes an archive of this version")
 
 
 def build_into(folder: Path, is_refusing: bool = False) -> None:
@@ -124,6 +178,7 @@ def build_into(folder: Path, is_refusing: bool = False) -> None:
         if path.suffix in (".py", ".pyi", ".typed") and package.resolve() != HERE / "src" / PACKAGE:
             shutil.copyfile(path, package / path.name)
     compile_extension(package / EXTENSION, is_refusing)
+    check_version(package / EXTENSION)
 
 
 # What is told of the project.
@@ -181,8 +236,9 @@ def epoch() -> int:
 # A wheel.
 
 
-def check_extension(extension: Path) -> None:
-    """Ends if an extension asks for a library, or for a version of a symbol, that not every Linux of manylinux2014 has."""
+def check_extension(extension: Path, machine: str = "x86_64") -> None:
+    """Ends if an extension asks for a library, or for a version of a symbol, that not every Linux of manylinux2014 on this processor has."""
+    platform = f"{MANYLINUX}_{machine}"
     advice = "build on an older system, or set WHEEL_PLATFORM=linux_x86_64 for a wheel that is for machines like this one alone"
     if shutil.which("readelf") is None:
         _fail(f"there is no readelf, which tells what glibc the wheel asks for: binutils has it. Else {advice}")
@@ -190,30 +246,26 @@ def check_extension(extension: Path) -> None:
     told = subprocess.run(
         command, stdout=subprocess.PIPE, universal_newlines=True, check=True, env={**os.environ, "LC_ALL": "C"}).stdout
     for library in re.findall(r"\(NEEDED\).*\[(.*)\]", told):
-        if library not in LIBRARIES:
-            _fail(f"the extension asks for {library}, which {MANYLINUX} does not promise: {advice}")
+        if library not in {*LIBRARIES, LOADERS[machine]}:
+            _fail(f"the extension asks for {library}, which {platform} does not promise: {advice}")
     for family, number in sorted(set(re.findall(r"Name: (GLIBC|GCC)_(\S+)", told))):
         parts = tuple(map(int, number.split("."))) if re.fullmatch(r"\d+(\.\d+)*", number) else None
         if parts is None or parts > NEWEST[family]:
             symbols = sorted(set(re.findall(rf"(\S+)@{family}_{re.escape(number)}(?!\S)", told)))
             has = ".".join(map(str, NEWEST[family]))
-            _fail(f"the extension asks for {family}_{number} ({', '.join(symbols)}), and {MANYLINUX} has {family}_{has}: {advice}")
+            _fail(f"the extension asks for {family}_{number} ({', '.join(symbols)}), and {platform} has {family}_{has}: {advice}")
 
 
-def _own_platform() -> str:
-    """The platform of machines like this one."""
-    return re.sub("[-.]", "_", sysconfig.get_platform())
-
-
-def _platform(extension: Path) -> str:
+def _told_platform(extension: Path) -> str:
     """The platform that a wheel with this extension names."""
-    given, own = os.environ.get("WHEEL_PLATFORM"), _own_platform()
+    given, built_for = os.environ.get("WHEEL_PLATFORM"), _platform()
+    machine = built_for.replace("linux_", "")
     if given and not re.fullmatch(r"\w+", given):
         _fail(f"WHEEL_PLATFORM is {given!r}, and must be like linux_x86_64")
-    if given or own != "linux_x86_64":
-        return given or own
-    check_extension(extension)
-    return MANYLINUX
+    if given or machine not in LOADERS:
+        return given or built_for
+    check_extension(extension, machine)
+    return f"{MANYLINUX}_{machine}"
 
 
 def _info() -> str:
@@ -292,7 +344,7 @@ def _sources() -> Dict[str, Tuple[bytes, bool]]:
 def build_wheel(wheel_directory: str, config_settings: Any = None, metadata_directory: Optional[str] = None) -> str:
     with tempfile.TemporaryDirectory() as folder:
         build_into(Path(folder))
-        platform = _platform(Path(folder, PACKAGE, EXTENSION))
+        platform = _told_platform(Path(folder, PACKAGE, EXTENSION))
         contents = {path.relative_to(folder).as_posix(): path.read_bytes() for path in Path(folder).rglob("*") if path.is_file()}
     return _write_wheel(contents, wheel_directory, platform)
 
@@ -307,8 +359,9 @@ def prepare_metadata_for_build_wheel(metadata_directory: str, config_settings: A
 
 def build_editable(wheel_directory: str, config_settings: Any = None, metadata_directory: Optional[str] = None) -> str:
     compile_extension(HERE / "src" / PACKAGE / EXTENSION)
+    check_version(HERE / "src" / PACKAGE / EXTENSION)
     contents = {f"__editable__.{NAME}.pth": os.fsencode(HERE / "src") + b"\n"}
-    return _write_wheel(contents, wheel_directory, _own_platform())
+    return _write_wheel(contents, wheel_directory, _platform())
 
 
 prepare_metadata_for_build_editable = prepare_metadata_for_build_wheel

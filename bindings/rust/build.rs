@@ -10,7 +10,7 @@
 //! for an installed library, which has its own. If there is none, a warning says so: documentation and checks need none, and the compiler
 //! refuses to link without it.
 use std::path::{Path, PathBuf};
-use std::{env, process::Command};
+use std::{env, fs, process::Command};
 
 const ARCHIVE: &str = "liblp_c.a";
 const PACKAGE: &str = "influxdb_line_protocol";
@@ -40,7 +40,22 @@ fn main() {
     println!("cargo:rustc-link-lib=static=lp_c");
 }
 
+/// The processor that an archive is for, as cargo names it, by the head of its first object file.
+fn processor_of(archive: &Path) -> Option<&'static str> {
+    let bytes = fs::read(archive).ok()?;
+    let head = bytes.windows(20).find(|window| window.starts_with(b"\x7fELF"))?;
+    match head[18] {
+        62 => Some("x86_64"),
+        183 => Some("aarch64"),
+        _ => None,
+    }
+}
+
 fn link_archive(folder: &Path) {
+    let (archive, target) = (folder.join(ARCHIVE), env::var("CARGO_CFG_TARGET_ARCH").unwrap_or_default());
+    if let Some(processor) = processor_of(&archive).filter(|processor| *processor != target) {
+        println!("cargo:warning={} is for {processor}, and this build for {target}: bin/dist packs a crate for each", archive.display());
+    }
     println!("cargo:rustc-link-search=native={}", folder.display());
     println!("cargo:rustc-link-lib=static=lp_c");
     if folder.join("liblp_heap.a").exists() {

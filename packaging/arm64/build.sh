@@ -23,12 +23,14 @@ compile() {
     for low in "${below[@]}"; do words+=(-L "dependency=$top/crates/$low/out/rlib"); done
     [ ! -f "$top/crates/$crate/src/main.rt" ] || source=src/main.rt
     (cd "$top/crates/$crate" && rattle build --crate-name "$crate" "$source" "${words[@]}" -L "dependency=$kit/rlibs" --links "$crate=" \
-        --antt-project "$kit/rattle/logic/antt-project.json" --logic-built "$kit/logic_built" --toolchain "$kit/toolchain" --jobs 2 \
+        --antt-project "$kit/rattle/logic/antt-project.json" --logic-built "$kit/logic_built" --toolchain "$kit/toolchain" --jobs "${RT_JOBS:-2}" \
         --incremental out/incremental --target "$target" -o "$2" "${@:3}") >"$made/log" 2>&1 || { cat "$made/log" >&2; echo "arm64: $crate was not built" >&2; exit 1; }
     sed -n "s/^logic=/$crate: &/p" "$made/log" >>"$made/verdicts"
 }
 
 [ $# = 1 ] || { echo "usage: packaging/arm64/build.sh FOLDER" >&2; exit 2; }
+cc=${CC:-aarch64-linux-gnu-gcc}
+command -v "$cc" >/dev/null || { echo "arm64: there is no $cc, which links the programs; Debian's package gcc-aarch64-linux-gnu has it" >&2; exit 1; }
 crates=(lp_rebuild_program lp_relay_program lp_series_program lp_c)
 build_if_changed arm64 "${crates[@]}" || exit 1
 kit=$(kit)
@@ -38,7 +40,7 @@ verdicts "${crates[@]}" | grep -v "^\(lp_c\|lp_[a-z]*_program\): " >"$made/verdi
 compile lp_c "$made/liblp_c.a" --crate-type staticlib
 for crate in "${crates[@]:0:3}"; do
     compile "$crate" "$made/$crate.o"
-    "${CC:-aarch64-linux-gnu-gcc}" -O2 -Wl,-z,relro,-z,now "$made/$crate.o" "$here/os.c" "$top/bindings/c/heap.c" -lm -o "$made/$crate"
+    "$cc" -O2 -Wl,-z,relro,-z,now "$made/$crate.o" "$here/os.c" "$top/bindings/c/heap.c" -lm -o "$made/$crate"
 done
 mkdir -p "$1"
 cp "$made"/{"${crates[0]}","${crates[1]}","${crates[2]}",liblp_c.a,verdicts} "$1"

@@ -109,6 +109,15 @@ class Wheels(unittest.TestCase):
                 self.assertEqual((said.returncode, said.stdout, said.stderr.count("\n")), (1, "", 1))
                 self.assertIn(f"influxdb-line-protocol: {why}", said.stderr)
 
+    def test_another_processor(self):
+        """Where the compiler is one for ARM, this Python's headers are not taken."""
+        file, stub = self.folder / "one" / "bindings" / "python" / "build_backend.py", self.folder / "stub"
+        stub.write_text("#!/bin/sh\necho aarch64-linux-gnu\n")
+        stub.chmod(0o755)
+        said = run_backend(file, "--wheel", self.folder / "no", CC=str(stub), PYTHON_ROOT=str(self.folder))
+        self.assertEqual((said.returncode, said.stdout, said.stderr.count("\n")), (1, "", 1))
+        self.assertIn(f"there is no {self.folder}/usr/include/aarch64-linux-gnu/python3.*/pyconfig.h", said.stderr)
+
 
 class Sources(unittest.TestCase):
     """The packed sources, unpacked where no archive is."""
@@ -228,6 +237,11 @@ class Platforms(unittest.TestCase):
     def test_what_manylinux_has(self):
         for version in ("GLIBC_2.2.5", "GLIBC_2.17", "GCC_4.8.0"):
             backend.check_extension(self.extension_over(version))
+
+    def test_what_it_has_on_arm64(self):
+        backend.check_extension(self.extension_over("GLIBC_2.17", "ld-linux-aarch64.so.1"), "aarch64")
+        with self.assertRaisesRegex(SystemExit, r"asks for ld-linux-x86-64\.so\.2, which manylinux2014_aarch64 does not promise"):
+            backend.check_extension(self.extension_over("GLIBC_2.17", "ld-linux-x86-64.so.2"), "aarch64")
 
     def test_what_it_has_not(self):
         for words, why in (
