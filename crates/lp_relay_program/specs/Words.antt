@@ -159,9 +159,9 @@ given_batches given =
 abbrev pub given_old_pieces : Given → OldPieces
 given_old_pieces given = if given.append then Append else (if given.replace then Replace else Refuse)
 
--- whether two options exclude each other: a check has no file for lines, and no batches, the number of the first item is none of a line,
--- lines go out in one way, the rules are those of one dialect, refused pieces are added to their file or replace it, and one time is that
--- of lines without a timestamp
+-- whether two options exclude each other. A check has no file for lines, and no batches. The number of the first item is none of a line.
+-- Lines go out in one way, and the rules are those of one dialect. Refused pieces are added to their file or replace it. Lines without a
+-- timestamp have one time
 abbrev pub are_at_odds : Given → Bool
 are_at_odds given =
     (given.check && (is_some given.output || is_some given.batch_lines || is_some given.batch_bytes)) || (is_some given.first_item && names_lines given) || (given.verbatim && given.canonical)
@@ -177,8 +177,8 @@ lacks_refused given =
     option_map_or (λ name. bytes_eq name.now (codes "-") && not given.check && is_none given.output) given.refused
     (given.append || given.replace)
 
--- the relay of the options that were given and of inputs of these names, if there is just one if a part of it is asked for, no more than
--- one by the time of each read, no options exclude each other, and none lacks the one that it needs
+-- the relay of the options that were given and of inputs of these names. There is just one if a part of it is asked for, and no more than
+-- one by the time of each read. No options exclude each other, and none lacks the one that it needs
 abbrev pub request_with : Given → List (Bor (List ℕ)) → Option Request
 request_with given names =
     if is_one_if (is_some given.range) names && not (given.now && nat_lt 1 (length names))

@@ -1,5 +1,5 @@
-//! Relays the lines of its inputs as they come: those that can be written again to its output, a numbered fault line for each
-//! other to standard error, and the other as it came to a file, if one is named for it.
+//! Relays the lines of its inputs as they come. Those that can be written again go to its output, a numbered fault line for each other to
+//! standard error, and the other as it came to a file, if one is named for it.
 #![tactic(auto)]
 
 mod runs;

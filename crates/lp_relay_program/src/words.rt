@@ -564,9 +564,9 @@ impl<'a> Given<'a> {
         }
     }
 
-    // Whether two options exclude each other: a check has no file for lines, and no batches, the number of the first item is none of a line, lines
-    // go out in one way, the rules are those of one dialect, refused pieces are added to their file or replace it, and one time is that of lines
-    // without a timestamp.
+    // Whether two options exclude each other. A check has no file for lines, and no batches. The number of the first item is none of a line.
+    // Lines go out in one way, and the rules are those of one dialect. Refused pieces are added to their file or replace it. Lines without a
+    // timestamp have one time.
     fn are_at_odds(self) -> bool
         ensures { result ≡ are_at_odds self.entry }
     {
@@ -595,8 +595,8 @@ impl<'a> Given<'a> {
         }
     }
 
-    // The request of these options, and of the inputs that words name after the mark, if there is just one if a part of it is asked for, no
-    // more than one by the time of each read, no options exclude each other, and none lacks the one that it needs.
+    // The request of these options, and of the inputs that words name after the mark. There is just one if a part of it is asked for, and no
+    // more than one by the time of each read. No options exclude each other, and none lacks the one that it needs.
     fn request(self, words: &[&'a str]) -> Option<Request<'a>>
         ensures { result ≡ request_of self.entry words.now }
     {

@@ -68,6 +68,7 @@ pub fn relayed_each(alloc: Global, settings: Settings<'_>, texts: &[&[u8]]) -> W
 }
 
 // A clock that tells one more at each time.
+#[derive(Drop)]
 struct Ticks {
     next: i64,
 }
