@@ -142,7 +142,7 @@ call_os() {
     told+=("$(cat "$work/out")")
 }
 
-# A script in the place of each program, which runs it under qemu; and what both processors give with arguments and files.
+# A script in the place of each program, which runs it under qemu.
 run_programs() {
     local program status
     mkdir "$work/bin"
@@ -155,6 +155,10 @@ run_programs() {
         "$work/bin/$program" <"$top/examples/two_lines.lp" >"$work/out" 2>"$work/err" && status=0 || status=$?
         equal "what $program gives for the two lines" "cpu usage=64i|item 2: No fields were provided|1" "$(cat "$work/out")|$(cat "$work/err")|$status"
     done
+}
+
+# What the programs give with arguments and files.
+run_arguments() {
     EMULATED=1 "$top/checks/arguments.sh" "$work/bin/lp_rebuild" "$work/bin/lp_relay" >"$work/log" 2>&1 || { cat "$work/log" >&2; fail "arguments are not as they should be"; }
     told+=("programs with $(tail -n 1 "$work/log" | sed 's/^arguments: //')")
     EMULATED=1 "$top/checks/series_arguments.sh" "$work/bin/lp_series" >"$work/log" 2>&1 || { cat "$work/log" >&2; fail "arguments of lp_series are not as they should be"; }
@@ -305,4 +309,5 @@ build_rust
 run_python
 run_programs
 compare_texts
+run_arguments
 echo "arm64: $(printf '%s; ' "${told[@]}" | sed 's/; $//')"

@@ -839,7 +839,7 @@ remove_there() {
         chroot "$1" dpkg "--$how" influxdb-line-protocol libinfluxdb-line-protocol-dev "$library" >"$work/log" 2>&1 || true
         equal "what is left of removed packages" "" "$(names_in "$1" | diff "$work/bare" - || true)"
     done
-    equal "what dpkg knows of removed packages" "" "$(chroot "$1" dpkg-query -W '*influxdb*' 2>/dev/null)"
+    equal "what dpkg knows of removed packages" "" "$(chroot "$1" dpkg-query -W '*influxdb*' 2>/dev/null || true)"
     equal "what dpkg keeps of removed packages" "" "$(find "$1/var/lib/dpkg/info" -name '*influxdb*')"
     told+=("and removed, with nothing left")
 }
