@@ -36,8 +36,9 @@ if python3 "$top/bench/corpora.py" --seed page --size 8000000 --out "$work" tele
     echo "page: Node: a worker makes objects of $(node "$flag" "$here/page/speed.mjs" "$package" "${corpus[0]}")"
 fi
 if python3 -c 'import sys; sys.exit(sys.version_info < (3, 10))' 2>/dev/null; then
-    { "$here/portable.py" --rows && "$here/portable.py" --random 64 3000; } >"$work/texts"
-    "$here/portable.py" <"$work/texts" >"$work/wanted"
+    python3 -B "$here/portable.py" --rows >"$work/texts"
+    python3 -B "$here/portable.py" --random 64 3000 >>"$work/texts"
+    python3 -B "$here/portable.py" <"$work/texts" >"$work/wanted"
     node "$flag" "$here/page/in_node.mjs" "$package" --bits <"$work/texts" >"$work/got"
     cmp "$work/got" "$work/wanted"
     echo "page: what is portable of $(wc -l <"$work/texts") texts is told as checks/portable.py tells it"

@@ -5,7 +5,7 @@ const find = id => document.getElementById(id);
 const EXAMPLES = {
     batch: "cpu,host=web1 usage=42.5,procs=312i 1590488773254420000\ncpu,host=web2 usage=39.1,procs=abc 1590488773254420000\nmem,host=web1 free=1073741824i,swap=t 1590488773254420000\n",
     quote: "log,host=web1 msg=\"started\" 1590488773254420000\nlog,host=web2 msg=\"disk full 1590488774254420000\nlog,host=web3 msg=\"stopped\" 1590488775254420000\ncpu,host=web1 usage=42.5 1590488776254420000\n",
-    escapes: "# The user of the first line is guest,role=admin, and nobody wrote backslashes before its comma and its equals sign.\nlogin,user=guest,role=admin ok=t 1590488773254420000\nlogin,user=guest\\,role\\=admin ok=t 1590488773254420000\ndisk\\ usage,path=/srv/a\\,b  free=012i\naudit note=\"he said \\\"no\\\"\",path=\"C:\\temp\" 1590488773254420000\n",
+    escapes: "# The user is guest,role=admin. One line escapes it.\nlogin,user=guest,role=admin ok=t 1590488773254420000\nlogin,user=guest\\,role\\=admin ok=t 1590488773254420000\ndisk\\ usage,path=/srv/a\\,b  free=012i\naudit note=\"he said \\\"no\\\"\",path=\"C:\\temp\" 1590488773254420000\n",
 };
 // What each fault means to someone who never saw the format.
 const MEANINGS = {
