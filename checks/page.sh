@@ -30,6 +30,16 @@ if [ "$size" -gt 250000 ]; then
 fi
 echo "page: the module has $size bytes, and the page $(stat -c %s "$folder/try.html")"
 node "$flag" "$here/page/in_node.mjs" "$package" "$table"
+if command -v tsc >/dev/null; then
+    mkdir -p "$work/node_modules"
+    ln -s "$package" "$work/node_modules/influxdb-line-protocol"
+    cp "$here/page/types.ts" "$work/types.ts"
+    echo '{"type":"module"}' >"$work/package.json"
+    (cd "$work" && tsc --noEmit --strict --target es2022 --module nodenext --moduleResolution nodenext --lib es2022,dom,dom.iterable types.ts)
+    echo "page: the types take a program that uses each call, says $(tsc --version)"
+else
+    left_out "types of bindings/js" "there is no tsc"
+fi
 corpus=()
 if python3 "$top/bench/corpora.py" --seed page --size 8000000 --out "$work" telegraf >/dev/null 2>&1; then
     corpus=("$work/telegraf.lp")

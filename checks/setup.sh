@@ -25,7 +25,7 @@ if [ "${1-}" = --servers ]; then
 fi
 
 if [ "${1-}" = --page ]; then
-    packages+=(nodejs chromium)
+    packages+=(nodejs node-typescript chromium)
     shift
 fi
 
@@ -61,6 +61,7 @@ is_here() {
     influxdb) command -v influxd ;;
     man-db) command -v man ;;
     nodejs) command -v node ;;
+    node-typescript) command -v tsc ;;
     systemd) command -v systemd-analyze && command -v systemd-socket-activate ;;
     slurm-wlm) command -v slurmctld && command -v slurmd && command -v sbatch ;;
     munge) command -v munged ;;
