@@ -1,7 +1,8 @@
 #!/usr/bin/env bash
 # Tests the package for JavaScript in Node, and the page in Chromium: the table of answers in both, also as the cards show it; the text of each
-# card of the examples; each control, by clicks and by the keyboard alone; 10 MB of pasted text; what is portable, beside the rows and the
-# hostile texts of checks/portable.py; and that the console says nothing, and nothing is fetched.
+# card of the examples; faults and their places, beside those of lp_relay, if that is built; each control, by clicks and by the keyboard
+# alone; 10 MB of pasted text; what is portable, beside the rows and the hostile texts of checks/portable.py; and that the console says
+# nothing, and nothing is fetched.
 #
 #     checks/page.sh [FOLDER [PICTURES]]
 #
@@ -29,7 +30,9 @@ if [ "$size" -gt 250000 ]; then
     exit 1
 fi
 echo "page: the module has $size bytes, and the page $(stat -c %s "$folder/try.html")"
-node "$flag" "$here/page/in_node.mjs" "$package" "$table"
+relay=$top/crates/lp_relay_program/out/lp_relay_program
+[ -x "$relay" ] || { relay='' && left_out "faults by checks/page.sh" "lp_relay is not built"; }
+node "$flag" "$here/page/in_node.mjs" "$package" "$table" ${relay:+"$relay"}
 if command -v tsc >/dev/null; then
     mkdir -p "$work/node_modules"
     ln -s "$package" "$work/node_modules/influxdb-line-protocol"

@@ -1,15 +1,16 @@
 /* The package of bindings/js in Node:
  *
- *     in_node.mjs FOLDER TABLE    compares its calls with the rows of a table, and with one another
- *     in_node.mjs FOLDER --bits   of each text of standard input, a line of hexadecimal digits: the clauses that it breaks, as one number
+ *     in_node.mjs FOLDER TABLE [RELAY]   compares its calls with the rows of a table, with one another, and with the faults that the program RELAY tells
+ *     in_node.mjs FOLDER --bits          of each text of standard input, a line of hexadecimal digits: the clauses that it breaks, as one number
  *
  * FOLDER has the package, with its module. */
+import { spawnSync } from "node:child_process";
 import { readFileSync } from "node:fs";
 import { pathToFileURL } from "node:url";
 import { inspect } from "node:util";
 import { answered, countsOf, rowsOf } from "./answers.mjs";
 
-const [folder, what] = process.argv.slice(2);
+const [folder, what, relay] = process.argv.slice(2);
 const package_ = await import(pathToFileURL(`${folder}/index.js`));
 const { CLAUSES, NotAdmitted, Reader, TooLong, brokenClauses, isPortable, parse, rebuild, seriesKey, write } = package_;
 
@@ -109,6 +110,26 @@ const [, program, printed] = /```js\n(.*?)```.*?```text\n(.*?)```/s.exec(readFil
 const lines = [], asPrinted = it => (typeof it === "string" ? it : inspect(it));
 await new (async () => {}).constructor("parse", "console", program.replace(/^import .*\n/, ""))(parse, { log: (...words) => lines.push(`${words.map(asPrinted).join(" ")}\n`) });
 same(lines.join(""), printed, "what the first program prints");
+
+// Faults are those that lp_relay tells, at the same places: of the texts of the table, and of hostile ones.
+if (relay) {
+    let seed = 64, faults = 0;
+    const dice = n => (seed = (seed * 1103515245 + 12345) % 2147483648) % n;
+    const parts = ["m", ",", " ", "=", '"', "\\", "\n", "\n", "f=1i", "t=v", "#", "\t", "9".repeat(25), "é", "f=", " 5", "x"].map(part => Buffer.from(part)).concat(Buffer.from([0xff]));
+    const hostile = Array.from({ length: 60 }, () => Buffer.concat(Array.from({ length: 60 }, () => parts[dice(parts.length)])));
+    for (const text of [Buffer.from(texts.join("\n")), ...hostile]) {
+        for (const [dialect, ...flags] of [["crate"], ["strict", "--strict"], ["newline-delimited", "--newline-delimited"]]) {
+            const told = spawnSync(relay, [...flags, "--faults", "json", "--verbatim", "--check"], { input: text, maxBuffer: 1 << 28 }).stderr;
+            const wanted = told.toString().split("\n").filter(Boolean).map(JSON.parse)
+                .map(it => [it.item, it.line, it.offset, it.piece_line, it.piece_offset, it.kind, it.stop_line, it.stop_column]);
+            const got = [...parse(text, { dialect })].filter(it => it.fault)
+                .map(it => [it.item, it.line, it.offset, it.pieceLine, it.pieceOffset, it.fault, it.stopLine, it.stopColumn]);
+            same(got, wanted, `the faults of ${JSON.stringify(text.toString())}, ${dialect}`);
+            faults += got.length;
+        }
+    }
+    console.log(`page: ${faults} faults are those that lp_relay tells, at the same places`);
+}
 
 // What the types declare is there, and the other way round.
 const declared = [...readFileSync(`${folder}/index.d.ts`, "utf8").matchAll(/^export (?:function|class|const) (\w+)/gm)].map(found => found[1]);
