@@ -134,6 +134,7 @@ export function hasWideMemory(): boolean;
 export function connect(source: BufferSource | WebAssembly.Module): Promise<LineProtocol>;
 
 export class LineProtocol {
+    private constructor();
     parse(text: Text, options: ParseOptions & { places: true }): IterableIterator<(Line & Place) | Fault>;
     parse(text: Text, options?: ParseOptions): IterableIterator<Item>;
     read(source: ReadableStream<Uint8Array | string> | AsyncIterable<Uint8Array | string> | Iterable<Uint8Array | string>, options?: ReadOptions): AsyncIterableIterator<Item>;

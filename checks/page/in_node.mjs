@@ -133,4 +133,4 @@ if (relay) {
 
 // What the types declare is there, and the other way round.
 const declared = [...readFileSync(`${folder}/index.d.ts`, "utf8").matchAll(/^export (?:function|class|const) (\w+)/gm)].map(found => found[1]);
-same([...new Set(declared)].filter(name => name !== "LineProtocol").sort(), Object.keys(package_).sort(), "what index.d.ts declares");
+same([...new Set(declared)].sort(), Object.keys(package_).sort(), "what index.d.ts declares");

@@ -2,6 +2,7 @@
 import {
     CLAUSES, Item, Line, NotAdmitted, Reader, TooLong, brokenClauses, connect, hasWideMemory, isPortable, parse, rebuild, seriesKey, write,
 } from "influxdb-line-protocol";
+import * as core from "influxdb-line-protocol/core.js";
 
 export async function times(stream: ReadableStream<Uint8Array>): Promise<bigint[]> {
     const found: bigint[] = [];
@@ -30,5 +31,5 @@ try {
 } catch (error) {
     if (error instanceof NotAdmitted) console.log(error.what, error.index);
 }
-const calls = await connect(new Uint8Array(8));
+const calls = core.hasWideMemory() ? await core.connect(new Uint8Array(8)) : await connect(new Uint8Array(8));
 for (const item of calls.parse("x")) console.log(item);

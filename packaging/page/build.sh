@@ -46,7 +46,7 @@ fi
 package=$1/influxdb-line-protocol-js
 rm -rf "$package"
 mkdir -p "$package"
-cp "$top"/bindings/js/{core.js,index.js,index.d.ts,README.md} "$top"/LICENSE-* "$made/lp_page.wasm" "$package/"
+cp "$top"/bindings/js/{core.js,core.d.ts,index.js,index.d.ts,README.md} "$top"/LICENSE-* "$made/lp_page.wasm" "$package/"
 sed "s/\"version\": \"[^\"]*\"/\"version\": \"$(version)\"/" "$top/bindings/js/package.json" >"$package/package.json"
 chmod -R u=rwX,go=rX "$package"
 "$here/make.sh" "$made/lp_page.wasm" "$(version)" >"$1/try.html"
