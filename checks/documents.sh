@@ -4,7 +4,7 @@
 # too; each link with what it leads to; imports, and files of definitions and lemmas, with the map in docs/ARCHITECTURE.md and the pages of
 # the crates; the licences of the crates with those at the top; the header for C with crates/lp_c; the packages of bindings/ with the
 # header; the version that lp_relay and lp_series tell with CHANGELOG.md, and the kit with the one that is here. And sees that each lemma has a line on what it means, that each wrong body
-# of checks/bodies/ can be planted, that each public call with a body has one or an edit of must-fail/, that docs/TRUST.md names each public
+# of checks/bodies/ can be planted, that crates/lp_page has the items of crates/lp_c, that each public call with a body has one or an edit of must-fail/, that docs/TRUST.md names each public
 # call with a clause and each condition, that CONTRIBUTING.md has a row for each file that names a fault, and that what pages name in code
 # is there. Needs Python 3.10, and no package.
 set -eu
@@ -41,4 +41,5 @@ python3 -B "$here/lemmas.py"
 python3 -B "$here/header.py"
 python3 -B "$here/bindings.py"
 python3 -B "$here/bodies.py"
+python3 -B "$here/page_items.py"
 python3 -B "$here/witnesses.py"

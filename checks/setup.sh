@@ -1,11 +1,11 @@
 #!/usr/bin/env bash
 # Installs from Debian what the checks use and this machine lacks, and says what is lacking then. The checks leave out what needs it.
 #
-#   checks/setup.sh [--engines] [--servers]               installs if CI is `true`, and else says what to install; its status is 0
-#   checks/setup.sh [--engines] [--servers] --install     installs; its status is 1 if something is still lacking
+#   checks/setup.sh [--engines] [--servers] [--page]      installs if CI is `true`, and else says what to install; its status is 0
+#   checks/setup.sh .. --install                          installs; its status is 1 if something is still lacking
 #
 # --engines: also what checks/engines.sh and checks/dask.sh use, which the test command does not run. --servers: also what checks/servers.sh
-# and checks/interop.sh do.
+# and checks/interop.sh do. --page: also what checks/page.sh does.
 # It takes root and apt-get to install. The crates, of packages librust-*, are for bindings/rust/test.sh where crates.io is out of
 # reach. Of the packages golang-github-* the sources alone are unpacked, for checks/golang: they take 23 MB, and what they depend on, and
 # their parsers do not use, takes 450.
@@ -21,6 +21,11 @@ fi
 if [ "${1-}" = --servers ]; then
     packages+=(influxdb victoria-metrics curl golang-github-victoriametrics-{victoriametrics,metrics,metricsql}-dev
         golang-github-valyala-{fastjson,fastrand,histogram}-dev)
+    shift
+fi
+
+if [ "${1-}" = --page ]; then
+    packages+=(nodejs node-typescript chromium)
     shift
 fi
 
@@ -55,6 +60,8 @@ is_here() {
     golang-github-*) has_sources "$1" ;;
     influxdb) command -v influxd ;;
     man-db) command -v man ;;
+    nodejs) command -v node ;;
+    node-typescript) command -v tsc ;;
     systemd) command -v systemd-analyze && command -v systemd-socket-activate ;;
     slurm-wlm) command -v slurmctld && command -v slurmd && command -v sbatch ;;
     munge) command -v munged ;;
@@ -123,7 +130,7 @@ trap 'rm -f "$log"' EXIT
 case "$*" in
 "" | --install) ;;
 *)
-    echo "usage: checks/setup.sh [--engines] [--servers] [--install]" >&2
+    echo "usage: checks/setup.sh [--engines] [--servers] [--page] [--install]" >&2
     exit 2
     ;;
 esac

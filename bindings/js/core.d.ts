@@ -1,0 +1,1 @@
+export { CLAUSES, LineProtocol, NotAdmitted, TooLong, connect, hasWideMemory, seriesKey } from "./index.js";

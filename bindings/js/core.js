@@ -1,0 +1,872 @@
+/* InfluxDB line protocol in JavaScript, over the proved reader of crates/lp_page.
+ *
+ * The module reads: it cuts a text into pieces, and tells of each its item by offsets; and it says whether a text is as the library's
+ * builder writes it. What is here moves bytes in and makes objects of what comes out. It also spells lines, but hands none out that the module
+ * does not read back as what was meant. This file imports nothing, so a page or a worker may hold it as a text. */
+
+const DIALECTS = ["crate", "strict", "newline-delimited"];
+const FAULTS = [
+    "", "duplicate_tag", "measurement_value_invalid", "field_set_missing", "integer_value_invalid", "uinteger_value_invalid",
+    "timestamp_value_invalid", "ends_with_backslash", "cannot_parse_entire_line", "tag_set_malformed", "generic_parsing_error",
+];
+const SIDES = ["", "above", "below"];
+const MESSAGES = {
+    measurement_value_invalid: () => "Invalid measurement was provided",
+    field_set_missing: () => "No fields were provided",
+    integer_value_invalid: text => `Unable to parse integer value '${text}'`,
+    uinteger_value_invalid: text => `Unable to parse unsigned integer value '${text}'`,
+    timestamp_value_invalid: text => `Unable to parse timestamp value '${text}'`,
+    ends_with_backslash: () => "Measurements, tag keys and values, and field keys may not end with a backslash",
+    cannot_parse_entire_line: text => `Could not parse entire line. Found trailing content: '${text}'`,
+    tag_set_malformed: () => "Tag Set Malformed",
+    generic_parsing_error: () => "A generic parsing error occurred: TakeWhile1",
+    not_utf8: () => "the line is not UTF-8",
+};
+
+// What the module answers, and what a part is.
+const END = 0, LINE = 1, MORE_PARTS = 3, MORE_ROOM = 4, NOT_UTF8 = 8, MORE_TEXT = 10;
+const INTEGER = 1, UNSIGNED = 2, FLOAT = 3, STRING = 4;
+
+// How many bytes a row, a part and a block take.
+const ROW = 88, PART = 32, BLOCK = 32;
+
+// How much of a text is read at once, and the most bytes that a piece of a stream may have, if nothing else is asked for.
+const WINDOW = 1 << 16, LONGEST = 1 << 24;
+
+const encoder = new TextEncoder();
+const decoder = new TextDecoder("utf-8", { ignoreBOM: true });
+
+/** A line that would not read back, since a name or a string of it may not be written; `index` counts lines from 0. */
+export class NotAdmitted extends Error {
+    constructor(what, index) {
+        super(`${what} of line ${index + 1} would not read back`);
+        this.name = "NotAdmitted";
+        this.what = what;
+        this.index = index;
+    }
+}
+
+/** A piece of a stream has more bytes than it may have; `line` is the line in which it begins, and `limit` how many it may have. */
+export class TooLong extends Error {
+    constructor(line, limit) {
+        super(`the piece that begins in line ${line} has more than ${limit} bytes`);
+        this.name = "TooLong";
+        this.line = line;
+        this.limit = limit;
+    }
+}
+
+/** Whether this engine has the 64-bit memory that the module needs. */
+export function hasWideMemory() {
+    return typeof WebAssembly === "object" && WebAssembly.validate(new Uint8Array([0, 97, 115, 109, 1, 0, 0, 0, 5, 3, 1, 4, 1]));
+}
+
+function numberOf(dialect) {
+    const number = DIALECTS.indexOf(dialect);
+    if (number < 0) throw new RangeError(`${String(dialect)} is no dialect: it is one of ${DIALECTS.join(", ")}`);
+    return number;
+}
+
+function bytesOf(text) {
+    if (typeof text === "string") return encoder.encode(text);
+    if (text instanceof Uint8Array) return text;
+    if (text instanceof ArrayBuffer) return new Uint8Array(text);
+    if (ArrayBuffer.isView(text)) return new Uint8Array(text.buffer, text.byteOffset, text.byteLength);
+    throw new TypeError("a text is a string or bytes");
+}
+
+/* The memory of the module, behind its own: a block, rows, parts, a room for texts without their escapes, and a text. */
+class Border {
+    constructor(calls) {
+        this.calls = calls;
+        this.base = (Number(calls.__heap_base.value) + 15) & ~15;
+        this.lay(WINDOW, 512, 8192, WINDOW);
+    }
+
+    // Lays out places for so many bytes of text, rows, parts and bytes of room. What was there is lost.
+    lay(text, rows, parts, room) {
+        Object.assign(this, { textSize: text, rowCount: rows, partCount: parts, roomSize: room });
+        this.rows = this.base + BLOCK;
+        this.parts = this.rows + ROW * rows;
+        this.room = this.parts + PART * parts;
+        this.text = this.room + ((room + 15) & ~15);
+        const missing = this.text + text - this.calls.memory.buffer.byteLength;
+        if (missing > 0) this.grow(Math.ceil(missing / 65536));
+        const buffer = this.calls.memory.buffer;
+        this.bytes = new Uint8Array(buffer);
+        this.words = new Uint32Array(buffer);
+        this.halves = new Uint16Array(buffer);
+        this.longs = new BigInt64Array(buffer);
+        this.unsigned = new BigUint64Array(buffer);
+    }
+
+    // Older engines count the pages of such a memory by a number.
+    grow(pages) {
+        try {
+            this.calls.memory.grow(BigInt(pages));
+        } catch (error) {
+            if (!(error instanceof TypeError)) throw error;
+            this.calls.memory.grow(pages);
+        }
+    }
+
+    // Puts a text into its place.
+    put(bytes) {
+        if (bytes.length > this.textSize) this.lay(bytes.length, this.rowCount, this.partCount, this.roomSize);
+        this.bytes.set(bytes, this.text);
+    }
+
+    // Reads rows of the first `len` bytes of the text, from `at` on, which is in this line. Gives the answer.
+    read(len, dialect, last, at, line) {
+        const block = this.base >> 2;
+        this.unsigned[this.base >> 3] = line;
+        this.words[block + 2] = at;
+        return this.calls.lp_offsets_block(
+            BigInt(this.text), BigInt(len), dialect, last ? 1 : 0, BigInt(this.base), BigInt(this.room), BigInt(this.roomSize), BigInt(this.rows),
+            BigInt(this.rowCount), BigInt(this.parts), BigInt(this.partCount));
+    }
+
+    // Makes places for the row that did not fit, though no other took any.
+    enlarge() {
+        const row = this.rows >> 2;
+        const parts = Math.max(this.partCount, this.words[row + 15] + this.words[row + 16]);
+        this.lay(this.textSize, this.rowCount, parts, Math.max(this.roomSize, this.words[row + 17]));
+    }
+
+    // Tells each of so many rows the key of its series, where that stands in the text.
+    tellKeys(len, rows) {
+        this.calls.lp_offsets_keys(BigInt(this.text), BigInt(len), BigInt(this.rows), BigInt(rows));
+    }
+
+    // Whether so many bytes of the text are as the builder writes a line.
+    isAsWritten(at, len) {
+        return this.calls.lp_is_as_written(BigInt(this.text + at), BigInt(len)) !== 0;
+    }
+}
+
+/* A walk over the items of a text that comes in windows. */
+class Walk {
+    constructor(border, dialect, options) {
+        this.border = border;
+        this.dialect = dialect;
+        this.withPlaces = Boolean(options.places);
+        this.withLiterals = Boolean(options.literals);
+        this.withWritten = Boolean(options.written);
+        this.withKeys = Boolean(options.keys);
+        this.hasMore = this.withPlaces || this.withWritten || this.withKeys;
+        this.line = 1n;
+        this.offset = 0;
+        this.items = 0;
+    }
+
+    // Reads the pieces of a window that end in it, or, if the text ends with it, all; and gives how many bytes they take. What is
+    // made of each item is appended to `out`.
+    step(bytes, last, out) {
+        const border = this.border, len = bytes.length;
+        border.put(bytes);
+        this.window = decoder.decode(border.bytes.subarray(border.text, border.text + len));
+        this.isAscii = this.window.length === len;
+        this.windowAt = 0;
+        const isAscii = this.isAscii;
+        let at = 0;
+        for (;;) {
+            const answer = border.read(len, this.dialect, last, at, this.line);
+            const block = border.base >> 2, rows = border.words[block + 3];
+            if (this.withKeys) border.tellKeys(len, rows);
+            for (let row = 0; row < rows; row++) {
+                this.items += 1;
+                if (!isAscii) this.look(row);
+                out.push(this.take(row));
+            }
+            at = border.words[block + 2];
+            this.line = border.unsigned[border.base >> 3];
+            if (answer === END || answer === MORE_TEXT) break;
+            if (answer === MORE_PARTS || answer === MORE_ROOM) {
+                if (rows === 0) {
+                    border.enlarge();
+                    border.put(bytes);
+                }
+            } else if (answer !== LINE) {
+                throw new Error(`the module answers ${answer}`);
+            }
+        }
+        this.offset += at;
+        return at;
+    }
+
+    // Of a window that is not all ASCII, the text of the piece of a row takes its place.
+    look(row) {
+        const border = this.border, words = (border.rows + ROW * row) >> 2;
+        const at = border.words[words + 8], len = border.words[words + 9];
+        this.window = decoder.decode(border.bytes.subarray(border.text + at, border.text + at + len));
+        this.isAscii = this.window.length === len;
+        this.windowAt = at;
+    }
+
+    // The text at a place.
+    textAt(at, len, copied) {
+        const border = this.border;
+        if (copied !== 0) return decoder.decode(border.bytes.subarray(border.room + at, border.room + at + len));
+        if (this.isAscii) return this.window.substring(at - this.windowAt, at - this.windowAt + len);
+        return decoder.decode(border.bytes.subarray(border.text + at, border.text + at + len));
+    }
+
+    // The item of a row.
+    take(row) {
+        const answer = this.border.words[((this.border.rows + ROW * row) >> 2) + 18];
+        return answer === LINE ? this.lineOf(row) : this.faultOf(row, answer);
+    }
+
+    lineOf(row) {
+        const { words, halves, longs, rows } = this.border, place = rows + ROW * row, word = place >> 2, half = place >> 1;
+        const tagCount = words[word + 15], fieldCount = words[word + 16];
+        const tags = [], fields = [], window = this.window, from = this.windowAt, isAscii = this.isAscii;
+        let part = (this.border.parts + PART * words[word + 14]) >> 2;
+        for (const end = part + 8 * tagCount; part < end; part += 8) {
+            // Most texts are parts of the window, as they stand.
+            if (isAscii && words[part + 7] === 0) {
+                const key = words[part] - from, value = words[part + 2] - from;
+                tags.push([window.substring(key, key + words[part + 1]), window.substring(value, value + words[part + 3])]);
+            } else {
+                tags.push([this.textAt(words[part], words[part + 1], halves[2 * part + 14]), this.textAt(words[part + 2], words[part + 3], halves[2 * part + 15])]);
+            }
+        }
+        for (const end = part + 8 * fieldCount; part < end; part += 8) {
+            const key = this.textAt(words[part], words[part + 1], halves[2 * part + 14]);
+            fields.push([key, this.valueOf(part, words[part + 6])]);
+        }
+        const line = {
+            measurement: this.textAt(words[word + 10], words[word + 11], halves[half + 42]),
+            tags,
+            fields,
+            timestamp: halves[half + 43] === 1 ? longs[(place >> 3) + 1] : null,
+        };
+        if (this.hasMore) this.addMore(line, word);
+        return line;
+    }
+
+    // Adds to a line what the options ask for.
+    addMore(line, word) {
+        const { words } = this.border, at = words[word + 12], end = words[word + 13];
+        if (this.withPlaces) Object.assign(line, this.placeOf(word));
+        if (this.withKeys) line.key = words[word + 4] === 0 ? seriesKey(line) : this.textAt(at, words[word + 4], 0);
+        if (this.withWritten) {
+            line.text = this.textAt(at, end - at, 0);
+            line.asWritten = this.border.isAsWritten(at, end - at);
+        }
+    }
+
+    valueOf(part, kind) {
+        const { words, halves, longs, unsigned } = this.border;
+        if (kind === INTEGER) return longs[(part >> 1) + 2];
+        if (kind === FLOAT) {
+            const literal = this.textAt(words[part + 2], words[part + 3], 0), number = Number(literal);
+            return this.withLiterals || !Number.isFinite(number) ? { float: literal } : number;
+        }
+        if (kind === STRING) return this.textAt(words[part + 2], words[part + 3], halves[2 * part + 15]);
+        return kind === UNSIGNED ? { unsigned: unsigned[(part >> 1) + 2] } : words[part + 4] === 1;
+    }
+
+    // Where an item is: its number, the line and the byte at which its text begins and its piece does, and how long its text is.
+    placeOf(word) {
+        const { words, longs, bytes, text } = this.border;
+        const at = words[word + 8], end = at + words[word + 9], textAt = words[word + 12], pieceLine = Number(longs[word >> 1]);
+        let line = pieceLine;
+        for (let n = at; n < textAt; n++) if (bytes[text + n] === 10) line += 1;
+        return {
+            item: this.items, line, offset: this.offset + textAt, length: end - textAt, pieceLine, pieceOffset: this.offset + at,
+            pieceLength: end - at,
+        };
+    }
+
+    faultOf(row, answer) {
+        const { words, bytes, text } = this.border, word = (this.border.rows + ROW * row) >> 2;
+        const place = this.placeOf(word), at = words[word + 12], end = words[word + 8] + words[word + 9];
+        const refused = bytes.slice(text + words[word + 8], text + end);
+        const fault = answer === NOT_UTF8 ? "not_utf8" : FAULTS[words[word + 19]];
+        const stop = answer === NOT_UTF8 ? at + utf8Front(refused) : words[word + 13];
+        let stopLine = place.line, lineAt = at;
+        for (let n = at; n < stop; n++) if (bytes[text + n] === 10) { stopLine += 1; lineAt = n + 1; }
+        if (stopLine === place.line) while (lineAt > 0 && bytes[text + lineAt - 1] !== 10) lineAt -= 1;
+        const named = this.namedBy(fault, stop, end);
+        return {
+            fault, message: MESSAGES[fault](named), text: named, side: SIDES[words[word + 20]], ...place, stopOffset: this.offset + stop, stopLine,
+            stopColumn: stop - lineAt + 1, refused,
+        };
+    }
+
+    // What a fault names: the number at which reading stopped, or all that is left there.
+    namedBy(fault, stop, end) {
+        if (fault === "cannot_parse_entire_line") return this.textAt(stop, end - stop, 0);
+        if (!fault.endsWith("_value_invalid") || fault === "measurement_value_invalid") return "";
+        const { bytes, text } = this.border;
+        let after = bytes[text + stop] === 45 ? stop + 1 : stop;
+        while (after < end && bytes[text + after] >= 48 && bytes[text + after] <= 57) after += 1;
+        return this.textAt(stop, after - stop, 0);
+    }
+}
+
+// How many bytes at the start are UTF-8.
+function utf8Front(bytes) {
+    let at = 0;
+    while (at < bytes.length) {
+        const first = bytes[at];
+        let more = 0, least = 0x80, most = 0xbf;
+        if (first >= 0xc2 && first <= 0xdf) {
+            more = 1;
+        } else if (first >= 0xe0 && first <= 0xef) {
+            more = 2;
+            if (first === 0xe0) least = 0xa0;
+            if (first === 0xed) most = 0x9f;
+        } else if (first >= 0xf0 && first <= 0xf4) {
+            more = 3;
+            if (first === 0xf0) least = 0x90;
+            if (first === 0xf4) most = 0x8f;
+        } else if (first >= 0x80) {
+            return at;
+        }
+        for (let n = 1; n <= more; n++) {
+            const next = bytes[at + n];
+            if (next === undefined || next < least || next > most) return at;
+            least = 0x80;
+            most = 0xbf;
+        }
+        at += more + 1;
+    }
+    return at;
+}
+
+// How names and values are spelled.
+const spelledMeasurement = name => name.replace(/[, \\]/g, "\\$&");
+const spelledKey = name => name.replace(/[,= \\]/g, "\\$&");
+const spelledString = text => `"${text.replace(/["\\]/g, "\\$&")}"`;
+const LITERAL = /^-?[0-9]+(\.[0-9]+)?([eE][+-]?[0-9]+)?$/;
+
+function inRange(value, least, greatest, what) {
+    if (value < least || value > greatest) throw new RangeError(`${value} is no ${what} of 64 bits`);
+    return value;
+}
+
+// A value as it is meant: its kind, and what that holds.
+function meant(value) {
+    switch (typeof value) {
+        case "bigint": return { kind: "i", value: inRange(value, -(2n ** 63n), 2n ** 63n - 1n, "integer") };
+        case "string": return { kind: "s", value };
+        case "boolean": return { kind: "b", value };
+        case "number":
+            if (!Number.isFinite(value)) throw new RangeError(`${value} is no float that can be written`);
+            return { kind: "f", value: Object.is(value, -0) ? "-0" : String(value) };
+        default:
+    }
+    if (value && typeof value.unsigned === "bigint") return { kind: "u", value: inRange(value.unsigned, 0n, 2n ** 64n - 1n, "unsigned integer") };
+    if (value && typeof value.float === "string") {
+        if (!LITERAL.test(value.float)) throw new RangeError(`${value.float} is no literal of a float`);
+        return { kind: "f", value: value.float };
+    }
+    throw new TypeError("a value is a bigint, a number, a string, a boolean, { unsigned } or { float }");
+}
+
+function spelledValue({ kind, value }) {
+    switch (kind) {
+        case "i": return `${value}i`;
+        case "u": return `${value}u`;
+        case "s": return spelledString(value);
+        default: return String(value);
+    }
+}
+
+// The pairs of tags or fields, which may be pairs, a Map or an object.
+function pairsOf(pairs, what) {
+    if (pairs === undefined || pairs === null) return [];
+    const list = typeof pairs[Symbol.iterator] === "function" ? [...pairs] : Object.entries(pairs);
+    for (const pair of list) {
+        if (!Array.isArray(pair) || pair.length !== 2 || typeof pair[0] !== "string") throw new TypeError(`${what} are pairs of a key and a value`);
+    }
+    return list;
+}
+
+// A text that is UTF-8 whatever it held: half a pair of surrogates becomes U+FFFD, as it does in bytes.
+const wellFormed = text => (/[\ud800-\udfff]/.test(text) ? decoder.decode(encoder.encode(text)) : text);
+
+// A line as it is meant.
+function pointOf(line) {
+    if (!line || typeof line.measurement !== "string") throw new TypeError("a line has a measurement, which is a string");
+    const tags = pairsOf(line.tags, "tags").map(([key, value]) => {
+        if (typeof value !== "string") throw new TypeError(`the value of the tag ${key} is no string`);
+        return [wellFormed(key), wellFormed(value)];
+    });
+    const fields = pairsOf(line.fields, "fields").map(([key, value]) => {
+        const one = meant(value);
+        return [wellFormed(key), one.kind === "s" ? { kind: "s", value: wellFormed(one.value) } : one];
+    });
+    if (fields.length === 0) throw new TypeError("a line has a field");
+    let time = line.timestamp ?? null;
+    if (time instanceof Date) time = BigInt(time.getTime()) * 1_000_000n;
+    if (time !== null && typeof time !== "bigint") throw new TypeError("a timestamp is a bigint of nanoseconds, or a Date");
+    if (time !== null) inRange(time, -(2n ** 63n), 2n ** 63n - 1n, "timestamp");
+    return { measurement: wellFormed(line.measurement), tags, fields, timestamp: time };
+}
+
+const spelledSeries = ({ measurement, tags }) =>
+    spelledMeasurement(measurement) + tags.map(([key, value]) => `,${spelledKey(key)}=${spelledKey(value)}`).join("");
+
+function spelledLine(point) {
+    const fields = point.fields.map(([key, value]) => `${spelledKey(key)}=${spelledValue(value)}`).join(",");
+    return `${spelledSeries(point)} ${fields}${point.timestamp === null ? "" : ` ${point.timestamp}`}`;
+}
+
+// Whether two lines say the same, the first as it is meant, and the second as it was read with the literals of its floats.
+function isSame(point, line) {
+    const isSamePair = ([key, value], [otherKey, other]) => {
+        if (key !== otherKey) return false;
+        if (typeof value === "string") return value === other;
+        const { kind, value: own } = meant(other);
+        return value.kind === kind && value.value === own;
+    };
+    const areSame = (pairs, others) => pairs.length === others.length && pairs.every((pair, n) => isSamePair(pair, others[n]));
+    return point.measurement === line.measurement && areSame(point.tags, line.tags) && areSame(point.fields, line.fields)
+        && point.timestamp === line.timestamp;
+}
+
+// What of a line may not be written, in words.
+function notAdmitted(point, dialect) {
+    const isName = name => name !== "" && !/[\t\n]/.test(name) && !name.endsWith("\\");
+    if (!isName(point.measurement) || point.measurement.startsWith("#") || point.measurement.includes("\0")) return "the measurement";
+    for (const [n, [key, value]] of point.tags.entries()) {
+        if (!isName(key)) return `the key of tag ${n + 1}`;
+        if (!isName(value)) return `the value of tag ${n + 1}`;
+    }
+    for (const [n, [key, value]] of point.fields.entries()) {
+        if (!isName(key)) return `the key of field ${n + 1}`;
+        if (dialect === 2 && value.kind === "s" && value.value.includes("\n")) return `the string of field ${n + 1}`;
+    }
+    return "";
+}
+
+// The order of texts by their bytes: of UTF-16 the units of pairs come after all others.
+function compareByBytes(a, b) {
+    const place = unit => (unit >= 0xe000 ? unit - 0x800 : unit >= 0xd800 ? unit + 0x2000 : unit);
+    const len = Math.min(a.length, b.length);
+    for (let n = 0; n < len; n++) {
+        const one = a.charCodeAt(n), other = b.charCodeAt(n);
+        if (one !== other) return place(one) - place(other);
+    }
+    return a.length - b.length;
+}
+
+/* The items of a text. Those of a window are made at once, so that others may use the memory of the module in between. */
+class Items {
+    #walk;
+    #bytes;
+    #from = 0;
+    #size = WINDOW;
+    #made = [];
+    #next = 0;
+
+    constructor(walk, bytes) {
+        this.#walk = walk;
+        this.#bytes = bytes;
+    }
+
+    [Symbol.iterator]() {
+        return this;
+    }
+
+    next() {
+        while (this.#next === this.#made.length) {
+            if (this.#from >= this.#bytes.length) return { done: true, value: undefined };
+            this.#step();
+        }
+        return { done: false, value: this.#made[this.#next++] };
+    }
+
+    return(value) {
+        this.#from = this.#bytes.length;
+        this.#next = this.#made.length;
+        return { done: true, value };
+    }
+
+    #step() {
+        const to = Math.min(this.#from + this.#size, this.#bytes.length), isLast = to === this.#bytes.length;
+        this.#made = [];
+        this.#next = 0;
+        const passed = this.#walk.step(this.#bytes.subarray(this.#from, to), isLast, this.#made);
+        this.#from = isLast ? to : this.#from + passed;
+        this.#size = passed === 0 ? 2 * this.#size : WINDOW;
+    }
+}
+
+/** The calls over one instance of the module. */
+export class LineProtocol {
+    #border;
+
+    constructor(instance) {
+        this.#border = new Border(instance.exports);
+    }
+
+    /** The items of a text, lines and faults, one after another. */
+    parse(text, options = {}) {
+        return new Items(new Walk(this.#border, numberOf(options.dialect ?? "crate"), options), bytesOf(text));
+    }
+
+    /** The items of a stream, as its parts come. */
+    async *read(source, options = {}) {
+        const walk = new Walk(this.#border, numberOf(options.dialect ?? "crate"), options), most = options.maxLine ?? LONGEST;
+        const held = new Held();
+        let tried = 0, hasNewline = false;
+        for await (const part of partsOf(source)) {
+            held.add(part);
+            hasNewline ||= part.includes(10);
+            // A piece ends at a newline, though not at each in a string. If none of many bytes ended it, it is read again only once they are
+            // half as many more.
+            if (hasNewline && (walk.dialect === 2 || tried < 1024 || held.bytes.length >= 1.5 * tried)) {
+                const items = [];
+                held.pass(passWindows(walk, held.bytes, false, items));
+                tried = held.bytes.length;
+                hasNewline = false;
+                yield* items;
+            }
+            if (held.bytes.length > most) throw new TooLong(Number(walk.line), most);
+        }
+        const items = [];
+        passWindows(walk, held.bytes, true, items);
+        yield* items;
+    }
+
+    /** A line, or each line of a list, as text: each with its newline. It is read again before it is handed out. */
+    write(lines, options = {}) {
+        const dialect = numberOf(options.dialect ?? "crate");
+        const list = lines && typeof lines.measurement === "string" ? [lines] : [...lines];
+        const points = list.map(pointOf);
+        points.forEach((point, index) => {
+            const what = notAdmitted(point, dialect);
+            if (what) throw new NotAdmitted(what, index);
+        });
+        const texts = points.map(point => `${spelledLine(point)}\n`), text = texts.join("");
+        const read = [...this.parse(text, { dialect: DIALECTS[dialect], places: true, literals: true, written: true })];
+        points.forEach((point, index) => {
+            if (read.length !== points.length || !read[index].asWritten || !isSame(point, read[index])) throw new NotAdmitted("a part", index);
+        });
+        return text;
+    }
+
+    /** The line that was read so, as it is written again; `null` if it may not be written. */
+    #again(line, dialect) {
+        if (line.asWritten) return line.text;
+        const point = pointOf(line);
+        if (notAdmitted(point, dialect)) return null;
+        const text = spelledLine(point), items = [...this.parse(`${text}\n`, { dialect: DIALECTS[dialect], literals: true, written: true })];
+        return items.length === 1 && items[0].asWritten && isSame(point, items[0]) ? text : null;
+    }
+
+    /** Each line of a text in one spelling, and a line for each item that is refused; and how many there are of each. */
+    rebuild(text, options = {}) {
+        const number = numberOf(options.dialect ?? "crate"), batch = [], faults = [];
+        let items = 0;
+        for (const item of this.parse(text, { dialect: DIALECTS[number], literals: true, written: true })) {
+            items += 1;
+            const again = item.fault ? null : this.#again(item, number);
+            if (again !== null) batch.push(`${again}\n`);
+            else faults.push(`item ${items}: ${item.message ?? "a name cannot be written again"}\n`);
+        }
+        return { batch: batch.join(""), faults: faults.join(""), carried: batch.length, refused: faults.length };
+    }
+
+    /** What becomes of one piece: its item, the text that goes out for it, and which clauses of what is portable that breaks. */
+    look(text, options = {}) {
+        const dialect = options.dialect ?? "crate", number = numberOf(dialect);
+        const [item] = this.parse(text, { dialect, places: true, literals: true, written: true });
+        if (!item || item.fault) return { item: item ?? null, out: null };
+        return { item, out: this.#again(item, number), key: seriesKey(item), clauses: this.brokenClauses(text) };
+    }
+
+    /** The names of the clauses of what is portable that a line breaks. Not proved: it is compared with rows. */
+    brokenClauses(text, limits = {}) {
+        return brokenClauses(text, limits, bytes => this.#strictLine(bytes));
+    }
+
+    /** Whether servers read a line as this reader does in the dialect `strict`: "influx1", "victoria" or "all". Not proved, as there. */
+    isPortable(text, to = "all", limits = {}) {
+        if (!["influx1", "victoria", "all"].includes(to)) throw new RangeError(`${String(to)} is no server: it is influx1, victoria or all`);
+        return this.brokenClauses(text, limits).every(name => to !== "all" && !CLAUSES.find(clause => clause.name === name)[to]);
+    }
+
+    // The line that bytes are by the strict rules, if they are one piece, which a newline ends.
+    #strictLine(bytes) {
+        const ended = new Uint8Array(bytes.length + 1), items = [];
+        ended.set(bytes);
+        ended[bytes.length] = 10;
+        const passed = new Walk(this.#border, 1, { places: true, literals: true }).step(ended, false, items);
+        const isOne = passed === ended.length && items.length === 1 && !items[0].fault && items[0].pieceOffset === 0;
+        return isOne && items[0].pieceLength === bytes.length ? items[0] : null;
+    }
+
+    /** What of each item a list has, without its parts: for texts of millions of items. */
+    index(text, options = {}) {
+        const number = numberOf(options.dialect ?? "crate"), bytes = bytesOf(text), border = this.#border;
+        const at = [], len = [], lines = [], kinds = [];
+        let from = 0, size = WINDOW * 4, line = 1n;
+        while (from < bytes.length) {
+            const to = Math.min(from + size, bytes.length), window = bytes.subarray(from, to), last = to === bytes.length;
+            border.put(window);
+            let passed = 0;
+            for (;;) {
+                const answer = border.read(window.length, number, last, passed, line), block = border.base >> 2, rows = border.words[block + 3];
+                for (let row = 0; row < rows; row++) {
+                    const word = (border.rows + ROW * row) >> 2, came = border.words[word + 18];
+                    at.push(from + border.words[word + 8]);
+                    len.push(border.words[word + 9]);
+                    lines.push(Number(border.longs[word >> 1]));
+                    kinds.push(came === LINE ? 0 : came === NOT_UTF8 ? FAULTS.length : border.words[word + 19]);
+                }
+                passed = border.words[block + 2];
+                line = border.unsigned[border.base >> 3];
+                if (answer === END || answer === MORE_TEXT) break;
+                if (rows === 0) {
+                    border.enlarge();
+                    border.put(window);
+                }
+            }
+            from += passed;
+            if (last) break;
+            size = passed === 0 ? 2 * size : WINDOW * 4;
+        }
+        return { at: Float64Array.from(at), len: Float64Array.from(len), line: Float64Array.from(lines), kind: Uint8Array.from(kinds), names: [...FAULTS, "not_utf8"] };
+    }
+}
+
+/** The key of the series of a line, which the series has alone: its tags in the order of their keys, by bytes. */
+export function seriesKey(line) {
+    if (!line || typeof line.measurement !== "string") throw new TypeError("a line has a measurement, which is a string");
+    const tags = pairsOf(line.tags, "tags").map(([key, value]) => [wellFormed(key), wellFormed(String(value))]);
+    tags.sort(([key], [other]) => compareByBytes(key, other));
+    return spelledSeries({ measurement: wellFormed(line.measurement), tags });
+}
+
+/* Bytes that wait for more. They are moved only as often as their memory doubles. */
+class Held {
+    constructor() {
+        this.memory = new Uint8Array(WINDOW);
+        this.from = 0;
+        this.to = 0;
+    }
+
+    get bytes() {
+        return this.memory.subarray(this.from, this.to);
+    }
+
+    add(part) {
+        const kept = this.bytes, need = kept.length + part.length;
+        if (this.to + part.length > this.memory.length) {
+            const memory = need > this.memory.length / 2 ? new Uint8Array(2 * need) : this.memory;
+            memory.set(kept);
+            this.memory = memory;
+            this.from = 0;
+            this.to = kept.length;
+        }
+        this.memory.set(part, this.to);
+        this.to += part.length;
+    }
+
+    pass(count) {
+        this.from += count;
+    }
+}
+
+// Passes as many windows as end in a text, and gives how many bytes they take.
+function passWindows(walk, bytes, last, items) {
+    let from = 0, size = WINDOW;
+    while (from < bytes.length) {
+        const to = Math.min(from + size, bytes.length);
+        const passed = walk.step(bytes.subarray(from, to), last && to === bytes.length, items);
+        from += passed;
+        if (to === bytes.length) return from;
+        size = passed === 0 ? 2 * size : WINDOW;
+    }
+    return from;
+}
+
+// The parts of a stream as bytes. Of strings half a pair of surrogates waits for the other half.
+async function* partsOf(source) {
+    let half = "";
+    for await (const part of iterated(source)) {
+        if (typeof part !== "string") {
+            yield bytesOf(part);
+            continue;
+        }
+        const text = half + part;
+        half = /[\ud800-\udbff]$/.test(text) ? text.slice(-1) : "";
+        yield encoder.encode(half ? text.slice(0, -1) : text);
+    }
+    if (half) yield encoder.encode(half);
+}
+
+// Some engines cannot go over a ReadableStream.
+function iterated(source) {
+    if (typeof source === "string" || source instanceof Uint8Array) return [source];
+    if (source && (source[Symbol.asyncIterator] || source[Symbol.iterator])) return source;
+    if (!source || typeof source.getReader !== "function") throw new TypeError("a source is a ReadableStream, or what goes over parts");
+    return (async function* () {
+        const reader = source.getReader();
+        try {
+            for (;;) {
+                const { done, value } = await reader.read();
+                if (done) return;
+                yield value;
+            }
+        } finally {
+            reader.cancel().catch(() => {});
+        }
+    })();
+}
+
+/** Instantiates the module of these bytes, or one that was compiled. */
+export async function connect(source) {
+    if (!hasWideMemory()) {
+        throw new Error("this engine has no 64-bit memory for WebAssembly: Node below 24 has it with --experimental-wasm-memory64,"
+            + " Chrome from 133 on, and Firefox from 134 on");
+    }
+    const module = source instanceof WebAssembly.Module ? source : await WebAssembly.compile(source);
+    return new LineProtocol(await WebAssembly.instantiate(module, {}));
+}
+
+// What is portable.
+
+const BOTH = { influx1: true, victoria: true }, INFLUX1 = { influx1: true, victoria: false }, VICTORIA = { influx1: false, victoria: true };
+
+/** The clauses of what is portable, named by what breaks them, each with the servers that it concerns and with what it says. */
+export const CLAUSES = [
+    ["NotALine", BOTH, "what is there is not one line for the strict reader"],
+    ["LeadingBlank", VICTORIA, "a space or a tab comes before the line"],
+    ["TrailingSpace", VICTORIA, "a space ends the line"],
+    ["Newline", VICTORIA, "the line holds a newline: in a string, or escaped"],
+    ["MeasurementEquals", BOTH, "an equals sign is escaped in the measurement"],
+    ["MeasurementEscape", INFLUX1, "a backslash or a quote is escaped in the measurement"],
+    ["TagEscape", INFLUX1, "a backslash is escaped in a tag key or a tag value"],
+    ["TagKeyComma", BOTH, "a comma is bare in a tag key"],
+    ["TagValueEquals", INFLUX1, "an equals sign is bare in a tag value"],
+    ["RepeatedTag", BOTH, "two tags have one key"],
+    ["FieldKeyEscape", INFLUX1, "a backslash or a quote is escaped in a field key"],
+    ["FieldKeyComma", BOTH, "a comma is bare in a field key"],
+    ["FieldKeyQuote", VICTORIA, "a field key holds a quote"],
+    ["LongSeries", INFLUX1, "the series, four bytes and a field key are longer than 65,535 bytes"],
+    ["Unsigned", INFLUX1, "a value is an unsigned integer"],
+    ["InfiniteFloat", INFLUX1, "a float is too large for a finite number"],
+    ["RoundedFloat", VICTORIA, "a float has an exponent, or takes over 310 bytes"],
+    ["LeadingNul", INFLUX1, "the first field key begins with a byte 0"],
+    ["TimeOutOfRange", INFLUX1, "the timestamp is the greatest of 64 bits, or one of the two least"],
+    ["TagCount", INFLUX1, "the tags are 100, 200, 400, 800 and so on"],
+    ["TimeName", INFLUX1, "a tag key or a field key is `time`"],
+    ["SystemName", INFLUX1, "the measurement or a field key is a name of the server's own"],
+    ["RepeatedField", BOTH, "two fields have one key"],
+    ["KeySeparator", INFLUX1, "the series holds `#!~`"],
+    ["ControlByte", INFLUX1, "the measurement or a field key holds a byte 0 or a carriage return"],
+    ["NameLabel", VICTORIA, "a tag key is `__name__`"],
+    ["LongTagKey", VICTORIA, "a tag key is longer than 256 bytes"],
+    ["LongTagValue", VICTORIA, "a tag value is longer than 16,384 bytes"],
+    ["LongMetricName", VICTORIA, "the measurement, a byte and a field key are longer than 16,384 bytes"],
+    ["LongLabels", VICTORIA, "the series, a byte and a field key are longer than 32,000 bytes"],
+    ["TooManyTags", VICTORIA, "there are more tags than the limit"],
+    ["LongLine", VICTORIA, "the line is longer than the limit"],
+    ["TimeNotKept", VICTORIA, "the timestamp is before or after what is kept"],
+].map(([name, servers, means]) => ({ name, ...servers, means }));
+
+const SYSTEM_MEASUREMENTS = ["_fieldKeys", "_measurements", "_name", "_series", "_tagKey", "_tagKeys", "_tags"];
+const SYSTEM_FIELDS = ["_name", "_tagKey", "_tagValue", "_fieldKey", "_seriesKey"];
+// So many tags make InfluxDB panic. A series with more is too long.
+const PANICS = [100, 200, 400, 800, 1600, 3200, 6400, 12800];
+// In a text of bytes each byte is one character.
+const byteDecoder = new TextDecoder("latin1");
+
+// Of a line of bytes, whose parts are known to be there, the parts as they are spelled.
+function spelledParts(bytes, line) {
+    const text = byteDecoder.decode(bytes), start = line.offset;
+    let at = start;
+    const token = stops => {
+        const from = at;
+        while (at < text.length && !stops.includes(text[at])) at += text[at] === "\\" ? 2 : 1;
+        return text.slice(from, at);
+    };
+    const measurement = token(", "), tags = [], keys = [];
+    for (let n = 0; n < line.tags.length; n++) {
+        at += 1;
+        const key = token("=");
+        at += 1;
+        tags.push([key, token(", ")]);
+    }
+    const series = text.slice(start, at);
+    while (text[at] === " ") at += 1;
+    for (const [, value] of line.fields) {
+        keys.push(token("="));
+        at += 1;
+        if (typeof value === "string") {
+            at += 1;
+            token('"');
+            at += 1;
+        } else {
+            token(", ");
+        }
+        at += 1;
+    }
+    return { text, measurement, tags, series, keys };
+}
+
+// The characters that backslashes of a spelled text pair with, from the left; and the text without these pairs.
+function pairs(spelled) {
+    const all = spelled.match(/\\[^]/g);
+    return { others: all ? all.map(pair => pair[1]) : [], rest: all ? spelled.replace(/\\[^]/g, "") : spelled };
+}
+
+const pairsWith = (spelled, some) => spelled.includes("\\") && pairs(spelled).others.some(other => some.includes(other));
+const isBare = (spelled, some) => spelled.includes(some) && pairs(spelled).rest.includes(some);
+const hasRepeats = texts => new Set(texts).size !== texts.length;
+const holdsControl = text => text.includes("\0") || text.includes("\r");
+
+// The names of the clauses that a text breaks. `strictLine` reads it by the strict rules, if it is one line.
+function brokenClauses(source, limits, strictLine) {
+    const all = bytesOf(source), bytes = all[all.length - 1] === 10 ? all.subarray(0, -1) : all;
+    const line = strictLine(bytes);
+    if (!line) return ["NotALine"];
+    const { text, measurement, tags, series, keys: fieldKeys } = spelledParts(bytes, line);
+    const logicalMeasurement = measurement.replace(/\\([, \\])/g, "$1"), logical = spelled => spelled.replace(/\\([,= \\])/g, "$1");
+    const tagKeys = tags.map(([key]) => key), tagValues = tags.map(([, value]) => value);
+    const keys = tagKeys.map(logical), values = tagValues.map(logical), fields = fieldKeys.map(logical);
+    const literals = line.fields.map(([, value]) => value.float).filter(literal => literal !== undefined);
+    const time = line.timestamp, most = 2n ** 63n - 1n;
+    const isOutside = (least, greatest) => time !== null && (time < least || time > greatest);
+    const broken = {
+        LeadingBlank: /^[ \t]/.test(text),
+        TrailingSpace: text.endsWith(" "),
+        Newline: text.includes("\n"),
+        MeasurementEquals: pairsWith(measurement, "="),
+        MeasurementEscape: pairsWith(measurement, '\\"'),
+        TagEscape: [...tagKeys, ...tagValues].some(name => pairsWith(name, "\\")),
+        TagKeyComma: tagKeys.some(name => isBare(name, ",")),
+        TagValueEquals: tagValues.some(name => isBare(name, "=")),
+        RepeatedTag: hasRepeats(keys),
+        FieldKeyEscape: fieldKeys.some(name => pairsWith(name, '\\"')),
+        FieldKeyComma: fieldKeys.some(name => isBare(name, ",")),
+        FieldKeyQuote: fieldKeys.some(name => name.includes('"')),
+        LongSeries: fieldKeys.some(name => series.length + 4 + name.length > 65535),
+        Unsigned: line.fields.some(([, value]) => value.unsigned !== undefined),
+        InfiniteFloat: literals.some(literal => !Number.isFinite(Number(literal))),
+        RoundedFloat: literals.some(literal => /e/i.test(literal) || literal.length > 310),
+        LeadingNul: fieldKeys[0].startsWith("\0"),
+        TimeOutOfRange: isOutside(2n - 2n ** 63n, most - 1n),
+        TagCount: PANICS.includes(keys.length),
+        TimeName: keys.includes("time") || fields.includes("time"),
+        SystemName: SYSTEM_MEASUREMENTS.includes(logicalMeasurement) || fields.some(name => SYSTEM_FIELDS.includes(name)),
+        RepeatedField: hasRepeats(fields),
+        KeySeparator: series.includes("#!~"),
+        ControlByte: holdsControl(logicalMeasurement) || fields.some(holdsControl),
+        NameLabel: keys.includes("__name__"),
+        LongTagKey: keys.some(name => name.length > 256),
+        LongTagValue: values.some(name => name.length > 16384),
+        LongMetricName: fields.some(name => logicalMeasurement.length + 1 + name.length > 16384),
+        LongLabels: fields.some(name => series.length + 1 + name.length > 32000),
+        TooManyTags: keys.length > (limits.tags ?? 29),
+        LongLine: text.length > (limits.line ?? 262144),
+        TimeNotKept: isOutside(limits.earliest ?? 1_000_000n, limits.latest ?? most),
+    };
+    return CLAUSES.map(({ name }) => name).filter(name => broken[name]);
+}

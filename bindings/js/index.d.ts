@@ -1,0 +1,145 @@
+/** By whose rules a text is read; "crate", those of the Rust crate, if none is named. */
+export type Dialect = "crate" | "strict" | "newline-delimited";
+
+/** The value of a field. An integer is a bigint, an unsigned one `{ unsigned }`; a float is a number, or its literal `{ float }`, which reading
+ * gives where the nearest number is infinite. */
+export type Value = bigint | { unsigned: bigint } | number | { float: string } | string | boolean;
+
+/** Where an item is. Lines and columns count from 1, offsets from 0, in bytes of UTF-8. A piece begins with the blanks and comments before
+ * its text. */
+export interface Place {
+    item: number;
+    line: number;
+    offset: number;
+    length: number;
+    pieceLine: number;
+    pieceOffset: number;
+    pieceLength: number;
+}
+
+/** A line: pairs in the order of the text, of which a key may come twice, and nanoseconds since 1970, or `null`. */
+export interface Line {
+    measurement: string;
+    tags: [string, string][];
+    fields: [string, Value][];
+    timestamp: bigint | null;
+    key?: string;
+}
+
+/** A line that is handed in. */
+export interface LineLike {
+    measurement: string;
+    tags?: Iterable<readonly [string, string]> | Record<string, string> | null;
+    fields: Iterable<readonly [string, Value]> | Record<string, Value>;
+    timestamp?: bigint | Date | null;
+}
+
+export type FaultKind =
+    | "measurement_value_invalid" | "field_set_missing" | "integer_value_invalid" | "uinteger_value_invalid" | "timestamp_value_invalid"
+    | "ends_with_backslash" | "cannot_parse_entire_line" | "tag_set_malformed" | "generic_parsing_error" | "not_utf8";
+
+/** A piece that is no line. `text` is the number out of its range, or what is left of the line; `stop..` tells the byte at which reading
+ * stopped, and `refused` are the bytes of the piece. */
+export interface Fault extends Place {
+    fault: FaultKind;
+    message: string;
+    text: string;
+    side: "" | "above" | "below";
+    stopOffset: number;
+    stopLine: number;
+    stopColumn: number;
+    refused: Uint8Array;
+}
+
+export type Item = Line | Fault;
+
+export interface Options {
+    dialect?: Dialect;
+}
+
+export interface ParseOptions extends Options {
+    /** Each line tells its place, as a fault does. */
+    places?: boolean;
+    /** Each float is its literal, `{ float }`. */
+    literals?: boolean;
+    /** Each line has `key`, the key of its series. */
+    keys?: boolean;
+}
+
+export interface ReadOptions extends ParseOptions {
+    /** So many bytes a piece may have: 16 MiB if none are given. */
+    maxLine?: number;
+}
+
+export type Text = string | Uint8Array | ArrayBuffer | ArrayBufferView;
+
+/** The items of a text, one after another. */
+export function parse(text: Text, options: ParseOptions & { places: true }): IterableIterator<(Line & Place) | Fault>;
+export function parse(text: Text, options?: ParseOptions): IterableIterator<Item>;
+
+/** The items of a stream, as its parts come. Throws TooLong where a piece has more bytes than it may have. */
+export class Reader implements AsyncIterable<Item> {
+    constructor(source: ReadableStream<Uint8Array | string> | AsyncIterable<Uint8Array | string> | Iterable<Uint8Array | string>, options?: ReadOptions);
+    [Symbol.asyncIterator](): AsyncIterableIterator<Item>;
+}
+
+/** A line, or lines, as text that is read as these and as nothing else, whatever comes after it. Throws NotAdmitted, and writes nothing, if
+ * a name or a string rules that out. */
+export function write(lines: LineLike | Iterable<LineLike>, options?: Options): string;
+
+/** Each line of a text in one spelling, a line for each other item, and how many there are of each. */
+export function rebuild(text: Text, options?: Options): { batch: string; faults: string; carried: number; refused: number };
+
+/** The key of the series of a line, which the series has alone. */
+export function seriesKey(line: Pick<LineLike, "measurement" | "tags">): string;
+
+/** What the options of a server change. */
+export interface Limits {
+    line?: number;
+    tags?: number;
+    earliest?: bigint;
+    latest?: bigint;
+}
+
+/** A clause of what is portable, named by what breaks it, with the servers that it concerns. */
+export interface Clause {
+    name: string;
+    influx1: boolean;
+    victoria: boolean;
+    means: string;
+}
+
+export const CLAUSES: readonly Clause[];
+
+/** The names of the clauses that a line breaks. */
+export function brokenClauses(text: Text, limits?: Limits): string[];
+
+/** Whether servers read a line as this reader does in the dialect "strict". */
+export function isPortable(text: Text, to?: "influx1" | "victoria" | "all", limits?: Limits): boolean;
+
+export class NotAdmitted extends Error {
+    readonly what: string;
+    readonly index: number;
+}
+
+export class TooLong extends Error {
+    readonly line: number;
+    readonly limit: number;
+}
+
+/** Whether this engine has the 64-bit memory that the module needs. */
+export function hasWideMemory(): boolean;
+
+/** The same calls over the module of these bytes, for a page that holds it. */
+export function connect(source: BufferSource | WebAssembly.Module): Promise<LineProtocol>;
+
+export class LineProtocol {
+    private constructor();
+    parse(text: Text, options: ParseOptions & { places: true }): IterableIterator<(Line & Place) | Fault>;
+    parse(text: Text, options?: ParseOptions): IterableIterator<Item>;
+    read(source: ReadableStream<Uint8Array | string> | AsyncIterable<Uint8Array | string> | Iterable<Uint8Array | string>, options?: ReadOptions): AsyncIterableIterator<Item>;
+    write(lines: LineLike | Iterable<LineLike>, options?: Options): string;
+    rebuild(text: Text, options?: Options): { batch: string; faults: string; carried: number; refused: number };
+    brokenClauses(text: Text, limits?: Limits): string[];
+    isPortable(text: Text, to?: "influx1" | "victoria" | "all", limits?: Limits): boolean;
+}

@@ -1,0 +1,66 @@
+#!/usr/bin/env bash
+# Tests the package for JavaScript in Node, and the page in Chromium: the table of answers in both, also as the cards show it; the text of each
+# card of the examples; faults and their places, beside those of lp_relay, if that is built; each control, by clicks and by the keyboard
+# alone; 10 MB of pasted text; what is portable, beside the rows and the hostile texts of checks/portable.py; and that the console says
+# nothing, and nothing is fetched.
+#
+#     checks/page.sh [FOLDER [PICTURES]]
+#
+# FOLDER is one that packaging/page/build.sh made; without it one is made. PICTURES is a folder for pictures of each example at two widths, light
+# and dark; without it they are thrown away.
+set -euo pipefail
+here=$(cd "$(dirname "$0")" && pwd)
+top=$(dirname "$here")
+. "$here/left_out.sh"
+if ! command -v node >/dev/null || [ "$(node -p 'process.versions.node.split(".")[0]')" -lt 20 ]; then
+    left_out checks/page.sh "there is no Node 20 or later"
+    exit 0
+fi
+work=$(mktemp -d)
+trap 'rm -rf "$work"' EXIT
+folder=${1-$work/made} pictures=${2-$work/pictures}
+[ $# != 0 ] || "$top/packaging/page/build.sh" "$folder"
+mkdir -p "$pictures"
+flag=--experimental-wasm-memory64
+[ "$(node -p 'process.versions.node.split(".")[0]')" -lt 24 ] || flag=--no-warnings
+package=$(realpath "$folder")/influxdb-line-protocol-js table=$top/crates/lp_answers/data/answers.tsv
+size=$(stat -c %s "$package/lp_page.wasm")
+if [ "$size" -gt 250000 ]; then
+    echo "page: the module has $size bytes, where it may have 250,000" >&2
+    exit 1
+fi
+echo "page: the module has $size bytes, and the page $(stat -c %s "$folder/try.html")"
+relay=$top/crates/lp_relay_program/out/lp_relay_program
+[ -x "$relay" ] || { relay='' && left_out "faults by checks/page.sh" "lp_relay is not built"; }
+node "$flag" "$here/page/in_node.mjs" "$package" "$table" ${relay:+"$relay"}
+if command -v tsc >/dev/null; then
+    mkdir -p "$work/node_modules"
+    ln -s "$package" "$work/node_modules/influxdb-line-protocol"
+    cp "$here/page/types.ts" "$work/types.ts"
+    echo '{"type":"module"}' >"$work/package.json"
+    (cd "$work" && tsc --noEmit --strict --target es2022 --module nodenext --moduleResolution nodenext --lib es2022,dom,dom.iterable types.ts)
+    echo "page: the types take a program that uses each call, says $(tsc --version)"
+else
+    left_out "types of bindings/js" "there is no tsc"
+fi
+corpus=()
+if python3 "$top/bench/corpora.py" --seed page --size 8000000 --out "$work" telegraf >/dev/null 2>&1; then
+    corpus=("$work/telegraf.lp")
+    echo "page: Node: a worker makes objects of $(node "$flag" "$here/page/speed.mjs" "$package" "${corpus[0]}")"
+fi
+if python3 -c 'import sys; sys.exit(sys.version_info < (3, 10))' 2>/dev/null; then
+    python3 -B "$here/portable.py" --rows >"$work/texts"
+    python3 -B "$here/portable.py" --random 64 3000 >>"$work/texts"
+    python3 -B "$here/portable.py" <"$work/texts" >"$work/wanted"
+    node "$flag" "$here/page/in_node.mjs" "$package" --bits <"$work/texts" >"$work/got"
+    cmp "$work/got" "$work/wanted"
+    echo "page: what is portable of $(wc -l <"$work/texts") texts is told as checks/portable.py tells it"
+else
+    left_out "what is portable, by checks/page.sh" "there is no Python 3.10 or later"
+fi
+chromium=$(command -v chromium || command -v chromium-browser || command -v google-chrome) || chromium=
+if [ -n "$chromium" ]; then
+    node "$here/page/in_chromium.mjs" "$chromium" "$(realpath "$folder/try.html")" "$table" "$(realpath "$pictures")" "${corpus[@]}"
+else
+    left_out "the page by checks/page.sh" "there is no Chromium"
+fi

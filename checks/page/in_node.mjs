@@ -1,0 +1,136 @@
+/* The package of bindings/js in Node:
+ *
+ *     in_node.mjs FOLDER TABLE [RELAY]   compares its calls with the rows of a table, with one another, and with the faults that the program RELAY tells
+ *     in_node.mjs FOLDER --bits          of each text of standard input, a line of hexadecimal digits: the clauses that it breaks, as one number
+ *
+ * FOLDER has the package, with its module. */
+import { spawnSync } from "node:child_process";
+import { readFileSync } from "node:fs";
+import { pathToFileURL } from "node:url";
+import { inspect } from "node:util";
+import { answered, countsOf, rowsOf } from "./answers.mjs";
+
+const [folder, what, relay] = process.argv.slice(2);
+const package_ = await import(pathToFileURL(`${folder}/index.js`));
+const { CLAUSES, NotAdmitted, Reader, TooLong, brokenClauses, isPortable, parse, rebuild, seriesKey, write } = package_;
+
+function same(got, wanted, of) {
+    const text = it => JSON.stringify(it, (_, value) => (typeof value === "bigint" ? `${value}n` : value));
+    if (text(got) === text(wanted)) return;
+    console.error(`page: ${of}: ${text(got)}, where ${text(wanted)} is wanted`);
+    process.exit(1);
+}
+
+function throws(call, kind, message, of) {
+    try {
+        call();
+    } catch (error) {
+        same([error instanceof kind, error.message], [true, message], of);
+        return;
+    }
+    same("nothing is thrown", message, of);
+}
+
+if (what === "--bits") {
+    for (const line of readFileSync(0, "latin1").split("\n").slice(0, -1)) {
+        const names = brokenClauses(Uint8Array.from(Buffer.from(line, "hex")));
+        console.log(String(names.reduce((bits, name) => bits | (1n << BigInt(CLAUSES.findIndex(clause => clause.name === name))), 0n)));
+    }
+    process.exit(0);
+}
+
+// The table.
+const rows = rowsOf(readFileSync(what, "utf8"));
+const call = async (name, ...args) => {
+    const result = package_[name](...args);
+    return result && typeof result.next === "function" ? [...result] : result;
+};
+for (const { row, kind, text, dialect, wanted } of rows) same(await answered(call, kind, text, dialect), wanted, `row ${row}, ${dialect}`);
+if (rows.length < 400) same(rows.length, "400 answers or more", "the table");
+console.log(`page: Node ${process.version}: ${countsOf(rows)} are as the table has them`);
+
+// Texts in parts give what they give as a whole: cut into parts of each length, as strings and as bytes.
+const texts = [...new Set(rows.map(({ text }) => text))];
+const all = `${texts.join("\n")}\n${"x".repeat(70_000)} f=1i\nm s="${`${"y".repeat(60)}\n`.repeat(1500)}" 5\nGröße,k=流量 f="débit 😀"\n`;
+const inParts = function* (text, size) { for (let at = 0; at < text.length; at += size) yield text.slice(at, at + size); };
+const gathered = async (source, options) => {
+    const items = [];
+    for await (const item of new Reader(source, options)) items.push(item);
+    return items;
+};
+let streams = 0;
+for (const dialect of ["crate", "strict", "newline-delimited"]) {
+    const options = { dialect, places: true }, whole = [...parse(all, options)], bytes = new TextEncoder().encode(all);
+    for (const size of [1, 2, 3, 7, 1000, 65_536]) {
+        if (size === 1 && dialect !== "strict") continue;
+        same(await gathered(inParts(all, size), options), whole, `a text in parts of ${size}, ${dialect}`);
+        same(await gathered(inParts(bytes, size), options), whole, `bytes in parts of ${size}, ${dialect}`);
+        streams += 2;
+    }
+    same(await gathered(new ReadableStream({ start(to) { to.enqueue(bytes); to.close(); } }), options), whole, `a ReadableStream, ${dialect}`);
+}
+
+// A key that stands in the text is the one that is made of the parts.
+let keys = 0;
+for (const dialect of ["crate", "strict", "newline-delimited"]) {
+    for (const item of parse(all, { dialect, keys: true })) {
+        if (item.fault) continue;
+        same(item.key, seriesKey(item), "a key of a series");
+        keys += 1;
+    }
+}
+
+// What is written is what was meant, and what may not be written is refused.
+const line = { measurement: "m x", tags: { b: "1,2", a: "=" }, fields: [["i", -5n], ["u", { unsigned: 2n ** 64n - 1n }], ["f", -0], ["s", 'q"\\\n'], ["t", true]], timestamp: new Date(5) };
+same(write(line), 'm\\ x,b=1\\,2,a=\\= i=-5i,u=18446744073709551615u,f=-0,s="q\\"\\\\\n",t=true 5000000\n', "a line that is written");
+same(seriesKey(line), "m\\ x,a=\\=,b=1\\,2", "its key");
+same([...parse(write([line, line]))].length, 2, "two lines");
+throws(() => write(line, { dialect: "newline-delimited" }), NotAdmitted, "the string of field 4 of line 1 would not read back", "a string with a newline");
+throws(() => write([line, { measurement: "m", tags: { k: "v\\" }, fields: { f: 1 } }]), NotAdmitted, "the value of tag 1 of line 2 would not read back", "a backslash");
+throws(() => write({ measurement: "#m", fields: { f: 1 } }), NotAdmitted, "the measurement of line 1 would not read back", "a comment");
+throws(() => write({ measurement: "m", fields: {} }), TypeError, "a line has a field", "no field");
+throws(() => write({ measurement: "m", fields: { f: 2n ** 63n } }), RangeError, "9223372036854775808 is no integer of 64 bits", "a large integer");
+throws(() => write({ measurement: "m", fields: { f: NaN } }), RangeError, "NaN is no float that can be written", "no number");
+throws(() => [...parse("m", { dialect: "loose" })], RangeError, "loose is no dialect: it is one of crate, strict, newline-delimited", "a dialect");
+same([...parse("m f=1e999,g=1.50")][0].fields, [["f", { float: "1e999" }], ["g", 1.5]], "floats");
+same(rebuild("m  f=t\nm f"), { batch: "m f=true\n", faults: "item 2: No fields were provided\n", carried: 1, refused: 1 }, "a rebuild");
+same([isPortable("m f=1u"), isPortable("m f=1u", "victoria"), isPortable("m f=1i 1590488773254420000")], [false, true, true], "what is portable");
+const bad = [...parse(Uint8Array.from([109, 32, 102, 61, 49, 10, 109, 32, 0xc3, 0x28, 61, 49, 10, 110, 32, 102, 61, 50]))];
+same(bad.map(it => it.measurement ?? [it.fault, it.line, it.stopColumn]), ["m", ["not_utf8", 2, 3], "n"], "bytes that are not UTF-8");
+try {
+    await gathered(["m f=1\n", "m s=\"".padEnd(200, "x")], { maxLine: 100 });
+    same("nothing is thrown", "TooLong", "a long piece");
+} catch (error) {
+    same([error instanceof TooLong, error.message], [true, "the piece that begins in line 2 has more than 100 bytes"], "a long piece");
+}
+console.log(`page: ${texts.length} texts as one stream, in ${streams} cuts, ${keys} keys, and what is written and refused`);
+
+// The first program of the page of the package prints what it says.
+const [, program, printed] = /```js\n(.*?)```.*?```text\n(.*?)```/s.exec(readFileSync(`${folder}/README.md`, "utf8"));
+const lines = [], asPrinted = it => (typeof it === "string" ? it : inspect(it));
+await new (async () => {}).constructor("parse", "console", program.replace(/^import .*\n/, ""))(parse, { log: (...words) => lines.push(`${words.map(asPrinted).join(" ")}\n`) });
+same(lines.join(""), printed, "what the first program prints");
+
+// Faults are those that lp_relay tells, at the same places: of the texts of the table, and of hostile ones.
+if (relay) {
+    let seed = 64, faults = 0;
+    const dice = n => (seed = (seed * 1103515245 + 12345) % 2147483648) % n;
+    const parts = ["m", ",", " ", "=", '"', "\\", "\n", "\n", "f=1i", "t=v", "#", "\t", "9".repeat(25), "é", "f=", " 5", "x"].map(part => Buffer.from(part)).concat(Buffer.from([0xff]));
+    const hostile = Array.from({ length: 60 }, () => Buffer.concat(Array.from({ length: 60 }, () => parts[dice(parts.length)])));
+    for (const text of [Buffer.from(texts.join("\n")), ...hostile]) {
+        for (const [dialect, ...flags] of [["crate"], ["strict", "--strict"], ["newline-delimited", "--newline-delimited"]]) {
+            const told = spawnSync(relay, [...flags, "--faults", "json", "--verbatim", "--check"], { input: text, maxBuffer: 1 << 28 }).stderr;
+            const wanted = told.toString().split("\n").filter(Boolean).map(JSON.parse)
+                .map(it => [it.item, it.line, it.offset, it.piece_line, it.piece_offset, it.kind, it.stop_line, it.stop_column]);
+            const got = [...parse(text, { dialect })].filter(it => it.fault)
+                .map(it => [it.item, it.line, it.offset, it.pieceLine, it.pieceOffset, it.fault, it.stopLine, it.stopColumn]);
+            same(got, wanted, `the faults of ${JSON.stringify(text.toString())}, ${dialect}`);
+            faults += got.length;
+        }
+    }
+    console.log(`page: ${faults} faults are those that lp_relay tells, at the same places`);
+}
+
+// What the types declare is there, and the other way round.
+const declared = [...readFileSync(`${folder}/index.d.ts`, "utf8").matchAll(/^export (?:function|class|const) (\w+)/gm)].map(found => found[1]);
+same([...new Set(declared)].sort(), Object.keys(package_).sort(), "what index.d.ts declares");

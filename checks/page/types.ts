@@ -1,0 +1,35 @@
+/* What the types of the package let a program say. It is not run: checks/page.sh asks TypeScript whether it is right. */
+import {
+    CLAUSES, Item, Line, NotAdmitted, Reader, TooLong, brokenClauses, connect, hasWideMemory, isPortable, parse, rebuild, seriesKey, write,
+} from "influxdb-line-protocol";
+import * as core from "influxdb-line-protocol/core.js";
+
+export async function times(stream: ReadableStream<Uint8Array>): Promise<bigint[]> {
+    const found: bigint[] = [];
+    try {
+        for await (const item of new Reader(stream, { dialect: "strict", maxLine: 100 })) {
+            if (!("fault" in item) && item.timestamp !== null) found.push(item.timestamp);
+        }
+    } catch (error) {
+        if (error instanceof TooLong) console.log(error.line, error.limit);
+    }
+    return found;
+}
+
+for (const item of parse("m f=1i", { dialect: "newline-delimited", places: true })) {
+    const at: number = "fault" in item ? item.stopColumn : item.offset;
+    if ("fault" in item) console.log(item.fault, at, item.refused.length);
+    else console.log(item.measurement, item.fields[0][1], at);
+}
+
+const line: Line = { measurement: "m", tags: [["a", "b"]], fields: [["f", 1n], ["u", { unsigned: 1n }], ["x", { float: "1e400" }]], timestamp: null };
+try {
+    const text: string = write([line, { measurement: "m", fields: { f: true }, timestamp: new Date() }], { dialect: "crate" });
+    const { batch, refused } = rebuild(text), items: Item[] = [...parse(new Uint8Array(3), { keys: true })];
+    console.log(batch, refused, items, seriesKey({ measurement: "m", tags: { a: "b" } }));
+    console.log(brokenClauses(text, { tags: 3 }), isPortable(text, "victoria"), CLAUSES[0].means, hasWideMemory());
+} catch (error) {
+    if (error instanceof NotAdmitted) console.log(error.what, error.index);
+}
+const calls = core.hasWideMemory() ? await core.connect(new Uint8Array(8)) : await connect(new Uint8Array(8));
+for (const item of calls.parse("x")) console.log(item);

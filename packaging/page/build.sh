@@ -1,0 +1,53 @@
+#!/usr/bin/env bash
+# Makes the page and the package for JavaScript, for bin/dist:
+#
+#     packaging/page/build.sh FOLDER           proves and builds the module of crates/lp_page first
+#     packaging/page/build.sh FOLDER BUILT     takes the module lp_page.wasm of the folder BUILT; without one nothing is made
+#
+# FOLDER then has try.html, the folder influxdb-line-protocol-js, and `verdict`: what the kit says of the crate for WebAssembly, if it was built
+# now. `rt` takes no crate for WebAssembly into the gate. So the crate is proved and built for x86-64 as any other, and then proved and compiled
+# here for wasm64: of the libraries below the kit keeps proved code, which is compiled for any processor.
+set -euo pipefail
+. "$(dirname "$(readlink -f "$0")")/../../launch.sh"
+here=$top/packaging/page
+target=wasm64-unknown-unknown
+
+# Proves the crate for WebAssembly, and links the module FILE.
+compile() {
+    local low words=() below=()
+    for low in std $(line_of lp_page | cut -d : -f 2); do
+        words+=(--extern "$low=$(if [ -d "$top/crates/$low" ]; then echo "$top/crates/$low/out/rlib"; else echo "$kit/rlibs"; fi)/$low.rlib")
+    done
+    add_below lp_page
+    for low in "${below[@]}"; do words+=(-L "dependency=$top/crates/$low/out/rlib"); done
+    if ! (cd "$top/crates/lp_page" && rattle build --crate-name lp_page src/lib.rt "${words[@]}" -L "dependency=$kit/rlibs" --links lp_page= \
+        --antt-project "$kit/rattle/logic/antt-project.json" --logic-built "$kit/logic_built" --toolchain "$kit/toolchain" --jobs 2 \
+        --incremental out/incremental --crate-type staticlib --target "$target" -o "$made/lp_page.a" &&
+        rattle-link --target "$target" --toolchain "$kit/toolchain" -o "$1" "$made/lp_page.a") >"$made/log" 2>&1; then
+        cat "$made/log" >&2
+        echo "page: lp_page was not built" >&2
+        exit 1
+    fi
+    sed -n 's/^logic=/lp_page: &/p' "$made/log" >"$made/verdict"
+}
+
+[ $# = 1 ] || [ $# = 2 ] || { echo "usage: packaging/page/build.sh FOLDER [BUILT]" >&2; exit 2; }
+made=$(mktemp -d)
+trap 'rm -rf "$made"' EXIT
+if [ -n "${2-}" ]; then
+    [ -f "$2/lp_page.wasm" ] || exit 0
+    cp "$2/lp_page.wasm" "$made/"
+else
+    line_of lp_page >/dev/null || exit 0
+    build_if_changed page lp_page || exit 1
+    kit=$(kit)
+    compile "$made/lp_page.wasm"
+fi
+package=$1/influxdb-line-protocol-js
+rm -rf "$package"
+mkdir -p "$package"
+cp "$top"/bindings/js/{core.js,core.d.ts,index.js,index.d.ts,README.md} "$top"/LICENSE-* "$made/lp_page.wasm" "$package/"
+sed "s/\"version\": \"[^\"]*\"/\"version\": \"$(version)\"/" "$top/bindings/js/package.json" >"$package/package.json"
+chmod -R u=rwX,go=rX "$package"
+"$here/make.sh" "$made/lp_page.wasm" "$(version)" >"$1/try.html"
+[ ! -f "$made/verdict" ] || cp "$made/verdict" "$1/verdict"
