@@ -342,7 +342,7 @@ def places():
         Place(relay, (mark, mark), last, list(after_words(found))),
         Place(rebuild, (mark,), last, [f'    local options="{" ".join(option.word for option in rebuilds)}"']),
         Place("docs/FORMAT.md", ("| arguments of a program", "| none |"), "| files, also before these", list(rows(found))),
-        Place("README.md", ("<!-- the usage of lp_relay -->", "```text"), "```", usage(found)),
+        Place("docs/OPERATING.md", ("<!-- the usage of lp_relay -->", "```text"), "```", usage(found)),
     ]
 
 
