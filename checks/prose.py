@@ -82,7 +82,7 @@ def comments():
         held, start = [], 0
         for number, line in enumerate([*path.read_text(encoding="utf-8").splitlines(), ""], 1):
             found = re.match(r"\s*//[/!] ?(.*)", line)
-            text = found[1] if found else ""
+            text = found[1] if found and not found[1].startswith("|") else ""
             if held and (not text or ITEM.match(text)):
                 yield path, start, " ".join(held)
                 held = []
