@@ -94,7 +94,10 @@ else
     left_out "VictoriaMetrics of docs/INTEROP.md" "there is no victoria-metrics"
 fi
 python3 -B "$here/interop.py" "${mode[@]}" "$relay" "${readers[@]}"
-[ ${#mode[@]} != 0 ] || python3 -B "$here/writers.py"
+# The Python that has the writers: this one, or Debian's.
+python=python3
+"$python" -c 'import influxdb' 2>/dev/null || python=/usr/bin/python3
+[ ${#mode[@]} != 0 ] || "$python" -B "$here/writers.py"
 [ ${#places[@]} != 0 ] || exit 0
 if ! command -v curl >/dev/null; then
     left_out "batches and lines of docs/INTEROP.md with servers" "there is no curl"
