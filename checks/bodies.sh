@@ -5,7 +5,7 @@
 #   checks/bodies.sh --only NAME CRATE    the body or the edit of must-fail/ that has this name, alone
 #
 # They show what no edit of must-fail/ shows, but the gate has no time for them: each takes 10 to 40 seconds. They are tried on a
-# copy, over what `rt check` proves there first.
+# copy, over what `rt check` proves there first; one alone begins with what was proved in this tree.
 set -eu
 here=$(cd "$(dirname "$0")" && pwd)
 top=$(cd "$here/.." && pwd)
@@ -20,7 +20,10 @@ work=$(mktemp -d)
 trap 'rm -rf "$work"' EXIT
 cp -a "$top/crates.txt" "$top/HANDLES" "$work"
 mkdir "$work/crates"
-(cd "$top/crates" && tar c --exclude=./*/out .) | tar x -C "$work/crates"
+# One alone begins with what was proved here.
+kept=(--exclude=./*/out)
+[ -z "$only" ] || kept=()
+(cd "$top/crates" && tar c "${kept[@]}" .) | tar x -C "$work/crates"
 rm -rf "$work"/crates/*/must-fail
 
 "$here/bodies.py" --write "$work/crates"
