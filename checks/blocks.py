@@ -9,7 +9,8 @@ kinds of faults in the man page of lp_relay, from the code that names them. Thos
 
 In a document the line `<!-- block NAME -->` comes before a block. A stretch of an example goes from the line `// [NAME]` to
 `// [end]`, or with `#` in the place of `//`; the spaces that begin all its lines are left out. A NAME with a `/` is a whole file
-without these lines: of bindings/ or crates/, or else from crates/lp_examples on.
+without these lines: of bindings/ or crates/, or else from crates/lp_examples on. Each stretch is a block of some document, or a document
+links the file of crates/lp_examples that has its name.
 """
 
 import re
@@ -166,9 +167,10 @@ def first_difference(path, old, new):
 def run(words):
     known, quoted, stale = stretches(), set(), []
     texts = {document: filled(document, known, quoted) for document in DOCUMENTS}
-    unquoted = sorted(set(known) - quoted)
+    linked = set(re.findall(r"lp_examples/src/(\w+)\.rt\)", "".join(texts.values())))
+    unquoted = sorted(set(known) - quoted - linked)
     if unquoted:
-        raise Fault(f"no document has the stretch `{unquoted[0]}`")
+        raise Fault(f"no document has the stretch `{unquoted[0]}`, or a link to a file of that name")
     stale += [first_difference(document, read(document), text) for document, text in texts.items() if text != read(document)]
     lists = [*options.places(), *completions.places(), texts_of_dialects(), kinds_of_page()]
     for place in lists:

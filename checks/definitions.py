@@ -1,9 +1,9 @@
 #!/usr/bin/env python3
-"""The two lists of definitions, from specs/ of the crates with contracts: docs/DEFINITIONS.md has what the contracts of public
-calls cite, and what that rests on; docs/INNER_DEFINITIONS.md has what the code needs besides.
+"""The list of definitions, from specs/ of the crates with contracts: docs/DEFINITIONS.md has what the contracts of public calls cite, and
+what that rests on. What the code needs besides stands in specs/ alone.
 
-    checks/definitions.py            whether the lists say what specs/ says; status 1 if they do not
-    checks/definitions.py --write    writes the lists
+    checks/definitions.py            whether the list says what specs/ says; status 1 if it does not
+    checks/definitions.py --write    writes the list
     checks/definitions.py --bare     names the definitions without a comment
 
 A definition is cited if a clause of a public call has its name as a word, or another cited definition has, of its crate or one
@@ -28,21 +28,12 @@ HEAD = """\
 # Definitions
 
 What the contracts of public calls cite, and what that rests on: definitions of `specs/`, each by its own comment, in the
-order in which they rest on one another. [INNER_DEFINITIONS.md](INNER_DEFINITIONS.md) has those that no caller needs.
+order in which they rest on one another. Definitions that no caller needs stand in `specs/` of [each crate](../crates) alone.
 [FORMAT.md](FORMAT.md) has the rules in plain words, with examples; a definition says the same thing exactly, and is read
 in the file that its subject links. [GLOSSARY.md](GLOSSARY.md) has the words of the comments. If a definition has no
 comment, its type is in its place.
 
 `checks/definitions.py --write` writes this page, and the test command compares it with `specs/`.
-"""
-
-INNER_HEAD = """\
-# Inner definitions
-
-Definitions of `specs/` that the contract of no public call cites: the code and its proofs need them.
-[DEFINITIONS.md](DEFINITIONS.md) has those that a caller reads.
-
-`checks/definitions.py --write` writes this page too.
 """
 
 # The crates of the programs `lp_relay` and `lp_series`, and of what they share.
@@ -296,13 +287,12 @@ def list_text(head, found):
     return "\n".join(lines).rstrip("\n") + "\n"
 
 
-def pages():
-    """Each page's path and what it is to say."""
+def page():
+    """What the page is to say."""
     found = subjects()
     cite(found)
-    for name, head, is_cited in ("DEFINITIONS.md", HEAD, True), ("INNER_DEFINITIONS.md", INNER_HEAD, False):
-        kept = [replace(s, definitions=[d for d in s.definitions if d.is_cited == is_cited]) for s in found]
-        yield DOCS / name, list_text(head, [subject for subject in kept if subject.definitions])
+    kept = [replace(s, definitions=[d for d in s.definitions if d.is_cited]) for s in found]
+    return list_text(HEAD, [subject for subject in kept if subject.definitions])
 
 
 def differ(path, wanted):
@@ -333,19 +323,18 @@ def main(words):
     if words not in ([], ["--write"]):
         print(__doc__, file=sys.stderr)
         return 2
-    status = 0
-    for path, wanted in pages():
-        what = f"{wanted.count('- **`')} definitions"
-        if words:
-            path.write_text(wanted, encoding="utf-8")
-            print(f"definitions: docs/{path.name} is written, {what}")
-        elif difference := differ(path, wanted):
-            print(f"definitions: docs/{path.name} is not what specs/ says: {difference}", file=sys.stderr)
-            print("definitions: run checks/definitions.py --write", file=sys.stderr)
-            status = 1
-        else:
-            print(f"definitions: docs/{path.name} says what specs/ says, {what}")
-    return status
+    path, wanted = DOCS / "DEFINITIONS.md", page()
+    what = f"{wanted.count('- **`')} definitions"
+    if words:
+        path.write_text(wanted, encoding="utf-8")
+        print(f"definitions: docs/{path.name} is written, {what}")
+    elif difference := differ(path, wanted):
+        print(f"definitions: docs/{path.name} is not what specs/ says: {difference}", file=sys.stderr)
+        print("definitions: run checks/definitions.py --write", file=sys.stderr)
+        return 1
+    else:
+        print(f"definitions: docs/{path.name} says what specs/ says, {what}")
+    return 0
 
 
 if __name__ == "__main__":

@@ -1,12 +1,12 @@
 #!/usr/bin/env bash
-# Compares the documents with what they copy: the two lists of definitions in docs/ with specs/, the blocks of code in README.md,
-# docs/RATTLE.md and docs/BINDINGS.md with the examples, and each list of options with packaging/options.txt, as the code of the programs
-# too; each link with what it leads to; imports, and files of definitions and lemmas, with the map in docs/ARCHITECTURE.md and the pages of
-# the crates; the licences of the crates with those at the top; the header for C with crates/lp_c; the packages of bindings/ with the
-# header; the version that lp_relay and lp_series tell with CHANGELOG.md, and the kit with the one that is here. And sees that each lemma has a line on what it means, that each wrong body
-# of checks/bodies/ can be planted, that crates/lp_page has the items of crates/lp_c, that each public call with a body has one or an edit of must-fail/, that docs/TRUST.md names each public
-# call with a clause and each condition, that CONTRIBUTING.md has a row for each file that names a fault, and that what pages name in code
-# is there. Needs Python 3.10, and no package.
+# Compares the documents with what they copy: the list of definitions in docs/ with specs/, the blocks of code of the pages with the
+# examples, and each list of options with packaging/options.txt, as the code of the programs too; each link with what it leads to; imports
+# with the map in docs/ARCHITECTURE.md; the licences of the crates with those at the top; the header for C with crates/lp_c; the packages of
+# bindings/ with the header; the version that lp_relay and lp_series tell with CHANGELOG.md, and the kit with the one that is here. And sees
+# that no sentence and no cell of a table is too long, that each lemma has a line on what it means, that each wrong body of checks/bodies/ can
+# be planted, that crates/lp_page has the items of crates/lp_c, that each public call with a body has one or an edit of must-fail/, that
+# docs/TRUST.md names each public call with a clause and each condition, that CONTRIBUTING.md has a row for each file that names a fault, and
+# that what pages name in code is there. Needs Python 3.10, and no package.
 set -eu
 here=$(cd "$(dirname "$0")" && pwd)
 if ! python3 -c 'import sys; sys.exit(sys.version_info < (3, 10))' 2>/dev/null; then
@@ -35,6 +35,7 @@ python3 -B "$here/blocks.py"
 python3 -B "$here/options.py"
 python3 -B "$here/fault_files.py"
 python3 -B "$here/links.py"
+python3 -B "$here/prose.py"
 python3 -B "$here/promises.py"
 python3 -B "$here/layers.py"
 python3 -B "$here/lemmas.py"

@@ -1,7 +1,8 @@
 #!/usr/bin/env bash
 # Writes texts to servers of its own, and the lines that lp_relay makes of them, rebuilt, verbatim and canonical, and compares what is
 # stored with the tables of docs/INTEROP.md. The texts are in interop.py. Then batches.py writes texts with a line after each, also those
-# of portable_rows.txt; the servers are started again, and it asks what they have. Last, posting.sh posts by the lines of the page, and
+# of portable_rows.txt; the servers are started again, and it asks what they have. writers.py compares what writers in Python write with
+# the page. Last, posting.sh posts by the lines of the page, and
 # sending.sh by examples/send.sh.
 #
 #   checks/interop.sh RELAY            compares with the page
@@ -93,6 +94,10 @@ else
     left_out "VictoriaMetrics of docs/INTEROP.md" "there is no victoria-metrics"
 fi
 python3 -B "$here/interop.py" "${mode[@]}" "$relay" "${readers[@]}"
+# The Python that has the writers: this one, or Debian's.
+python=python3
+"$python" -c 'import influxdb' 2>/dev/null || python=/usr/bin/python3
+[ ${#mode[@]} != 0 ] || "$python" -B "$here/writers.py"
 [ ${#places[@]} != 0 ] || exit 0
 if ! command -v curl >/dev/null; then
     left_out "batches and lines of docs/INTEROP.md with servers" "there is no curl"

@@ -1,9 +1,8 @@
 #!/usr/bin/env python3
 """Whether crates and modules, with their definitions and proofs, stand on nothing above them in docs/ARCHITECTURE.md.
 
-    checks/layers.py            prints each import that goes up a layer or closes a cycle, each file of definitions or lemmas that
-                                the page of its crate does not name, and each module of a crate of tests that the table of these
-                                crates does not name; status 1 if there is one
+    checks/layers.py            prints each import that goes up a layer or closes a cycle, and each module of a crate of tests that the
+                                table of these crates does not name; status 1 if there is one
     checks/layers.py --all      prints every import between modules, with what is imported
 
 The map in docs/ARCHITECTURE.md lists the crates, each above those that it uses, and below a crate its modules in layers. A module
@@ -222,19 +221,6 @@ def proof_imports(crate, layer):
                 yield f"proofs: {path.relative_to(TOP)} imports {'.'.join(words)}, of a layer above"
 
 
-def unnamed_files():
-    """The files of definitions and lemmas that the page of their crate does not name. A file beside a folder of its name only lists
-    that folder."""
-    for folder in ("specs", "proofs"):
-        for path in sorted(CRATES.glob(f"*/{folder}/**/*.antt")):
-            crate, _, *inside = path.relative_to(CRATES).parts
-            page = CRATES / crate / "README.md"
-            text = page.read_text(encoding="utf-8") if page.is_file() else ""
-            is_lemmas = folder == "specs" or len(inside) == 1 or inside[0] == "lemmas"
-            if is_lemmas and path.stem != "Lib" and not path.with_suffix("").is_dir() and f"`{path.stem}`" not in text:
-                yield f"page: crates/{crate}/README.md does not name {path.relative_to(CRATES / crate)}"
-
-
 def wrong_in(crate, lines, everything):
     """Prints the imports of a crate that are wrong, and gives how many modules it has and how many imports are wrong."""
     source = CRATES / crate / "src"
@@ -261,7 +247,7 @@ def main(words):
         print(f"layers: {fault}", file=sys.stderr)
         return 1
     number, wrong = (sum(count) for count in zip(*counts))
-    strange = [*crates_out_of_order(), *modules_out_of_table(), *definition_imports(), *unnamed_files()]
+    strange = [*crates_out_of_order(), *modules_out_of_table(), *definition_imports()]
     print("".join(f"{line}\n" for line in strange), end="")
     print(f"layers: {number} modules of {len(crates)} crates, {wrong} imports that go up or close a cycle")
     return 1 if wrong or strange else 0

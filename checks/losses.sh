@@ -350,7 +350,7 @@ cmp left <(tail -n 4 large) || lost "the lines that are refused for their times"
 [ "$(tail -n 1 "$work/err")" = "$(wc -c <large) bytes, 200004 lines, 200004 items: 200000 carried, 4 refused: 1 cannot_parse_entire_line, \
 1 time_missing, 1 time_out_of_range, 1 time_overflow" ] || lost "the lines that are refused for their times are not counted so"
 rm other left
-# The lines after one of 100,000 that leaves a quote open, as README.md shows it. In the strict dialect all of them are in its string.
+# The lines after one of 100,000 that leaves a quote open, as docs/OPERATING.md shows it. In the strict dialect all of them are in its string.
 seq 100000 | sed 's/.*/m value=&i/; 11s/.*/m note="open/' >large
 told="item 11: No fields were provided\n1488896 bytes, 100000 lines"
 given 1 "$(sed 11d large)\\n" "$told, 100000 items: 99999 carried, 1 refused: 1 field_set_missing\n" --newline-delimited --summary large
@@ -364,6 +364,7 @@ echo "losses: lp_relay loses nothing at sizes where a count or a buffer could en
 if python3 -c 'import sys; sys.exit(sys.version_info < (3, 10))' 2>/dev/null; then
     "$top/checks/settings.py" "$relay"
     "$top/checks/batch_files.py" "$relay"
+    "$top/checks/grammar.py" "$relay"
 else
-    left_out "all settings of lp_relay, and batches" "there is no Python 3.10 or later, for checks/losses.sh"
+    left_out "all settings of lp_relay, batches, and the grammar" "there is no Python 3.10 or later, for checks/losses.sh"
 fi

@@ -1,7 +1,8 @@
 #!/usr/bin/env python3
 """Whether the code of lp_relay and lp_rebuild, and their definitions, know just the options of packaging/options.txt, whose head says
 what its lines mean; status 1 if not. And whether the code of lp_series, its definitions and each text that lists its options have the
-same ones as its help.
+same ones as its help. And whether each option of lp_relay, and each word of a few that comes after one, is told by hand where it must
+be: in the rows of docs/TRUST.md, in CHANGELOG.md, and in a check that runs lp_relay.
 
 checks/blocks.py compares each text that lists the options of the first two with what `places` makes of them here.
 """
@@ -33,6 +34,9 @@ TEXTS_OF_SERIES = (
     ("packaging/completion/lp_series", "_lp_series_options() {", "\n}", r"(--[a-z][a-z-]*)"),
     ("docs/FORMAT.md", "| arguments of `lp_series`", "\n\n", r"^\| `(--[a-z][a-z-]*)"),
 )
+# Where each option of lp_relay is told by hand: these pages, and one of these checks.
+TOLD = "docs/TRUST.md", "CHANGELOG.md"
+CHECKS = "arguments.sh", "losses.sh", "inputs.sh", "apart.sh", "objects.py", "settings.py", "batch_files.py", "ranges.py"
 OPTION = re.compile(r"(--[a-z][a-z-]*)(?: ([A-Z.]+))?")
 WORD = re.compile(r'"(-[a-zA-Z]|--[a-z][a-z-]*)"')
 
@@ -342,7 +346,7 @@ def places():
         Place(relay, (mark, mark), last, list(after_words(found))),
         Place(rebuild, (mark,), last, [f'    local options="{" ".join(option.word for option in rebuilds)}"']),
         Place("docs/FORMAT.md", ("| arguments of a program", "| none |"), "| files, also before these", list(rows(found))),
-        Place("README.md", ("<!-- the usage of lp_relay -->", "```text"), "```", usage(found)),
+        Place("docs/OPERATING.md", ("<!-- the usage of lp_relay -->", "```text"), "```", usage(found)),
     ]
 
 
@@ -373,6 +377,17 @@ def differences(found):
     yield from (f"{CODE['lp_relay'][1]}: are_at_odds and {DATA} differ in {name}" for name in sorted(fields ^ at_odds(definitions)))
     last = code.partition("The options of a relay come in any order")[2].partition('";')[0]
     yield from (f"{CODE['lp_relay'][0]}: the help does not say with what {word} is at odds" for word in sorted(odds) if word not in last)
+
+
+def untold(found):
+    """The options, and the words of a few after one, that are told by hand in some page or in no check."""
+    texts = {path: (TOP / path).read_text(encoding="utf-8") for path in TOLD}
+    texts["checks of lp_relay"] = "".join((TOP / "checks" / name).read_text(encoding="utf-8") for name in CHECKS)
+    for option in found:
+        for place, text in texts.items():
+            for word in (option.word, *option.get("values").split()):
+                if not re.search(rf"(?<![\w-]){re.escape(word)}(?![\w-])", text) and (place != "CHANGELOG.md" or word == option.word):
+                    yield f"no word of {word}{f', of {option.word}' if word != option.word else ''}, in {place}"
 
 
 def stretch_of(path, mark, end):
@@ -408,10 +423,11 @@ def main(words):
         return 2
     try:
         found = options()
-        said = [f"options: {line}" for line in (*differences(found), *said_of_series())]
+        said = [f"options: {line}" for line in (*differences(found), *untold(found), *said_of_series())]
     except Fault as fault:
         said = [f"options: {fault}"]
-    print("\n".join(said) or f"options: code and definitions have the {len(found)} options of {DATA}, and all texts those of lp_series")
+    print("\n".join(said) or f"options: code and definitions have the {len(found)} options of {DATA}, pages and checks name them, and all "
+          "texts have those of lp_series")
     return 1 if said else 0
 
 

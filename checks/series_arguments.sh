@@ -176,10 +176,10 @@ take_words() {
     ends 1 "10 bytes, 2 lines, 2 items: 0 carried, 2 refused: *" --newline-delimited
 }
 
-# The worked lines of docs/FORMAT.md and of README.md.
+# The worked lines of docs/FORMAT.md and of docs/OPERATING.md.
 worked() {
     printf 'cpu,host=a,az=b n=1i\ncpu,az=b,host=a n=2i\ncpu n=4i\n' >"$work/in"
-    wanted 0 "$(sed -n '/^<!-- what lp_series tells -->$/,/^```$/p' "$top/README.md" | sed '1,2d;$d')\n" \
+    wanted 0 "$(sed -n '/^<!-- what lp_series tells -->$/,/^```$/p' "$top/docs/OPERATING.md" | sed '1,2d;$d')\n" \
         "51 bytes, 3 lines, 3 items: 3 carried, 0 refused\n"
     local first='cpu,host=a,az=x v=1i' second='cpu,az=x,host=a v=2i' key='cpu,az=x,host=a' told="59 bytes, 4 lines, 4 items: 4 carried, 0 refused"
     printf '%s\n%s\n mem v=3i' "$first" "$second" >"$work/in"

@@ -19,7 +19,7 @@ if [ "${1-}" = --engines ]; then
     shift
 fi
 if [ "${1-}" = --servers ]; then
-    packages+=(influxdb victoria-metrics curl golang-github-victoriametrics-{victoriametrics,metrics,metricsql}-dev
+    packages+=(influxdb victoria-metrics curl python3-influxdb python3-aioinflux golang-github-victoriametrics-{victoriametrics,metrics,metricsql}-dev
         golang-github-valyala-{fastjson,fastrand,histogram}-dev)
     shift
 fi
@@ -71,7 +71,7 @@ is_here() {
     python3) python3 -c 'import sys; sys.exit(sys.version_info < (3, 10))' ;;
     python3-dev) python3 -c 'import os, sysconfig; os.stat(sysconfig.get_path("include") + "/Python.h")' ;;
     python3-venv) python3 -c 'import ensurepip, venv' ;;
-    python3-numpy | python3-pandas | python3-distributed) can_import "${1#python3-}" ;;
+    python3-numpy | python3-pandas | python3-distributed | python3-influxdb | python3-aioinflux) can_import "${1#python3-}" ;;
     librust-*) compgen -G "/usr/share/cargo/registry/${crate%-dev}-[0-9]*" ;;
     *) command -v "$1" ;;
     esac >/dev/null 2>&1

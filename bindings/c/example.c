@@ -32,12 +32,14 @@ static bool print_lines(const uint8_t *text, size_t len) {
     uint8_t bytes[64]; /* and for those of its texts that hold escapes, without them */
     lp_empty_parts(parts, 8);
     if (!lp_lines_begin(text, len, LP_CRATE, &lines)) return false;
+    // [reading_in_c]
     do {
         lp_room room = { bytes, sizeof bytes };
         answer = lp_lines_next(&lines, &room, &line, parts, 8);
         if (answer == LP_LINE) print_line(&line, parts);
         if (answer == LP_FAULT) print_fault(&line);
     } while (answer == LP_LINE || answer == LP_FAULT);
+    // [end]
     return answer == LP_END;
 }
 

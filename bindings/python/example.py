@@ -11,6 +11,15 @@ for item in line_protocol.parse(text):
         print("a fault:", item.kind.name, item.text)
 # [end]
 
+# [writing_in_python]
+import line_protocol
+
+try:
+    line_protocol.write(line_protocol.Line("login", {"user": "guest\npayments"}, {"ok": True}))
+except line_protocol.NotAdmitted as refused:
+    print(refused)
+# [end]
+
 # [sums_in_python]
 from collections import Counter
 

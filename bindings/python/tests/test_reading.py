@@ -68,7 +68,9 @@ class Lines(unittest.TestCase):
             runpy.run_path(str(Path(__file__).parent.parent / "example.py"))
         self.assertEqual(
             printed.getvalue(),
-            "disk usage [('host', 'a')] [('free', 42.5)] None\na fault: FIELD_SET_MISSING \nCounter({'cpu': 4, 'cpu,az=b,host=a': 3})\n")
+            "disk usage [('host', 'a')] [('free', 42.5)] None\na fault: FIELD_SET_MISSING \n"
+            "the value of the tag 'user' is not admitted: 'guest\\npayments' holds a newline\n"
+            "Counter({'cpu': 4, 'cpu,az=b,host=a': 3})\n")
 
 
 class Blocks(unittest.TestCase):
