@@ -71,7 +71,7 @@ impl Asked {
             }
             "editor" => self.settings.faults = Faults::Editor { first_line: number },
             "reads" => self.reads = Some(number),
-            "now" => self.now = Some(number as i64),
+            "now" => self.now = i64::try_from(number).ok(),
             "types" => self.settings.types = Some(StrictTypes { max_fields: number }),
             "shards" => self.settings.lines = shard(0, number),
             "shard" => match self.settings.lines {
