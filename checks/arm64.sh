@@ -26,7 +26,7 @@ TOOLS
 work=$(mktemp -d)
 trap 'chmod -R u+w "$work"; rm -rf "$work"' EXIT
 emulated=(qemu-aarch64 -L "/usr/$cross")
-flags=(-std=c11 -O2 -Wall -Wextra -Wpedantic -Werror "-I$top/include")
+c_flags=(-std=c11 -O2 -Wall -Wextra -Wpedantic -Werror "-I$top/include")
 set -E
 trap 'echo "arm64: line $LINENO: a command ended with status $?: $BASH_COMMAND" >&2' ERR
 told=()
@@ -130,11 +130,11 @@ refuse() {
 # Each function of os.c does what the kit's does.
 call_os() {
     local words=("" one "two words" 0123456789) kit
-    "$cross-gcc" "${flags[@]}" "$top/checks/os.c" "$top/packaging/arm64/os.c" -o "$work/os"
+    "$cross-gcc" "${c_flags[@]}" "$top/checks/os.c" "$top/packaging/arm64/os.c" -o "$work/os"
     (cd "$work" && "${emulated[@]}" ./os "${words[@]}") >"$work/out" || fail "$(cat "$work/out")"
     kit=$(command -v rt >/dev/null && kit) || kit=
     if [ -e "$kit/c/libos_c.a" ] && [ "$(uname -m)" = x86_64 ]; then
-        "${CC:-cc}" "${flags[@]}" "$top/checks/os.c" "$kit/c/libos_c.a" -o "$work/os-kit"
+        "${CC:-cc}" "${c_flags[@]}" "$top/checks/os.c" "$kit/c/libos_c.a" -o "$work/os-kit"
         equal "what the kit's own functions give" "$(cat "$work/out")" "$(cd "$work" && ./os-kit "${words[@]}")"
     else
         left_out "functions of the kit on x86-64" "there is no kit, or this is another processor"
@@ -170,8 +170,8 @@ compare_texts() {
     local words program
     python3 -B "$top/checks/portable.py" --random 7 "$count" >"$work/texts"
     for program in told portable; do
-        "${CC:-cc}" "${flags[@]}" "$top/checks/$program.c" "$top/bindings/c/heap.c" "$built/liblp_c.a" -o "$work/$program"
-        "$cross-gcc" "${flags[@]}" "$top/checks/$program.c" "$work/root/usr/lib/$cross/libinfluxdb_line_protocol.a" -o "$work/$program-arm64"
+        "${CC:-cc}" "${c_flags[@]}" "$top/checks/$program.c" "$top/bindings/c/heap.c" "$built/liblp_c.a" -o "$work/$program"
+        "$cross-gcc" "${c_flags[@]}" "$top/checks/$program.c" "$work/root/usr/lib/$cross/libinfluxdb_line_protocol.a" -o "$work/$program-arm64"
         "$work/$program" <"$work/texts" >"$work/wanted"
         "${emulated[@]}" "$work/$program-arm64" <"$work/texts" >"$work/given"
         [ "$(wc -l <"$work/given")" -ge "$count" ] || fail "$program.c says too little"
@@ -217,12 +217,12 @@ run_both() {
 build_c() {
     local program folder=$work/root/usr/lib/$cross answers=$top/crates/lp_answers/data/answers.tsv
     for program in example sums answers lending offsets verdicts cuts writing numbers; do
-        "$cross-gcc" "${flags[@]}" -DLP_REFUSE "$top"/bindings/c/{"$program",heap,empty}.c "$folder/libinfluxdb_line_protocol.a" -o "$work/$program"
+        "$cross-gcc" "${c_flags[@]}" -DLP_REFUSE "$top"/bindings/c/{"$program",heap,empty}.c "$folder/libinfluxdb_line_protocol.a" -o "$work/$program"
         "${emulated[@]}" "$work/$program" "$answers" >"$work/out" || fail "$program.c over the static library says: $(cat "$work/out")"
         [ ! -e "$top/bindings/c/$program.out" ] || same "what $program.c prints" "$top/bindings/c/$program.out" "$work/out"
     done
     for program in example answers; do
-        "$cross-gcc" "${flags[@]}" "$top/bindings/c/$program.c" -L"$folder" -linfluxdb_line_protocol -o "$work/$program"
+        "$cross-gcc" "${c_flags[@]}" "$top/bindings/c/$program.c" -L"$folder" -linfluxdb_line_protocol -o "$work/$program"
         "${emulated[@]}" -E LD_LIBRARY_PATH="$folder" "$work/$program" "$answers" >"$work/out" || fail "$program.c over the shared library says: $(cat "$work/out")"
     done
     told+=("11 programs in C, and $(cat "$work/out")")
