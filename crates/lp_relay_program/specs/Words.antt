@@ -159,13 +159,18 @@ given_batches given =
 abbrev pub given_old_pieces : Given → OldPieces
 given_old_pieces given = if given.append then Append else (if given.replace then Replace else Refuse)
 
--- whether two options exclude each other. A check has no file for lines, and no batches. The number of the first item is none of a line.
--- Lines go out in one way, and the rules are those of one dialect. Refused pieces are added to their file or replace it. Lines without a
--- timestamp have one time
+-- whether two options say of one thing that it is so and otherwise. Lines go out in one way, and the rules are those of one dialect. Refused
+-- pieces are added to their file or replace it. Lines without a timestamp have one time
+abbrev pub are_opposed : Given → Bool
+are_opposed given =
+    (given.verbatim && given.canonical) || (given.strict && given.newline_delimited) || (given.append && given.replace)
+    || (given.now && is_some given.default_time)
+
+-- whether two options exclude each other. A check has no file for lines, and no batches. The number of the first item is none of a line
 abbrev pub are_at_odds : Given → Bool
 are_at_odds given =
-    (given.check && (is_some given.output || is_some given.batch_lines || is_some given.batch_bytes)) || (is_some given.first_item && names_lines given) || (given.verbatim && given.canonical)
-    || (given.strict && given.newline_delimited) || (given.append && given.replace) || (given.now && is_some given.default_time)
+    (given.check && (is_some given.output || is_some given.batch_lines || is_some given.batch_bytes))
+    || (is_some given.first_item && names_lines given) || are_opposed given
 
 -- whether fields have a limit, but no types that stay
 abbrev pub lacks_types : Given → Bool

@@ -1,6 +1,6 @@
 //! What the words after the program's name ask for.
 ghost use Rattle.std.specs.Prelude.{◌≡◌};
-ghost use Rattle.lp_relay_program.specs.Words.{are_at_odds, asked_alone, asked_cut, asked_dialect, asked_request, asked_task, cut_task};
+ghost use Rattle.lp_relay_program.specs.Words.{are_at_odds, are_opposed, asked_alone, asked_cut, asked_dialect, asked_request, asked_task, cut_task};
 ghost use Rattle.lp_relay_program.specs.Words.{first_given, first_named, first_offset, given_batches, given_old_pieces, given_settings, is_json, lacks_refused, lacks_types, names_lines, told_form};
 ghost use Rattle.lp_relay_program.specs.Words.{nothing_given, portable_form, request_of, servers_named, start_number, times_form, types_form, with_file, with_flag, with_form, with_number, with_old_pieces, with_switch, with_times, with_value, with_word};
 
@@ -564,18 +564,24 @@ impl<'a> Given<'a> {
         }
     }
 
+    // Whether two options say of one thing that it is so and otherwise. Lines go out in one way, and the rules are those of one dialect. Refused
+    // pieces are added to their file or replace it. Lines without a timestamp have one time.
+    fn are_opposed(self) -> bool
+        ensures { result ≡ are_opposed self.entry }
+    {
+        self.verbatim && self.canonical
+            || self.strict && self.newline_delimited
+            || self.append && self.replace
+            || self.now && self.default_time.is_some()
+    }
+
     // Whether two options exclude each other. A check has no file for lines, and no batches. The number of the first item is none of a line.
-    // Lines go out in one way, and the rules are those of one dialect. Refused pieces are added to their file or replace it. Lines without a
-    // timestamp have one time.
     fn are_at_odds(self) -> bool
         ensures { result ≡ are_at_odds self.entry }
     {
         self.check && (self.output.is_some() || self.batches().is_some())
             || self.first_item.is_some() && self.names_lines()
-            || self.verbatim && self.canonical
-            || self.strict && self.newline_delimited
-            || self.append && self.replace
-            || self.now && self.default_time.is_some()
+            || self.are_opposed()
     }
 
     // Whether fields have a limit, but no types that stay.
