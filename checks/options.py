@@ -359,7 +359,7 @@ def told(path, text):
 
 def at_odds(text):
     """The fields that the definition of options at odds names, also by the definition of what fault lines name."""
-    bodies = re.findall(r"^(?:are_at_odds|names_lines) given =(.*?)\n\n", text, re.M | re.S)
+    bodies = re.findall(r"^(?:are_at_odds|are_opposed|names_lines) given =(.*?)\n\n", text, re.M | re.S)
     return set(re.findall(r"given\.(\w+)", "".join(bodies)))
 
 
