@@ -687,7 +687,7 @@ complete_series() {
         done
         completed "${others[*]}" lp_series "${words[@]}" --
     done
-    completed "line raw json json+text" lp_series --key --faults ""
+    completed "line raw json json+text editor" lp_series --key --faults ""
     for option in --every --max-series --shard --max-line; do completed "" lp_series "$option" ""; done
     for option in "" --json --prometheus; do completed "$top/launch.sh" lp_series ${option:+"$option"} "$top/lau"; done
 }
@@ -724,7 +724,7 @@ complete_all() {
     local others
     others=$(options '\nplace:' | paste -sd ' ')
     completed "$(options '\nlp_rebuild:' | paste -sd ' ')" lp_rebuild ""
-    completed "line raw json json+text" lp_relay --strict --faults ""
+    completed "line raw json json+text editor" lp_relay --strict --faults ""
     completed "raw" lp_relay --faults r
     completed "json json+text" lp_relay --faults j
     completed "--strict" lp_rebuild --s
