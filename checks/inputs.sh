@@ -251,4 +251,14 @@ printf 'item 2: the line is too long\n' >faults
 for option in --verbatim --strict --newline-delimited; do
     at_once long faults err "$option" --max-line 9
 done
+# So it is if each line has the time of its read, over many reads and in little memory.
+yes 'm a=1i 7' | head -n 7000 >stamped
+at_once stamped stamped out --now
+seq -f 'item %.0f: A generic parsing error occurred: TakeWhile1' 1 "$(wc -l <faulty)" >faults
+at_once faulty faults err --now
+yes 'm a=1i' | head -n 3000000 >lines
+printf 'item 3000001: A generic parsing error occurred: TakeWhile1\n' >faults
+(ulimit -v 40000 && cat lines <(echo x) | "$relay" --now 2>pipe_faults) | sed -E 's/ [0-9]{19}$//' >got
+cmp got lines
+cmp pipe_faults faults
 echo "inputs: lp_relay writes what a pipe gave it before it reads on"
