@@ -31,10 +31,9 @@ ghost use Rattle.lp_format.specs.format.Lines.{tag, field};
 /// admitted. So it is in the dialects of the crate and strict; if each newline ends a line, it is so if and only if, besides, no
 /// string holds a newline. If a point is not admitted, the batch parses to other items.
 /// Some of these names no line has, so no text parses to such a point: a name that is empty or ends
-/// in a backslash, a measurement that begins with `#`, a name with a tab or a newline, or a
-/// measurement with a NUL, that is not directly after a backslash. If the names of the
-/// first point that is not admitted are not among these, its line is answered `EndsWithBackslash` in
-/// the point's place.
+/// in a backslash, or a measurement that begins with `#`. So it is with a name that has a tab or a newline, or a measurement that
+/// has a NUL, not directly after a backslash. If the names of the first point that is not admitted are not among these, its line
+/// is answered `EndsWithBackslash` in the point's place.
 pub fn batch_reads_back()
     ensures admitted { AdmittedBatchesReadBack }
     ensures refused { OtherBatchesDoNotReadBack }
@@ -42,9 +41,9 @@ pub fn batch_reads_back()
     ensures in_place { OtherPointsEndWithBackslash }
 {}
 
-/// Lines of points that come after closed lines add these points and no others: in each dialect in which all are admitted, and with
-/// any text after them, the items are those of the lines before, then just these points in order, and then those of the text. An empty text is closed
-/// lines, and so is a text with a newline after it that may end its last piece.
+/// Lines of points that come after closed lines add these points and no others, in each dialect in which all are admitted, and with any text after
+/// them. The items are those of the lines before, then just these points in order, and then those of the text. An empty text is closed lines, and so
+/// is a text with a newline after it that may end its last piece.
 ///
 /// After any number of calls of [`write_admitted_line`](crate::write_admitted_line) a buffer holds what it held, and then the lines
 /// of the admitted points that were written. So these points are what it says besides, whichever lines were not written.
@@ -54,11 +53,10 @@ pub fn admitted_lines_read_back()
     ensures ended { EndedLinesAreClosed }
 {}
 
-/// No name of a line that was read is empty or ends in a backslash, no measurement begins with `#`,
-/// and a tab or a newline in a name comes directly after a backslash, as does a NUL in a
-/// measurement. Each text that these rules allow for a kind of name is a name of that kind in some
-/// line, whose text is UTF-8 if the name is; if each newline ends a line, each such text without a newline. In the strict dialect,
-/// nothing follows the last field of a line, or a space does.
+/// No name of a line that was read is empty or ends in a backslash, and no measurement begins with `#`. A tab or a newline in a
+/// name comes directly after a backslash, as does a NUL in a measurement. Each text that these rules allow for a kind of name is a
+/// name of that kind in some line, whose text is UTF-8 if the name is; if each newline ends a line, each such text without a
+/// newline. In the strict dialect, nothing follows the last field of a line, or a space does.
 pub fn parsed_names()
     ensures all { NamesAreParsed }
     ensures each { ParsedNamesAreInLines }
@@ -80,10 +78,9 @@ pub fn written_lines_stay()
 {}
 
 /// The items that calls of `next` give, from `parse_lines` to `None`, are those of the text: one item
-/// for each piece that holds more than blanks and comments, in the order of the pieces, and each is
-/// the answer for its piece, or `OutOfMemory` in its place, but never if the line is light. Up to
-/// any call, they are the items of the pieces before the ones that are left. Each line among them was
-/// read: some text, once it is trimmed, is answered with it.
+/// for each piece that holds more than blanks and comments, in the order of the pieces. Each is the answer for its piece, or
+/// `OutOfMemory` in its place, but never if the line is light. Up to any call, they are the items of the pieces before the ones
+/// that are left. Each line among them was read: some text, once it is trimmed, is answered with it.
 pub fn items_are_answers()
     ensures pieces { ItemsAreOfPieces }
     ensures answers { ItemsAreAnswers }

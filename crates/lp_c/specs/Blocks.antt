@@ -29,7 +29,7 @@ pub data Rows (before : Lines) (lent : ℕ) : List Row → List Part → ℕ →
       → Rows before lent (rows ++ row ∷ []) (parts ++ own) left after
 
 -- why no more rows are filled: no row is left; or the next item has none, since there is no item, or since it takes more parts or
--- more room than are left, as the row says: the cursor is before it. The room is as the rows left it
+-- more room than are left, as the row says. Then the cursor is before that item. The room is as the rows left it
 abbrev pub Stops : Lines → ℕ → ℕ → List Row → List Part → ℕ → Lines → Type 0
 Stops passed room left [] parts answer after = (answer ≡ answer_number Answer.Line) × (after ≡ passed) × (left ≡ room)
 Stops passed room left (row ∷ rows) parts answer after =

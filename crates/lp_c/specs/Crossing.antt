@@ -213,7 +213,7 @@ abbrev pub taken_by : ℕ → Line → ℕ
 taken_by answer line = if is_item answer then line.copied_len else 0
 
 -- the number is that of the answer for the next item, which is what the format answers for the line of the next piece that is not
--- blank; the cursor moves past that piece, but stays where more is needed; all of the room is left but what the answer takes
+-- blank. The cursor moves past that piece, but stays where more is needed. All of the room is left but what the answer takes
 pub record ReadsItem (before : Lines) (room left number : ℕ) (line : Line) (parts : List Part) (after : Lines) : Type 0 where
   pub text : Option (Bor (List ℕ))
   pub answer : Answer

@@ -33,8 +33,8 @@ HasCome cuts bytes = (length bytes ≡ cuts.len) × (cuts.len ≢ 0 → IsTrackO
 abbrev pub KeepsRules : Cuts → Cuts → Type 0
 KeepsRules before after = (after.limit ≡ before.limit) × (after.dialect ≡ before.dialect)
 
--- of a piece whose bytes so far are these, and a text that comes after them: the newline at a place of the text is the first one
--- that ends the piece, and nothing has come of the next piece; or all of the text is of the piece
+-- how a piece whose bytes so far are these goes on in a text that comes after them. The newline at a place of the text is the
+-- first one that ends the piece, and nothing has come of the next piece; or all of the text is of the piece
 pub record CutsOn (dialect : Dialect) (before text : List ℕ) (cut : ℕ) (after : Cuts) : Type 0 where
   pub ends : cut < length text → IsFirstCut dialect (before ++ text) (Some (length before + cut)) × HasCome after []
   pub goes_on : cut ≡ length text → IsLastPiece dialect (before ++ text) × HasCome after (before ++ text)

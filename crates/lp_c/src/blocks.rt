@@ -68,7 +68,7 @@ fn read_row<'a>(
 ///
 /// Each row has the answer for its item (`Line` or `Fault`) and what [`lp_lines_next`](crate::reading) shows of it; the parts of
 /// a line begin at `parts_at`. Answers `Line`, if each row is filled; `End`, if no item is left; or `MoreParts` or
-/// `MoreRoom`, if the next item takes more than is left: the row after the filled ones says how much, and `lines` is before
+/// `MoreRoom`, if the next item takes more than is left. Then the row after the filled ones says how much, and `lines` is before
 /// that item. What is left of `room` is all but the bytes that the items of the rows take.
 #[unsafe(no_mangle)]
 pub extern "C" fn lp_lines_block<'a>(

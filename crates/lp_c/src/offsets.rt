@@ -508,7 +508,7 @@ pub(crate) fn fill_block(
 /// room were filled. The text ends here if `last` is set; else its last piece, which no newline ends, is left.
 ///
 /// Answers `Line`, if each row is filled; `End`, if no item is left; `MoreText`, if what is left is a piece that goes on in the text that
-/// comes; `MoreParts` or `MoreRoom`, if the line of the next piece takes more than is left: the row after the filled ones says how much.
+/// comes. `MoreParts` or `MoreRoom`, if the line of the next piece takes more than is left: the row after the filled ones says how much.
 /// `NotADialect` and `TooLong`, if no dialect has the number, or if 32 bits do not hold a length: then all is as it was.
 #[unsafe(no_mangle)]
 pub extern "C" fn lp_offsets_block(

@@ -116,8 +116,8 @@ pub(crate) fn place_copy(room: &mut [u8], used: usize, spelled: Spelled<'_>) -> 
     (Placed { span, copied: 1 }, all)
 }
 
-// Where a text with a backslash lies, after which so many bytes are left of a line that ends at this place: in the line, if it is one escape,
-// of which the byte after the backslash is the text, or else in the room, into which it is put.
+// Where a text with a backslash lies, after which so many bytes are left of a line that ends at this place. It lies in the line, if it is one
+// escape, of which the byte after the backslash is the text. Else it lies in the room, into which it is put.
 #[cold]
 #[inline(never)]
 fn place_escaped(

@@ -187,7 +187,7 @@ pub extern "C" fn lp_line_key(
     }
 }
 
-/// Whether the base of the series of a line is safe to group by: whether no measurement and no tag value holds a comma, no tag
+/// Whether the base of the series of a line is safe to group by. It is if no measurement and no tag value holds a comma, no tag
 /// key an `=`, and no name is one byte alone that a backslash may escape in it.
 ///
 /// Answers `Written` and sets `safe`; or `NotALine` or `OutOfMemory`, and changes nothing. The fields are not looked at. With

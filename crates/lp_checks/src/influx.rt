@@ -1,8 +1,8 @@
 //! What InfluxDB 1.x reads of a line, as text that can be read in one way only.
 //!
 //! It is a row of parts: a letter, a number and a colon, and, if the part is a text, as many bytes. The letters are `m` for the measurement,
-//! `t` and `v` for the key and the value of a tag, `k` for the key of a field, `i`, `u`, `f`, `s` and `b` for its value, where 1 is true, and
-//! `a` for the time.
+//! and `t` and `v` for the key and the value of a tag. Those of a field are `k` for its key, and `i`, `u`, `f`, `s` and `b` for its value,
+//! where 1 is true. The time has `a`.
 
 use crate::report::Report;
 use lp_influx::{InfluxLine, InfluxValue};

@@ -396,9 +396,9 @@ fn report_line_copies(alloc: Global, report: &mut Report<'_>, line: &ParsedLine<
     }
 }
 
-/// Copies of the measurement and the values of each line, an entry each: of the measurement by `clone`, by `to_string` and
-/// by `into_string` of a slice of the same text, and then the measurement itself; of each value by `clone`, and then the
-/// value itself. The fault of each other item.
+/// Copies of the measurement and the values of each line, an entry each. Of the measurement they are by `clone`, by `to_string`
+/// and by `into_string` of a slice of the same text, and then comes the measurement itself. Of each value one is by `clone`, and
+/// then comes the value itself. The fault of each other item.
 #[unsafe(no_mangle)]
 pub extern "C" fn lp_checks_copies(
     alloc: Global,

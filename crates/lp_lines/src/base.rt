@@ -56,9 +56,9 @@ impl<'a> Series<'a> {
     /// Whether the base of this series is safe to group by.
     ///
     /// It is if the measurement and the tag values hold no comma and the tag keys no `=`, which divide the names in a base, and
-    /// no name is one byte alone that a backslash may escape in it, such as the tag key `,`: some bases have the backslash
-    /// then, and some do not. Two series that were read, that repeat no key, and whose bases are both safe, have the same base
-    /// exactly if they have the same measurement and the same tags, in any order; `laws::bases_tell_series` says so.
+    /// no name is one byte alone that a backslash may escape in it. Of such a name, as the tag key `,`, some bases have the
+    /// backslash, and some do not. Two series that were read, that repeat no key, and whose bases are both safe, have the same
+    /// base exactly if they have the same measurement and the same tags, in any order; `laws::bases_tell_series` says so.
     ///
     /// It takes no memory, and reads each name once.
     ///

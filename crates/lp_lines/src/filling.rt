@@ -1,7 +1,7 @@
 //! A sink that fills a line with the parts that it is told.
 //!
 //! The reader asks for no memory; this sink does, for copies and for sets that grow. A sink cannot stop the reader, so a refusal
-//! is kept until the line has ended, and so is the fault of the line: if a line has a fault, that is its answer, also if memory for
+//! is kept until the line has ended, and so is the fault of the line. If a line has a fault, that is its answer, also if memory for
 //! one of its parts was refused. The line is borrowed, since to move its 904 bytes would be a copy.
 
 ghost use Rattle.std.specs.Prelude.{◌≡◌, ◌≤◌, ◌+◌, ◌⊎◌, ◌++◌, ◌∷◌, [], length, map, true, false};

@@ -1,8 +1,8 @@
 //! Lines that are let go of without a visit to each place of their sets.
 //!
 //! To drop a line visits the 8 places of tags and the 4 of fields that it has inline, also those that hold nothing. Who reads many
-//! short lines, each into a line of its own, frees what a line holds by [`free_line`], which mostly is nothing, and then forgets
-//! it by [`forget_line`], which must be shown that nothing is held: so no memory is lost.
+//! short lines, each into a line of its own, frees what a line holds by [`free_line`], which mostly is nothing. Then it forgets
+//! the line by [`forget_line`], which must be shown that nothing is held: so no memory is lost.
 
 ghost use Rattle.std.specs.Prelude.{◌≡◌, ◌≤◌, []};
 ghost use Rattle.lp_lines.specs.code.Freeing.{HoldsNoMemory};

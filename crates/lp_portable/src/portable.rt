@@ -192,10 +192,9 @@ fn broken_by<'a>(
 /// without its newline.
 ///
 /// [`Broken::first`] tells the first that concerns a server; if there is none, the server reads the line as this reader does. The text
-/// is read once for that, and once more if it may break a clause that is not about its time and the limits, or has a string, an escape, a
-/// `#`, keys that do not rise, more than 29 tags or 8,000 bytes.
-/// Then memory is taken as for a line that is read, and for a map of more than 32 tags or fields: none for a line with at most 8 tags
-/// and 4 fields whose names and strings are no copies.
+/// is read once for that. It is read once more if it may break a clause that is not about its time and the limits, or has a string, an
+/// escape, a `#`, keys that do not rise, more than 29 tags or 8,000 bytes. Then memory is taken as for a line that is read, and for a map
+/// of more than 32 tags or fields. None is taken for a line with at most 8 tags and 4 fields whose names and strings are no copies.
 ///
 /// # Errors
 ///

@@ -110,8 +110,8 @@ fn bits_by_noted(limits: &Limits, text: &[u8], tags: usize, timestamp: Option<i6
 }
 
 /// The bits of the clauses that a text breaks, whose line has so many tags and fields and this timestamp, and of which nothing surely breaks
-/// a clause: its measurement begins with no underscore, its keys and values are sure, and no key is repeated. `None`: that is not sure.
-/// It takes no memory, and goes once over the bytes.
+/// a clause. That is, its measurement begins with no underscore, its keys and values are sure, and no key is repeated. `None`: that is not
+/// sure. It takes no memory, and goes once over the bytes.
 ///
 /// ```text
 /// m,t=x f=1i   with 1 tag, 1 field and no timestamp  is Some(0)

@@ -143,7 +143,7 @@ fn unseen_refusal_at<'a>(
     Ok(refusal_of_unseen(files.as_slice()))
 }
 
-/// Why a run over the inputs of these names is refused, if it is, whose lines and refused pieces go to files of these names: lines
+/// Why a run over the inputs of these names is refused, if it is, whose lines and refused pieces go to files of these names. Lines
 /// that have no file go to standard output, unless the refused pieces do, whose name is `-` then.
 ///
 /// # Errors

@@ -1,5 +1,6 @@
 //! What is refused before anything is opened: an output that is an input, a file of refused pieces that is one of these or holds
-//! something, standard error that is one of these, a range that its file does not have, batches that have no names of their own, and parts that are none or too many.
+//! something, and standard error that is one of these. So are a range that its file does not have, batches that have no names of their own, and parts
+//! that are none or too many.
 ghost use Rattle.std.specs.Prelude.{◌≡◌, ◌≢◌, Some, false, true, ◌<◌, ◌-◌, [], ◌∷◌, codes, drop, length, map};
 ghost use Rattle.lp_programs.specs.Refusals.{are_one, are_unnamed, faults_refusal, held_refusal, input_at, input_text, is_backwards, parts_refusal, range_refusal, refusal, refused_refusal, unseen_refusal};
 
@@ -126,7 +127,7 @@ pub fn refusal_of<'a>(
 }
 
 /// Why a run over these inputs is refused, whose faults go to this file, and its lines and refused pieces to files that are named, if
-/// they are: what comes to the place of such a file takes away the faults.
+/// they are. What comes to the place of such a file takes away the faults.
 pub fn refusal_of_faults<'a>(
     inputs: &[Located<'a>],
     faults: Option<FileId>,

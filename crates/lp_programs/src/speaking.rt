@@ -1,5 +1,5 @@
-//! How a program says why a run fails, or is refused, or what it did beside relaying: on a line after its name, or, if faults are told as
-//! objects, as an object too, so that who reads objects meets nothing else.
+//! How a program says why a run fails, or is refused, or what it did beside relaying: on a line after its name. If faults are told as
+//! objects, it is an object too, so that who reads objects meets nothing else.
 ghost use Rattle.std.specs.Prelude.{◌≡◌, ◌++◌, string_bytes, OnOk};
 ghost use Rattle.lp_programs.specs.RunErrors.{fault_name, file_member, said_end, said_start, told_object};
 

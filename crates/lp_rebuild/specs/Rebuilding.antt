@@ -71,7 +71,7 @@ CanBeReadIn from NewlineDelimited points = (from ≡ NewlineDelimited) ⊎ (list
 CanBeReadIn from other points = Unit {0}
 
 -- the batch of a text that was read by the rules of one dialect reads back in each in which its lines can be read, followed by any
--- text: the answers are first those with the points that were carried, of which the batch is built, and then those of that text alone
+-- text. The answers are first those with the points that were carried, of which the batch is built, and then those of that text alone
 abbrev pub ReadsBackIn : Dialect → List ℕ → Rebuilt → Type 0
 ReadsBackIn from text r =
     (items : List (Result Line Fault)) → HasAnswers from text items

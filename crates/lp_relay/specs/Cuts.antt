@@ -16,8 +16,8 @@ pub record IsCutFor (dialect : Dialect) (text : List ℕ) (place at : ℕ) : Typ
   pub first : (other : ℕ) → IsCutAt dialect text other → place ≤ other → at ≤ other
   pub last : at < place → (other : ℕ) → IsCutAt dialect text other → other ≤ at
 
--- the ends of so many parts, of one part for 0: each but the last is the cut for where it ends if all parts have one
--- length, or for 1 if that is 0, and the last is the text's end
+-- the ends of so many parts, of one part for 0. Each but the last is the cut for where it ends if all parts have one length, or
+-- for 1 if that is 0, and the last is the text's end
 pub record ArePartEnds (dialect : Dialect) (text : List ℕ) (count : ℕ) (ends : List ℕ) : Type 0 where
   pub cuts : List ℕ
   pub are : ends ≡ cuts ++ length text ∷ []

@@ -26,7 +26,7 @@ char_start text (suc n) = if goes_on text (suc n) then char_start text n else su
 abbrev pub part_after : List ℕ → ℕ → LinePart
 part_after line at = (reading_stop Strict (take (char_start line at) line)).0
 
--- what is not as written if a line has the first byte in this part where the builder writes the second: a space where a key or a
+-- what is not as written if a line has the first byte in this part where the builder writes the second. A space where a key or a
 -- timestamp begins, or after the timestamp, is one too many, and a comma after the last field has no field after it
 abbrev pub part_at : LinePart → (b written : ℕ) → Part
 part_at (FieldKey n) b written = if b == space then Spaces else In (FieldKey n)

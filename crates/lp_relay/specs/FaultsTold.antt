@@ -28,8 +28,8 @@ abbrev pub file_before : Option (Bor (List ℕ)) → List ℕ
 file_before None = []
 file_before (Some name) = flat_map told_byte name.now ++ codes ": "
 
--- what is told of an item at a place that is refused for this: its fault line as it is; that on one line, after the name of the file;
--- its object, with its piece or without; or its line for editors
+-- what is told of an item at a place that is refused for this. It is its fault line as it is; that on one line, after the name of the
+-- file; its object, with its piece or without; or its line for editors
 abbrev pub told_fault : Faults → Place → Reason → List ℕ
 told_fault Raw place why = fault_text place why.wrong ++ newline ∷ []
 told_fault OneLine place why = file_before place.file ++ on_one_line (fault_text place why.wrong) ++ newline ∷ []

@@ -137,8 +137,9 @@ item_front (not_of_time front fault) = front
 item_front not_utf8 = []
 item_front (too_long kept) = []
 
--- what is told of a piece whose item is refused: its bytes; if it is too long, its first bytes and the limit that it is longer than;
--- and what comes before the byte of it at which reading stopped, if its text is no line, or at which it is not UTF-8
+-- what is told of a piece whose item is refused: its bytes, or, if it is too long, its first bytes and the limit that it is longer
+-- than. Also told is what comes before the byte of it at which reading stopped, if its text is no line, or at which it is not
+-- UTF-8
 pub record Seen : Type 0 where
   pub bytes : List ℕ
   pub over : Option ℕ

@@ -26,10 +26,10 @@ use Rattle.lp_relay.specs.FieldTypes.{Types, after_point}
 use Rattle.lp_relay.specs.LineTimes.{Timed, relayed, time_fault, timed}
 use Rattle.lp_relay.specs.Portables.{is_shown_portable, not_portable_text, told_of_bytes}
 
--- an item: an answer; a line that is carried, and all that goes out for it; a line that is refused, with what is wrong with it, since
--- it is not as it would be written, or is not portable, or for the type of a field, or for its time; or a piece that has no answer, since it is
--- not UTF-8 or is too long, and then as many bytes of it are kept, if any are. What may be refused for its text has what comes before that in
--- its piece
+-- an item: an answer; a line that is carried, and all that goes out for it; a line that is refused, with what is wrong with it; or a piece that
+-- has no answer. That line is not as it would be written, or is not portable, or is refused for the type of a field, or for its time. That
+-- piece is not UTF-8 or is too long, and then as many bytes of it are kept, if any are. What may be refused for its text has what comes before
+-- that in its piece
 pub data Item : Type 0 where
   answered : (front : List ℕ) → Result Line Fault → Item
   put_out : (out : List ℕ) → Item
@@ -44,8 +44,9 @@ pub data Item : Type 0 where
 abbrev pub front_of : List ℕ → List ℕ
 front_of piece = front_before piece (trimmed piece)
 
--- the item of a line that comes after this front and whose text is this: if a name of it is not admitted, its answer, which is
--- refused; the text as it came, if the builder writes it, and a newline, for the point of the line; and else what is wrong with it
+-- the item of a line that comes after this front and whose text is this. If a name of it is not admitted, it is its answer, which
+-- is refused. If the builder writes the text as it came, and a newline, for the point of the line, these go out. Else it is what
+-- is wrong with the line
 abbrev pub canonical_item : (front text : List ℕ) → Line → Item
 canonical_item front text line =
     if is_admitted_point (point_of line)
@@ -72,8 +73,8 @@ shard_of count p = hash_of (key_of p) % max 1 count
 abbrev pub is_of_shard : Shard → Point → Bool
 is_of_shard shard p = shard_of shard.count p == shard.number
 
--- the item of an answer for a piece. Of a line there goes out: its piece as it came, whatever its names are; or the line that is left of
--- the piece once it is trimmed, if it is as it would be written; or that line after its key; or its piece, if it is of a shard
+-- the item of an answer for a piece. Of a line there goes out its piece as it came: whatever its names are, or if it is of a shard. Or
+-- there goes out the line that is left of the piece once it is trimmed: if it is as it would be written, or after its key
 abbrev pub item_of : LineForm → List ℕ → Result Line Fault → Item
 item_of Rebuilt piece answer = answered (front_of piece) answer
 item_of Verbatim piece (Ok line) = put_out (piece ++ newline ∷ [])

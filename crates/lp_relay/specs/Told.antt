@@ -8,7 +8,7 @@ abbrev pub hex_digit : ℕ → ℕ
 hex_digit n = if nat_lt n 10 then 48 + n else 87 + n
 
 -- a byte on one line: after a backslash, the letter of a newline, of a tab or of a carriage return, a backslash itself, or the two
--- digits of a byte that ASCII does not print; each other byte as it is
+-- digits of a byte that ASCII does not print. Each other byte is as it is
 abbrev pub told_byte : ℕ → List ℕ
 told_byte b =
     if b == newline then backslash ∷ codes "n"

@@ -175,8 +175,8 @@ fn even_end(len: usize, k: usize, count: usize) -> usize
 /// the numbers of its items begin anew in each part.
 ///
 /// Part `k` ends at the first such place at or after `k * input.len() / count`, though not at 0, or if none is there, at the
-/// last one of all: a line is never cut, so a part may be empty, and then two ends are equal. If no newline ends a piece,
-/// all parts but the last are empty, and end at 0. A `count` of 0 is taken as 1.
+/// last one of all. A line is never cut, so a part may be empty, and then two ends are equal. If no newline ends a piece, all
+/// parts but the last are empty, and end at 0. A `count` of 0 is taken as 1.
 ///
 /// The text need not be UTF-8. It is searched once; if each newline ends a line, it is searched at the places alone. A block of it is
 /// copied at a time, and no piece is held.

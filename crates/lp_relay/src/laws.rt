@@ -3,8 +3,8 @@ ghost use Rattle.lp_relay.specs.Differing.{FrontsStopInThePart};
 ghost use Rattle.lp_relay.specs.Parts.{FaultsChangeNoLine, PartsGiveLines, PartsGiveRefused};
 ghost use Rattle.lp_relay.specs.Shards.{PointsHaveOneShard, SeriesHaveOneShard};
 
-/// The part of a line that is told as not as written is the one in which reading stops of the front before the first byte in which the
-/// line differs from what the builder writes, if a character begins at that byte.
+/// Of a line take the front before the first byte in which it differs from what the builder writes. The part that is told as not as
+/// written is the one in which reading stops of that front, if a character begins at that byte.
 pub fn fronts_stop_in_the_part()
     ensures { FrontsStopInThePart }
 {}

@@ -1,10 +1,9 @@
 //! Relays lines from a reader to three writers as they come, and tells where a text can be cut, so that its parts can be relayed
 //! or rebuilt apart.
 //!
-//! [`relay`] holds a line and a few blocks. By its [`Settings`] it passes over lines that are too long, lets lines out as
-//! they came, or only lines that are as they would be written, and its faults name lines of the input, or are told on one line
-//! each. [`part_ends`] gives the ends of the parts of a text, and [`part_ends_at`] those of
-//! a file.
+//! [`relay`] holds a line and a few blocks. By its [`Settings`] it passes over lines that are too long, and lets lines out as
+//! they came, or only lines that are as they would be written. By them its faults name lines of the input, or are told on one
+//! line each. [`part_ends`] gives the ends of the parts of a text, and [`part_ends_at`] those of a file.
 //!
 //! It takes each item as `lp_rebuild` does. It is a crate of its own, since the program `lp_rebuild` needs none of it.
 #![tactic(auto)]

@@ -165,7 +165,7 @@ fn relay_rest<O: ThreeWriters>(
 }
 
 /// Relays the lines that `reader` gives, as [`relay`](crate::relay) does, but that a line without a timestamp has the time that `clock` tells
-/// after the read with which its piece ended, or after the last read, which gives no bytes, if no newline ends it.
+/// after the read with which its piece ended. If no newline ends it, that is the time after the last read, which gives no bytes.
 ///
 /// All lines that end with one read have the same time. Of two points of one series without a timestamp that come with one read a server
 /// keeps one. `settings.times` says what else becomes of times: a line that gets its time so is refused if that is not within the range.

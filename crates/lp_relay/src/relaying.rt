@@ -335,30 +335,31 @@ pub(crate) fn counts_of(settings: Settings<'_>, pending: &Pending) -> Relayed
 /// If `settings.portable` names servers, each line is looked at as it would go out, by whatever form: if it is not portable to them, it is
 /// refused, and its fault names the first clause that it breaks. A line that does not go out, since it is of another shard, is not looked at.
 ///
-/// If `settings.types` says so, the first type of each field stays: a line that would go out, in whatever form, and has a field of another
-/// type than the first line of it that went out, is refused, and so is one that gives a field two types. A refused line gives no field a
-/// type, also one that is refused for another reason. What is known takes memory for each field, so a line with a new field beyond
+/// If `settings.types` says so, the first type of each field stays. Then a line that would go out, in whatever form, is refused if it has
+/// a field of another type than the first line of it that went out, and so is one that gives a field two types. A refused line gives no
+/// field a type, also one that is refused for another reason. What is known takes memory for each field, so a line with a new field beyond
 /// `max_fields` is refused too. [`relay_inputs`](crate::relay_inputs) knows the types of all its inputs.
 ///
 /// If `settings.puts_refused` says so, the refused pieces of `outputs` gain the piece of each item that has a fault line, byte for
-/// byte as it came, and a newline; of a piece that is too long its first bytes, as many as the limit. Else they gain nothing.
+/// byte as it came, and a newline. Of a piece that is too long its first bytes stand in its place, as many as the limit. If the
+/// setting does not say so, they gain nothing.
 ///
 /// If `settings.counts_kinds` says so, the answer tells how many items were refused for each kind of fault; they add up to all that
 /// were. If `settings.max_faults` is a number, at most so many faults are told, those that come first; all else is as ever.
 ///
 /// What each read completes is written and flushed before the next read is asked for, and the rest at the end. So is the fault of a
 /// piece that is longer than `settings.limit`, as soon as so many bytes of it and one more have come. What is held of
-/// the input is the line that has not ended yet and two blocks at most, and of each output less than a block and what one line
-/// makes, since it is written too if it fills a block. So by `LineForm::Rebuilt` the lines are what [`run`](lp_rebuild::run) writes, and
+/// the input is the line that has not ended yet and two blocks at most. Of each output less than a block and what one line makes is
+/// held, since it is written too if it fills a block. So by `LineForm::Rebuilt` the lines are what [`run`](lp_rebuild::run) writes, and
 /// by `Faults::Raw`, if items are named from 1 on, the faults are too, but not in its order.
 ///
 /// Input that is not UTF-8 does not end it: each piece that is not is one item, whose fault line is `item N: the line is not
 /// UTF-8`, and the pieces before and after it are read as ever. So is a piece that is longer than `settings.limit`, whose
 /// fault is `the line is too long`, also if it is a comment, blank or not UTF-8; if refused pieces go out, `: its first N
 /// bytes are kept` comes then, with the limit. Its other bytes are passed over up to its end. With a limit, that many bytes
-/// and two blocks of the input are held at most: of the line that has not ended yet no more than the limit, the block that
-/// comes after them, and that block as it was read. The buffer of the first two grows by doubling, and has lines too that
-/// were taken already, so it may have room for four times as many.
+/// and two blocks of the input are held at most. They are the bytes of the line that has not ended yet, no more than the limit,
+/// the block that comes after them, and that block as it was read. The buffer of the first two grows by doubling, and has lines
+/// too that were taken already, so it may have room for four times as many.
 ///
 /// # Errors
 ///

@@ -44,8 +44,8 @@ pub enum LineForm {
     Rebuilt,
     /// A line goes out byte for byte as it came, whatever its names are, with what its piece has before it, and a newline.
     Verbatim,
-    /// A line goes out byte for byte as it came, without what its piece has before it, if it is as it would be written again, and
-    /// else it is refused: for a name that is not admitted, or with the first part of it that is not so, as in
+    /// A line goes out byte for byte as it came, without what its piece has before it, if it is as it would be written again.
+    /// Else it is refused: for a name that is not admitted, or with the first part of it that is not so, as in
     /// `not as written: the value of tag 2`.
     Canonical,
     /// A line goes out byte for byte as it came, without what its piece has before it, after the key of its series and a tab, if its names
@@ -76,7 +76,7 @@ pub enum Numbering {
     Lines,
 }
 
-/// How a relay reads lines and puts them out, and what its fault lines name: by default, it reads them by the rules of the crate,
+/// How a relay reads lines and puts them out, and what its fault lines name. By default, it reads them by the rules of the crate,
 /// however long they are, writes them again, and names items from 1 on, in fault lines as they are.
 #[derive(Clone, Copy, Debug, PartialEq, Eq)]
 pub struct Settings<'n> {
@@ -558,7 +558,7 @@ fn allow<'a>(
     allow_added(alloc, settings.lines, &portable, batch, at, text)
 }
 
-// Keeps the types of the fields of a line that was read and added, which begins at this place of the batch: if one is of another type than
+// Keeps the types of the fields of a line that was read and added, which begins at this place of the batch. If one is of another type than
 // before, or is one too many, the line is taken back, and refused.
 fn keep_read<'a>(
     alloc: Global,

@@ -94,8 +94,8 @@ module _ {Y : Type 0} where
   abbrev pub kept_by : BTreeMap (String Y) ℕ → List Point → List Point
   kept_by table points = filter (is_kept table) points
 
-  -- a table of at most this many series has for each how many points are of it, at least one, and as many keys as these have series;
-  -- so many points are of series that are not there, which is none as long as the table is not full
+  -- a table of at most this many series has for each how many points are of it, at least one, and as many keys as these have series.
+  -- So many points are of series that are not there, which is none as long as the table is not full
   pub record CountsSeries (most : ℕ) (table : BTreeMap (String Y) ℕ) (others : ℕ) (ps : List Point) : Type 0 where
     pub counted : (key : List ℕ) → IfSome (get_by_text table key) (λ n. (0 < n) × (n ≡ count_by (has_key key) ps))
     pub few : btree_map_len table ≤ most

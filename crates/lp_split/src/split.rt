@@ -381,7 +381,7 @@ fn late_cut(dialect: Dialect, text: &[u8]) -> Option<usize>
     }
 }
 
-/// The newline that ends the first piece, or `None` if the text is one piece; `seen` are the bytes that tell of a cut that were seen at
+/// The newline that ends the first piece, or `None` if the text is one piece. `seen` are the bytes that tell of a cut that were seen at
 /// the start of the text, as a search of the text before it gave them, or 0.
 ///
 /// No memory is taken.

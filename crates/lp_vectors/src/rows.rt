@@ -1,9 +1,9 @@
-//! Files of rows, each with what is asked and what must come of it: the programs that compare them with the library say what their
+//! Files of rows, each with what is asked and what must come of it. The programs that compare them with the library say what their
 //! kinds of rows ask for, and have from here how a row is spelled and how a file is read. Such a table costs no proof.
 //!
 //! A file is UTF-8. A line that is empty, or that begins with `#`, holds no row. In each other line the cells stand between tabs, and the
-//! first one is the kind. In a cell `\n` is a newline, `\t` a tab, `\r` a carriage return, `\0` a NUL, `\\` a backslash, `\xHH` the byte of
-//! these two hexadecimal digits, and `\{N:PART}` the part N times: it has no such part in it, and `\}` is a brace in it. No other
+//! first one is the kind. In a cell `\n` is a newline, `\t` a tab, `\r` a carriage return, `\0` a NUL, `\\` a backslash, and `\xHH` the
+//! byte of these two hexadecimal digits. `\{N:PART}` is the part N times: it has no such part in it, and `\}` is a brace in it. No other
 //! escape is known.
 
 use std::alloc::{AllocError, Global};
@@ -326,8 +326,8 @@ fn asked_path(rt: &HostRuntime) -> Option<String> {
     Some(path)
 }
 
-/// Compares the rows of the file that the argument names, prints each that differs and how many there are of each kind, and ends with
-/// status 0 if all are as they say, with 1 if not, and with 2 if the file cannot be read or none is named.
+/// Compares the rows of the file that the argument names, and prints each that differs and how many there are of each kind. It ends
+/// with status 0 if all are as they say, with 1 if not, and with 2 if the file cannot be read or none is named.
 pub fn compare(rt: &HostRuntime, program: &str, table: &impl Table) -> ExitCode {
     let Some(path) = asked_path(rt) else {
         let _ = eprintln!(rt; "usage: {program} FILE");

@@ -95,7 +95,7 @@ fn after_tags(text: &str) -> Option<&str>
 /// The key of the series at the start of a text, lent, if it stands there as it is.
 ///
 /// It does if the text begins with a measurement and tags as the builder writes them, the tags are in the order of their keys, by
-/// bytes, and all names are admitted; the series ends at a space or at the end of the text. So the text may be a line or the
+/// bytes, and all names are admitted. The series ends at a space or at the end of the text. So the text may be a line or the
 /// `raw_input` of a [`Series`](lp_lines::Series). The key is then what [`Series::key`](lp_lines::Series::key) makes of that series;
 /// `laws::keys_stand_in_texts` says so. It takes no memory, and reads the names once.
 ///

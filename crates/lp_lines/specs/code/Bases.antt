@@ -56,7 +56,7 @@ is_byte_alone bytes (b ∷ []) = is_one_of bytes b
 is_byte_alone bytes text = false
 
 -- whether a name is ambiguous in a base: it holds the byte that divides it from the next name, or it is one byte alone that a
--- backslash may escape in it, which is spelled with the backslash in some bases
+-- backslash may escape in it. Such a byte is spelled with the backslash in some bases
 abbrev pub is_ambiguous_name : List ℕ → ℕ → List ℕ → Bool
 is_ambiguous_name known divider text = is_one_of text divider || is_byte_alone known text
 

@@ -6,7 +6,7 @@ use Rattle.lp_scan.specs.code.{mask_at, mask_of}
 use Rattle.memchr.specs.Find.{is_byte, is_byte3}
 
 -- of the bytes from a bare place on, of at most 64, the masks are of the bare newlines and quotes, of the bare equals signs and of the
--- bare commas; after them, and the byte that they escape, comes a bare place
+-- bare commas. After them, and the byte that they escape, comes a bare place
 pub record IsAhead (text : List ℕ) (at : ℕ) (ahead : Ahead) : Type 0 where
   pub starts_bare : IsBareAfter (take at text)
   pub count : ℕ

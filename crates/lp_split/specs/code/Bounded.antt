@@ -72,7 +72,7 @@ TellsOf limit piece fault =
     × (fault.front.now ≡ take limit piece)
 
 -- of a text that the stream holds, a call gives the first piece that a newline ends, or in its place a fault if it is
--- too long; if it gives none, no more bytes are kept than a piece may have
+-- too long. If it gives none, no more bytes are kept than a piece may have
 abbrev pub GivesOf : HeldWithin → List ℕ → Option (Result (Bor (List ℕ)) PieceTooLong) → HeldWithin → Type 0
 GivesOf before text None after = Holds after text × IsLastPiece before.held.dialect text × (kept after ≤ before.limit)
 GivesOf before text (Some (Ok piece)) after =

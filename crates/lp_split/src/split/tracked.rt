@@ -138,8 +138,8 @@ fn plain_leap(place: Place, text: &[u8]) -> (usize, Place)
     (run, next)
 }
 
-// How many bytes can be passed together, and the track after them: in a head or a quoted stretch those up to the bare byte that
-// ends it, or to the last bare place; in a plain stretch those that a load shows.
+// How many bytes can be passed together, and the track after them. In a head or a quoted stretch they are those up to the bare
+// byte that ends it, or to the last bare place; in a plain stretch those that a load shows.
 #[inline(always)]
 fn leap(track: Track, text: &[u8]) -> (usize, Track)
     requires room { most_counted track + length text.now < 2 ^ 64 }

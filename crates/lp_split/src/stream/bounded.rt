@@ -70,7 +70,7 @@ enum Skipped {
 }
 
 /// The pieces of a text that comes in parts, as [`LineStream`] gives them, but a piece of more bytes than the limit is one
-/// fault, which says how many newlines and bytes it has, and lends its first bytes, as many as the limit.
+/// fault. It says how many newlines and bytes the piece has, and lends its first bytes, as many as the limit.
 ///
 /// Once more bytes are held than a piece may have, and no newline that came ends it, all but so many are let go, and so are
 /// those that come, up to the end of the piece. The next pieces are given.

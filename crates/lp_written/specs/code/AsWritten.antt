@@ -7,8 +7,8 @@ use Rattle.lp_format.specs.format.{backslash, comma, equals, hash, is_one_of, mi
 use Rattle.lp_format.specs.format.{a_tag_value, a_field_key, ends_in_backslash, escapable, is_stop, Pair, fits_i64, string, IsValue}
 use Rattle.lp_format.specs.format.{built_timestamp, built_value, is_admitted_name, spelling}
 
--- how many bytes at the start of a text are those of a token as the builder spells it: up to the first byte that ends it or
--- that has a backslash in it, unless that is a backslash before such a byte
+-- how many bytes at the start of a text are those of a token as the builder spells it. They are those up to the first byte that
+-- ends it or that has a backslash in it, unless that is a backslash before such a byte
 unfoldable pub written_len : List ℕ → (ℕ → Bool) → List ℕ → ℕ
 written_len known stops [] = 0
 written_len known stops (b ∷ []) = if stops b || is_one_of known b then 0 else 1
