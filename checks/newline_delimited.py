@@ -160,7 +160,7 @@ def compare_replaced(lines, place, other):
 def rows():
     """The texts of the table of answers."""
     escapes = {b"n": b"\n", b"t": b"\t", b"r": b"\r", b"0": b"\0", b"\\": b"\\"}
-    table = pathlib.Path(__file__).parent.parent / "crates/lp_answers/data/answers.tsv"
+    table = pathlib.Path(__file__).parent.parent / "crates/lp_tables/data/answers.tsv"
     for row in table.read_bytes().split(b"\n"):
         if row and not row.startswith(b"#"):
             yield re.sub(rb"\\(.)", lambda escape: escapes[escape[1]], row.split(b"\t")[1])

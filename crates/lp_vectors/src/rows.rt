@@ -7,8 +7,7 @@
 //! escape is known.
 
 use std::alloc::{AllocError, Global};
-use std::process::ExitCode;
-use std::{env, fs, io};
+use std::{fs, io};
 
 /// What a program compares.
 pub trait Table {
@@ -307,38 +306,11 @@ fn are_all_right(rt: &HostRuntime, kinds: &[&str], counts: &[Counted]) -> io::Re
     Ok(are_right)
 }
 
-// Whether each row of a file is as it says.
-fn is_file_right(rt: &HostRuntime, table: &impl Table, path: &str) -> io::Result<bool> {
+/// Compares the rows of a file, prints each that differs and how many there are of each kind. Whether all are as they say.
+pub fn is_file_right(rt: &HostRuntime, table: &impl Table, path: &str) -> io::Result<bool> {
     let none = Counted { rows: 0, wrong: 0 };
     let mut counts = Vec::new(rt.alloc());
     counts.resize(table.kinds().len(), none)?;
     let are_rows = are_all_rows(rt, table, path, counts.as_mut_slice())?;
     Ok(are_all_right(rt, table.kinds(), counts.as_slice())? && are_rows)
-}
-
-// The argument, or `None` if there is not just one.
-fn asked_path(rt: &HostRuntime) -> Option<String> {
-    let mut words = env::args(rt).ok()?.skip(1);
-    let path = words.next()?;
-    if words.next().is_some() {
-        return None;
-    }
-    Some(path)
-}
-
-/// Compares the rows of the file that the argument names, and prints each that differs and how many there are of each kind. It ends
-/// with status 0 if all are as they say, with 1 if not, and with 2 if the file cannot be read or none is named.
-pub fn compare(rt: &HostRuntime, program: &str, table: &impl Table) -> ExitCode {
-    let Some(path) = asked_path(rt) else {
-        let _ = eprintln!(rt; "usage: {program} FILE");
-        return ExitCode::from(2);
-    };
-    match is_file_right(rt, table, path.as_str()) {
-        Ok(true) => ExitCode::from(0),
-        Ok(false) => ExitCode::from(1),
-        Err(fault) => {
-            let _ = eprintln!(rt; "{program}: {path}: {fault}");
-            ExitCode::from(2)
-        }
-    }
 }
