@@ -560,6 +560,15 @@ build_rust() {
         equal "what a program in Rust over the $how library prints" $'A generic parsing error occurred: TakeWhile1\nm f=1i' "$("$work/rust/target/debug/over")"
         rm -rf "$path/native" "$work/rust/target"
     done
+    # A library of another version ends the program at the first call.
+    mkdir "$path/native"
+    make_other "$path/native/liblp_c.a"
+    (cd "$work/rust" && env -u LP_LIB_DIR CARGO_TARGET_DIR="$work/rust/target" cargo build -q "${flags[@]}") >"$work/log" 2>&1 ||
+        fail "over another version no program in Rust was built: $(cat "$work/log")"
+    ! "$work/rust/target/debug/over" >"$work/out" 2>"$work/err" || fail "a program in Rust runs over the library of another version"
+    grep -qF "influxdb_line_protocol: the library is of version 2.1.0: this crate needs one of version 3" "$work/err" ||
+        fail "of another version a program in Rust says: $(cat "$work/err")"
+    rm -rf "$path/native" "$work/rust/target"
     told+=("a program in Rust over the library that is ${ways[*]}")
 }
 

@@ -8,7 +8,7 @@
                           tree has; status 1 if there is any
 
 A call is public if the root or a public module of the library, `lp_rebuild` or `lp_relay` hands it on, or its type and trait,
-or if it is `extern "C"` in `lp_c`. A line names a method if it has the names of the method, of its type and of its trait.
+or if it is `extern "C"` in `lp_c` or `lp_page`. A line names a method if it has the names of the method, of its type and of its trait.
 
 A name on a page is an identifier, a path of identifiers, a file or an option. The tree has an identifier if it is a word of a file
 that is no page, a path if each two parts that follow each other are words of one such file. Options of other programs than those of
@@ -92,7 +92,7 @@ def calls_of(crates, names, modules):
 
 def handed_on_calls():
     """Every public call, also one without a clause of its own."""
-    found = list(calls_of(["lp_c"], set(), set()))
+    found = list(calls_of(["lp_c", "lp_page"], set(), set()))
     for root, crates in ROOTS.items():
         modules = re.findall(r"^pub mod (\w+);", read(TOP / "crates" / root / "src" / "lib.rt"), re.M)
         found += [*calls_of(crates, handed_on(root), set()), *calls_of([root], set(), modules)]

@@ -260,7 +260,8 @@ static inline void lp_empty_parts(lp_part *parts, size_t len) {
     for (size_t i = 0; i < len; i++) parts[i] = empty;
 }
 
-/* The version of the library: 30000 is 3.0.0. */
+/* The version of the library: 30000 is 3.0.0. Another major version has other calls and structs: a program that may be linked with an
+   archive from elsewhere asks first that `lp_version() / 10000` is 3. A shared library of another major version is not loaded. */
 uint32_t lp_version(void);
 
 /* Begins to read a text of `len` bytes, by the rules of a dialect, of enum lp_dialect.

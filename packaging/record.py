@@ -50,6 +50,7 @@ def record(folder, arch, time, log, given, verdicts, *files):
     tools = [os.environ.get("CC", "cc"), os.environ.get("STRIP", "strip"), "dpkg-deb", "gzip", os.environ.get("PYTHON", "python3"),
              *["aarch64-linux-gnu-gcc"] * (arch == "all")]
     processors = [found[1] for name in files if (found := re.fullmatch(r"influxdb-line-protocol-[0-9.]+-(\w+)-linux\.tar\.gz", name))]
+    processors += ["wasm64"] * ("try.html" in files)
     return {
         "arch": arch,
         "commit": commit,

@@ -1,4 +1,5 @@
 //! The calls and the layouts of `include/influxdb_line_protocol.h`.
+use std::sync::atomic::{AtomicBool, Ordering};
 use std::{alloc, marker::PhantomData};
 
 /// What a call answers.
@@ -180,6 +181,7 @@ impl<'a> Lines<'a> {
     /// The cursor that `lp_lines_begin` fills for this text in the dialect of this number. A `str` is UTF-8, so the test is left
     /// out.
     pub(crate) fn of(dialect: u32, text: &'a str) -> Self {
+        require_version();
         Self { rest: Text::new(text), dialect, ended: false }
     }
 }
@@ -201,6 +203,7 @@ pub(crate) struct Cuts {
 impl Cuts {
     /// A search by the rules of the dialect of this number, in a text whose pieces may have so many bytes.
     pub(crate) fn begin(dialect: u32, limit: usize) -> Self {
+        require_version();
         let mut cuts = Cuts { limit: 0, len: 0, equals: 0, commas: 0, begins: 0, part: 0, dialect: 0, escaped: false };
         // SAFETY: the one pointer is that of a local, which has the layout of `lp_cuts` and is filled.
         let begun = unsafe { lp_cuts_begin(dialect, limit, &mut cuts) };
@@ -320,6 +323,7 @@ pub(crate) type PutOut =
 // is apart from all else that it is passed; and if a cursor is one of `Lines::of`, or one that a call has moved since. It keeps
 // no pointer once it has answered.
 extern "C" {
+    fn lp_version() -> u32;
     pub(crate) fn lp_lines_block<'a>(
         lines: *mut Lines<'a>,
         room: *mut Room,
@@ -378,6 +382,19 @@ extern "C" {
     ) -> u32;
 }
 
+// Panics if the library is of another major version, whose calls and structs may be others. It is asked once.
+fn require_version() {
+    static IS_KNOWN: AtomicBool = AtomicBool::new(false);
+    if IS_KNOWN.load(Ordering::Relaxed) {
+        return;
+    }
+    // SAFETY: it takes nothing, and each version of the library has it.
+    let version = unsafe { lp_version() };
+    let (major, minor, patch) = (version / 10_000, version / 100 % 100, version % 100);
+    assert!(major == 3, "influxdb_line_protocol: the library is of version {major}.{minor}.{patch}: this crate needs one of version 3");
+    IS_KNOWN.store(true, Ordering::Relaxed);
+}
+
 // Hands on an answer, but ends as a refused request of the standard library does if a request for memory was refused.
 fn granted(answer: u32) -> u32 {
     if answer == answer::OUT_OF_MEMORY {
@@ -388,6 +405,7 @@ fn granted(answer: u32) -> u32 {
 
 /// Whether the base of this line, whose texts are those of `Text::new`, is safe to group by.
 pub(crate) fn is_base_safe(line: &Line<'_>, parts: &[Part<'_>]) -> bool {
+    require_version();
     let mut safe = false;
     // SAFETY: `line` and `parts` are borrows, of texts that are borrows too. What is written is a local, apart from these.
     granted(unsafe { lp_line_is_base_safe(line, parts.as_ptr(), parts.len(), &mut safe) });
@@ -396,6 +414,7 @@ pub(crate) fn is_base_safe(line: &Line<'_>, parts: &[Part<'_>]) -> bool {
 
 /// Whether this line, whose texts are those of `Text::new`, is admitted in the dialect of this number. False: it is not, or is no line.
 pub(crate) fn is_admitted(dialect: u32, line: &Line<'_>, parts: &[Part<'_>]) -> bool {
+    require_version();
     let mut admitted = false;
     // SAFETY: `line` and `parts` are borrows, of texts that are borrows too. What is written is a local, apart from these.
     granted(unsafe { lp_line_is_admitted(dialect, line, parts.as_ptr(), parts.len(), &mut admitted) });
@@ -404,6 +423,7 @@ pub(crate) fn is_admitted(dialect: u32, line: &Line<'_>, parts: &[Part<'_>]) -> 
 
 /// What `lp_rebuild` answers over these buffers for this text in the dialect of this number, and how much was rebuilt.
 pub(crate) fn rebuild(dialect: u32, text: &str, batch: &mut [u8], faults: &mut [u8]) -> (u32, Counts) {
+    require_version();
     let mut counts = Counts::default();
     let (batch_at, faults_at) = (batch.as_mut_ptr(), faults.as_mut_ptr());
     // SAFETY: `text` has `len` bytes, and its pointer is not null, also if it is empty; so have both buffers, which are borrowed alone.
@@ -416,6 +436,7 @@ pub(crate) fn rebuild(dialect: u32, text: &str, batch: &mut [u8], faults: &mut [
 
 /// The bits of the clauses that this text breaks. `None`: it has more bytes than a row may say.
 pub(crate) fn verdict(limits: &Limits, text: &str) -> Option<u64> {
+    require_version();
     let (mut row, mut told) = (OffsetRow::of_line(text.len().try_into().ok()?), 0);
     // SAFETY: `text` has `len` bytes, and its pointer is not null, also if it is empty. `limits` is a borrow. What is written is two
     // locals, the one row among them, so they are apart from these and from each other.
@@ -425,6 +446,7 @@ pub(crate) fn verdict(limits: &Limits, text: &str) -> Option<u64> {
 
 // What a call answers over this buffer, and the length that it tells.
 fn put_into(call: PutOut, line: &Line<'_>, parts: &[Part<'_>], out: &mut [u8]) -> (u32, usize) {
+    require_version();
     let mut len = 0;
     // SAFETY: `call` is one that puts a text out. `line` and `parts` are borrows, of texts that are borrows too. What is written is
     // `out`, which is borrowed alone, and a local, so they are apart from these and from each other.
@@ -446,6 +468,7 @@ pub(crate) fn put_out<T>(call: PutOut, line: &Line<'_>, parts: &[Part<'_>], take
 
 /// What `lp_line_write` answers over this buffer for a line whose texts are those of `Text::new`, and the length that it tells.
 pub(crate) fn write_line(dialect: u32, line: &Line<'_>, parts: &[Part<'_>], out: &mut [u8]) -> (u32, usize) {
+    require_version();
     let mut len = 0;
     // SAFETY: `line` and `parts` are borrows, of texts that are borrows too. What is written is `out`, which is borrowed alone, and
     // a local, so they are apart from these and from each other.

@@ -31,11 +31,9 @@ fn print_line(rt: &impl Print, line: &ParsedLine<'_>) -> io::Result<()> {
 }
 
 // What is asked of each line.
-fn print_each(rt: &impl Print, alloc: Global, text: &str) -> io::Result<()> {
-    for item in parse_lines(alloc, text) {
-        if let Ok(line) = &item {
-            print_line(rt, line)?;
-        }
+fn print_each(rt: &impl Print, lines: &[ParsedLine<'_>]) -> io::Result<()> {
+    for line in lines {
+        print_line(rt, line)?;
     }
     Ok(())
 }
@@ -65,12 +63,8 @@ fn lines_of(alloc: Global, text: &str) -> Result<Vec<ParsedLine<'_>>, AllocFaile
 }
 
 // How many series a text has, and the sum of the field `f` of each.
-fn print_groups(rt: &impl Print, alloc: Global, text: &str) -> io::Result<()> {
-    let lines = lines_of(alloc, text)?;
-    let (Ok(groups), Ok(sums)) = (
-        group(alloc, lines.as_slice()),
-        sums(alloc, lines.as_slice(), "f"),
-    ) else {
+fn print_groups(rt: &impl Print, alloc: Global, lines: &[ParsedLine<'_>]) -> io::Result<()> {
+    let (Ok(groups), Ok(sums)) = (group(alloc, lines), sums(alloc, lines, "f")) else {
         return println!(rt; "no groups");
     };
     println!(rt; "groups: {}", groups.len())?;
@@ -80,42 +74,43 @@ fn print_groups(rt: &impl Print, alloc: Global, text: &str) -> io::Result<()> {
     Ok(())
 }
 
-// The lines of a text that read back, written again.
-fn written(alloc: Global, text: &str) -> Result<Vec<u8>, NoRoom> {
-    let mut lines = LineProtocolBuilder::new(alloc);
-    for item in parse_lines(alloc, text) {
-        if let Ok(line) = &item {
-            if line.field_set.len() > 0 {
-                lines = write_again(lines, line)?;
-            }
+// The lines that read back, written again.
+fn written(alloc: Global, lines: &[ParsedLine<'_>]) -> Result<Vec<u8>, NoRoom> {
+    let mut written = LineProtocolBuilder::new(alloc);
+    for line in lines {
+        if line.field_set.len() > 0 {
+            written = write_again(written, line)?;
         }
     }
-    Ok(lines.build())
+    Ok(written.build())
 }
 
 // The same, and how many lines were left out.
-fn appended(alloc: Global, text: &str) -> Result<(Vec<u8>, u64), NoRoom> {
-    let mut lines = LineProtocolBuilder::new(alloc);
+fn appended(alloc: Global, lines: &[ParsedLine<'_>]) -> Result<(Vec<u8>, u64), NoRoom> {
+    let mut appended = LineProtocolBuilder::new(alloc);
     let mut left_out = 0;
-    for item in parse_lines(alloc, text) {
-        if let Ok(line) = &item {
-            lines = append(lines, line, &mut left_out)?;
-        }
+    for line in lines {
+        appended = append(appended, line, &mut left_out)?;
     }
-    Ok((lines.build(), left_out))
+    Ok((appended.build(), left_out))
 }
 
-// What is written of a text.
-fn print_written(rt: &impl Print, alloc: Global, text: &str) -> io::Result<()> {
-    if let Ok(lines) = written(alloc, text) {
-        println!(rt; "written <{}>", lines.as_slice().escape_ascii())?;
+// What is written of lines.
+fn print_written(rt: &impl Print, alloc: Global, lines: &[ParsedLine<'_>]) -> io::Result<()> {
+    if let Ok(written) = written(alloc, lines) {
+        println!(rt; "written <{}>", written.as_slice().escape_ascii())?;
     }
-    if let Ok((lines, left_out)) = appended(alloc, text) {
+    if let Ok((appended, left_out)) = appended(alloc, lines) {
         println!(rt;
             "appended <{}>, {left_out} left out",
-            lines.as_slice().escape_ascii()
+            appended.as_slice().escape_ascii()
         )?;
     }
+    Ok(())
+}
+
+// What is carried and refused of a text.
+fn print_cleaned(rt: &impl Print, alloc: Global, text: &str) -> io::Result<()> {
     let cleaned = cleaned(alloc, text)?;
     let (batch, faults) = (cleaned.batch.as_slice(), cleaned.faults.as_slice());
     println!(rt; "carried {} <{}>", cleaned.carried, batch.escape_ascii())?;
@@ -144,10 +139,12 @@ fn print_counts(rt: &impl Print, alloc: Global, text: &str) -> io::Result<()> {
 /// Prints what the callers give for a text.
 pub fn print_answers(rt: &impl Print, alloc: Global, text: &str) -> io::Result<()> {
     println!(rt; "\ntext <{}>", text.as_bytes().escape_ascii())?;
-    print_each(rt, alloc, text)?;
+    let lines = lines_of(alloc, text)?;
+    print_each(rt, lines.as_slice())?;
     print_counts(rt, alloc, text)?;
     print_fault(rt, text)?;
     print_series(rt, alloc, text)?;
-    print_groups(rt, alloc, text)?;
-    print_written(rt, alloc, text)
+    print_groups(rt, alloc, lines.as_slice())?;
+    print_written(rt, alloc, lines.as_slice())?;
+    print_cleaned(rt, alloc, text)
 }
