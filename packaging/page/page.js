@@ -11,9 +11,9 @@ const EXAMPLES = {
 const MEANINGS = {
     measurement_value_invalid: "A line begins with its measurement, as in cpu,host=a usage=1. Here is none.",
     field_set_missing: "The first field was to be read here: a name, an equals sign and a value, as in usage=1.5.",
-    integer_value_invalid: "This integer does not fit into 64 bits.",
-    uinteger_value_invalid: "This unsigned integer does not fit into 64 bits.",
-    timestamp_value_invalid: "This time does not fit into 64 bits of nanoseconds.",
+    integer_value_invalid: "An integer is from -9223372036854775808 to 9223372036854775807, and this one is not.",
+    uinteger_value_invalid: "An unsigned integer is from 0 to 18446744073709551615, and this one is not.",
+    timestamp_value_invalid: "A time is from -9223372036854775808 to 9223372036854775807 nanoseconds, and this one is not.",
     ends_with_backslash: "This name would end in a backslash, which no name may do.",
     cannot_parse_entire_line: "The line is read up to here. What follows is neither another field nor a time with nothing after it.",
     tag_set_malformed: "After the comma a tag was to be read: a name, an equals sign and a value, as in host=a.",
@@ -149,21 +149,24 @@ function faultBody(card) {
     const stop = card.stop - card.from, at = characterAt(card.text, stop), before = card.text[stop - 1];
     const where = at ? `at ${at === "\n" ? "a newline" : at === " " ? "a space" : at === "\t" ? "a tab" : `“${at}”`}` : "at its end";
     const hints = [MEANINGS[card.fault]], next = /^,((?:[^=\\ ,]|\\.)+)=([^, ]*)/s.exec(card.text.slice(stop));
-    if (before === '"' && card.text.slice(0, stop).includes("\n")) hints.push(`A quote that is left open in line ${card.line} is closed only here, so all between is one string.`);
+    const word = /^[^, \n]*/.exec(card.text.slice(stop))[0];
+    if (before === '"' && card.text.slice(0, stop).includes("\n")) hints.push(`Look at line ${card.line} first: a quote that is left open there is closed only here, so all between is one string.`);
     else if (at === '"') hints.push("This quote is not closed in its piece, so it opens no string.");
-    else if (next && card.fault === "cannot_parse_entire_line") hints.push(`Look at the value of ${next[1]}: ${next[2] || "there is none"}. ${VALUE}`);
-    else if (before === "=" && /_missing|_line/.test(card.fault)) hints.push(VALUE);
+    else if (next && card.fault === "cannot_parse_entire_line" && next[2].startsWith('"')) hints.push(`The quote after ${next[1]}= is not closed in its piece, so it opens no string.`);
+    else if (next && card.fault === "cannot_parse_entire_line") hints.push(`Look at ${next[1]}: ${next[2] ? `“${next[2]}” is no value` : "it has no value"}. ${VALUE}`);
+    else if (before === "=" && card.fault === "field_set_missing") hints.splice(0, 1, `${word ? `“${word}” is no value.` : "After the equals sign there is no value."} ${VALUE}`);
+    else if (before === "=" && /_line/.test(card.fault)) hints.push(VALUE);
     return [
         markedText(card),
         make("p", { class: "why" }, make("b", {}, `Line ${card.stopLine}, byte ${card.stopColumn}`), `: reading stopped ${where}. `, ...hints.join(" ")),
-        make("p", { class: "note" }, `${card.fault}: ${card.message} — byte ${card.stopAt.toLocaleString("en")} of the text. Nothing goes out for this piece.`),
+        make("p", { class: "note" }, `${card.fault}: ${card.message} — offset ${card.stopAt.toLocaleString("en")} in the text. Nothing goes out for this piece.`),
     ];
 }
 
 function serverItem(name, broken) {
     const isGood = broken.length === 0;
     return make("li", {}, make("span", { class: isGood ? "yes" : "no" }, isGood ? "✓ " : "✗ "), `${name} `,
-        isGood ? "reads this line so." : `reads it otherwise, or not: ${broken.map(clause => clause.means).join("; ")}.`);
+        isGood ? "reads this line so." : `does not read this line so: ${broken.map(clause => clause.means).join("; ")}.`);
 }
 
 function lineBody(card) {
@@ -201,6 +204,7 @@ function articleOf(card) {
     const head = make("div", { class: "head", id: title },
         make("span", { class: "number" }, `Item ${(card.n + 1).toLocaleString("en")}, line ${card.line.toLocaleString("en")}`),
         make("span", { class: "badge" }, card.fault ? `refused: ${card.fault}` : words),
+        card.fault || card.clauses.length === 0 ? null : make("span", { class: "caution" }, "not every server reads it so"),
         make("span", { class: "brief", "aria-hidden": "true" }, card.text.slice(0, 200).replace(/\s+/g, " ")));
     head.addEventListener("click", () => toggle(card.n));
     article.append(head);
@@ -393,7 +397,7 @@ function summarize(count, counts) {
     find("summary").textContent = count === 0 ? "The text has no line."
         : `${plural(lines, "line is", "lines are")} read, ${plural(refused, "piece is", "pieces are")} refused.${count > LISTED ? ` The first ${LISTED.toLocaleString("en")} are listed.` : ""}`;
     const chips = Object.entries(counts).sort().map(([kind, n]) => {
-        const chip = make("button", { type: "button", "data-kind": kind, title: kind === "line" ? "Go to the next line that is read" : "Go to the next one" }, `${kind} ${n.toLocaleString("en")}`);
+        const chip = make("button", { type: "button", "data-kind": kind, title: kind === "line" ? "Go to the next line that is read" : "Go to the next one" }, `${kind === "line" ? "lines read" : kind}: ${n.toLocaleString("en")}`);
         chip.addEventListener("click", () => go(nextOf(kind, 1), { open: true }));
         return chip;
     });
