@@ -156,15 +156,35 @@ for parts in "" 0 04 -1 +4 4.0 1e2 1000 18446744073709551620 x; do
 done
 wanted 2 "" "apart: with the options (--wrong) the status of * is 2" "$apart" "$file" 4 --wrong
 wanted 2 "" "apart: the options (--help) are not *" "$apart" "$file" 4 --help
-for words in "--output again" "--strict -o again" "--refused again" "again" "--lines -" "--max-line 7 7"; do
+for words in "--output again" "--output=again" "--strict -o again" "--refused again" "--refused=again" "--append" "again" "--lines -" \
+    "--max-line 7 7" "--batch-lines=9" "--portable influx1 again"; do
     # shellcheck disable=SC2086
     wanted 2 "" "apart: the options ($words) name a file" "$apart" "$file" 4 $words
 done
-for words in "--strict --first-item 7" "--first-line 7"; do
+for words in "--strict --first-item 7" "--first-line 7" "--first-item=7"; do
     # shellcheck disable=SC2086
     wanted 2 "" "apart: the options ($words) say where the numbers begin*" "$apart" "$file" 4 $words
 done
-wanted 2 "" "apart: the options (--range 7..) name a part" "$apart" "$file" 4 --range 7..
+for words in "--range 7.." "--range=7.." "--cut 7"; do
+    # shellcheck disable=SC2086
+    wanted 2 "" "apart: the options ($words) name a part" "$apart" "$file" 4 $words
+done
+for words in --now "--types strict" --types=strict "--max-faults 7"; do
+    # shellcheck disable=SC2086
+    wanted 2 "" "apart: the options ($words) give otherwise in parts than in one run" "$apart" "$file" 4 $words
+done
+[ ! -e again ] || { echo "apart: a run that is refused makes a file"; exit 1; }
+# Words after options, and a value after an equals sign.
+RELAYS='cat; echo "$*" >&2; exit 1'
+for words in "--portable influx1 --time-unit=ms" "--faults editor --times=1..2"; do
+    # shellcheck disable=SC2086
+    wanted 1 "$text" "--summary *" "$apart" "$file" 4 --check $words
+done
+faults_wanted "--summary --check --faults editor --times 1..2
+--summary --faults editor --times 1..2 --check --first-line 2
+--summary --faults editor --times 1..2 --check --first-line 3
+--summary --faults editor --times 1..2 --check --first-line 4"
+RELAYS="cat"
 wanted 2 "" "apart: with the options (--summary --summary) the status of * is 2" "$apart" "$file" 4 --summary --summary
 wanted 2 "" "apart: * is not a regular file*" "$apart" "$work" 4
 wanted 2 "" "apart: none is not a regular file*" "$apart" none 4

@@ -28,6 +28,8 @@ PLACES = ["crates/lp_examples/src/*.rt", "bindings/c/example.c", "bindings/c/cut
 DOCUMENTS = ["README.md", "docs/RATTLE.md", "docs/BINDINGS.md", "bindings/python/README.md"]
 ANSWERS = "crates/lp_tables/data/answers.tsv"
 KINDS = "crates/lp_relay/src/kinds.rt"
+# What counts the kinds, since it cannot read that file.
+COUNTS = ("checks/lp_checks.h", r"LP_KINDS = (\d+)"), ("checks/series_arguments.sh", r"= (\d+) \] \|\| fail \"the metrics have not")
 LANGUAGES = ("rust", "antt", "c", "cpp", "rs", "python", "go")  # of the blocks that must be copies
 
 MARK = re.compile(r"^\s*(?://|#) \[(\w+)\]$")
@@ -153,6 +155,8 @@ def kinds_of_page():
     rows = re.findall(r"^\| `(\w+)` \|", read("docs/FORMAT.md").partition("| `kind` | the fault |\n")[2].partition("\n\n")[0], re.M)
     if sorted(rows) != [name for name, _ in found]:
         raise Fault(f"docs/FORMAT.md has not the kinds of {KINDS}: {' '.join(sorted({name for name, _ in found} ^ set(rows)))}")
+    if [len(found)] * 2 != (counted := [int(n) for path, pattern in COUNTS for n in re.findall(pattern, read(path))]):
+        raise Fault(f"{KINDS} has {len(found)} kinds, where {' and '.join(path for path, _ in COUNTS)} have {counted}")
     lines = [line for name, what in found for line in (f".It Li {name}", *textwrap.wrap(what.replace("`", ""), options.PAGE_WIDTH))]
     return options.Place("man/lp_relay.1", ('.\\" [kinds]',), '.\\" [end]', lines)
 

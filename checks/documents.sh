@@ -30,17 +30,9 @@ elif [ "$("$rt" version | head -n 1 | cut -d ' ' -f 1)" != "$(told_kit)" ]; then
     echo "documents: lp_relay --version tells $(told_kit), where the kit is $("$rt" version | head -n 1)"
     exit 1
 fi
-python3 -B "$here/definitions.py"
-python3 -B "$here/blocks.py"
-python3 -B "$here/options.py"
-python3 -B "$here/fault_files.py"
-python3 -B "$here/links.py"
-python3 -B "$here/prose.py"
-python3 -B "$here/promises.py"
-python3 -B "$here/layers.py"
-python3 -B "$here/lemmas.py"
-python3 -B "$here/header.py"
-python3 -B "$here/bindings.py"
-python3 -B "$here/bodies.py"
-python3 -B "$here/page_items.py"
-python3 -B "$here/witnesses.py"
+status=0
+for check in definitions blocks options fault_files links prose promises layers \
+    lemmas header bindings bodies page_items witnesses; do
+    python3 -B "$here/$check.py" || status=1
+done
+exit "$status"

@@ -20,6 +20,8 @@ from promises import MADE, TOP
 
 TEXTS = "crates/lp_values/specs/code/Faults.antt", re.compile(r'^fault_text \(?format\.(\w+)[^=]*= codes "(.*?)"', re.M)
 KINDS = "crates/lp_relay/specs/Objects.antt", re.compile(r"^fault_kind \(?fault\.(\w+)[^=]*= (\w+)$", re.M)
+# The kinds of a relay, also those for which it alone refuses a line.
+NAMES = KINDS[0], re.compile(r'^kind_name (\w+) = codes "(\w+)"$', re.M)
 # Files that need not name a fault, though they name all others.
 LEFT_OUT = {"bindings/rust/src/border.rs": "take_while1", "docs/INTEROP.md": "uinteger_value_invalid"}
 PAGE, HEAD = "CONTRIBUTING.md", "**A new fault**"
@@ -76,16 +78,18 @@ def forgotten(named, faults):
 def main(words):
     told, kinds = pairs(*TEXTS), pairs(*KINDS)
     faults = {name: [name.replace("_", ""), kinds[name].lower(), text] for name, text in told.items()}
-    asked = [name for name in faults if not words or words[0].replace("_", "").lower() in faults[name][:2]]
+    of_relay = {name: [name.replace("_", ""), kind.lower(), name] for kind, name in pairs(*NAMES).items()}
+    known = {**of_relay, **faults}
+    asked = [name for name in known if not words or words[0].replace("_", "").lower() in known[name][:2]]
     if not asked:
-        print(f"{__doc__}\nThe faults: {', '.join(sorted(kinds.values()))}", file=sys.stderr)
+        print(f"{__doc__}\nThe kinds: {', '.join(sorted(of_relay))}", file=sys.stderr)
         return 2
-    named = {path: [name for name in asked if is_named(text, flat, faults[name])] for path, text, flat in files()}
-    found = sorted(path for path, names in named.items() if names)
+    named = {path: [name for name in asked if is_named(text, flat, known[name])] for path, text, flat in files()}
     if words:
-        print("\n".join(found))
+        print("\n".join(sorted(path for path, names in named.items() if names)))
         return 0
-    said = [*differences(found), *sorted(forgotten(named, faults))]
+    found = sorted(path for path, names in named.items() if any(name in faults for name in names))
+    said = [*differences(found), *sorted({*forgotten(named, faults), *forgotten(named, of_relay)})]
     print("\n".join(f"fault_files: {line}" for line in said) or f"fault_files: {PAGE} has a row for each of {len(found)} files with a fault, "
           "and none forgets one")
     return 1 if said else 0

@@ -164,7 +164,7 @@ static void must_be_rebuilt(uint8_t answer, const uint64_t lens[2]) {
 static void check_run(uint32_t dialect, const uint8_t *text, size_t len) {
     static const size_t parts[] = {1, 7, TEXT};
     static uint8_t refused[1];
-    uint64_t lens[3], kinds[19];
+    uint64_t lens[3], kinds[LP_KINDS];
     must_be_rebuilt(lp_checks_run(dialect, text, len, one.out, ROOM, again.out, ROOM, lens), lens);
     for (int i = 0; i < 3; i++)
         must_be_rebuilt(lp_checks_relay((const uint8_t *)"sn" + (dialect == 2), dialect > 0, SIZE_MAX, text, len, parts[i], one.out, ROOM, again.out,

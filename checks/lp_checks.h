@@ -6,6 +6,9 @@
 #include <stddef.h>
 #include <stdint.h>
 
+/* How many kinds of faults there are: checks/blocks.py compares it with crates/lp_relay. */
+enum { LP_KINDS = 19 };
+
 bool lp_checks_is_utf8(const uint8_t *text, size_t len);
 uint64_t lp_checks_pieces(uint32_t dialect, const uint8_t *text, size_t len, uint8_t *out, size_t room, uint64_t *ends,
                           size_t entries);
@@ -35,7 +38,7 @@ uint8_t lp_checks_run(uint32_t dialect, const uint8_t *input, size_t len, uint8_
                       size_t err_room, uint64_t lens[2]);
 uint8_t lp_checks_relay(const uint8_t *letters, size_t letters_len, size_t limit, const uint8_t *input, size_t len, size_t part,
                         uint8_t *out, size_t room, uint8_t *err, size_t err_room, uint8_t *refused, size_t refused_room,
-                        uint64_t lens[3], uint64_t kinds[19]);
+                        uint64_t lens[3], uint64_t kinds[LP_KINDS]);
 uint8_t lp_checks_stepped(bool is_relay, const uint8_t *letters, size_t letters_len, const uint8_t *input, size_t len,
                           const size_t *steps, size_t steps_len, uint64_t *reads, uint8_t *out, size_t room, const size_t *out_steps,
                           size_t out_steps_len, uint64_t out_told[3], uint8_t *err, size_t err_room, const size_t *err_steps,

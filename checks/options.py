@@ -2,7 +2,7 @@
 """Whether the code of lp_relay and lp_rebuild, and their definitions, know just the options of packaging/options.txt, whose head says
 what its lines mean; status 1 if not. And whether the code of lp_series, its definitions and each text that lists its options have the
 same ones as its help. And whether each option of lp_relay, and each word of a few that comes after one, is told by hand where it must
-be: in the rows of docs/TRUST.md, in CHANGELOG.md, and in a check that runs lp_relay.
+be: in the rows of docs/TRUST.md, in CHANGELOG.md, in a check that runs lp_relay, and in one of the lists of examples/parts.sh.
 
 checks/blocks.py compares each text that lists the options of the first two with what `places` makes of them here.
 """
@@ -37,6 +37,8 @@ TEXTS_OF_SERIES = (
 # Where each option of lp_relay is told by hand: these pages, and one of these checks.
 TOLD = "docs/TRUST.md", "CHANGELOG.md"
 CHECKS = "arguments.sh", "losses.sh", "inputs.sh", "apart.sh", "objects.py", "settings.py", "batch_files.py", "ranges.py"
+# What relays a file in parts, and knows which options each part can have.
+PARTS = "examples/parts.sh"
 OPTION = re.compile(r"(--[a-z][a-z-]*)(?: ([A-Z.]+))?")
 WORD = re.compile(r'"(-[a-zA-Z]|--[a-z][a-z-]*)"')
 
@@ -376,7 +378,11 @@ def differences(found):
     fields = {word.strip("-").replace("-", "_") for word in odds}
     yield from (f"{CODE['lp_relay'][1]}: are_at_odds and {DATA} differ in {name}" for name in sorted(fields ^ at_odds(definitions)))
     last = code.partition("The options of a relay come in any order")[2].partition('";')[0]
-    yield from (f"{CODE['lp_relay'][0]}: the help does not say with what {word} is at odds" for word in sorted(odds) if word not in last)
+    needs = {word for option in found if option.get("needs") for word in (option.word, option.get("needs"))}
+    yield from (f"{CODE['lp_relay'][0]}: the help does not say with what {word} goes" for word in sorted(odds | needs) if word not in last)
+    listed = re.findall(r"-[\w-]+", "".join(re.findall(r"^(?:of_\w+|with_words)='(.*)'$", (TOP / PARTS).read_text(encoding="utf-8"), re.M)))
+    wanted = [word for option in found if option.get("place") != ALONE for word in option.words()]
+    yield from (f"{PARTS}: {word} is in none of the lists of options, or not once" for word in wanted if listed.count(word) != 1)
 
 
 def untold(found):

@@ -537,7 +537,7 @@ static void rebuild(uint32_t dialect) {
 
 /* Runs, or relays by the settings that these letters spell. A relay is given all of the input at one read. */
 static uint8_t run_or_relay(bool is_relay, const char *letters, uint64_t lens[3]) {
-    uint64_t kinds[19];
+    uint64_t kinds[LP_KINDS];
     const uint8_t *input = (const uint8_t *)INPUT;
     size_t len = strlen(INPUT);
     if (!is_relay) return lp_checks_run(*letters == 'n' ? 2 : *letters == 's', input, len, out, ROOM, err, ROOM, lens);

@@ -6,13 +6,13 @@
 #include <stdarg.h>
 #include <stdio.h>
 
-enum { KINDS = 19, NONE = -1, SHORT_LIMIT = 30, LONG = 17 << 20, MANY = 100001 };
+enum { NONE = -1, SHORT_LIMIT = 30, LONG = 17 << 20, MANY = 100001 };
 
 /* The kinds of faults, in their order. */
 enum kind { TRAILING, BACKSLASH, NO_FIELDS, TYPE, GENERIC, INTEGER, MEASUREMENT, NAME, NOT_AS_WRITTEN, NOT_PORTABLE, NOT_UTF8, TAGS,
             NO_TIME, TIME_OUT_OF_RANGE, TIME_OVERFLOW, TIMESTAMP, TOO_LONG, FIELDS, UNSIGNED };
 
-static const char *const NAMES[KINDS] = {
+static const char *const NAMES[LP_KINDS] = {
     "cannot_parse_entire_line", "ends_with_backslash", "field_set_missing", "field_type_conflict", "generic_parsing_error", "integer_value_invalid",
     "measurement_value_invalid", "name_not_admitted", "not_as_written", "not_portable", "not_utf8", "tag_set_malformed",
     "time_missing", "time_out_of_range", "time_overflow", "timestamp_value_invalid", "too_long", "too_many_fields", "uinteger_value_invalid",
@@ -99,7 +99,7 @@ struct relay {
     const char *letters;
     size_t limit;
     struct text input, out, err, refused;
-    uint64_t kinds[KINDS];
+    uint64_t kinds[LP_KINDS];
 };
 
 static bool has(const struct relay *relay, char letter) { return strchr(relay->letters, letter) != NULL; }
@@ -203,7 +203,7 @@ static void relay_in_parts(const struct relay *relay, size_t part) {
     const struct text *wanted[3] = {&relay->out, &relay->err, &relay->refused};
     static const char *const wrong[3] = {"the lines are others", "the faults are others", "the refused pieces are others"};
     uint8_t *got[3];
-    uint64_t lens[3] = {0}, kinds[KINDS] = {0};
+    uint64_t lens[3] = {0}, kinds[LP_KINDS] = {0};
     for (int i = 0; i < 3; i++)
         if (!(got[i] = malloc(wanted[i]->len + 1))) abort();
     uint8_t answer = lp_checks_relay((const uint8_t *)relay->letters, strlen(relay->letters), relay->limit,
@@ -215,7 +215,7 @@ static void relay_in_parts(const struct relay *relay, size_t part) {
         must_be(relay, wrong[i], got[i], lens[i], wanted[i]);
         free(got[i]);
     }
-    for (int kind = 0; kind < KINDS; kind++)
+    for (int kind = 0; kind < LP_KINDS; kind++)
         if (kinds[kind] != (has(relay, 'k') ? relay->kinds[kind] : 0)) fail(relay, "the counts of kinds are others");
     relays++;
 }
@@ -301,7 +301,7 @@ static void call_run(const uint8_t *text, size_t len) {
 
 static void call_relay(const uint8_t *text, size_t len) {
     static uint8_t refused[ROOM];
-    uint64_t lens[3], kinds[KINDS];
+    uint64_t lens[3], kinds[LP_KINDS];
     count = lp_checks_relay((const uint8_t *)"cjrk", 4, SIZE_MAX, text, len, 512, out, ROOM, err, ROOM, refused, ROOM, lens, kinds) == 0;
 }
 

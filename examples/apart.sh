@@ -4,9 +4,9 @@
 #   examples/apart.sh FILE PARTS [OPTION..] >again.lp 2>faults
 #
 # FILE: a regular file, since it is read more than once. PARTS: 1 to 999. The options are those of a relay, as `lp_relay --help`
-# lists them, but for --output, --refused, --first-item and --first-line, and no other files. LP_RELAY: the program, by default
-# ../lp_relay of this script, or else lp_relay of the path. LP_JOBS: how many processes, if not as many as there are processors. TMPDIR:
-# where the outputs wait for their turn.
+# lists them, but for those that name files or a part, say where numbers begin, or look at what came before, as --types does.
+# LP_RELAY: the program, by default ../lp_relay of this script, or else lp_relay of the path. LP_JOBS: how many processes, if not
+# as many as there are processors. TMPDIR: where the outputs wait for their turn.
 #
 # Both outputs are what one lp_relay writes. The lines of a part are put out while later parts are relayed, so with several parts for each
 # processor less waits; if the output is a file that is written at its end, those of several parts at once. The counts of the parts before

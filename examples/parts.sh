@@ -19,13 +19,47 @@ counts_of() {
 }
 export -f counts_of
 
-# Sets, from `FILE PARTS [OPTION..]`: file, parts, the program, the options of the relay of a part, the ends of the parts, waiting,
-# a folder that goes at the end, and whether the counts of the whole are asked for.
-take_parts() {
-    local name=$1 said cut last=0 end length word before='' dialect=()
-    parts=$2
+# The options of a relay: those of each part, of which some have a word after them; and those that name files or a part, say where
+# numbers begin, or give otherwise in parts than in one run, since they look at what came before. checks/options.py compares these lists.
+of_parts=' --strict --newline-delimited --crlf --verbatim --canonical --lines --progress --summary --check '
+with_words=' --portable --time-unit --default-time --times --faults --max-line '
+of_files=' --output -o --batch-lines --batch-bytes --refused --append --replace '
+of_numbers=' --first-item --first-line '
+of_ranges=' --range --cut '
+of_runs=' --types --max-fields --max-faults --now '
+
+# Sets `options` to those of the relay of a part, as words of which none is `--option=word`, and whether the counts of the whole are
+# asked for.
+take_options() {
+    local word words=() before=''
     options=(--summary)
     counts_asked=
+    for word in "$@"; do
+        if [[ $word = --*=* ]]; then words+=("${word%%=*}" "${word#*=}"); else words+=("$word"); fi
+    done
+    for word in "${words[@]}"; do
+        if [ -n "$before" ] || [[ $of_parts = *" $word "* ]]; then
+            before=
+        elif [[ $with_words = *" $word "* ]]; then
+            before=$word
+        elif [[ $of_numbers = *" $word "* ]]; then
+            fail "the options ($*) say where the numbers begin, and each part has its own"
+        elif [[ $of_ranges = *" $word "* ]]; then
+            fail "the options ($*) name a part"
+        elif [[ $of_runs = *" $word "* ]]; then
+            fail "the options ($*) give otherwise in parts than in one run"
+        elif [[ $of_files = *" $word "* || $word != --* ]]; then
+            fail "the options ($*) name a file"
+        fi
+        if [ "$word$counts_asked" = --summary ]; then counts_asked=yes; else options+=("$word"); fi
+    done
+}
+
+# Sets, from `FILE PARTS [OPTION..]`: file, parts, the program, what take_options sets, the ends of the parts, and waiting, a folder that
+# goes at the end.
+take_parts() {
+    local name=$1 said cut last=0 end length word dialect=()
+    parts=$2
     [ -f "$name" ] || fail "$name is not a regular file, so it cannot be read in parts"
     # A name such as /dev/stdin is another file for each process.
     file=$(readlink -f -- "$name") || fail "$name has no name that all processes share"
@@ -34,15 +68,7 @@ take_parts() {
     program=${LP_RELAY:-$(dirname "$(readlink -f "${BASH_SOURCE[0]}")")/../lp_relay}
     [ -n "${LP_RELAY-}" ] || [ -e "$program" ] || program=lp_relay
     # Each part is an input of its own, and has an output of its own.
-    for word in "$@"; do
-        if [[ $word = --output || $word = -o || ($word != --* && $before != --max-line && $before != --faults) ]]; then
-            fail "the options ($*) name a file"
-        fi
-        [[ $word != --first-* ]] || fail "the options ($*) say where the numbers begin, and each part has its own"
-        [ "$word" != --range ] || fail "the options ($*) name a part"
-        if [ "$word$counts_asked" = --summary ]; then counts_asked=yes; else options+=("$word"); fi
-        before=$word
-    done
+    take_options "$@"
     said=$("$program" "${options[@]}" </dev/null 2>&1) || {
         status=$?
         echo "$said" >&2 || true
@@ -50,7 +76,7 @@ take_parts() {
     }
     [ "$(counts_of /dev/stdin <<<"$said")" = "0 bytes, 0 lines, 0 items: 0 carried, 0 refused" ] || fail "the options ($*) are not those of a relay"
     for word in --strict --newline-delimited; do
-        case " $* " in *" $word "*) dialect=("$word") ;; esac
+        case " ${options[*]} " in *" $word "*) dialect=("$word") ;; esac
     done
 
     # Where the parts end, in bytes: no item is in two of them.
@@ -138,7 +164,7 @@ number_faults() {
     # An object names its item and its line, also with --lines; a fault line names its item, or with --lines its line.
     case " ${options[*]} " in
     *" --faults json "* | *" --faults json+text "*) by=both ;;
-    *" --lines "*) by=line ;;
+    *" --lines "* | *" --faults editor "*) by=line ;;
     esac
     for word in "${options[@]}"; do
         if [ "$word" != --lines ] && [ "$word" != --check ]; then checks+=("$word"); fi
