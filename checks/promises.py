@@ -4,8 +4,8 @@
     checks/promises.py    prints each public call with a clause that docs/TRUST.md does not name, each with a `requires` that its
                           table of conditions does not have, what that table has and no call asks for, each clause that a row names
                           and no call of the row has, each function of the crates of programs without an `ensures` that the table of these
-                          does not have, and what that has and no such function is, and each name in `code` on a page that nothing in the
-                          tree has; status 1 if there is any
+                          does not have, and what that has and no such function is, each setting of a relay that docs/FORMAT.md has no
+                          rule for, and each name in `code` on a page that nothing in the tree has; status 1 if there is any
 
 A call is public if the root or a public module of the library, `lp_rebuild` or `lp_relay` hands it on, or its type and trait,
 or if it is `extern "C"` in `lp_c` or `lp_page`. A line names a method if it has the names of the method, of its type and of its trait.
@@ -27,6 +27,9 @@ TOP = Path(__file__).resolve().parent.parent
 TRUST = TOP / "docs" / "TRUST.md"
 CONDITIONS = "## Conditions"
 UNPROMISED = "### Functions of `lp_programs`, `lp_relay_program` and `lp_series_program` without a clause"
+SETTINGS = TOP / "crates" / "lp_relay" / "src" / "taking.rt"
+# Settings whose rules are under other words: the limit, what fault lines name, how they are told, the name of the input.
+RULED_BEFORE = "dialect", "limit", "numbering", "faults", "file"
 PAGES = ["*.md", "docs/*.md", "bench/*.md", "bindings/**/*.md", "examples/**/*.md", "crates/*/*.md"]
 # The crates that hand names on, and the crates whose code these are in.
 ROOTS = {
@@ -126,6 +129,14 @@ def wrong_conditions(calls):
             yield f"docs/TRUST.md: the table of conditions has `{span}`, which has no `requires`"
 
 
+def unruled_settings():
+    """The settings of a relay that docs/FORMAT.md says nothing of before the arguments of the programs."""
+    settings = re.findall(r"^    pub (\w+):", read(SETTINGS).partition("pub struct Settings")[2].partition("\n}\n")[0], re.M)
+    rules = read(TOP / "docs" / "FORMAT.md").partition("Its settings say the rest")[2].partition("| arguments of a program")[0]
+    yield from (f"docs/FORMAT.md has no rule for `{name}`, a setting of a relay" for name in settings
+                if name not in RULED_BEFORE and f"`{name}`" not in rules)
+
+
 def unpromised_functions():
     """The functions of the crates of programs without an `ensures`, but for those of an impl of a trait: the type of each, and its name."""
     for path in (path for crate in PROGRAMS for path in sorted((TOP / "crates" / crate / "src").rglob("*.rt"))):
@@ -217,7 +228,7 @@ def unknown_names(path, tree):
 def main():
     calls, tree = public_calls(), Tree()
     pages = sorted({path for place in PAGES for path in TOP.glob(place) if "out" not in path.parts})
-    found = [*unnamed_calls(calls), *wrong_conditions(calls), *wrong_clauses(), *wrong_functions()]
+    found = [*unnamed_calls(calls), *wrong_conditions(calls), *wrong_clauses(), *wrong_functions(), *unruled_settings()]
     found += [line for path in pages for line in unknown_names(path, tree)]
     if found:
         print("\n".join(f"promises: {line}" for line in found), file=sys.stderr)
