@@ -34,7 +34,7 @@ LETTERS = [b"lork", b"jr", b"lorkv", b"jrk", b"lorkc"]
 LIMITS = [1 << 24, 1 << 24, 12]
 
 ROOM, ENTRIES = 1 << 16, 1 << 10
-KINDS = int(re.search(r"kinds\[(\d+)\]", pathlib.Path(__file__).with_name("lp_checks.h").read_text(encoding="utf-8"))[1])
+KINDS = int(re.search(r"LP_KINDS = (\d+)", pathlib.Path(__file__).with_name("lp_checks.h").read_text(encoding="utf-8"))[1])
 OUT, ERR, REFUSED = (ctypes.create_string_buffer(ROOM) for _ in range(3))
 ENDS, LENS, COUNTS = ((ctypes.c_uint64 * count)() for count in (ENTRIES, 3, KINDS))
 
