@@ -5,8 +5,7 @@
 #   1. The checks of documents and scripts. If one fails, nothing else is run.
 #   2. The archives of lp_c and lp_checks are built; beside that, the checks of bin/take, of the launchers and of completion.
 #   3. The misuses, which begin with what was proved for the archives. The gate sets that aside, so they come before it.
-#   4. The gate, on every second processor if there are four, and beside it the checks that link the archives. Two processors are often one
-#      core, on which two proofs take up to a half more each.
+#   4. The gate, on every second processor if there are four, since two are often one core; and beside it the checks that link the archives.
 #   5. The checks of the programs that the gate made, and beside them that of Python, which runs one of them too.
 #
 # Before the gate's last line, which comes last, it tells how long each part took, what the gate did for each crate, what the checks
