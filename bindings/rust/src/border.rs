@@ -298,6 +298,7 @@ pub struct Limits {
 
 impl Default for Limits {
     fn default() -> Self {
+        require_version();
         let mut limits = Limits { line: 0, tags: 0, earliest: 0, latest: 0 };
         // SAFETY: the one pointer is that of a local, which has the layout of `lp_limits` and is filled.
         unsafe { lp_limits_default(&mut limits) };
