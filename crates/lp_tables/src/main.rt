@@ -5,44 +5,46 @@
 #![tactic(auto)]
 
 mod answers;
+mod cells;
+mod cuts;
+mod files;
+mod random;
 mod relays;
+mod render;
+mod short_texts;
 mod streams;
+mod tables;
+mod unlike;
 mod writes;
 
-use answers::Answers;
-use lp_vectors::rows::is_file_right;
-use relays::Relays;
+use files::is_file_right;
 use std::process::ExitCode;
 use std::{env, io};
-use streams::Streams;
-use writes::Writes;
+use tables::table_of;
 
 // Whether each row of a file is as it says.
 fn is_right(rt: &HostRuntime, path: &str) -> io::Result<bool> {
     println!(rt; "{path}")?;
-    if path.ends_with("answers.tsv") {
-        return is_file_right(rt, &Answers, path);
+    match table_of(path) {
+        Some(table) => is_file_right(rt, table, path),
+        None => {
+            println!(rt; "no table has this name")?;
+            Ok(false)
+        }
     }
-    if path.ends_with("streams.tsv") {
-        return is_file_right(rt, &Streams, path);
-    }
-    if path.ends_with("written.tsv") {
-        return is_file_right(rt, &Writes, path);
-    }
-    if path.ends_with("relays.tsv") {
-        return is_file_right(rt, &Relays, path);
-    }
-    println!(rt; "no table has this name")?;
-    Ok(false)
 }
 
-// Whether each row of each file is as it says; false also if no file is named.
+// Whether each row of each file is as it says.
 fn are_right(rt: &HostRuntime) -> io::Result<bool> {
-    let mut are_right = false;
-    for (at, path) in env::args(rt)?.skip(1).enumerate() {
-        are_right = is_right(rt, path.as_str())? && (are_right || at == 0);
+    let (mut are_right, mut is_named) = (true, false);
+    for path in env::args(rt)?.skip(1) {
+        are_right = is_right(rt, path.as_str())? && are_right;
+        is_named = true;
     }
-    Ok(are_right)
+    if !is_named {
+        println!(rt; "no table is named: name some of data/*.tsv")?;
+    }
+    Ok(are_right && is_named)
 }
 
 // Status 0 if all rows are as they say, 1 if not, and 2 if a file cannot be read.

@@ -1,8 +1,9 @@
 //! What the library gives for a text, spelled as the file of rows says at its head.
 
+use crate::cells::text_of;
+use crate::render;
 use influxdb_line_protocol::{Dialect, FloatText, ParsedLine, is_as_written_in, parse_lines_in};
 use lp_rebuild::{Kept, rebuild_in, run_in, status};
-use lp_vectors::render;
 use std::alloc::{AllocError, Global};
 
 /// The words for what a row asks of its text.
@@ -109,14 +110,6 @@ fn columns(alloc: Global, line: &ParsedLine<'_>) -> Result<String, AllocError> {
         return format!(in alloc; "{}", line.column_count());
     }
     String::from_str(alloc, "too many to count")
-}
-
-// Bytes that are read as text.
-fn text_of(bytes: &[u8]) -> &str {
-    match str::from_utf8(bytes) {
-        Ok(text) => text,
-        Err(_) => "no text",
-    }
 }
 
 // How many items were written again of how many there are, and what was written.

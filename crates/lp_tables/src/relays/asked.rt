@@ -1,8 +1,8 @@
 //! What the first cell of a row asks for: by which settings its text is relayed, and how it comes.
 
+use crate::cells::number_of;
 use influxdb_line_protocol::Dialect;
 use lp_relay::{Faults, LineForm, Numbering, Settings, Shard, StrictTypes};
-use lp_vectors::rows::number_of;
 
 const ALL: &[Dialect] = &[Dialect::Crate, Dialect::Strict, Dialect::NewlineDelimited];
 

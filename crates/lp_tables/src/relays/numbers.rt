@@ -1,6 +1,6 @@
 //! Cells that come many times, with a number that grows.
 
-use lp_vectors::rows::number_of;
+use crate::cells::number_of;
 use std::alloc::{AllocError, Global};
 
 // The first number between braces of a cell, if it has any: what is before it, where it begins, how much it grows, and what is after.

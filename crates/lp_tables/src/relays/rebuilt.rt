@@ -1,12 +1,12 @@
 //! Texts that are relayed as they are rebuilt, and so are their parts: those of rows, all short ones, and random ones.
 
-use super::unlike::{Unlike, same, told};
 use super::ways::{Way, relayed, ways};
+use crate::random::Random;
+use crate::short_texts::{COUNTS, short_text};
+use crate::unlike::{Unlike, same};
 use influxdb_line_protocol::Dialect;
 use lp_rebuild::{Rebuilt, rebuild_in};
 use lp_relay::{Settings, part_ends};
-use lp_vectors::random::Random;
-use lp_vectors::short_texts::{COUNTS, short_text};
 use std::alloc::{AllocError, Global};
 
 // A text that comes so is relayed as it was rebuilt.
@@ -57,7 +57,8 @@ fn parts_agree(
         start = *end;
     }
     if carried != whole.carried || refused != whole.refused {
-        return Err(told(alloc, "the parts have other counts than the whole"));
+        let told = String::from_str(alloc, "the parts have other counts than the whole")?;
+        return Err(Unlike::Told(told));
     }
     same(
         alloc,
@@ -132,7 +133,7 @@ fn texts_agree(
     let mut tried = 0u64;
     for number in 0..count {
         let Ok(text) = short_text(buffer, bytes, number) else {
-            return Err(told(alloc, "the bytes are not ASCII"));
+            return Err(Unlike::Untried);
         };
         tried = tried.saturating_add(cut_text_agrees(alloc, dialect, text, ways)?);
     }

@@ -1,11 +1,11 @@
 //! What the cells of a row want of a relay, a rebuild and a run.
 
 use super::asked::Asked;
-use super::unlike::{Unlike, same};
 use super::ways::{Blocks, Wrote, relayed, relayed_each, ways};
+use crate::cells::text_of;
+use crate::unlike::{Unlike, same};
 use lp_rebuild::{Kept, Rebuilt, RunFault, rebuild_in, run_in, status};
 use lp_relay::{KINDS, Relayed};
-use lp_vectors::rows::text_of;
 use std::alloc::{AllocError, Global};
 
 // What is given, in the order of the cells.

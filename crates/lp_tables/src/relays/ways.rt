@@ -1,8 +1,8 @@
 //! The ways by which a text comes to a relay, and what the relay gives.
 
+use crate::cuts::CutSource;
 use lp_rebuild::{DeviceFault, Kept, RunFault, Source};
 use lp_relay::{Clock, Inputs, Outputs, Relayed, Settings, relay, relay_inputs, relay_now};
-use lp_vectors::cuts::CutSource;
 use std::alloc::{AllocError, Global};
 
 /// How a text comes.
@@ -10,7 +10,7 @@ use std::alloc::{AllocError, Global};
 pub enum Way {
     /// So many bytes at each read.
     Reads(usize),
-    /// In parts, as [`Parts`](lp_vectors::cuts::Parts) cuts it.
+    /// In parts, as [`Parts`](crate::cuts::Parts) cuts it.
     Cut(u64),
 }
 

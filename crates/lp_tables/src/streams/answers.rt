@@ -1,25 +1,8 @@
 //! What streams give, spelled as the file of rows says at its head.
 
+use super::any_stream::AnyStream;
 use influxdb_line_protocol::{Dialect, PieceTooLong, split_lines_in};
-use lp_vectors::rows::unless_same;
-use lp_vectors::streams::AnyStream;
 use std::alloc::{AllocError, Global};
-
-/// Why a row is not as it says.
-#[derive(Drop)]
-pub enum Wrong {
-    Memory(AllocError),
-    /// The cells are not those of its kind.
-    Cells,
-    /// What is given otherwise.
-    Given(String),
-}
-
-impl From<AllocError> for Wrong {
-    fn from(fault: AllocError) -> Wrong {
-        Wrong::Memory(fault)
-    }
-}
 
 /// Which stream is asked.
 #[derive(Clone, Copy)]
@@ -34,14 +17,6 @@ impl Asked {
     /// A stream that holds nothing.
     pub fn stream(self) -> AnyStream {
         AnyStream::new_in(self.alloc, self.dialect, self.limit)
-    }
-
-    /// What is given must be what is wanted.
-    pub fn same(self, what: &str, given: &[u8], wanted: &[u8]) -> Result<(), Wrong> {
-        match unless_same(self.alloc, what, given, wanted)? {
-            None => Ok(()),
-            Some(told) => Err(Wrong::Given(told)),
-        }
     }
 
     /// What a stream gives of a text that comes in these parts. A byte ends one piece at most.

@@ -1,9 +1,10 @@
 //! Calls of a stream, one after another, with what each gives.
 
-use super::answers::{Asked, Wrong, put_answer, put_piece};
+use super::answers::{Asked, put_answer, put_piece};
+use super::any_stream::AnyStream;
+use crate::cells::text_of;
+use crate::unlike::{Unlike, same};
 use influxdb_line_protocol::LineStream;
-use lp_vectors::rows::text_of;
-use lp_vectors::streams::AnyStream;
 use std::alloc::{AllocError, Global};
 use std::str::Utf8Error;
 
@@ -56,11 +57,11 @@ fn put_call(
 }
 
 /// Makes the calls, each in two cells: its name, and what it is passed or must give.
-pub fn calls(asked: Asked, cells: &[Vec<u8>]) -> Result<(), Wrong> {
+pub fn calls(asked: Asked, cells: &[Vec<u8>]) -> Result<(), Unlike> {
     let mut stream = asked.stream();
     for call in cells.chunks(2) {
         let [name, with] = call else {
-            return Err(Wrong::Cells);
+            return Err(Unlike::Untried);
         };
         let name = text_of(name.as_slice());
         if name == "push" {
@@ -71,7 +72,7 @@ pub fn calls(asked: Asked, cells: &[Vec<u8>]) -> Result<(), Wrong> {
         if !put_call(asked.alloc, &mut told, &mut stream, name)? {
             told.extend_from_slice(b"none")?;
         }
-        asked.same(name, told.as_slice(), with.as_slice())?;
+        same(asked.alloc, name, told.as_slice(), with.as_slice())?;
     }
     Ok(())
 }

@@ -1,11 +1,12 @@
 //! The kinds of rows, and what the cells of each ask for.
 
-use super::answers::{Asked, Wrong};
+use super::answers::Asked;
 use super::calls::calls;
 use super::cuts::{random_texts, short_texts};
+use crate::cells::{number_of, text_of};
+use crate::render;
+use crate::unlike::{Unlike, same};
 use influxdb_line_protocol::Dialect;
-use lp_vectors::render;
-use lp_vectors::rows::{number_of, text_of};
 use std::alloc::{AllocError, Global};
 
 /// The words for what a row asks.
@@ -15,19 +16,19 @@ pub const KINDS: &[&str] = &["pieces", "calls", "long", "short_texts", "random",
 const MOST_CUT: usize = 64;
 
 // The number of a cell.
-fn number(cell: &Vec<u8>) -> Result<usize, Wrong> {
-    number_of(cell.as_slice()).ok_or(Wrong::Cells)
+fn number(cell: &Vec<u8>) -> Result<usize, Unlike> {
+    number_of(cell.as_slice()).ok_or(Unlike::Untried)
 }
 
 // The dialects that a cell names.
-fn dialects_of(cell: &[u8]) -> Result<&'static [Dialect], Wrong> {
+fn dialects_of(cell: &[u8]) -> Result<&'static [Dialect], Unlike> {
     match text_of(cell) {
         "crate" => Ok(&[Dialect::Crate]),
         "strict" => Ok(&[Dialect::Strict]),
         "newline_delimited" => Ok(&[Dialect::NewlineDelimited]),
         "both" => Ok(&[Dialect::Crate, Dialect::Strict]),
         "all" => Ok(&[Dialect::Crate, Dialect::Strict, Dialect::NewlineDelimited]),
-        _ => Err(Wrong::Cells),
+        _ => Err(Unlike::Untried),
     }
 }
 
@@ -58,24 +59,24 @@ fn parts_of<'a>(
 }
 
 // A stream of these parts must give what is wanted, and if it has no limit, also one whose limit is none.
-fn must_give(asked: Asked, what: &str, parts: &[&[u8]], wanted: &[u8]) -> Result<(), Wrong> {
+fn must_give(asked: Asked, what: &str, parts: &[&[u8]], wanted: &[u8]) -> Result<(), Unlike> {
     let told = asked.of_parts(parts)?;
-    asked.same(what, told.as_slice(), wanted)?;
+    same(asked.alloc, what, told.as_slice(), wanted)?;
     if asked.limit.is_none() {
         let limit = Some(usize::MAX);
         let told = Asked { limit, ..asked }.of_parts(parts)?;
-        asked.same("with a limit", told.as_slice(), wanted)?;
+        same(asked.alloc, "with a limit", told.as_slice(), wanted)?;
     }
     Ok(())
 }
 
 // A text must give what is wanted at once, byte by byte, and if it is short cut at each place.
-fn pieces(asked: Asked, text: &[u8], wanted: &[u8]) -> Result<(), Wrong> {
+fn pieces(asked: Asked, text: &[u8], wanted: &[u8]) -> Result<(), Unlike> {
     if asked.limit.is_none()
         && let Ok(text) = str::from_utf8(text)
     {
         let told = asked.of_text(text)?;
-        asked.same("as one text", told.as_slice(), wanted)?;
+        same(asked.alloc, "as one text", told.as_slice(), wanted)?;
     }
     let parts = bytes_of(asked.alloc, text)?;
     must_give(asked, "byte by byte", parts.as_slice(), wanted)?;
@@ -94,7 +95,7 @@ fn pieces(asked: Asked, text: &[u8], wanted: &[u8]) -> Result<(), Wrong> {
 }
 
 // Compares what the cells after the first two ask of a stream.
-fn compare(kind: &str, asked: Asked, cells: &[Vec<u8>]) -> Result<(), Wrong> {
+fn compare(kind: &str, asked: Asked, cells: &[Vec<u8>]) -> Result<(), Unlike> {
     match (kind, cells) {
         ("pieces", [text, wanted]) => pieces(asked, text.as_slice(), wanted.as_slice()),
         ("calls", cells) => calls(asked, cells),
@@ -104,10 +105,10 @@ fn compare(kind: &str, asked: Asked, cells: &[Vec<u8>]) -> Result<(), Wrong> {
             must_give(asked, "in parts", parts.as_slice(), wanted.as_slice())
         }
         ("short_texts", [bytes, cuts, count]) => {
-            let bytes = bytes.as_slice().as_array::<7>().ok_or(Wrong::Cells)?;
+            let bytes = bytes.as_slice().as_array::<7>().ok_or(Unlike::Untried)?;
             let given = short_texts(asked, bytes, text_of(cuts.as_slice()))?;
             let given = format!(in asked.alloc; "{given}")?;
-            asked.same("cut texts", given.as_bytes(), count.as_slice())
+            same(asked.alloc, "cut texts", given.as_bytes(), count.as_slice())
         }
         ("random", [seed, count, ways]) => {
             random_texts(asked, number(seed)?, number(count)?, number(ways)?)
@@ -115,16 +116,16 @@ fn compare(kind: &str, asked: Asked, cells: &[Vec<u8>]) -> Result<(), Wrong> {
         ("items", [text, wanted]) => {
             let text = text_of(text.as_slice());
             let told = render::items_in(asked.alloc, asked.dialect, text)?;
-            asked.same("items", told.as_bytes(), wanted.as_slice())
+            same(asked.alloc, "items", told.as_bytes(), wanted.as_slice())
         }
-        _ => Err(Wrong::Cells),
+        _ => Err(Unlike::Untried),
     }
 }
 
 /// Compares what the cells of a row ask of streams, in each dialect that the first one names.
-pub fn compare_row(alloc: Global, kind: &str, cells: &[Vec<u8>]) -> Result<(), Wrong> {
+pub fn compare_row(alloc: Global, kind: &str, cells: &[Vec<u8>]) -> Result<(), Unlike> {
     let [dialects, limit, cells @ ..] = cells else {
-        return Err(Wrong::Cells);
+        return Err(Unlike::Untried);
     };
     let limit = match text_of(limit.as_slice()) {
         "-" => None,

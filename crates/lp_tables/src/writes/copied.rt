@@ -2,42 +2,42 @@
 
 ghost use Rattle.std.specs.Prelude.{⊤};
 
-use super::compared::Compared;
+use crate::cells::text_of;
+use crate::render;
+use crate::unlike::{Unlike, same};
 use influxdb_line_protocol::{
     Dialect, EscapedStr, EventSink, FieldValue, Spelled, SpelledFault, SpelledValue, read_events_in,
 };
-use lp_vectors::fault::Fault;
-use lp_vectors::render;
-use lp_vectors::rows::text_of;
 use std::alloc::Global;
 
+// A name is held in this way.
+fn same_name(alloc: Global, what: &str, name: &EscapedStr<'_>, wanted: &str) -> Result<(), Unlike> {
+    let given = render::name(alloc, name)?;
+    same(alloc, what, given.as_bytes(), wanted.as_bytes())
+}
+
+// A string is held in this way as a value.
+fn same_value(alloc: Global, value: &FieldValue<'_>, wanted: &str) -> Result<(), Unlike> {
+    let copy = value.clone(alloc)?;
+    let given = render::value(alloc, &copy)?;
+    same(alloc, "a value", given.as_bytes(), wanted.as_bytes())
+}
+
+// A name gives this `String`, whether it is borrowed or consumed.
+fn gives_string(alloc: Global, name: EscapedStr<'_>, wanted: &[u8]) -> Result<(), Unlike> {
+    let borrowed = name.to_string(alloc)?;
+    same(alloc, "a `String`", borrowed.as_bytes(), wanted)?;
+    let consumed = name.into_string(alloc)?;
+    same(alloc, "a copy as a `String`", consumed.as_bytes(), wanted)
+}
+
 // A name that is held so is copied as it is, and given as this `String`.
-fn compare(
-    alloc: Global,
-    told: &mut Compared,
-    name: EscapedStr<'_>,
-    wanted: &[u8],
-) -> Result<(), Fault> {
-    let copy = name.clone(alloc)?;
+fn compare(alloc: Global, name: EscapedStr<'_>, wanted: &[u8]) -> Result<(), Unlike> {
     let rendered = render::name(alloc, &name)?;
-    told.text(
-        "a copy",
-        render::name(alloc, &copy)?.as_str(),
-        rendered.as_bytes(),
-    )?;
-    told.text("a `String`", name.to_string(alloc)?.as_str(), wanted)?;
-    told.text(
-        "a copy as a `String`",
-        copy.into_string(alloc)?.as_str(),
-        wanted,
-    )?;
-    let value = FieldValue::String(name).clone(alloc)?;
-    told.text(
-        "a value",
-        render::value(alloc, &value)?.as_str(),
-        rendered.as_bytes(),
-    )?;
-    Ok(())
+    let copy = name.clone(alloc)?;
+    same_name(alloc, "a copy", &copy, rendered.as_str())?;
+    gives_string(alloc, copy, wanted)?;
+    same_value(alloc, &FieldValue::String(name), rendered.as_str())
 }
 
 // Takes the text of each name and string that it is told, and counts those that are this one.
@@ -83,14 +83,14 @@ impl<'a, 'k> EventSink<'a> for Texts<'k> {
 }
 
 /// A text is copied, and so is each name and string of a line that is spelled so, as a sink is told them.
-pub fn text(alloc: Global, told: &mut Compared, cells: &[Vec<u8>]) -> Result<(), Fault> {
+pub fn text(alloc: Global, cells: &[Vec<u8>]) -> Result<(), Unlike> {
     let [text, spelled] = cells else {
-        return Err(Fault::Unexpected);
+        return Err(Unlike::Untried);
     };
     let wanted = text_of(text.as_slice());
-    compare(alloc, told, EscapedStr::from(wanted), text.as_slice())?;
+    compare(alloc, EscapedStr::from(wanted), text.as_slice())?;
     let copy = String::from_str(alloc, wanted)?;
-    compare(alloc, told, EscapedStr::CopiedValue(copy), text.as_slice())?;
+    compare(alloc, EscapedStr::CopiedValue(copy), text.as_slice())?;
     let name = text_of(spelled.as_slice());
     let line = format!(in alloc; "{name},{name}={name} {name}=\"{name}\"")?;
     let mut texts = Texts {
@@ -101,6 +101,10 @@ pub fn text(alloc: Global, told: &mut Compared, cells: &[Vec<u8>]) -> Result<(),
     read_events_in(Dialect::Crate, line.as_str(), &mut texts);
     let found = texts.found;
     let given = format!(in alloc; "{found} of 5")?;
-    told.text("copies of what a sink is told", given.as_str(), b"5 of 5")?;
-    Ok(())
+    same(
+        alloc,
+        "copies of what a sink is told",
+        given.as_bytes(),
+        b"5 of 5",
+    )
 }

@@ -1,63 +1,64 @@
 //! What is shown of lines, series and values whose fields were set, and the bases of series.
 
-use super::compared::Compared;
+use super::given::series;
 use super::points;
-use lp_vectors::fault::Fault;
-use lp_vectors::given::series;
-use lp_vectors::render;
-use lp_vectors::rows::{number_of, text_of};
+use crate::cells::{number_of, text_of};
+use crate::render;
+use crate::unlike::{Unlike, same};
 use std::alloc::{AllocError, Global};
 
 /// A value is shown so.
-pub fn value(alloc: Global, told: &mut Compared, cells: &[Vec<u8>]) -> Result<(), Fault> {
+pub fn value(alloc: Global, cells: &[Vec<u8>]) -> Result<(), Unlike> {
     let [value, wanted] = cells else {
-        return Err(Fault::Unexpected);
+        return Err(Unlike::Untried);
     };
     let value = points::value(value.as_slice())?;
     let shown = format!(in alloc; "{value}")?;
-    told.text("shown", shown.as_str(), wanted.as_slice())?;
-    Ok(())
+    same(alloc, "shown", shown.as_bytes(), wanted.as_slice())
 }
 
 /// A line that was changed is shown so.
-pub fn line(alloc: Global, told: &mut Compared, cells: &[Vec<u8>]) -> Result<(), Fault> {
+pub fn line(alloc: Global, cells: &[Vec<u8>]) -> Result<(), Unlike> {
     let [raw_input, point @ .., wanted] = cells else {
-        return Err(Fault::Unexpected);
+        return Err(Unlike::Untried);
     };
     let line = points::line(alloc, text_of(raw_input.as_slice()), point)?;
     let shown = format!(in alloc; "{line}")?;
-    told.text("shown", shown.as_str(), wanted.as_slice())?;
-    Ok(())
+    same(alloc, "shown", shown.as_bytes(), wanted.as_slice())
 }
 
 /// A series that was changed is shown so, and has this base.
-pub fn changed_series(alloc: Global, told: &mut Compared, cells: &[Vec<u8>]) -> Result<(), Fault> {
+pub fn changed_series(alloc: Global, cells: &[Vec<u8>]) -> Result<(), Unlike> {
     let [raw_input, point @ .., wanted, wanted_base] = cells else {
-        return Err(Fault::Unexpected);
+        return Err(Unlike::Untried);
     };
     let series = points::line(alloc, text_of(raw_input.as_slice()), point)?.series;
     let shown = format!(in alloc; "{series}")?;
-    told.text("shown", shown.as_str(), wanted.as_slice())?;
+    same(alloc, "shown", shown.as_bytes(), wanted.as_slice())?;
     let base = render::shown_base(alloc, series)?;
-    told.text("base", base.as_str(), wanted_base.as_slice())?;
-    Ok(())
+    same(alloc, "base", base.as_bytes(), wanted_base.as_slice())
 }
 
 // The base of the series of a text.
-fn base_of(alloc: Global, text: &str) -> Result<String, Fault> {
+fn base_of(alloc: Global, text: &str) -> Result<String, Unlike> {
     let line = format!(in alloc; "{text} f=1i")?;
     let series = series(alloc, line.as_str())?;
     Ok(render::shown_base(alloc, series)?)
 }
 
+// The series of a text has this base, or its fault is told so.
+fn has_base(alloc: Global, what: &str, text: &str, wanted: &str) -> Result<(), Unlike> {
+    let base = base_of(alloc, text)?;
+    same(alloc, what, base.as_bytes(), wanted.as_bytes())
+}
+
 /// The series of a text has this base.
-pub fn base(alloc: Global, told: &mut Compared, cells: &[Vec<u8>]) -> Result<(), Fault> {
+pub fn base(alloc: Global, cells: &[Vec<u8>]) -> Result<(), Unlike> {
     let [text, wanted] = cells else {
-        return Err(Fault::Unexpected);
+        return Err(Unlike::Untried);
     };
-    let base = base_of(alloc, text_of(text.as_slice()))?;
-    told.text("base", base.as_str(), wanted.as_slice())?;
-    Ok(())
+    let (text, wanted) = (text_of(text.as_slice()), text_of(wanted.as_slice()));
+    has_base(alloc, "base", text, wanted)
 }
 
 // A series of so many tags. Their numbers go from the first one on by this step, and begin anew after the last; their keys have seven
@@ -72,15 +73,18 @@ fn tagged(alloc: Global, count: usize, first: usize, step: usize) -> Result<Stri
     Ok(text)
 }
 
+// The number of a cell.
+fn number(cell: &Vec<u8>) -> Result<usize, Unlike> {
+    number_of(cell.as_slice()).ok_or(Unlike::Untried)
+}
+
 /// The base of a series of so many tags is that of those whose keys rise. If two keys come again, the first of these two is the fault.
-pub fn tags(alloc: Global, told: &mut Compared, cells: &[Vec<u8>]) -> Result<(), Fault> {
+pub fn tags(alloc: Global, cells: &[Vec<u8>]) -> Result<(), Unlike> {
     let [count, first, step] = cells else {
-        return Err(Fault::Unexpected);
+        return Err(Unlike::Untried);
     };
-    let count = number_of(count.as_slice()).ok_or(Fault::Unexpected)?;
-    let first = number_of(first.as_slice()).ok_or(Fault::Unexpected)?;
-    let step = number_of(step.as_slice()).ok_or(Fault::Unexpected)?;
-    let text = tagged(alloc, count, first, step)?;
+    let count = number(count)?;
+    let text = tagged(alloc, count, number(first)?, number(step)?)?;
     let rising = tagged(alloc, count, 0, 1)?;
     let mark = if text.as_str() == rising.as_str() {
         "B"
@@ -88,20 +92,11 @@ pub fn tags(alloc: Global, told: &mut Compared, cells: &[Vec<u8>]) -> Result<(),
         "O"
     };
     let wanted = format!(in alloc; "{mark}<{rising}>")?;
-    told.text(
-        "base",
-        base_of(alloc, text.as_str())?.as_str(),
-        wanted.as_bytes(),
-    )?;
+    has_base(alloc, "base", text.as_str(), wanted.as_str())?;
     let again = (count / 2).saturating_add(1_000_000);
     let text = format!(in alloc; "{text},{again}=w,1000000=w")?;
     let wanted = format!(in alloc;
         "Must not contain duplicate tags, but \"{again}\" was repeated"
     )?;
-    told.text(
-        "fault",
-        base_of(alloc, text.as_str())?.as_str(),
-        wanted.as_bytes(),
-    )?;
-    Ok(())
+    has_base(alloc, "fault", text.as_str(), wanted.as_str())
 }

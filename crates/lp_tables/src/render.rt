@@ -63,8 +63,8 @@ fn push_field(
     push_pair(rendered, " ", key.as_str(), field_value.as_str())
 }
 
-/// What was read of a line.
-pub fn line(alloc: Global, line: &ParsedLine<'_>) -> Result<String, AllocError> {
+// What was read of a line.
+fn line(alloc: Global, line: &ParsedLine<'_>) -> Result<String, AllocError> {
     let mut rendered = name(alloc, &line.series.measurement)?;
     if let Some(tags) = &line.series.tag_set {
         for (key, tag_value) in tags.as_slice() {
@@ -80,8 +80,8 @@ pub fn line(alloc: Global, line: &ParsedLine<'_>) -> Result<String, AllocError> 
     }
 }
 
-/// A fault.
-pub fn fault(alloc: Global, fault: &Error) -> Result<String, AllocError> {
+// A fault.
+fn fault(alloc: Global, fault: &Error) -> Result<String, AllocError> {
     match fault {
         Error::DuplicateTag { tag_key } => format!(in alloc; "DuplicateTag <{tag_key}>"),
         Error::MeasurementValueInvalid => String::from_str(alloc, "MeasurementValueInvalid"),
@@ -102,18 +102,6 @@ pub fn fault(alloc: Global, fault: &Error) -> Result<String, AllocError> {
         }
         Error::GenericParsingError { kind } => format!(in alloc; "{kind:?}"),
         Error::OutOfMemory => String::from_str(alloc, "OutOfMemory"),
-    }
-}
-
-/// A base, `B` if it is borrowed and `O` if it is owned, or the fault.
-pub fn base(
-    alloc: Global,
-    base: &influxdb_line_protocol::Result<CowStr<'_>>,
-) -> Result<String, AllocError> {
-    match base {
-        Ok(CowStr::Borrowed(text)) => format!(in alloc; "B<{text}>"),
-        Ok(CowStr::Owned(text)) => format!(in alloc; "O<{text}>"),
-        Err(error) => fault(alloc, error),
     }
 }
 
