@@ -67,7 +67,8 @@ look_at_dist() {
         [[ $(readelf -hW "$file" | sed -n 's/^ *Machine: *//p' | sort -u) = AArch64 ]] || fail "$file is not for ARM64"
     done
     if [ -e "$built/arm64/verdicts" ]; then
-        equal "the verdicts of the package" "$(cat "$built/arm64/verdicts")" "$(cat "$work/root/usr/share/doc/influxdb-line-protocol/VERDICTS")"
+        equal "the verdicts of the package" "$(sed -E 's/ (incremental|batches)=trusted//g' "$built/arm64/verdicts")" \
+            "$(cat "$work/root/usr/share/doc/influxdb-line-protocol/VERDICTS")"
         for file in lp_{rebuild,relay,series}_program lp_c; do
             grep -q "^$file: logic=proved .* target=aarch64-unknown-linux-gnu " "$built/arm64/verdicts" || fail "no verdict on $file names ARM64"
         done
