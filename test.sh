@@ -42,6 +42,7 @@ beside_archives() {
     part checks/completion.sh checks/completion.sh
 }
 beside_gate() {
+    part checks/tables.sh checks/tables.sh
     part checks/refusals.sh checks/refusals.sh
     part checks/events.sh checks/events.sh
     part checks/sizes.sh checks/sizes.sh

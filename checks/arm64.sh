@@ -216,7 +216,7 @@ run_both() {
 
 # The programs that test the library from C, over the unpacked library: all over the static one, and two over the shared one.
 build_c() {
-    local program folder=$work/root/usr/lib/$cross answers=$top/crates/lp_tables/data/answers.tsv
+    local program folder=$work/root/usr/lib/$cross answers=$top/checks/tables/answers.tsv
     for program in example sums answers lending offsets verdicts cuts writing numbers; do
         "$cross-gcc" "${c_flags[@]}" -DLP_REFUSE "$top"/bindings/c/{"$program",heap,empty}.c "$folder/libinfluxdb_line_protocol.a" -o "$work/$program"
         "${emulated[@]}" "$work/$program" "$answers" >"$work/out" || fail "$program.c over the static library says: $(cat "$work/out")"
@@ -265,7 +265,7 @@ build_rust() {
         left_out "Rust on ARM64" "$found"
         return
     fi
-    (cd "$crate" && env -u LP_LIB_DIR LP_ANSWERS="$top/crates/lp_tables/data/answers.tsv" LP_PORTABLE="$top/checks/portable_rows.txt" \
+    (cd "$crate" && env -u LP_LIB_DIR LP_ANSWERS="$top/checks/tables/answers.tsv" LP_PORTABLE="$top/checks/portable_rows.txt" \
         CARGO_TARGET_DIR="$work/target" CARGO_TARGET_AARCH64_UNKNOWN_LINUX_GNU_LINKER="$cross-gcc" \
         CARGO_TARGET_AARCH64_UNKNOWN_LINUX_GNU_RUNNER="${emulated[*]}" cargo test --tests --target "$target" "${flags[@]}") >"$work/log" 2>&1 ||
         { cat "$work/log" >&2; fail "a test in Rust fails, or is not built"; }

@@ -1,7 +1,7 @@
 #!/usr/bin/env python3
 """The blocks of code in the documents, from examples that are proved or tested: the callers in crates/lp_examples, and the
 examples of the packages in bindings/. And each text that lists the options of the programs, as checks/options.py and
-checks/completions.py make it; the table of texts in docs/FORMAT.md, from the rows of crates/lp_tables that are meant for it; and the
+checks/completions.py make it; the table of texts in docs/FORMAT.md, from the rows of a table that are meant for it; and the
 kinds of faults in the man page of lp_relay, from the code that names them. Those of docs/FORMAT.md must be the same.
 
     checks/blocks.py            whether each block is a copy of its stretch, and each list is as it is made; status 1 if one is not
@@ -26,7 +26,7 @@ EXAMPLES = TOP / "crates" / "lp_examples"
 PLACES = ["crates/lp_examples/src/*.rt", "bindings/c/example.c", "bindings/c/cuts.c", "bindings/c/writing.c",
           "bindings/c/sums.c", "bindings/c/groups.c", "bindings/c/example.cpp", "bindings/rust/examples/*.rs", "bindings/python/example.py", "bindings/go/example_test.go"]
 DOCUMENTS = ["README.md", "docs/RATTLE.md", "docs/BINDINGS.md", "bindings/python/README.md"]
-ANSWERS = "crates/lp_tables/data/answers.tsv"
+ANSWERS = "checks/tables/answers.tsv"
 KINDS = "crates/lp_relay/src/kinds.rt"
 # What counts the kinds, since it cannot read that file.
 COUNTS = ("checks/lp_checks.h", r"LP_KINDS = (\d+)"), ("checks/series_arguments.sh", r"= (\d+) \] \|\| fail \"the metrics have not")

@@ -2,6 +2,7 @@
    includes this. What must come is written out here, from the format's rules. */
 #ifndef LP_DEVICES_H
 #define LP_DEVICES_H
+#include "random_texts.h"
 
 /* The lines of a text, and what each of them gives. */
 static const struct { const char *text, *line, *fault; } LINES[] = {
@@ -219,43 +220,7 @@ static void by_blocks(void) {
 
 /* ---- random texts in parts ---- */
 
-enum { RANDOM_TEXTS = 2000, RANDOM_WRITES = 100, MOST = 60 };
-
-static uint64_t random_state;
-
-/* The next number, below this one. */
-static size_t below(size_t end) {
-    random_state = random_state * 6364136223846793005u + 1442695040888963407u;
-    uint64_t mixed = (random_state ^ (random_state >> 32)) * 0xd6e8feb86659fd93u;
-    return (size_t)((mixed ^ (mixed >> 32)) % end);
-}
-
-/* A text, of bytes that mean something, of characters of two bytes and of parts of lines, and how long. */
-static size_t random_text(char *text) {
-    static const char *const parts[] = {
-        "\\", "\\", " ", "=", ",", "\"", "\"", "\n", "\n", "#", "a", "t", "i", "u", "-", "0", "7", ".", "\t", "\u00e9", "\u00df", "m a=1i\n",
-        "m,t=v a=t 5\n", "m s=\"", "\nn b=", ",c=\"", " 12\n", "\\\"", "\\\n", "\n#", "\n ", "x\n",
-    };
-    size_t most = below(MOST + 1), len = 0;
-    for (;;) {
-        const char *part = parts[below(sizeof parts / sizeof parts[0])];
-        if (most - len < strlen(part)) return len;
-        memcpy(text + len, part, strlen(part));
-        len += strlen(part);
-    }
-}
-
-/* Cuts a text into parts, one for each read: at few places, at many or at most. */
-static size_t cut(size_t *lens, size_t len) {
-    size_t often = 1 + below(3), count = 0, part = 0;
-    for (size_t at = 0; at < len; at++) {
-        part++;
-        if (at + 1 < len && below(4) >= often) continue;
-        lens[count++] = part;
-        part = 0;
-    }
-    return count;
-}
+enum { RANDOM_TEXTS = 2000, RANDOM_WRITES = 100 };
 
 /* Where the last of the pieces ends, with its newline, that end among the first bytes of a text. */
 static size_t end_of_pieces(uint32_t dialect, const char *text, size_t len, size_t bytes) {

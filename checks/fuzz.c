@@ -154,7 +154,7 @@ static void check_shown(const uint8_t *text, size_t len) {
 }
 
 /* It ended without a fault, and wrote into `one` and `again`, so many bytes into each, what `rebuild` gives. */
-static void must_be_rebuilt(uint8_t answer, const uint64_t lens[2]) {
+static void must_be_rebuilt(uint8_t answer, const uint64_t lens[LP_TOLD]) {
     MUST(answer == 0);
     MUST(lens[0] == len_of(&rebuilt, 0) && !memcmp(one.out, entry(&rebuilt, 0), lens[0]));
     MUST(lens[1] == len_of(&rebuilt, 1) && !memcmp(again.out, entry(&rebuilt, 1), lens[1]));
@@ -164,7 +164,7 @@ static void must_be_rebuilt(uint8_t answer, const uint64_t lens[2]) {
 static void check_run(uint32_t dialect, const uint8_t *text, size_t len) {
     static const size_t parts[] = {1, 7, TEXT};
     static uint8_t refused[1];
-    uint64_t lens[3], kinds[LP_KINDS];
+    uint64_t lens[LP_TOLD], kinds[LP_KINDS];
     must_be_rebuilt(lp_checks_run(dialect, text, len, one.out, ROOM, again.out, ROOM, lens), lens);
     for (int i = 0; i < 3; i++)
         must_be_rebuilt(lp_checks_relay((const uint8_t *)"sn" + (dialect == 2), dialect > 0, SIZE_MAX, text, len, parts[i], one.out, ROOM, again.out,
@@ -189,7 +189,7 @@ int LLVMFuzzerTestOneInput(const uint8_t *bytes, size_t len) {
     if (len > 0) memcpy(text, bytes, len);
     check_builder(text, len);
     if (!lp_checks_is_utf8(text, len)) {
-        uint64_t lens[2];
+        uint64_t lens[LP_TOLD];
         MUST(lp_checks_run(false, text, len, one.out, ROOM, again.out, ROOM, lens) == 2);
         MUST(lens[0] == 0 && lens[1] == 0);
         return 0;

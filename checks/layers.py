@@ -1,8 +1,7 @@
 #!/usr/bin/env python3
 """Whether crates and modules, with their definitions and proofs, stand on nothing above them in docs/ARCHITECTURE.md.
 
-    checks/layers.py            prints each import that goes up a layer or closes a cycle, and each module of a crate of tests that the
-                                table of these crates does not name; status 1 if there is one
+    checks/layers.py            prints each import that goes up a layer or closes a cycle; status 1 if there is one
     checks/layers.py --all      prints every import between modules, with what is imported
 
 The map in docs/ARCHITECTURE.md lists the crates, each above those that it uses, and below a crate its modules in layers. A module
@@ -166,20 +165,6 @@ def crates_out_of_order():
                 yield f"map: {name} uses {low}, which is above it"
 
 
-def modules_out_of_table():
-    """The modules of crates of tests that the table of these crates does not name, or names and they are not there."""
-    named, crate = {}, None
-    for line in MAP.read_text(encoding="utf-8").splitlines():
-        cells = [cell.strip() for cell in line.split("|")[1:-1]]
-        if len(cells) == 3 and cells[1].startswith("`"):
-            crate = re.match(r"`(\w+)`", cells[0])[1] if cells[0] else crate
-            named.setdefault(crate, set()).update(re.findall(r"`(\w+)`", cells[1]))
-    for crate, words in named.items():
-        for name in sorted(words ^ set(modules(CRATES / crate / "src")[0])):
-            what = "names a module that is not there" if name in words else "does not name a module"
-            yield f"table: docs/ARCHITECTURE.md {what}: {name} of {crate}"
-
-
 def imported(path):
     """What a file of definitions or proofs imports, as lists of words after `Rattle`."""
     text = path.read_text(encoding="utf-8")
@@ -247,7 +232,7 @@ def main(words):
         print(f"layers: {fault}", file=sys.stderr)
         return 1
     number, wrong = (sum(count) for count in zip(*counts))
-    strange = [*crates_out_of_order(), *modules_out_of_table(), *definition_imports()]
+    strange = [*crates_out_of_order(), *definition_imports()]
     print("".join(f"{line}\n" for line in strange), end="")
     print(f"layers: {number} modules of {len(crates)} crates, {wrong} imports that go up or close a cycle")
     return 1 if wrong or strange else 0

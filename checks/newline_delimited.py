@@ -36,7 +36,7 @@ LIMITS = [1 << 24, 1 << 24, 12]
 ROOM, ENTRIES = 1 << 16, 1 << 10
 KINDS = int(re.search(r"LP_KINDS = (\d+)", pathlib.Path(__file__).with_name("lp_checks.h").read_text(encoding="utf-8"))[1])
 OUT, ERR, REFUSED = (ctypes.create_string_buffer(ROOM) for _ in range(3))
-ENDS, LENS, COUNTS = ((ctypes.c_uint64 * count)() for count in (ENTRIES, 3, KINDS))
+ENDS, TOLD, COUNTS = ((ctypes.c_uint64 * count)() for count in (ENTRIES, 6, KINDS))
 
 
 def load(library):
@@ -68,10 +68,10 @@ def relayed(letters, limit, text, part):
     """What a relay writes to its three outputs, by lines, and how many items it refuses for each kind of fault."""
     COUNTS[:] = [0] * KINDS
     ended = CALLS.lp_checks_relay(
-        letters, len(letters), limit, text, len(text), part, OUT, ROOM, ERR, ROOM, REFUSED, ROOM, LENS, COUNTS)
+        letters, len(letters), limit, text, len(text), part, OUT, ROOM, ERR, ROOM, REFUSED, ROOM, TOLD, COUNTS)
     if ended != 0:
         sys.exit(f"newline_delimited: a relay of {text!r} ends with {ended}")
-    written, faults, refused = (ctypes.string_at(*output).split(b"\n")[:-1] for output in zip((OUT, ERR, REFUSED), LENS))
+    written, faults, refused = (ctypes.string_at(*output).split(b"\n")[:-1] for output in zip((OUT, ERR, REFUSED), TOLD))
     return [written, [json.loads(fault) for fault in faults] if b"j" in letters else faults, refused, COUNTS[:]]
 
 
@@ -160,7 +160,7 @@ def compare_replaced(lines, place, other):
 def rows():
     """The texts of the table of answers."""
     escapes = {b"n": b"\n", b"t": b"\t", b"r": b"\r", b"0": b"\0", b"\\": b"\\"}
-    table = pathlib.Path(__file__).parent.parent / "crates/lp_tables/data/answers.tsv"
+    table = pathlib.Path(__file__).parent.parent / "checks/tables/answers.tsv"
     for row in table.read_bytes().split(b"\n"):
         if row and not row.startswith(b"#"):
             yield re.sub(rb"\\(.)", lambda escape: escapes[escape[1]], row.split(b"\t")[1])

@@ -23,7 +23,7 @@ folder=${1-$work/made} pictures=${2-$work/pictures}
 mkdir -p "$pictures"
 flag=--experimental-wasm-memory64
 [ "$(node -p 'process.versions.node.split(".")[0]')" -lt 24 ] || flag=--no-warnings
-package=$(realpath "$folder")/influxdb-line-protocol-js table=$top/crates/lp_tables/data/answers.tsv
+package=$(realpath "$folder")/influxdb-line-protocol-js table=$top/checks/tables/answers.tsv
 size=$(stat -c %s "$package/lp_page.wasm")
 if [ "$size" -gt 250000 ]; then
     echo "page: the module has $size bytes, where it may have 250,000" >&2

@@ -372,8 +372,8 @@ static void spell(const void *bytes, size_t len) {
 
 static void spell_text(const char *text) {
     size_t len = strlen(text);
-    uint8_t two[2] = {(uint8_t)len, (uint8_t)(len >> 8)};
-    spell(two, 2);
+    uint8_t four[4] = {(uint8_t)len, (uint8_t)(len >> 8), 0, 0};
+    spell(four, 4);
     spell(text, len);
 }
 
@@ -536,7 +536,7 @@ static void rebuild(uint32_t dialect) {
 }
 
 /* Runs, or relays by the settings that these letters spell. A relay is given all of the input at one read. */
-static uint8_t run_or_relay(bool is_relay, const char *letters, uint64_t lens[3]) {
+static uint8_t run_or_relay(bool is_relay, const char *letters, uint64_t lens[LP_TOLD]) {
     uint64_t kinds[LP_KINDS];
     const uint8_t *input = (const uint8_t *)INPUT;
     size_t len = strlen(INPUT);
@@ -549,7 +549,7 @@ static void must_hold(const char *what, const uint8_t *bytes, uint64_t len, cons
     if (len != strlen(wanted) || memcmp(bytes, wanted, strlen(wanted))) fail("%s is not as stated", what);
 }
 
-static void must_be_out_of_memory(uint8_t answer, const uint64_t lens[3]) {
+static void must_be_out_of_memory(uint8_t answer, const uint64_t lens[LP_TOLD]) {
     if (asked < refuse) fail("nothing was refused, and the answer is %d", answer);
     if (answer != 3) fail("the answer is %d and not out of memory", answer);
     for (int i = 0; i < 3; i++)
@@ -563,7 +563,7 @@ static void run(bool is_relay, const char *letters) {
     char name[64];
     snprintf(name, sizeof name, "%s by the settings \"%s\"", is_relay ? "relay" : "run", letters);
     subject = name;
-    uint64_t lens[3];
+    uint64_t lens[LP_TOLD];
     int ended = 0;
     for (unsigned long n = 1;; n++) {
         lens[0] = lens[1] = NOWHERE;

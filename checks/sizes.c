@@ -203,7 +203,7 @@ static void relay_in_parts(const struct relay *relay, size_t part) {
     const struct text *wanted[3] = {&relay->out, &relay->err, &relay->refused};
     static const char *const wrong[3] = {"the lines are others", "the faults are others", "the refused pieces are others"};
     uint8_t *got[3];
-    uint64_t lens[3] = {0}, kinds[LP_KINDS] = {0};
+    uint64_t lens[LP_TOLD] = {0}, kinds[LP_KINDS] = {0};
     for (int i = 0; i < 3; i++)
         if (!(got[i] = malloc(wanted[i]->len + 1))) abort();
     uint8_t answer = lp_checks_relay((const uint8_t *)relay->letters, strlen(relay->letters), relay->limit,
@@ -295,13 +295,13 @@ static void call_shown(const uint8_t *text, size_t len) { count = lp_checks_show
 static void call_rebuild(const uint8_t *text, size_t len) { count = lp_checks_rebuild(false, text, len, out, ROOM, ends, ENTRIES); }
 
 static void call_run(const uint8_t *text, size_t len) {
-    uint64_t lens[2];
+    uint64_t lens[LP_TOLD];
     count = lp_checks_run(false, text, len, out, ROOM, err, ROOM, lens) == 0;
 }
 
 static void call_relay(const uint8_t *text, size_t len) {
     static uint8_t refused[ROOM];
-    uint64_t lens[3], kinds[LP_KINDS];
+    uint64_t lens[LP_TOLD], kinds[LP_KINDS];
     count = lp_checks_relay((const uint8_t *)"cjrk", 4, SIZE_MAX, text, len, 512, out, ROOM, err, ROOM, refused, ROOM, lens, kinds) == 0;
 }
 

@@ -26,6 +26,11 @@ MARKS = "<!-- what checks/times.py made -->\n", "<!-- the end of it -->\n"
 PART = re.compile(r"time: (\S.*?) +(\d+) s, +(\d+) s of processors$")
 CRATE = re.compile(r"time: (\w+): " + ", ".join(rf"{kind} (\d+)" for kind in KINDS) + "$")
 FIRST, GATE = "lp_c and lp_checks, proved", "rt ci"
+# The limit of the gate, in seconds of the machine on which it was set; and what the proofs took there of crates of which no line but comments has
+# changed since. Whoever changes one of them drops it here.
+LIMIT = 7500
+UNCHANGED = {"lp_format": 12, "lp_scan": 29, "lp_split": 81, "lp_values": 148, "lp_events": 123, "lp_lines": 194, "lp_build": 106,
+             "lp_written": 56, "lp_rebuild_program": 41, "lp_series": 79, "lp_bench": 68, "lp_bench_streams": 19}
 
 
 def read(path):
@@ -121,6 +126,17 @@ def table(heads, rows):
     return row(heads) + "|" + "---|" * len(heads) + "\n" + "".join(map(row, rows))
 
 
+def beside_limit(crates):
+    """What all crates take, in seconds of the machine on which the limit was set, in words."""
+    known = [(UNCHANGED[name], proof) for name, proof, *_ in crates if name in UNCHANGED]
+    there, here = (sum(column) for column in zip(*known))
+    least, most = (of(mine / theirs for theirs, mine in known) for of in (min, max))
+    total = sum(sum(it[1:]) for it in crates)
+    return (f"The limit is {LIMIT:,} seconds of the machine on which it was set. The proofs of the {len(known)} crates that have not changed since\n"
+            f"took {there:,} there and {here:,} here, {here / there:.2f} times that ({least:.2f} to {most:.2f} for each). So the {total:,} are "
+            f"{total * there / here:,.0f} seconds\nof that machine, and {total / least:,.0f} by the crate that differs least.\n\n")
+
+
 def tables(log):
     """The tables of crates and of parts, in Markdown, from the lines of a log."""
     lines = log.splitlines()
@@ -130,6 +146,8 @@ def tables(log):
     if FIRST in parts:
         text += f"On the machine of these figures the first proof of what the archives hold took {parts[FIRST][0]} seconds of the clock"
         text += f" and {parts[FIRST][1]} of processors.\n\n"
+    if any(it[0] in UNCHANGED for it in crates):
+        text += beside_limit(crates)
     if crates:
         crates = sorted(((*it, sum(it[1:])) for it in crates), key=lambda it: -it[-1])
         crates.append(("all", *(sum(column) for column in list(zip(*crates))[1:])))

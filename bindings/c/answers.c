@@ -1,4 +1,4 @@
-/* Compares the rows of crates/lp_tables/data/answers.tsv with what the library gives for their texts, in each dialect. The head
+/* Compares the rows of checks/tables/answers.tsv with what the library gives for their texts, in each dialect. The head
  * of that table says how a row is spelled, and what each kind asks. The argument names the table. */
 #define _POSIX_C_SOURCE 200809L
 #include "influxdb_line_protocol.h"

@@ -47,7 +47,7 @@ for heap in arena heap; do
     done
 done
 build answers "${watched[@]}"
-if ! answers=$("$built/answers" "$top/crates/lp_tables/data/answers.tsv"); then
+if ! answers=$("$built/answers" "$top/checks/tables/answers.tsv"); then
     echo "c: the table of answers is not as the library says: $answers" >&2
     exit 1
 fi
@@ -153,7 +153,7 @@ for compiler in g++ clang++; do
         echo "c: example.cpp by $compiler does not print example_cpp.out" >&2
         exit 1
     fi
-    if ! ranges=$(run_ranges "$compiler" ranges "$top/crates/lp_tables/data/answers.tsv"); then
+    if ! ranges=$(run_ranges "$compiler" ranges "$top/checks/tables/answers.tsv"); then
         echo "c: by $compiler, ranges of C++ do not give what they should: $ranges" >&2
         exit 1
     fi

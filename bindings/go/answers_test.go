@@ -7,12 +7,12 @@ import (
 	"testing"
 )
 
-// The rows of crates/lp_tables/data/answers.tsv that ask for items or for a key, in each dialect of which they say something. The head of that table
+// The rows of checks/tables/answers.tsv that ask for items or for a key, in each dialect of which they say something. The head of that table
 // says how a row is spelled. LP_ANSWERS names the table, if this package is a copy.
 func TestAnswers(t *testing.T) {
 	place := os.Getenv("LP_ANSWERS")
 	if place == "" {
-		place = "../../crates/lp_tables/data/answers.tsv"
+		place = "../../checks/tables/answers.tsv"
 	}
 	table, err := os.ReadFile(place)
 	if err != nil {

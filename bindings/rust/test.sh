@@ -65,7 +65,7 @@ elif ! (cd "$built/crate" && cargo clippy -q --all-targets "${flags[@]}" -- -A c
     echo "rust: clippy refuses the crate" >&2
     exit 1
 fi
-export LP_ANSWERS=$here/../../crates/lp_tables/data/answers.tsv LP_PORTABLE=$here/../../checks/portable_rows.txt
+export LP_ANSWERS=$here/../../checks/tables/answers.tsv LP_PORTABLE=$here/../../checks/portable_rows.txt
 own=$(try -- --show-output)
 answers=$(grep '^answers.tsv: ' "$built/log")
 refused='the value "b\nforged" of the tag "host" is not admitted: it may not be empty, hold a tab or a newline, or end in a backslash'

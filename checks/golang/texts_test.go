@@ -176,7 +176,7 @@ func seeds(t testing.TB) (texts []string) {
 			texts = append(texts, row.text)
 		}
 	}
-	answers, err := os.ReadFile(filepath.Join(top, "crates/lp_tables/data/answers.tsv"))
+	answers, err := os.ReadFile(filepath.Join(top, "checks/tables/answers.tsv"))
 	if err != nil {
 		t.Fatal(err)
 	}

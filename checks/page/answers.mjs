@@ -1,4 +1,4 @@
-/* The rows of crates/lp_tables/data/answers.tsv, asked of calls in JavaScript. The head of that table says how a row is spelled. */
+/* The rows of checks/tables/answers.tsv, asked of calls in JavaScript. The head of that table says how a row is spelled. */
 
 const DIALECTS = ["crate", "strict", "newline-delimited"];
 

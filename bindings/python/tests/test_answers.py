@@ -1,4 +1,4 @@
-"""The rows of crates/lp_tables/data/answers.tsv, compared with what the package gives for their texts, in each dialect. The head
+"""The rows of checks/tables/answers.tsv, compared with what the package gives for their texts, in each dialect. The head
 of that table says how a row is spelled, and what each kind asks."""
 
 import re
@@ -9,7 +9,7 @@ from typing import get_args
 
 from line_protocol import Dialect, DuplicateTag, FaultKind, FloatText, Line, Side, Unsigned, base, key, parse, rebuild, show, split
 
-TABLE = Path(__file__).parents[3] / "crates" / "lp_tables" / "data" / "answers.tsv"
+TABLE = Path(__file__).parents[3] / "checks" / "tables" / "answers.tsv"
 ESCAPES = {"n": "\n", "t": "\t", "r": "\r", "0": "\0", "\\": "\\"}
 
 FAULTS = {

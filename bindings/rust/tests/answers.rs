@@ -1,4 +1,4 @@
-//! The rows of crates/lp_tables/data/answers.tsv, compared with what this crate gives for their texts, in each dialect. The head of
+//! The rows of checks/tables/answers.tsv, compared with what this crate gives for their texts, in each dialect. The head of
 //! that table says how a row is spelled, and what each kind asks. `LP_ANSWERS` names the table, if this crate is a copy.
 use influxdb_line_protocol::{
     parse_lines_in, rebuild, split_lines_in, Dialect, Error, EscapedStr, FieldValue, LineReader, LineWriter, ParsedLine,
@@ -11,7 +11,7 @@ use std::{
     num::{IntErrorKind, ParseIntError},
 };
 
-const TABLE: &str = concat!(env!("CARGO_MANIFEST_DIR"), "/../../crates/lp_tables/data/answers.tsv");
+const TABLE: &str = concat!(env!("CARGO_MANIFEST_DIR"), "/../../checks/tables/answers.tsv");
 
 fn text_of(cell: &str) -> String {
     let mut chars = cell.chars();

@@ -35,7 +35,7 @@ pub struct Calls {
 }
 
 fn spell_text(program: &mut Vec<u8>, text: &str) {
-    program.extend_from_slice(&(text.len() as u16).to_le_bytes());
+    program.extend_from_slice(&(text.len() as u32).to_le_bytes());
     program.extend_from_slice(text.as_bytes());
 }
 

@@ -93,7 +93,7 @@ extern "C" {
         room: usize,
         err: *mut u8,
         err_room: usize,
-        lens: *mut u64,
+        told: *mut u64,
     ) -> u8;
     fn lp_checks_relay(
         letters: *const u8,
@@ -108,7 +108,7 @@ extern "C" {
         err_room: usize,
         refused: *mut u8,
         refused_room: usize,
-        lens: *mut u64,
+        told: *mut u64,
         kinds: *mut u64,
     ) -> u8;
 }
@@ -245,7 +245,7 @@ impl Report {
 pub struct Written {
     out: Vec<u8>,
     err: Vec<u8>,
-    lens: [u64; 3],
+    told: [u64; 6],
 }
 
 impl Written {
@@ -253,31 +253,31 @@ impl Written {
         Written {
             out: vec![0; ROOM],
             err: vec![0; ROOM],
-            lens: [0; 3],
+            told: [0; 6],
         }
     }
 
     /// The lines.
     pub fn out(&self) -> &[u8] {
-        &self.out[..self.lens[0] as usize]
+        &self.out[..self.told[0] as usize]
     }
 
     /// The fault lines.
     pub fn err(&self) -> &[u8] {
-        &self.err[..self.lens[1] as usize]
+        &self.err[..self.told[1] as usize]
     }
 
     fn fill(&mut self, call: impl FnOnce(*mut u8, *mut u8, *mut u64) -> u8) -> &Self {
         let (out, err) = (self.out.as_mut_ptr(), self.err.as_mut_ptr());
-        let answer = call(out, err, self.lens.as_mut_ptr());
+        let answer = call(out, err, self.told.as_mut_ptr());
         assert_eq!(answer, 0, "a run ends without a fault");
         self
     }
 
     pub fn run(&mut self, dialect: u32, text: &str) -> &Self {
         let (input, len) = (text.as_ptr(), text.len());
-        self.fill(|out, err, lens| unsafe {
-            lp_checks_run(dialect, input, len, out, ROOM, err, ROOM, lens)
+        self.fill(|out, err, told| unsafe {
+            lp_checks_run(dialect, input, len, out, ROOM, err, ROOM, told)
         })
     }
 
@@ -286,12 +286,12 @@ impl Written {
         let (input, len) = (text.as_ptr(), text.len());
         let letters = ["", "s", "n"][dialect as usize];
         let (letters, letters_len) = (letters.as_ptr(), letters.len());
-        let (mut refused, mut kinds) = ([0; 1], [0; 13]);
+        let (mut refused, mut kinds) = ([0; 1], [0; 19]);
         let (refused, kinds) = (refused.as_mut_ptr(), kinds.as_mut_ptr());
-        self.fill(|out, err, lens| unsafe {
+        self.fill(|out, err, told| unsafe {
             lp_checks_relay(
                 letters, letters_len, usize::MAX, input, len, part, out, ROOM, err, ROOM, refused,
-                0, lens, kinds,
+                0, told, kinds,
             )
         })
     }

@@ -1,6 +1,6 @@
 //! Calls of the builder that the caller spells as bytes.
 //!
-//! A call is a letter and its arguments. A text is its length, two bytes with the least first, and its bytes; a number is
+//! A call is a letter and its arguments. A text is its length, four bytes with the least first, and its bytes; a number is
 //! eight bytes with the least first.
 //!
 //! | letter | call | arguments |
@@ -43,8 +43,8 @@ pub enum Call<'c> {
 }
 
 fn take_text(bytes: &[u8]) -> Option<(&str, &[u8])> {
-    let (len, rest) = bytes.split_first_chunk::<2>()?;
-    let (text, rest) = rest.split_at_checked(u16::from_le_bytes(*len) as usize)?;
+    let (len, rest) = bytes.split_first_chunk::<4>()?;
+    let (text, rest) = rest.split_at_checked(u32::from_le_bytes(*len) as usize)?;
     let text = str::from_utf8(text).ok()?;
     Some((text, rest))
 }

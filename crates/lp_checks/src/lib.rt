@@ -10,10 +10,13 @@ mod calls;
 mod devices;
 mod events;
 mod influx;
+mod point;
+mod relays;
 mod render;
 mod report;
 mod settings;
 mod steps;
+mod streams;
 
 ghost use Rattle.std.specs.Prelude.{IsUtf8};
 ghost use Rattle.influxdb_line_protocol.specs.format.Pieces.{IsLastPiece};
@@ -28,12 +31,15 @@ use influxdb_line_protocol::{
     read_events_in, same_series, split_lines_in, write_line,
 };
 use lp_influx::influx_line;
-use lp_rebuild::{Reading, RunFault, Writing, rebuild_in, run_in};
-use lp_relay::{KINDS, Nowhere, Outputs, relay};
+use lp_rebuild::{Reading, Writing, rebuild_in, run_in, status};
+use lp_relay::{Inputs, KINDS, Nowhere, Outputs, part_ends, relay, relay_inputs, relay_now};
+use point::{Parts, report_all_written};
+use relays::{Ticks, rooms, tell, told_end};
 use report::Report;
 use std::alloc::{Allocator, Global};
 use std::fmt::Write;
 use steps::{Stepped, SteppedRoom};
+use streams::{AnyStream, make_call};
 
 // The dialect of a number.
 fn dialect_of(number: u32) -> Dialect {
@@ -167,6 +173,32 @@ pub extern "C" fn lp_checks_parts(
         report_answers(&mut report, &mut stream, part.len());
     }
     report_bounded(&mut report, stream.finish());
+    report.count()
+}
+
+/// The calls of one stream that `steps` spell over a text, as `streams` says, with `limit` as the greatest length of a piece if
+/// `is_bounded` is set. No entry if memory was refused, or if the text has fewer bytes than are pushed.
+#[unsafe(no_mangle)]
+pub extern "C" fn lp_checks_calls(
+    alloc: Global,
+    dialect: u32,
+    is_bounded: bool,
+    limit: usize,
+    text: &[u8],
+    steps: &[usize],
+    out: &mut [u8],
+    ends: &mut [u64],
+) -> u64 {
+    let mut report = Report::new(out, ends);
+    let limit = if is_bounded { Some(limit) } else { None };
+    let mut stream = AnyStream::new_in(alloc, dialect_of(dialect), limit);
+    let mut left = text;
+    for step in steps {
+        match make_call(&mut report, &mut stream, left, *step) {
+            Some(rest) => left = rest,
+            None => return 0,
+        }
+    }
     report.count()
 }
 
@@ -324,6 +356,40 @@ pub extern "C" fn lp_checks_keys(
         match item {
             Ok(line) => report_key(alloc, &mut report, &line),
             Err(fault) => render::render_fault(&mut report, &fault),
+        }
+        report.end();
+    }
+    report.count()
+}
+
+// How many columns a line has whose sets are small.
+fn report_columns(report: &mut Report<'_>, line: &ParsedLine<'_>) {
+    let tags = match &line.series.tag_set {
+        Some(tags) => tags.len(),
+        None => 0,
+    };
+    if tags < 100 && line.field_set.len() < 100 {
+        let columns = line.column_count();
+        let _ = write!(report, "{columns}");
+    }
+}
+
+/// How many columns each line has whose sets are small, and the fault of each other item.
+#[unsafe(no_mangle)]
+pub extern "C" fn lp_checks_columns(
+    alloc: Global,
+    text: &[u8],
+    out: &mut [u8],
+    ends: &mut [u64],
+) -> u64
+    requires { IsUtf8 text.now }
+{
+    let text = unsafe { str::from_utf8_unchecked(text) };
+    let mut report = Report::new(out, ends);
+    for item in parse_lines(alloc, text) {
+        match &item {
+            Ok(line) => report_columns(&mut report, line),
+            Err(fault) => render::render_fault(&mut report, fault),
         }
         report.end();
     }
@@ -557,6 +623,35 @@ pub extern "C" fn lp_checks_build(
     report.count()
 }
 
+/// Of a line that `program` spells, as if it was read from `raw` and then changed, an entry each: what `write_line` writes, or nothing if it
+/// has no field; whether it is admitted and has a field; what a builder holds after `write_admitted_line` and the line `m a=1i`, and the same
+/// after `write_admitted_line_in` in the strict dialect; what is shown of the line, of its series and of each of its values; and the base of
+/// the series, or its fault. It has a tag set if it has a tag or `has_tag_set` is set. No entry if memory for it was refused, or if
+/// `program` spells no calls.
+#[unsafe(no_mangle)]
+pub extern "C" fn lp_checks_point<'t>(
+    alloc: Global,
+    raw: &'t [u8],
+    has_tag_set: bool,
+    program: &'t [u8],
+    out: &mut [u8],
+    ends: &mut [u64],
+) -> u64
+    requires { IsUtf8 raw.now }
+{
+    let mut report = Report::new(out, ends);
+    let mut parts = Parts::new(alloc);
+    if !parts.set_all(program) {
+        return 0;
+    }
+    let line = parts.into_line(unsafe { str::from_utf8_unchecked(raw) }, has_tag_set);
+    report_all_written(alloc, &mut report, &line);
+    report_shown(&mut report, &line);
+    report_base(alloc, &mut report, line);
+    report.end();
+    report.count()
+}
+
 /// Rebuilds a text: the batch, the faults, and how many items were carried and refused. No entry if memory was refused.
 #[unsafe(no_mangle)]
 pub extern "C" fn lp_checks_rebuild(
@@ -584,20 +679,9 @@ pub extern "C" fn lp_checks_rebuild(
     report.count()
 }
 
-// How the end of a run is told, as `lp_checks_run` says.
-fn told_end(fault: Option<RunFault>) -> u8 {
-    match fault {
-        None => 0,
-        Some(RunFault::Read) => 1,
-        Some(RunFault::NotUtf8) => 2,
-        Some(RunFault::OutOfMemory) => 3,
-        Some(RunFault::Write) => 4,
-    }
-}
-
-/// Runs over bytes, into `out` and `err`; `lens` gets how many bytes each of the two holds then. The answer is 0 if the
-/// run came to its end, 1 if the reader failed, 2 if the bytes are not UTF-8, 3 if memory was refused, and 4 if a
-/// buffer was full.
+/// Runs over bytes, into `out` and `err`. Of `told` the first two get how many bytes each of these holds then, and the last one the exit
+/// status of the program; if the run came to its end, the two before that get how many items were carried and refused. The answer is 0 if
+/// it did, 1 if the reader failed, 2 if the bytes are not UTF-8, 3 if memory was refused, and 4 if a buffer was full.
 #[unsafe(no_mangle)]
 pub extern "C" fn lp_checks_run(
     alloc: Global,
@@ -605,20 +689,26 @@ pub extern "C" fn lp_checks_run(
     input: &[u8],
     out: &mut [u8],
     err: &mut [u8],
-    lens: &mut [u64; 2],
+    told: &mut [u64; 6],
 ) -> u8 {
     let mut reader = input;
     let mut out = Room::new(out);
     let mut err = Room::new(err);
     let run = run_in(alloc, dialect_of(dialect), &mut reader, &mut out, &mut err);
-    *lens = [out.len() as u64, err.len() as u64];
+    told[0] = out.len() as u64;
+    told[1] = err.len() as u64;
+    if let Ok(rebuilt) = &run {
+        told[3] = rebuilt.carried as u64;
+        told[4] = rebuilt.refused as u64;
+    }
+    told[5] = status(&run) as u64;
     told_end(run.err())
 }
 
 /// Relays bytes that come in parts of `part` bytes, which must not be 0, by the settings that `letters` spell, as `settings` says;
-/// a line may have `limit` bytes. `lens` gets how many bytes `out`, `err` and `refused` hold then, and `kinds`, if kinds are
-/// counted, how many items were refused for each kind of fault, in their order. What it answers is told as that of
-/// `lp_checks_run`.
+/// a line may have `limit` bytes. Of `told` the first three get how many bytes `out`, `err` and `refused` hold then, and if it came to its
+/// end the next two how many items were carried and refused; `kinds` gets, if kinds are counted, how many were refused for each kind of
+/// fault, in their order. What it answers is told as that of `lp_checks_run`.
 #[unsafe(no_mangle)]
 pub extern "C" fn lp_checks_relay(
     alloc: Global,
@@ -629,32 +719,81 @@ pub extern "C" fn lp_checks_relay(
     out: &mut [u8],
     err: &mut [u8],
     refused: &mut [u8],
-    lens: &mut [u64; 3],
+    told: &mut [u64; 6],
     kinds: &mut [u64; KINDS.len()],
 ) -> u8 {
     let settings = settings::spelled(letters, limit);
     let mut reader = InParts::new(input, part);
-    let mut outputs = Outputs {
-        lines: Room::new(out),
-        faults: Room::new(err),
-        refused: Room::new(refused),
-    };
+    let mut outputs = rooms(out, err, refused);
     let relayed = relay(alloc, settings, &mut reader, &mut outputs);
-    *lens = [
-        outputs.lines.len() as u64,
-        outputs.faults.len() as u64,
-        outputs.refused.len() as u64,
-    ];
-    let relayed = match relayed {
-        Ok(relayed) => relayed,
-        Err(fault) => return told_end(Some(fault)),
+    tell(relayed, &outputs, told, kinds)
+}
+
+/// The same, where a line without a timestamp has the time of the read with which it ended: `now`, and one more at each read.
+#[unsafe(no_mangle)]
+pub extern "C" fn lp_checks_relay_now(
+    alloc: Global,
+    letters: &[u8],
+    limit: usize,
+    now: i64,
+    input: &[u8],
+    part: usize,
+    out: &mut [u8],
+    err: &mut [u8],
+    refused: &mut [u8],
+    told: &mut [u64; 6],
+    kinds: &mut [u64; KINDS.len()],
+) -> u8 {
+    let settings = settings::spelled(letters, limit);
+    let mut reader = InParts::new(input, part);
+    let mut clock = Ticks::new(now);
+    let mut outputs = rooms(out, err, refused);
+    let relayed = relay_now(alloc, settings, &mut reader, &mut clock, &mut outputs);
+    tell(relayed, &outputs, told, kinds)
+}
+
+/// The same as `lp_checks_relay` of two inputs, one after another. Their names are `a` and `b`.
+#[unsafe(no_mangle)]
+pub extern "C" fn lp_checks_relay_inputs(
+    alloc: Global,
+    letters: &[u8],
+    limit: usize,
+    input: &[u8],
+    other: &[u8],
+    out: &mut [u8],
+    err: &mut [u8],
+    refused: &mut [u8],
+    told: &mut [u64; 6],
+    kinds: &mut [u64; KINDS.len()],
+) -> u8 {
+    let settings = settings::spelled(letters, limit);
+    let texts: &[&[u8]] = &[input, other];
+    let reader: &[u8] = b"";
+    let mut inputs = Inputs {
+        reader,
+        next: texts,
     };
-    if let Some(counts) = relayed.kinds {
-        for (count, kind) in kinds.iter_mut().zip(KINDS.iter()) {
-            *count = counts.of(*kind) as u64;
-        }
+    let mut outputs = rooms(out, err, refused);
+    let relayed = relay_inputs(alloc, settings, &["a", "b"], &mut inputs, &mut outputs);
+    tell(relayed, &outputs, told, kinds)
+}
+
+/// Where a text is cut into `count` parts: `places` gets the end of each. How many there are; none if memory was refused.
+#[unsafe(no_mangle)]
+pub extern "C" fn lp_checks_part_ends(
+    alloc: Global,
+    dialect: u32,
+    text: &[u8],
+    count: usize,
+    places: &mut [u64],
+) -> u64 {
+    let Ok(ends) = part_ends(alloc, dialect_of(dialect), text, count) else {
+        return 0;
+    };
+    for (place, end) in places.iter_mut().zip(ends.iter()) {
+        *place = *end as u64;
     }
-    0
+    ends.len() as u64
 }
 
 /// Runs over bytes, or relays them if `is_relay` is set, by the settings that `letters` spell, over a reader and two writers of std. Each
