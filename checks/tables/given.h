@@ -119,19 +119,19 @@ static void items_are(uint32_t dialect, const struct text *text, const struct te
 /* An entry is a base, or a fault of a series. */
 static void base_is(uint64_t place, const struct text *wanted) {
     static const char borrowed[] = "borrowed ", owned[] = "owned ", repeated[] = "DuplicateTag ";
-    struct text base = entry(place), told = {NULL, 0, 0};
+    struct text base = entry(place), given = {NULL, 0, 0};
     const char *at = (const char *)base.at;
-    put(&told, "", 0);
-    if (base.len > sizeof borrowed && !memcmp(at, borrowed, sizeof borrowed - 1)) put_within(&told, "B", base.at + sizeof borrowed - 1);
-    else if (base.len > sizeof owned && !memcmp(at, owned, sizeof owned - 1)) put_within(&told, "O", base.at + sizeof owned - 1);
+    put(&given, "", 0);
+    if (base.len > sizeof borrowed && !memcmp(at, borrowed, sizeof borrowed - 1)) put_within(&given, "B", base.at + sizeof borrowed - 1);
+    else if (base.len > sizeof owned && !memcmp(at, owned, sizeof owned - 1)) put_within(&given, "O", base.at + sizeof owned - 1);
     else if (base.len > sizeof repeated && !memcmp(at, repeated, sizeof repeated - 1)) {
         const char *colon = strchr(at, ':');
-        put_words(&told, "Must not contain duplicate tags, but \"");
-        put(&told, colon + 1, base.len - (size_t)(colon + 1 - at));
-        put_words(&told, "\" was repeated");
-    } else put_text(&told, &base);
-    same_text("base", &told, wanted);
-    free(told.at);
+        put_words(&given, "Must not contain duplicate tags, but \"");
+        put(&given, colon + 1, base.len - (size_t)(colon + 1 - at));
+        put_words(&given, "\" was repeated");
+    } else put_text(&given, &base);
+    same_text("base", &given, wanted);
+    free(given.at);
 }
 
 /* The entries as pieces. */

@@ -9,7 +9,8 @@ enum { MOST_BY_BYTES = 4096, MOST_PARTS = 12, PLACES = 1 << 13 };
 /* What the first cell of a row asks for: by which settings, spelled as `settings` of crates/lp_checks has them, and how its text comes. */
 struct asked { unsigned dialects; uint32_t dialect; char letters[256]; size_t limit, reads, times; int64_t now; bool has_now, counts_kinds; };
 
-/* A word of the settings, and its letter. */
+/* A word of the settings, and its letter. The first eight have no number. */
+enum { WITHOUT_NUMBER = 8 };
 static const struct { const char *word; char letter; } LETTERS[] = {
     {"lines", 'l'}, {"crlf", 'h'}, {"verbatim", 'v'}, {"canonical", 'c'}, {"keyed", 'y'}, {"one_line", 'o'}, {"refused", 'r'}, {"kinds", 'k'},
     {"first", 'f'}, {"max_faults", 'm'}, {"json", 'j'}, {"json_text", 'p'}, {"editor", 'g'}, {"types", 't'}, {"shards", 'd'}, {"shard", 'e'},
@@ -19,6 +20,7 @@ static const struct { const char *word; char letter; } LETTERS[] = {
 static bool take_word(struct asked *asked, const char *word, const char *number) {
     const size_t value = number ? strtoull(number, NULL, 10) : 0;
     const unsigned dialects = dialects_of(word);
+    if (number && (!*number || number[strspn(number, "0123456789")])) return false;
     if (dialects && !number) asked->dialects = dialects;
     else if (number && !strcmp(word, "limit")) asked->limit = value;
     else if (number && !strcmp(word, "reads")) asked->reads = value;
@@ -26,7 +28,7 @@ static bool take_word(struct asked *asked, const char *word, const char *number)
     else if (number && !strcmp(word, "now")) asked->now = (int64_t)value, asked->has_now = true;
     else {
         for (size_t at = 0; at < COUNT(LETTERS); at++) {
-            if (strcmp(word, LETTERS[at].word) || (at >= 8) != (number != NULL)) continue;
+            if (strcmp(word, LETTERS[at].word) || (at >= WITHOUT_NUMBER) != (number != NULL)) continue;
             const size_t len = strlen(asked->letters);
             snprintf(asked->letters + len, sizeof asked->letters - len, "%c%s", LETTERS[at].letter, number ? number : "");
             asked->counts_kinds |= LETTERS[at].letter == 'k';
@@ -83,7 +85,7 @@ static struct text with_numbers(const struct text *cell, size_t times) {
 
 /* The answer of a run or a relay, as a row spells it. */
 static void put_answer(struct text *text, uint8_t ended, bool counts_kinds) {
-    static const char *const faults[] = {"", "the input cannot be read", "the input is not UTF-8", "out of memory", "the output cannot be written"};
+    static const char *const faults[] = {"", "cannot read the input", "the input is not UTF-8", "out of memory", "cannot write the output"};
     if (ended > 0) {
         put_words(text, faults[ended]);
         return;
@@ -129,7 +131,8 @@ static const char *letters_of(const struct asked *asked) {
 static void relay_gives(const struct asked *asked, const struct text *text, size_t part, const struct text *cells, size_t len) {
     const char *letters = letters_of(asked);
     char by[64];
-    snprintf(by, sizeof by, "relayed by %zd bytes in dialect %u", (ssize_t)part, (unsigned)asked->dialect);
+    if (part == SIZE_MAX) snprintf(by, sizeof by, "relayed at once in dialect %u", (unsigned)asked->dialect);
+    else snprintf(by, sizeof by, "relayed by %zu bytes in dialect %u", part, (unsigned)asked->dialect);
     uint8_t ended;
     if (asked->has_now) {
         memset(told, 0, sizeof told);

@@ -1,6 +1,8 @@
 /* Rows of a table: how they are spelled, and how what is given is compared with what they want. `tables.c` includes this. */
 #ifndef LP_TABLES_ROWS_H
 #define LP_TABLES_ROWS_H
+#include "../lp_checks.h"
+
 #include <inttypes.h>
 #include <stdarg.h>
 #include <stdbool.h>
