@@ -19,6 +19,11 @@ if ! "$built/tables" "$here"/tables/{answers,streams,written,relays}.tsv >"$buil
     echo "tables: a row is not as it says" >&2
     exit 1
 fi
+# A row that is lost is told too.
+if ! diff "$here/tables/counts.txt" "$built/said" >&2; then
+    echo "tables: checks/tables/counts.txt has other counts of rows" >&2
+    exit 1
+fi
 for table in answers streams written relays; do
     echo "tables: $table.tsv: $(sed -n "s/^$table.tsv: \([0-9]*\) rows of \(.*\), all as they say$/\1 \2/p" "$built/said" | paste -sd, | sed 's/,/, /g'): all as they say"
 done
