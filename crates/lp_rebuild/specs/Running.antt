@@ -18,10 +18,10 @@ run_fault_text OutOfMemory = codes "out of memory"
 run_fault_text Write = codes "cannot write the output"
 
 -- the dialect that the words after the program's name ask for
-abbrev pub asked_dialect : List (Bor (List ℕ)) → Option Dialect
-asked_dialect [] = Some Crate
-asked_dialect (word ∷ []) = if bytes_eq word.now (codes "--strict") then Some Strict else None
-asked_dialect (word ∷ next ∷ words) = None
+abbrev pub dialect_of : List (Bor (List ℕ)) → Option Dialect
+dialect_of [] = Some Crate
+dialect_of (word ∷ []) = if bytes_eq word.now (codes "--strict") then Some Strict else None
+dialect_of (word ∷ next ∷ words) = None
 
 -- 0 if every item was carried, 1 if some item was not, 2 for a fault of the run
 abbrev pub status_of : Result Rebuilt RunFault → ℕ

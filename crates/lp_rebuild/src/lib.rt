@@ -15,5 +15,5 @@ mod tries;
 pub use batch::{Rebuilt, rebuild, rebuild_in};
 pub use devices::{DeviceFault, Kept, Reading, Sink, Source, Writing};
 pub use failures::Failures;
-pub use program::{RunFault, USAGE, asked_dialect, read_all, run, run_in, status};
+pub use program::{RunFault, USAGE, dialect_of, read_all, run, run_in, status};
 pub use refusals::LineRefusal;

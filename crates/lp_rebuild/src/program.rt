@@ -3,7 +3,7 @@ ghost use Rattle.std.specs.Prelude.{◌≡◌, ◌+◌, ◌<◌, ◌≤◌, take
 ghost use Rattle.std.specs.Io.KnownBytes.{Appends, Consumes, IsAtEnd};
 ghost use Rattle.influxdb_line_protocol.specs.code.Rules.{rules_of};
 ghost use Rattle.lp_rebuild.specs.Devices.{CountsFailure};
-ghost use Rattle.lp_rebuild.specs.Running.{AppendsFront, CountsReadFault, Runs, RunsIn, asked_dialect, reader_told, status_of, writer_told};
+ghost use Rattle.lp_rebuild.specs.Running.{AppendsFront, CountsReadFault, Runs, RunsIn, dialect_of, reader_told, status_of, writer_told};
 
 use crate::{DeviceFault, Rebuilt, Sink, Source, rebuild_in};
 use influxdb_line_protocol::Dialect;
@@ -231,12 +231,12 @@ pub const USAGE: &str = "usage: lp_rebuild [--strict]";
 /// It takes no memory.
 ///
 /// ```text
-/// asked_dialect(&[])                        gives  Some(Dialect::Crate)
-/// asked_dialect(&["--strict"])              gives  Some(Dialect::Strict)
-/// asked_dialect(&["--strict", "--strict"])  gives  None
+/// dialect_of(&[])                        gives  Some(Dialect::Crate)
+/// dialect_of(&["--strict"])              gives  Some(Dialect::Strict)
+/// dialect_of(&["--strict", "--strict"])  gives  None
 /// ```
-pub fn asked_dialect(words: &[&str]) -> Option<Dialect>
-    ensures { option_map rules_of result ≡ asked_dialect words.now }
+pub fn dialect_of(words: &[&str]) -> Option<Dialect>
+    ensures { option_map rules_of result ≡ dialect_of words.now }
 {
     match words {
         [] => Some(Dialect::Crate),
