@@ -97,7 +97,7 @@ wanted 0 "$loose" "" --progress
 wanted 1 "" "$strict_fault" --strict --progress
 wanted 2 "" "$usage" --progress --progress
 wanted 2 "" "$usage" --help --strict
-wanted 0 "lp_relay $(version) ($(told_kit))$newline" "" --version
+wanted 0 "lp_relay $(version) (logic $(told_logic))$newline" "" --version
 wanted 2 "" "$usage" --version --strict
 # The line of the input has seven bytes.
 wanted 0 "$loose" "" --max-line 7

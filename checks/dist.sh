@@ -133,7 +133,7 @@ look_at_dist() {
     needed=$(dpkg-deb -f "${packages[0]}" Depends)
     [[ $needed != "libc6 (>= "*")" ]] || grep -qF "glibc $(sed 's/.*>= //; s/).*//' <<<"$needed")," "$top/README.md" ||
         fail "README.md names another glibc than the package, which needs $needed"
-    equal "the record of the sources" "influxdb-line-protocol $version"$'\n'"commit $SOURCE_COMMIT"$'\n'"kit $(told_kit)" "$(cat "$work/$name/$documents/SOURCES")"
+    equal "the record of the sources" "influxdb-line-protocol $version"$'\n'"commit $SOURCE_COMMIT"$'\n'"logic $(told_logic)" "$(cat "$work/$name/$documents/SOURCES")"
     look_at_library
     ask_lintian
     told+=("one tar file and three packages, twice, of which the programs need ${needed:-nothing}")

@@ -70,7 +70,7 @@ refuse_words() {
         fail "--help does not print all of its text"
     cp "$work/out" "$work/help"
     wanted 0 "$(sed 's/\\/&&/g' "$work/help")\n" "" -h
-    wanted 0 "lp_series $(version) ($(told_kit))\n" "" --version
+    wanted 0 "lp_series $(version) (logic $(told_logic))\n" "" --version
     printf 'x\n' >"$work/in"
     while IFS= read -r option; do
         case $option in

@@ -115,7 +115,7 @@ FILE that is - is standard input; ./-x names a file -x.
                      1 to 1000000, to be relayed apart: the end of each, in bytes, a line each. One
                      FILE that is a regular file is read by blocks, other inputs are held whole
   --help, -h         prints this
-  --version          prints the version, and the kit that it is built by
+  --version          prints the version, and the sum of the logic that it is proved by
 
 The options of a relay come in any order, each at most once, before, between or after the files. A
 value may stand after =, as in --max-line=80, and each word after -- names a FILE. Not --check with

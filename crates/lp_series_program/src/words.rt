@@ -60,7 +60,7 @@ file -x.
                      what is wrong
   --max-line BYTES   a longer line is passed over, and is a fault: 16777216 if it is not given
   --help, -h         prints this
-  --version          prints the version, and the kit that it is built by
+  --version          prints the version, and the sum of the logic that it is proved by
 
 The options come in any order, each at most once, before, between or after the files. A value may
 stand after =, as in --every=60, and each word after -- names a FILE.
