@@ -1,7 +1,8 @@
 #!/usr/bin/env python3
 """Whether the packages in Rust and Python declare the numbers, structs and calls that they use as
 include/influxdb_line_protocol.h has them; and whether these and the package in Go have its clauses in their order, with their words, and
-the bits of each server. What a package does not use, or includes from the header, it need not declare.
+the bits of each server. What a package does not use, or includes from the header, it need not declare. The table of clauses in
+docs/FORMAT.md has them too, and how the faults of lp_relay name them.
 
     checks/bindings.py          prints each difference; status 1 where there is one
 """
@@ -109,17 +110,31 @@ def clause_differences():
             yield f"{package}: the bits of servers are {its_masks}, and in the header {masks}"
 
 
+def page_differences():
+    """Where the table of clauses in docs/FORMAT.md has other rows than the header and the code of lp_relay."""
+    code = (TOP / "crates" / "lp_relay" / "src" / "portable.rt").read_text(encoding="utf-8")
+    named = dict(re.findall(r'Clause::(\w+) => (?:\{\s*)?"([^"]*)"', code))
+    page = (TOP / "docs" / "FORMAT.md").read_text(encoding="utf-8")
+    table = page[page.index("| clause | broken if | a fault names it so |"):].split("\n\n")[0]
+    rows = re.findall(r"^\| `(\w+)` \| (.*?) \| `(.*?)` \|", table, flags=re.M)
+    has = [(enumerator(name), place, words) for place, (name, words, _) in enumerate(rows, 1)]
+    for one in sorted(set(has) ^ set(clauses_in_words()[1:]), key=str):
+        yield f"docs/FORMAT.md: the clause {one} is not in both, the page and the header"
+    for one in sorted({(name, text) for name, _, text in rows} ^ set(named.items())):
+        yield f"docs/FORMAT.md: the fault's name {one} is not in both, the page and lp_relay"
+
+
 def main():
     header = of_header()
     packages = {"Rust": of_rust(), "Python": of_python()}
     found = [one for package, given in packages.items() for one in differences(package, given, header)]
-    found += clause_differences()
+    found += [*clause_differences(), *page_differences()]
     if found:
         print("\n".join(f"bindings: {one}" for one in found), file=sys.stderr)
         return 1
     counts = "; ".join(
         "{} has {} enums, {} structs and {} calls".format(package, *map(len, given)) for package, given in packages.items())
-    print(f"bindings: {counts}, as the header has them; and these and Go have its {len(clauses_in_words())} clauses")
+    print(f"bindings: {counts}, as the header has them; and these and Go have its {len(clauses_in_words())} clauses, docs/FORMAT.md too")
     return 0
 
 

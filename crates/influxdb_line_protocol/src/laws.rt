@@ -69,8 +69,12 @@ pub fn lines_are_points()
     ensures { LinesArePoints }
 {}
 
-/// A text that [`builder::is_as_written`](crate::builder::is_as_written) is read in each dialect, and what the builder writes for the
-/// point of that line, whose names are all admitted, is the text and a newline. No other text is read so.
+/// The rules of each dialect read a text for which [`builder::is_as_written`](crate::builder::is_as_written) is true as one line, if
+/// the text is not cut. The builder admits all names of this line, and writes its point as the same text and a newline. No other text is
+/// read so.
+///
+/// The law does not say how a text is cut into pieces. In the newline-delimited dialect, a text that holds a newline is more than one
+/// piece: the builder writes `m a="x⏎y"`, but in that dialect this text is two pieces, and each of them has a fault.
 #[tactic(auto, using(lp_written::proofs::lemmas::points::LinesArePoints::stay_laws))]
 pub fn written_lines_stay()
     ensures stay { WrittenLinesStay }
@@ -258,8 +262,9 @@ pub fn keys_tell_series()
 /// measurement and a field key a quote, and in a measurement an equals sign. So they do to a reader that takes each backslash by
 /// itself, also after another.
 ///
-/// The first is so of a line that is portable to VictoriaMetrics alone, and the second of one that is to InfluxDB 1.x. In the dialects
-/// of the crate and strict, each line has the same answer.
+/// The first is so of a line that is portable to VictoriaMetrics alone, and the second of one that is to InfluxDB 1.x. A line that the
+/// strict reader reads has the same answer in the dialect of the crate. A line that only the reader of the crate reads has not:
+/// `m a=1i,` is a fault in the strict dialect.
 pub fn portable_lines_are_read_alike()
     ensures dialects { LinesAreAnsweredAlike }
     ensures victoria { VictoriaLinesAreReadAlike }
@@ -267,7 +272,8 @@ pub fn portable_lines_are_read_alike()
     ensures all { PortableLinesAreReadAlike }
 {}
 
-/// Each line that is read has exactly one spelling of its names, and their logical texts are the names that were read, in order.
+/// Each line that the strict reader reads has exactly one spelling of its names, and their logical texts are the names that were read, in
+/// order.
 ///
 /// A name means the same to readers that differ in some bytes, of which the backslash is one, exactly if it holds none of these
 /// escaped. What it holds bare is what is bare in it.
