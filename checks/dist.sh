@@ -549,7 +549,7 @@ build_rust() {
     printf '%s\n' 'fn main() {' '    for item in influxdb_line_protocol::parse_lines("x\nm f=1i") {' \
         '        println!("{}", item.map_or_else(|fault| fault.to_string(), |line| line.to_string()));' '    }' '}' >"$work/rust/src/main.rs"
     printf '%s\n' '[package]' 'name = "over"' 'version = "0.1.0"' 'edition = "2021"' '[dependencies]' 'influxdb-line-protocol = "2"' \
-        '[patch.crates-io]' "influxdb-line-protocol = { path = \"$path\" }" >"$work/rust/Cargo.toml"
+        '[patch.crates-io]' "influxdb-line-protocol = { path = \"$path/v2\" }" >"$work/rust/Cargo.toml"
     if ! find_crates "$path" "$work/log"; then
         left_out "programs in Rust" "$found"
         return

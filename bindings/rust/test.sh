@@ -5,8 +5,9 @@
 # ORIGINAL: files of any name below it count: a test module is what follows `#[cfg(test)]` in one of them.
 # LP_LIB_DIR: the folder of liblp_c.a, crates/lp_c/out by default.
 # CARGO_FLAGS: more words for cargo, as where the crates lie.
-# flags.sh says where the crates come from. Then cargo packs the crate with the library in it; a program that names the original crate is
-# built over what was packed, by [patch.crates-io]; and the documentation is made without a library.
+# flags.sh says where the crates come from. Then cargo packs the crate with the library in it; a program that asks for version 2 of the
+# original crate, and names each of its public items, is built over what was packed, by [patch.crates-io] and the crate in v2; a program
+# that asks for version 3 is built beside it; and the documentation is made without a library.
 set -eu
 here=$(cd "$(dirname "$0")" && pwd)
 . "$here/../../checks/left_out.sh"
@@ -90,12 +91,14 @@ by_cargo() {
     fi
 }
 by_cargo "$built/crate" "the documentation is not made without a library" doc -q --no-deps
-mkdir -p "$built/packed/native" "$built/patched/src"
+mkdir -p "$built/packed/native" "$built/patched/src" "$built/newer/src"
 cp -r "$here"/{Cargo.toml,README.md,build.rs,src,examples} "$here"/../../LICENSE-* "$built/packed"
 cp "$LP_LIB_DIR/liblp_c.a" "$built/packed/native"
 by_cargo "$built/packed" "cargo does not pack the crate" package --allow-dirty
 packed=$(echo "$CARGO_TARGET_DIR"/package/*.crate)
 tar -C "$built" -xzf "$packed"
+folder=$built/$(basename "$packed" .crate)
+cp -r "$here/v2" "$folder/"
 cat >"$built/patched/Cargo.toml" <<TEXT
 [package]
 name = "patched"
@@ -106,24 +109,59 @@ edition = "2021"
 influxdb-line-protocol = "2"
 
 [patch.crates-io]
-influxdb-line-protocol = { path = "$built/$(basename "$packed" .crate)" }
+influxdb-line-protocol = { path = "$folder/v2" }
 TEXT
 cat >"$built/patched/src/main.rs" <<'TEXT'
-fn main() {
-    for item in influxdb_line_protocol::parse_lines("cpu,host=a\\ b usage=64i\nm 5") {
+use influxdb_line_protocol::builder::{AfterField, AfterMeasurement, AfterTag, AfterTimestamp, BeforeMeasurement};
+use influxdb_line_protocol::{builder, parse_lines, split_lines, Error, EscapedStr, FieldSet, FieldValue};
+use influxdb_line_protocol::{LineProtocolBuilder, Measurement, ParsedLine, Result, Series, TagSet};
+
+type States = (BeforeMeasurement, AfterMeasurement, AfterTag, AfterField, AfterTimestamp);
+
+fn tags<'s, 'a>(series: &'s Series<'a>) -> (&'s Measurement<'a>, Option<&'s TagSet<'a>>) {
+    (&series.measurement, series.tag_set.as_ref())
+}
+
+fn first<'s, 'a>(fields: &'s FieldSet<'a>) -> (&'s EscapedStr<'a>, &'s FieldValue<'a>) {
+    (&fields[0].0, &fields[0].1)
+}
+
+fn written<F: builder::FieldValue>(value: F) -> Vec<u8> {
+    LineProtocolBuilder::new().measurement("m").field("f", value).close_line().build()
+}
+
+fn main() -> Result<()> {
+    let text = "cpu,host=a\\ b usage=64i\nm 5";
+    let lines: Vec<Result<ParsedLine<'_>, Error>> = parse_lines(text).collect();
+    for item in &lines {
         match item {
-            Ok(line) => println!("{line}"),
+            Ok(line) => println!("{line}: {} {}", tags(&line.series).0, first(&line.field_set).1),
             Err(fault) => println!("{fault}"),
         }
     }
+    let written = written(1.5);
+    println!("{} {} {}", split_lines(text).count(), String::from_utf8_lossy(&written).trim(), std::mem::size_of::<States>());
+    Ok(())
 }
 TEXT
-by_cargo "$built/patched" "a program that names the original crate is not built over the packed one" run -q
-if ! printf '%s\n' 'cpu,host=a\ b usage=64i' 'No fields were provided' | diff - "$built/printed"; then
-    echo "rust: a program over the packed crate does not print its items" >&2
+by_cargo "$built/patched" "a program that asks for version 2 of the crate is not built over the packed one" run -q
+if ! printf '%s\n' 'cpu,host=a\ b usage=64i: cpu 64' 'No fields were provided' '2 m f=1.5 0' | diff - "$built/printed"; then
+    echo "rust: a program that asks for version 2 of the crate does not print its items" >&2
     exit 1
 fi
-own="$own own tests passed$found, a program that names the original crate ran over the packed one"
+# A program that asks for the newer version has what version 2 had not.
+sed "s|\"2\"|\"3\"|; s|$folder/v2|$folder|; s/patched/newer/" "$built/patched/Cargo.toml" >"$built/newer/Cargo.toml"
+cat >"$built/newer/src/main.rs" <<'TEXT'
+fn main() {
+    println!("{}", influxdb_line_protocol::rebuild(influxdb_line_protocol::Dialect::Strict, "m f=01i").carried);
+}
+TEXT
+by_cargo "$built/newer" "a program that asks for version 3 of the crate is not built over the packed one" run -q
+if [ "$(cat "$built/printed")" != 1 ]; then
+    echo "rust: a program that asks for version 3 of the crate prints $(cat "$built/printed")" >&2
+    exit 1
+fi
+own="$own own tests passed$found, programs that ask for version 2 and version 3 ran over the packed crate"
 said=$own
 if [ -z "${ORIGINAL:-}" ]; then
     echo "rust: $said"
