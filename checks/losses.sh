@@ -363,9 +363,10 @@ echo "losses: lp_relay loses nothing at sizes where a count or a buffer could en
 
 if python3 -c 'import sys; sys.exit(sys.version_info < (3, 10))' 2>/dev/null; then
     "$top/checks/settings.py" "$relay"
+    "$top/checks/forms.py" "$relay"
     "$top/checks/batch_files.py" "$relay"
     "$top/checks/grammar.py" "$relay"
     "$top/checks/recording.py" "$relay"
 else
-    left_out "all settings of lp_relay, batches, the grammar, and the recording" "there is no Python 3.10 or later, for checks/losses.sh"
+    left_out "all settings and forms of lp_relay, batches, the grammar, and the recording" "there is no Python 3.10 or later, for checks/losses.sh"
 fi

@@ -17,7 +17,7 @@ import sys
 
 DIALECTS = [[], ["--strict"], ["--newline-delimited"]]
 SHARDS = 3
-FEW = 5
+FEW = [1, 5]
 
 ANY = rb"\\[\s\S]"
 MEASUREMENT = re.compile(rb"(?:[^ \t\n\0,\\]|" + ANY + rb")+")
@@ -121,6 +121,19 @@ def differs(what, given, wanted):
                  f"{wanted[at:at + 300] if at or isinstance(given, bytes) else wanted}")
 
 
+def compare_few(series, most, lines, wanted, words):
+    """With so few series the totals stay, and the first series that come are kept, with all of their points."""
+    what = f"--max-series {most} {' '.join(words)}"
+    few = json.loads(run(series, "--json", "--max-series", str(most), *words))
+    del few["refused"], few["items_refused"]
+    totals = ["bytes", "lines", "points", "without_time", "least_time", "greatest_time"]
+    differs(what, [few[key] for key in totals], [wanted[key] for key in totals])
+    kept = set(list(dict.fromkeys(key_of(line[2], line[3]) for line in lines))[:most])
+    within = [line for line in lines if key_of(line[2], line[3]) in kept]
+    none = dict.fromkeys(totals, 0)
+    differs(what, {**few, **none}, {**counted(b"", within), "points_beyond": len(lines) - len(within), **none})
+
+
 def compare(relay, series, name):
     with open(name, "rb") as file:
         text = file.read()
@@ -133,15 +146,8 @@ def compare(relay, series, name):
         differs(f"--json {what}", told, wanted)
         differs(f"the refused items of --json {what}", refused, refused_of(relay, *dialect, name))
         differs(f"their number of --json {what}", items_refused, sum(refused.values()))
-        few = json.loads(run(series, "--json", "--max-series", str(FEW), *dialect, name))
-        del few["refused"], few["items_refused"]
-        same = ["bytes", "lines", "points", "without_time", "least_time", "greatest_time"]
-        differs(f"--max-series {what}", [few[key] for key in same], [wanted[key] for key in same])
-        kept = dict.fromkeys(key_of(line[2], line[3]) for line in lines)
-        kept = set(list(kept)[:FEW])
-        within = [line for line in lines if key_of(line[2], line[3]) in kept]
-        differs(f"--max-series {what}", {**few, **{key: 0 for key in same}},
-                {**counted(b"", within), "points_beyond": len(lines) - len(within), **{key: 0 for key in same}})
+        for most in FEW:
+            compare_few(series, most, lines, wanted, [*dialect, name])
         for shard in range(SHARDS):
             mine = b"".join(line[0] for line in lines if hash_of(key_of(line[2], line[3])) % SHARDS == shard)
             differs(f"--shard {shard}/{SHARDS} {what}", run(series, "--shard", f"{shard}/{SHARDS}", *dialect, name), mine)

@@ -253,6 +253,9 @@ take_files() {
 0 fields with values of more than one type\n1 tag keys\n  t: 1 values\n' "${unread}none: $none\n" a none b
     ends 2 "${unread}d: Is a directory (os error 21)" --json d
     [[ $(cat "$work/out") = *'"tag_values":{},"items_refused":0,"refused":null}' ]] || fail "what is refused is told of an input that fails"
+    # So are the items that were refused until then.
+    ends 2 "${unread}d: Is a directory (os error 21)" --json b d
+    [[ $(cat "$work/out") = *'"points":1,'*'"items_refused":1,"refused":null}' ]] || fail "items that were refused before an input failed are not told"
     # What an ended run has left beside the file is removed, and that is said.
     touch m.lp_relay-4520-0
     ends 1 "*" --prometheus m b
@@ -397,7 +400,8 @@ part() {
     [ "$("$series" --key "$work/in" | cut -f 1 | sort | uniq -c | wc -l)" = 231 ] || fail "there are not 231 keys"
 }
 
-# A key of 16 MB, a series of 10,000 tags, a line of the greatest length and one more.
+# A key of 16 MB, a series of 30,000 tags, a line of the greatest length and one more; more series than are kept by default; and so many
+# lines with so many tags that the program ends if it does not give back the memory of each.
 grow() {
     local long
     { head -c 16000000 /dev/zero | tr '\0' k; echo ' v=1i'; } >"$work/in"
@@ -407,16 +411,23 @@ grow() {
     cmp "$work/in" "$work/out" || fail "a line with a key of 16 MB does not go out"
     ends 0 "16000006 bytes, 1 lines, 1 items: 1 carried, 0 refused" --json
     [ "$(wc -c <"$work/out")" -gt 16000000 ] || fail "a name of 16 MB is not told"
-    long=$(seq -f '%05.0f' 10000 -1 1 | sed 's/.*/t&=&/' | paste -sd ,)
+    long=$(seq -f '%05.0f' 30000 -1 1 | sed 's/.*/t&=&/' | paste -sd ,)
     printf 'm,%s v=1i\n' "$long" >"$work/in"
     run --key
     printf 'm,%s\t' "$(tr , '\n' <<<"$long" | sort | paste -sd ,)" | cat - "$work/in" >"$work/out_wanted"
-    [ "$status" = 0 ] && cmp "$work/out" "$work/out_wanted" || fail "a line with 10,000 tags does not go out after its key"
+    [ "$status" = 0 ] && cmp "$work/out" "$work/out_wanted" || fail "a line with 30,000 tags does not go out after its key"
     ends 0 "* bytes, 1 lines, 1 items: 1 carried, 0 refused" --stats
-    grep -qx '10000 tag keys' "$work/out" && [ "$(grep -c ': 1 values$' "$work/out")" = 10000 ] || fail "10,000 tags are not counted"
+    grep -qx '30000 tag keys' "$work/out" && [ "$(grep -c ': 1 values$' "$work/out")" = 30000 ] || fail "30,000 tags are not counted"
     { head -c 16777211 /dev/zero | tr '\0' k; echo ' v=1i'; head -c 16777212 /dev/zero | tr '\0' k; echo ' v=1i'; } >"$work/in"
     ends 1 "* bytes, 2 lines, 2 items: 1 carried, 1 refused: 1 too_long"
     grep -qx '1 points, .*' "$work/out" || fail "a line that is too long is counted"
+    seq -f 'm,t=%.0f v=1i' 0 1000001 >"$work/in"
+    ends 0 "* bytes, 1000002 lines, 1000002 items: 1000002 carried, 0 refused" --json
+    grep -q '"series":1000000,"points_beyond":2,' "$work/out" || fail "1,000,002 series are not counted: $(head -c 300 "$work/out")"
+    long=$(seq -f 't%.0f=v' 20 | paste -sd ,)
+    yes "m,$long v=1i" | head -n 200000 >"$work/in"
+    (ulimit -v 64000 && exec "$series" --json <"$work/in") >"$work/out" 2>"$work/err" && status=0 || status=$?
+    [ "$status" = 0 ] && grep -q '"points":200000,' "$work/out" || fail "200,000 lines of 20 tags are not counted in 64 MB of memory"
 }
 
 printf 'x\n' >"$work/in"
