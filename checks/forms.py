@@ -63,8 +63,8 @@ def compare(relay, room):
         fail("--now", f"the status is {has}, and {len(out)} bytes go out: {said[-200:]!r}")
     has, out, said, _ = run(relay, room, ["--faults", "json+text"], BROKEN)
     told = json.loads(said.splitlines()[0])
-    if has != 1 or out or told["text"].encode() != BROKEN + b"\n":
-        fail("--faults json+text", f"the status is {has}, and the object has {len(told['text'])} characters of the line")
+    if has != 1 or out or told["piece"].encode() != BROKEN:
+        fail("--faults json+text", f"the status is {has}, and the object has {len(told['piece'])} characters of the line")
     for form in ["editor", "raw", "line", "json"]:
         has, out, said, left = run(relay, room, ["--faults", form], BROKEN)
         if has != 1 or out or left != BROKEN + b"\n" or len(said.splitlines()) != 1:
