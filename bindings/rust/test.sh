@@ -145,7 +145,7 @@ fn main() -> Result<()> {
 }
 TEXT
 by_cargo "$built/patched" "a program that asks for version 2 of the crate is not built over the packed one" run -q
-if ! printf '%s\n' 'cpu,host=a\ b usage=64i: cpu 64' 'No fields were provided' '2 m f=1.5 0' | diff - "$built/printed"; then
+if ! printf '%s\n' 'cpu,host=a\ b usage=64i: cpu 64i' 'No fields were provided' '2 m f=1.5 0' | diff - "$built/printed"; then
     echo "rust: a program that asks for version 2 of the crate does not print its items" >&2
     exit 1
 fi
