@@ -159,6 +159,14 @@ if [ -n "$program" ]; then
     refused "--output: --lines is no name of a file" --output --lines
     refused "--refused: an empty word is no name of a file" --refused ""
     refused "--range: 7 is no FROM..TO" --range 7 x
+    refused "--default-time: 9223372036854775808 is out of range" --default-time 9223372036854775808
+    refused "--default-time: -9223372036854775809 is out of range" --default-time -9223372036854775809
+    refused "--default-time: 1h is no NS" --default-time 1h
+    refused "--default-time: - is no NS" --default-time -
+    refused "--times: 5..9223372036854775808 is out of range" --times 5..9223372036854775808
+    refused "--times: -9223372036854775809.. is out of range" --times=-9223372036854775809..
+    refused "--times: .. is no FROM..TO" --times ..
+    refused "--times: 5 is no FROM..TO" --times 5
     refused "--range takes one FILE, not 0" --range 0..7
     refused "--range takes one FILE, not 2" --range 0..7 x y
     refused "--now takes one FILE, not 2" --now x y
@@ -412,6 +420,32 @@ item 2: not portable to VictoriaMetrics: a newline in the line
     wanted 2 "" "$usage" --times ..
     wanted 2 "" "$usage" --times 5
     wanted 2 "" "$usage" --times 1..2..3
+    # The ends of all times of 64 bits, as they are asked for, and as they come in each unit.
+    least=-9223372036854775808 most=9223372036854775807
+    text="m a=1\nm a=2 $least\nm a=3 $most\n"
+    wanted 0 "m a=1 $least${newline}m a=2 $least${newline}m a=3 $most$newline" "" --default-time $least
+    wanted 0 "m a=1 $most${newline}m a=2 $least${newline}m a=3 $most$newline" "" --default-time=$most --times $least..
+    wanted 1 "m a=1 -9223372036854775807${newline}m a=3 $most$newline" "item 2: time out of range: $least$newline" \
+        --default-time -9223372036854775807 --times=-9223372036854775807..
+    wanted 1 "m a=1 0${newline}m a=2 $least$newline" "item 3: time out of range: $most$newline" --default-time 0 --times $least..$most
+    wanted 1 "" "item 1: time missing: the line has no timestamp
+item 2: time out of range: $least
+item 3: time out of range: $most
+" --times ..$least
+    for end in "s 9223372036 9223372037 000000000 seconds" "ms 9223372036854 9223372036855 000000 milliseconds" \
+        "us 9223372036854775 9223372036854776 000 microseconds"; do
+        read -r unit fits over zeros name <<<"$end"
+        text="m a=1 $fits\nm a=1 -$fits\nm a=1 $over\nm a=1 -$over\nm a=1\n"
+        wanted 1 "m a=1 $fits$zeros${newline}m a=1 -$fits$zeros${newline}m a=1 $least$newline" \
+            "item 3: time overflow: $over $name do not fit 64 bits in nanoseconds
+item 4: time overflow: -$over $name do not fit 64 bits in nanoseconds
+" --time-unit "$unit" --default-time $least
+    done
+    text='m a=1 5\n'
+    wanted 2 "" "$usage" --default-time -9223372036854775809
+    wanted 2 "" "$usage" --default-time --5
+    wanted 2 "" "$usage" --times 9223372036854775808..
+    wanted 2 "" "$usage" --times ..-9223372036854775809
     # A comment and a line that follows it are one piece in the dialect of the crate, and no one line to a server.
     text='# it a="\nm a=1'
     wanted 1 "" "item 1: not portable to all servers: it is not one line$newline" --verbatim --portable all

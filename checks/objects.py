@@ -55,8 +55,12 @@ LINES = [
     b" \tm,t=v", b"#\\\n  m a=", b"m a=1i " + "ü".encode() * 90, b"m a=1i  " + "ü".encode() * 90, b"m a=1i " + b"\1" * 145,
 ]
 PARTS = [bytes([b]) for b in range(256)] + [
-    "ü".encode(), "\u2028".encode(), "\U0001f600".encode(), b"\xed\xa0\x80", b"\\u0000", b"\\\"", b"\"}", b"{\"", b"\x7f", b"\r",
-]
+    b"\xed\xa0\x80", b"\\u0000", b"\\\"", b"\"}", b"{\"", b"\x7f", b"\r",
+] + [mark.encode() for mark in "ü\x80\x9f\xa0\u061c\u200d\u200e\u200f\u2027\u2028\u202e\u202f\u2066\u2069\U0001f600"]
+
+# The characters that are escaped in a string of JSON: a quote, a backslash, control characters, and those that separate lines or set the
+# direction of text.
+ESCAPED = re.compile("[\"\\\\\0-\x1f\x7f-\x9f\u061c\u200e\u200f\u2028-\u202e\u2066-\u2069]")
 
 # What tells that a text is cut.
 CUT = re.compile(r"\.\. \[(\d+) bytes\]\Z")
@@ -204,9 +208,16 @@ def compare_pieces(command, text, words, objects, items, limit):
             wanted = wanted[:limit]
         if name != ("piece_start" if is_long else "piece") + ("" if is_utf8(wanted) else "_base64") or piece != wanted:
             sys.exit(f"objects: {line!r} has not the piece {wanted!r}")
+        if not name.endswith("_base64") and spelled(both[name]) not in line:
+            sys.exit(f"objects: {line!r} has not its piece as it is to be spelled")
         del both[name]
         if both != told:
             sys.exit(f"objects: {line!r} is another object with its piece")
+
+
+def spelled(text):
+    """The string of JSON of a text."""
+    return ('"' + ESCAPED.sub(lambda found: "\\" + found[0] if found[0] in '"\\' else f"\\u{ord(found[0]):04x}", text) + '"').encode()
 
 
 def compare(command, text, words):
@@ -217,9 +228,7 @@ def compare(command, text, words):
     for line in faults_of(command, text, "--faults", "json", *words).split(b"\n")[:-1]:
         told = json.loads(line.decode())
         names, length = members(told, items[told["item"] - 1][2], limit)
-        if list(told) != names or json.dumps(told["text"], ensure_ascii=False).encode() not in line.replace(
-                b"\\u000a", b"\\n").replace(b"\\u000d", b"\\r").replace(b"\\u0009", b"\\t").replace(b"\\u0008", b"\\b").replace(
-                b"\\u000c", b"\\f").replace(b"\\u007f", b"\x7f"):
+        if list(told) != names or b'"text":' + spelled(told["text"]) not in line:
             sys.exit(f"objects: {line!r} is no object of a fault as it is to be spelled")
         if not told["text"].startswith(KINDS[told["kind"]]):
             sys.exit(f"objects: {line!r} has a kind that is not its own")

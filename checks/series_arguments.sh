@@ -197,6 +197,9 @@ worked() {
 # Each part of a report, with names that a form of it must escape.
 report() {
     local metrics
+    printf 'm\302\205,t\342\200\256=v f\302\233=1\n' >"$work/in"
+    wanted 0 '{"bytes":17,"lines":1,"points":1,"without_time":1,"least_time":null,"greatest_time":null,"series":1,"points_beyond":0,"measurements":{"m\\u0085":{"points":1,"series":1,"fields":{"f\\u009b":["float"]}}},"tag_values":{"t\\u202e":1},"items_refused":0,"refused":{}}\n' \
+        "17 bytes, 1 lines, 1 items: 1 carried, 0 refused\n" --json
     printf 'a"\\\\b,t"\\,1=v\\ w f\\=g=1,g=2i,h=3u,i="s",j=t 5\na"\\\\b f\\=g="x" -7\nü x=1 9\nü x=1i\nü x=1u\nü x="s"\nü x=t\n' >"$work/in"
     wanted 0 '105 bytes, 7 lines\n7 points, 4 of them without a time\ntimes from -7 to 9\n3 series\n2 measurements\n  a"\\\\b: 2 points, 2 series, 5 fields
   \\xc3\\xbc: 5 points, 1 series, 1 fields\n2 fields with values of more than one type\n  a"\\\\b f=g: float, string

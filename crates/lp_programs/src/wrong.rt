@@ -111,6 +111,21 @@ fn is_number(word: &str) -> bool {
     !word.is_empty() && word.as_bytes().iter().all(|byte| byte.is_ascii_digit())
 }
 
+// Whether a word is a number, or one after a minus sign.
+fn is_time(word: &str) -> bool {
+    is_number(word.strip_prefix('-').unwrap_or(word))
+}
+
+// Whether a word is a range of such numbers, of which one may be missing.
+fn is_times(word: &str) -> bool {
+    match word.split_once("..") {
+        Some(("", to)) => is_time(to),
+        Some((from, "")) => is_time(from),
+        Some((from, to)) => is_time(from) && is_time(to),
+        None => false,
+    }
+}
+
 impl<'a> Manual<'a> {
     // The option that a word names.
     fn option_of(self, word: &str) -> Option<&'a str> {
@@ -186,6 +201,8 @@ impl<'a> Manual<'a> {
                 Wrong::OutOfRange(option, word)
             }
             "N" | "BYTES" | "PARTS" | "SECONDS" => Wrong::NoNumber(option, word),
+            "NS" if is_time(word) => Wrong::OutOfRange(option, word),
+            "FROM..TO" if option == "--times" && is_times(word) => Wrong::OutOfRange(option, word),
             form if form.contains('|') || form.starts_with(|c: char| c.is_ascii_lowercase()) => {
                 Wrong::NoneOf(option, form, word)
             }

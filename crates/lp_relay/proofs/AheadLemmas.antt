@@ -14,12 +14,12 @@ use Rattle.lp_relay.specs.declared.taking.Settings.{Settings}
 use Rattle.lp_relay.specs.declared.telling.Place.{Place}
 use Rattle.lp_relay.specs.FieldTypes.{Types}
 use Rattle.lp_relay.specs.FaultsTold.{first_place, told_faults, told_items, told_piece}
-use Rattle.lp_relay.specs.Objects.{seen_of_piece}
+use Rattle.lp_relay.specs.Objects.{seen_line, seen_of_piece}
 use Rattle.lp_relay.specs.Relaying.{items_of, items_of_piece, kept_bytes, kept_of, refused_lines, refused_piece, refused_pieces, too_long, types_past}
 use Rattle.lp_relay.specs.RelaySteps.{IsAhead, place_past}
 use Rattle.lp_relay.proofs.CutLemmas.{cut_nowhere}
 use Rattle.lp_relay.proofs.FaultLines.{told_append}
-use Rattle.lp_relay.proofs.ItemLemmas.{item_of_long, items_push, kept_long, over_long, put_append, refused_long, stop_long, types_append, types_of_long}
+use Rattle.lp_relay.proofs.ItemLemmas.{item_of_long, items_push, kept_long, line_long, over_long, put_append, refused_long, stop_long, types_append, types_of_long}
 
 -- two lists of pieces make the same
 abbrev pub MakesSame : Settings → Types → (pieces others : List (List ℕ)) → Type 0
@@ -37,11 +37,17 @@ kept_same : (s : Settings) (front more piece : List ℕ) → IsTooLong s.limit f
 kept_same s front more piece h k is =
     kept_long s front h ∙ sym (take-append-le s.limit front more (omega (arith, h.0))) ∙ ap (take s.limit) (sym is) ∙ sym (kept_long s piece k)
 
+-- what is kept of their lines
+line_same : (s : Settings) (front more piece : List ℕ) → IsTooLong s.limit front → IsTooLong s.limit piece → piece ≡ front ++ more
+    → seen_line s front ≡ seen_line s piece
+line_same s front more piece h k is =
+    line_long s front h ∙ sym (kept_long s front h) ∙ kept_same s front more piece h k is ∙ kept_long s piece k ∙ sym (line_long s piece k)
+
 -- what is told of them
 seen_same : (s : Settings) (front more piece : List ℕ) → IsTooLong s.limit front → IsTooLong s.limit piece → piece ≡ front ++ more
     → seen_of_piece s front ≡ seen_of_piece s piece
 seen_same s front more piece h k is =
-    rw (kept_same s front more piece h k is, over_long s front h, over_long s piece k, stop_long s front h, stop_long s piece k) refl
+    rw (kept_same s front more piece h k is, line_same s front more piece h k is, over_long s front h, over_long s piece k, stop_long s front h, stop_long s piece k) refl
 
 -- what is told of their items
 told_long : (s : Settings) (types : Types) (place : Place) (front more piece : List ℕ) → IsTooLong s.limit front → IsTooLong s.limit piece

@@ -11,7 +11,7 @@ use Rattle.influxdb_line_protocol.specs.format.Items.{answers_of_piece}
 use Rattle.influxdb_line_protocol.specs.code.Bounded.{IsTooLong}
 use Rattle.lp_relay.specs.declared.taking.Settings.{Settings}
 use Rattle.influxdb_line_protocol.specs.code.Rules.{rules_of}
-use Rattle.lp_relay.specs.Objects.{over_of_piece, stop_of_bytes, stop_of_piece}
+use Rattle.lp_relay.specs.Objects.{seen_line, over_of_piece, stop_of_bytes, stop_of_piece}
 use Rattle.lp_relay.specs.FieldTypes.{Types}
 use Rattle.lp_relay.specs.Relaying.{Item, not_utf8, too_long, limit_of, is_too_long, items_of_bytes, items_of_piece, items_of, line_of, timed_item}
 use Rattle.lp_relay.specs.Relaying.{refused_pieces, types_after, types_after_timed, types_of_bytes, types_past}
@@ -130,6 +130,16 @@ stop_short s piece h = grind (arith, cases_Bool, nat_tests)
 pub stop_long : (s : Settings) (piece : List ℕ) → IsTooLong s.limit piece → stop_of_piece s piece ≡ None
 unfolding stop_of_piece
 stop_long s piece h = grind (arith, nat_lt)
+
+-- what is kept of the line of a piece that is not too long is all of it
+pub line_short : (s : Settings) (piece : List ℕ) → length piece ≤ s.limit → seen_line s piece ≡ line_of s piece
+unfolding seen_line
+line_short s piece h = grind (arith, cases_Bool, nat_tests)
+
+-- of one that is too long the first bytes are kept
+pub line_long : (s : Settings) (piece : List ℕ) → IsTooLong s.limit piece → seen_line s piece ≡ take s.limit piece
+unfolding seen_line
+line_long s piece h = grind (arith, nat_lt)
 
 -- what is kept of a piece that is not too long is all of it
 pub kept_short : (s : Settings) (piece : List ℕ) → length piece ≤ s.limit → kept_bytes s piece ≡ piece

@@ -1,68 +1,68 @@
 -- Texts in strings of JSON, and the texts of fault lines.
-use Rattle.std.proofs.Common.{◌≡◌, ℕ, ◌+◌, ◌-◌, ◌<◌, ◌≤◌, true, false, List, [], ◌∷◌, ◌++◌, length, take, drop, get_or, slice_index}
-use Rattle.std.proofs.Common.{refl, sym, ap, ◌∙◌, arith, append_assoc, append-nil, codes, length-drop, nat_lt, inl, inr}
-use Rattle.std.proofs.Math.Nat.{sub_self}
+use Rattle.std.proofs.Common.{◌≡◌, ℕ, ◌+◌, ◌<◌, ◌≤◌, true, false, List, [], ◌∷◌, ◌++◌, length, take, slice_index}
+use Rattle.std.proofs.Common.{refl, sym, ap, subst, ◌∙◌, arith, append_assoc, append-nil, codes, map, nat_lt, inl, inr}
 use Rattle.std.proofs.lemmas.Bool.Decides.{nat_tests}
-use Rattle.std.proofs.lemmas.{Grind.common_steps, Grind.flat_map-append, List.take_more}
+use Rattle.std.proofs.lemmas.Grind.{flat_map-append}
+use Rattle.std.proofs.lemmas.List.{take_all}
+use Rattle.std.proofs.lemmas.List.Elements.{All-more, All-tail}
 use Rattle.std.proofs.lemmas.Bool.{cases_Bool}
-use Rattle.std.proofs.lemmas.Str.{IsUtf8-from_is_utf8, is_utf8-from_IsUtf8}
-use Rattle.std.specs.Str.{IsUtf8, is_utf8}
+use Rattle.std.proofs.lemmas.Str.{IsUtf8-from_is_utf8, chars-IsAscii, encode_ascii, is_utf8-from_IsUtf8}
+use Rattle.std.proofs.lemmas.Str.Ascii.{IsAscii-from_all}
+use Rattle.std.specs.List.{All, flat_map}
+use Rattle.std.specs.Str.{IsUtf8, chars, is_utf8}
 use Rattle.base64.specs.Engines.{standard}
 use Rattle.base64.specs.GeneralPurpose.{encode_of}
-use Rattle.lp_relay.specs.Objects.{bytes_string, cut_json_text, escape_of, is_escaped, json_byte, json_text, utf8_front}
+use Rattle.lp_relay.specs.Objects.{bytes_string, cut_json_text, is_escaped, json_character, json_text, utf8_front}
 use Rattle.lp_relay.specs.Told.{cut_mark}
 
--- one byte more
-text_more : (text : List ℕ) (at : ℕ) → at < length text → json_text (take (at + 1) text) ≡ json_text (take at text) ++ json_byte (slice_index text at)
-text_more text at within = grind (arith, common_steps, take_more, flat_map-append, append-nil)
+-- a byte is a character of ASCII that stands as it is
+abbrev pub IsPlain : ℕ → Type 0
+IsPlain b = (b < 128) × (is_escaped b ≡ false)
 
--- the run that is not yet added, with one byte more
-run_more : (text : List ℕ) (start at : ℕ) → start ≤ at → at < length text
-    → take (at + 1 - start) (drop start text) ≡ take (at - start) (drop start text) ++ slice_index text at ∷ []
-run_more text start at low within =
-    let n : at + 1 - start ≡ (at - start) + 1 = omega arith in
-    let here : get_or (drop start text) (at - start) 0 ≡ get_or text at 0 = grind (arith, common_steps) in
-    rw (n, take_more (drop start text) (at - start) 0 (omega (arith, length-drop start text)), here) refl
+-- each character of such a text is its byte
+plain_characters : (bytes : List ℕ) → All IsPlain bytes → flat_map json_character bytes ≡ bytes
+plain_characters [] all = refl
+plain_characters (b ∷ bytes) all =
+    let first : IsPlain b = all 0 b (omega arith) in
+    let one : json_character b ≡ b ∷ [] = rw first.1 (encode_ascii b first.0) in
+    ap (λ (l : List ℕ). l ++ flat_map json_character bytes) one
+    ∙ ap (λ (l : List ℕ). b ∷ l) (plain_characters bytes (All-tail IsPlain b bytes all))
 
--- a byte that has no escape goes to the run
-pub keep_byte : (old done text : List ℕ) (start at : ℕ) → start ≤ at → at < length text → is_escaped (slice_index text at) ≡ false
-    → done ++ take (at - start) (drop start text) ≡ old ++ json_text (take at text)
-    → done ++ take (at + 1 - start) (drop start text) ≡ old ++ json_text (take (at + 1) text)
-keep_byte old done text start at low within plain whole =
-    let one : json_byte (slice_index text at) ≡ slice_index text at ∷ [] = rw plain refl in
-    ap (λ (l : List ℕ). done ++ l) (run_more text start at low within)
-    ∙ sym (append_assoc done (take (at - start) (drop start text)) (slice_index text at ∷ []))
-    ∙ ap (λ (l : List ℕ). l ++ slice_index text at ∷ []) whole
-    ∙ append_assoc old (json_text (take at text)) (slice_index text at ∷ [])
-    ∙ ap (λ (l : List ℕ). old ++ (json_text (take at text) ++ l)) (sym one)
-    ∙ ap (λ (l : List ℕ). old ++ l) (sym (text_more text at within))
+-- a text of such bytes stands as it is
+plain_text : (bytes : List ℕ) → All IsPlain bytes → json_text bytes ≡ bytes
+plain_text bytes all =
+    ap (flat_map json_character) (chars-IsAscii bytes (IsAscii-from_all bytes (λ k d within. (all k d within).0)))
+    ∙ plain_characters bytes all
 
--- after the escape of a byte, which follows the run, a new run begins
-pub escape_byte : (old done more text : List ℕ) (start at : ℕ) → at < length text → is_escaped (slice_index text at) ≡ true
-    → done ++ take (at - start) (drop start text) ≡ old ++ json_text (take at text)
-    → more ≡ (done ++ take (at - start) (drop start text)) ++ escape_of (slice_index text at)
-    → more ++ take (at + 1 - (at + 1)) (drop (at + 1) text) ≡ old ++ json_text (take (at + 1) text)
-escape_byte old done more text start at within special whole is =
-    let one : json_byte (slice_index text at) ≡ escape_of (slice_index text at) = rw special refl in
-    ap (λ (n : ℕ). more ++ take n (drop (at + 1) text)) (sub_self (at + 1)) ∙ append-nil more ∙ is
-    ∙ ap (λ (l : List ℕ). l ++ escape_of (slice_index text at)) whole
-    ∙ append_assoc old (json_text (take at text)) (escape_of (slice_index text at))
-    ∙ ap (λ (l : List ℕ). old ++ (json_text (take at text) ++ l)) (sym one)
-    ∙ ap (λ (l : List ℕ). old ++ l) (sym (text_more text at within))
+-- all bytes up to the end are all bytes
+pub plain_front : (bytes : List ℕ) (at : ℕ) → length bytes ≤ at → All IsPlain (take at bytes) → json_text bytes ≡ bytes
+plain_front bytes at low all = plain_text bytes (subst (All IsPlain) (take_all at bytes low) all)
 
--- the last run
-pub last_run : (old done new text : List ℕ) (start at : ℕ) → start ≤ at → length text ≤ at
-    → done ++ take (at - start) (drop start text) ≡ old ++ json_text (take at text) → new ≡ done ++ drop start text
+-- if bytes are such, and the next is, so are all of them
+pub one_more_plain : (bytes : List ℕ) (at : ℕ) → at < length bytes → All IsPlain (take at bytes) → IsPlain (slice_index bytes at)
+    → All IsPlain (take (at + 1) bytes)
+one_more_plain bytes at more front next = All-more IsPlain bytes at 0 more front next
+
+-- one character more
+pub one_more : (old done new : List ℕ) (characters : List ℕ) (c : ℕ) → done ≡ old ++ flat_map json_character characters
+    → new ≡ done ++ json_character c → new ≡ old ++ flat_map json_character (characters ++ c ∷ [])
+one_more old done new characters c before added =
+    let longer : flat_map json_character (characters ++ c ∷ []) ≡ flat_map json_character characters ++ json_character c =
+    flat_map-append json_character characters (c ∷ [])
+    ∙ ap (λ (l : List ℕ). flat_map json_character characters ++ l) (append-nil (json_character c)) in
+    added ∙ ap (λ (l : List ℕ). l ++ json_character c) before ∙ append_assoc old (flat_map json_character characters) (json_character c)
+    ∙ ap (λ (l : List ℕ). old ++ l) (sym longer)
+
+-- the items of characters are the characters
+same_items : (characters : List ℕ) → map (λ c. c) characters ≡ characters
+same_items [] = refl
+same_items (c ∷ characters) = ap (λ (l : List ℕ). c ∷ l) (same_items characters)
+
+-- the text of all characters that came
+pub all_came : (old new text came : List ℕ) → new ≡ old ++ flat_map json_character came → map (λ c. c) came ≡ chars text
     → new ≡ old ++ json_text text
-last_run old done new text start at low all whole is = grind (arith, common_steps)
-
--- if bytes stand as they are, and the next has no escape, so do all of them
-pub one_more_plain : (bytes : List ℕ) (at : ℕ) → at < length bytes → json_text (take at bytes) ≡ take at bytes
-    → is_escaped (slice_index bytes at) ≡ false → json_text (take (at + 1) bytes) ≡ take (at + 1) bytes
-one_more_plain bytes at more front plain =
-    let one : json_byte (slice_index bytes at) ≡ slice_index bytes at ∷ [] = rw plain refl in
-    text_more bytes at more ∙ ap (λ (l : List ℕ). l ++ json_byte (slice_index bytes at)) front
-    ∙ ap (λ (l : List ℕ). take at bytes ++ l) one ∙ sym (take_more bytes at 0 (omega (arith, more)))
+all_came old new text came added all =
+    added ∙ ap (λ (l : List ℕ). old ++ flat_map json_character l) (sym (same_items came) ∙ all)
 
 -- a text of few bytes is told whole
 pub json_whole : (text : List ℕ) → length text ≤ 200 → json_text text ≡ cut_json_text text

@@ -15,7 +15,7 @@ use Rattle.influxdb_line_protocol.specs.code.Rules.{rules_of}
 use Rattle.influxdb_line_protocol.specs.types.PieceTooLong.{PieceTooLong}
 use Rattle.lp_relay.specs.declared.taking.Settings.{Settings}
 use Rattle.lp_relay.specs.Kinds.{kinds_after, kinds_of_none}
-use Rattle.lp_relay.specs.Objects.{bytes_given, over_given, over_of_piece, seen_given, seen_of_piece, stop_given, stop_of_piece}
+use Rattle.lp_relay.specs.Objects.{bytes_given, seen_line, line_given, over_given, over_of_piece, seen_given, seen_of_piece, stop_given, stop_of_piece}
 use Rattle.lp_relay.specs.FieldTypes.{Types}
 use Rattle.lp_relay.specs.Relaying.{Item, items_batch, items_of, items_of_bytes, items_of_piece, kept_bytes, refused_piece, refused_pieces, timed_item}
 use Rattle.lp_relay.specs.Relaying.{carried_items, refused_items, types_after, types_after_timed, types_of_bytes, types_past}
@@ -29,7 +29,7 @@ use Rattle.lp_rebuild.proofs.RebuildLemmas.{blank_answers, piece_answers}
 use Rattle.lp_relay.proofs.AheadLemmas.{MakesSame, front_makes, long_more}
 use Rattle.lp_relay.proofs.PassLemmas.{but_front, but_more, front_none}
 use Rattle.lp_relay.proofs.ItemLemmas.{batch_append, carried_append, item_of_long, items_of_short, items_of_text, items_push}
-use Rattle.lp_relay.proofs.ItemLemmas.{kept_long, kept_short, over_long, over_short, put_append, refused_append, refused_long, refused_short, stop_long, stop_short}
+use Rattle.lp_relay.proofs.ItemLemmas.{kept_long, kept_short, line_long, line_short, over_long, over_short, put_append, refused_append, refused_long, refused_short, stop_long, stop_short}
 use Rattle.lp_relay.proofs.ItemLemmas.{types_append, types_of_long, types_of_short, types_of_text}
 use Rattle.lp_relay.proofs.FaultLines.{first_is, place_append, told_append}
 use Rattle.lp_relay.proofs.KindLemmas.{kinds_of_more, kinds_of_nothing}
@@ -82,6 +82,11 @@ given_bytes : (s : Settings) (piece : List ℕ) (result : Result (Bor (List ℕ)
     → bytes_given result ≡ kept_bytes s piece
 given_bytes s piece e h = grind (arith, kept_short, kept_long)
 
+-- its line
+given_line : (s : Settings) (piece : List ℕ) (result : Result (Bor (List ℕ)) PieceTooLong) → IsLastOf s.limit piece result
+    → line_given s result ≡ seen_line s piece
+given_line s piece e h = grind (arith, line_short, line_long)
+
 -- the limit that it is over
 given_over : (s : Settings) (piece : List ℕ) (result : Result (Bor (List ℕ)) PieceTooLong) → IsLastOf s.limit piece result
     → over_given s.limit result ≡ over_of_piece s piece
@@ -90,7 +95,7 @@ given_over s piece e h = grind (arith, over_short, over_long)
 -- what is told of it
 given_seen : (s : Settings) (piece : List ℕ) (result : Result (Bor (List ℕ)) PieceTooLong) → IsLastOf s.limit piece result
     → seen_given s result ≡ seen_of_piece s piece
-given_seen s piece e h = rw (given_bytes s piece e h, given_over s piece e h, given_stop s piece e h) refl
+given_seen s piece e h = rw (given_bytes s piece e h, given_line s piece e h, given_over s piece e h, given_stop s piece e h) refl
 
 -- what goes out of it as refused
 given_refused : (s : Settings) (types : Types) (piece : List ℕ) (result : Result (Bor (List ℕ)) PieceTooLong) → IsLastOf s.limit piece result

@@ -7,13 +7,14 @@ use Rattle.influxdb_line_protocol.specs.code.Rules.{rules_of}
 use Rattle.influxdb_line_protocol.specs.format.Bytes.{newline, newlines_in}
 use Rattle.influxdb_line_protocol.specs.types.PieceTooLong.{PieceTooLong}
 use Rattle.lp_relay.specs.declared.pieces.Piece.{Piece}
+use Rattle.lp_relay.specs.declared.pieces.Piece.TheVariants.{Text, NoText, TooLong}
 use Rattle.lp_relay.specs.declared.refusals.Refusal.{Refusal}
 use Rattle.lp_relay.specs.declared.telling.Place.{Place}
 use Rattle.lp_relay.specs.declared.taking.Settings.{Settings}
 use Rattle.lp_relay.specs.declared.taking.Taken.TheVariants as took
 use Rattle.lp_relay.specs.FaultsTold.{is_told, line_after, told_at, told_fault, told_item}
 use Rattle.lp_relay.specs.Kinds.{with_fault}
-use Rattle.lp_relay.specs.Objects.{Reason, bytes_given, item_front, over_given, stop_given}
+use Rattle.lp_relay.specs.Objects.{Reason, bytes_given, item_front, line_given, over_given, stop_given}
 use Rattle.lp_relay.specs.Refusals.{EndsPiece, GaveSame, IsRefusal, RefusesPiece, front_in, given_of, is_fault, line_piece, reason_of, refusal_kind, stop_in}
 use Rattle.lp_relay.specs.FieldTypes.{Types}
 use Rattle.lp_relay.specs.Relaying.{Item, answered, put_out, not_as_written, not_portable, not_of_type, not_of_time, not_utf8, too_long, is_carried_item, item_line, refused_lines}
@@ -65,11 +66,18 @@ pub told_whole : (s : Settings) (place : Place) (why : Reason) → is_told s.max
 told_whole s place why within = rw within refl
 
 -- why an item is refused is told as what is told of the item
-told_is : (s : Settings) (place : Place) (piece line : Piece) (refusal : Refusal) (item : Item) (stop : Option (List ℕ)) → IsRefusal refusal item
+told_is : (s : Settings) (place : Place) (piece line : Piece) (refusal : Refusal) (item : Item) (bytes : List ℕ) (stop : Option (List ℕ))
+    → IsRefusal refusal item → bytes ≡ bytes_given (given_of line)
     → item_front item ≡ front_in line → stop ≡ stop_in (is_fault refusal) (rules_of s.dialect) line
-    → told_item s place (record { bytes = bytes_given (given_of piece); over = over_given s.limit (given_of piece); stop = stop }) item
+    → told_item s place (record { bytes = bytes_given (given_of piece); line = bytes; over = over_given s.limit (given_of piece); stop = stop }) item
     ≡ told_at s place (reason_of (rules_of s.dialect) s.limit piece line refusal)
-told_is s place piece line refusal item stop r front is = rw (r.kind, r.wrong, front, is) refl
+told_is s place piece line refusal item bytes stop r told front is = rw (r.kind, r.wrong, told, front, is) refl
+
+-- the line of a piece that a call gave
+line_given_is : (s : Settings) (piece : Piece) → line_given s (given_of piece) ≡ bytes_given (given_of (line_piece s piece))
+line_given_is s (Text text) = refl
+line_given_is s (NoText bytes) = refl
+line_given_is s (TooLong fault) = refl
 
 -- a piece without an item ends as it is
 pub ends_blank : (s : Settings) (piece : Piece) (mid : Unwritten) → EndsPiece s piece took.Blank mid mid
@@ -113,7 +121,8 @@ pub refuses : (s : Settings) (types : Types) (piece : Piece) (refusal : Refusal)
     → TakesGiven s (record old { types = types }) (given_of piece) new
 refuses s types piece refusal item old new n r numbered batch faults carried refused kinds pieces ahead kept =
     let is = r.refused in
-    let told = told_is s (record (next_place s old) { number = n }) piece (line_piece s piece) refusal item (stop_given s (given_of piece)) is r.front r.stop in
+    let told = told_is s (record (next_place s old) { number = n }) piece (line_piece s piece) refusal item (line_given s (given_of piece))
+    (stop_given s (given_of piece)) is (line_given_is s piece) r.front r.stop in
     record {
       batch = batch ∙ sym (rw (r.is, no_line item is.refused) (append-nil old.made.batch));
       faults = rw (r.is, ← numbered) (faults ∙ ap (λ (l : List ℕ). old.made.faults ++ l) (sym (append-nil _ ∙ told)));

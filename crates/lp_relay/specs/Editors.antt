@@ -3,7 +3,7 @@ use Rattle.std.specs.Prelude.{ℕ, ◌+◌, ◌==◌, ◌||◌, not, nat_lt, Boo
 use Rattle.std.specs.Prelude.{Option, Some, None, unwrap_or}
 use Rattle.std.specs.Borrow.{Bor}
 use Rattle.std.specs.List.{flat_map, position}
-use Rattle.influxdb_line_protocol.specs.format.Bytes.{newline, newlines_in}
+use Rattle.influxdb_line_protocol.specs.format.Bytes.{newline, newlines_in, space, tab}
 use Rattle.lp_relay.specs.declared.telling.Place.{Place}
 use Rattle.lp_relay.specs.Objects.{Reason, line_or_none}
 use Rattle.lp_relay.specs.Told.{on_one_line, told_byte}
@@ -18,11 +18,11 @@ character_column column [] = column
 character_column column (b ∷ bytes) =
     character_column (if b == newline then 1 else (if begins_character b then column + 1 else column)) bytes
 
--- whether a byte ends what is told of the bytes where reading stopped: a blank, a comma or a newline
+-- whether a byte ends what is told of the bytes where reading stopped: a space, a tab, a comma or a newline
 abbrev pub ends_found : ℕ → Bool
-ends_found b = b == 32 || b == 44 || b == newline
+ends_found b = b == space || b == tab || b == 44 || b == newline
 
--- what is found at the start of these bytes: all before a blank, a comma or a newline
+-- what is found at the start of these bytes: all before a space, a tab, a comma or a newline
 abbrev pub found_at : List ℕ → List ℕ
 found_at bytes = take (unwrap_or (position ends_found bytes) (length bytes)) bytes
 
@@ -31,10 +31,10 @@ abbrev pub told_found : List ℕ → List ℕ
 told_found [] = []
 told_found (b ∷ found) = codes " (at \"" ++ on_one_line (b ∷ found) ++ codes "\")"
 
--- what is told of a piece after these bytes of it, if reading stopped there
-abbrev pub found_after : (stop : Option (List ℕ)) → (bytes : List ℕ) → List ℕ
-found_after None bytes = []
-found_after (Some stop) bytes = told_found (found_at (drop (length stop) bytes))
+-- what is told of a line after these bytes of it, if reading stopped there
+abbrev pub found_after : (stop : Option (List ℕ)) → (line : List ℕ) → List ℕ
+found_after None line = []
+found_after (Some stop) line = told_found (found_at (drop (length stop) line))
 
 -- the name of a file, as it is told on one line: a dash if it is standard input
 abbrev pub file_or_dash : Option (Bor (List ℕ)) → List ℕ
@@ -50,4 +50,4 @@ where_after line bytes = codes ":" ++ decimal (line + newlines_in bytes) ++ code
 abbrev pub editor_line : Place → Reason → List ℕ
 editor_line place why =
     file_or_dash place.file ++ where_after (line_or_none place.line) (unwrap_or why.seen.stop why.front)
-    ++ on_one_line why.wrong ++ found_after why.seen.stop why.seen.bytes ++ newline ∷ []
+    ++ on_one_line why.wrong ++ found_after why.seen.stop why.seen.line ++ newline ∷ []

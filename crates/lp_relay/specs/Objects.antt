@@ -1,9 +1,10 @@
 -- The faults of a relay as objects of JSON.
-use Rattle.std.specs.Prelude.{ℕ, ◌+◌, ◌/◌, ◌%◌, ◌==◌, ◌||◌, nat_lt, Bool, false, true, List, [], ◌∷◌, ◌++◌, codes, decimal, length, take, if◌then◌else◌}
+use Rattle.std.specs.Prelude.{ℕ, ◌+◌, ◌/◌, ◌%◌, ◌==◌, ◌&&◌, ◌||◌, nat_lt, Bool, false, true, List, [], ◌∷◌, ◌++◌, codes, decimal, length, take, if◌then◌else◌}
 use Rattle.std.specs.Prelude.{Option, Some, None, Result, Ok, Err, is_err, unwrap_or}
 use Rattle.std.specs.Borrow.{Bor}
 use Rattle.std.specs.List.{flat_map}
-use Rattle.std.specs.Str.{is_utf8}
+use Rattle.std.specs.Char.{encode_utf8}
+use Rattle.std.specs.Str.{chars, is_utf8}
 use Rattle.std.specs.Str.Lossy.{utf8_valid_len}
 use Rattle.base64.specs.Engines.{standard}
 use Rattle.base64.specs.GeneralPurpose.{encode_of}
@@ -30,23 +31,34 @@ use Rattle.lp_relay.specs.Relaying.{is_too_long, kept_bytes, limit_of, line_of, 
 use Rattle.lp_events.specs.code.Stops.{reading_stop}
 use Rattle.lp_relay.specs.Told.{cut_mark, hex_digit}
 
--- whether a byte has an escape in a string of JSON: a quote, a backslash, and what ASCII does not print
+-- whether a character is a control character: one of those below the space, and from U+007F to U+009F
+abbrev pub is_control : ℕ → Bool
+is_control c = nat_lt c 32 || (nat_lt 126 c && nat_lt c 160)
+
+-- whether a character separates lines or sets the direction of text: U+061C, U+200E, U+200F, U+2028 to U+202E, or U+2066 to U+2069
+abbrev pub is_layout_mark : ℕ → Bool
+is_layout_mark c =
+    c == 0x61C || (nat_lt 0x200D c && nat_lt c 0x2010) || (nat_lt 0x2027 c && nat_lt c 0x202F) || (nat_lt 0x2065 c && nat_lt c 0x206A)
+
+-- whether a character has an escape in a string of JSON: a quote, a backslash, a control character, or a layout mark
 abbrev pub is_escaped : ℕ → Bool
-is_escaped b = nat_lt b 32 || b == 127 || b == 34 || b == backslash
+is_escaped c = is_control c || c == 34 || c == backslash || is_layout_mark c
 
--- the escape of a byte: a backslash before a quote or a backslash, and else the two digits of the byte
+-- the escape of a character below U+10000: a backslash before a quote or a backslash, and else its four hexadecimal digits
 abbrev pub escape_of : ℕ → List ℕ
-escape_of b =
-    if b == 34 then backslash ∷ 34 ∷ []
-    else (if b == backslash then backslash ∷ backslash ∷ [] else backslash ∷ codes "u00" ++ hex_digit (b / 16) ∷ hex_digit (b % 16) ∷ [])
+escape_of c =
+    if c == 34 then backslash ∷ 34 ∷ []
+    else (if c == backslash then backslash ∷ backslash ∷ []
+    else backslash ∷ codes "u"
+    ++ hex_digit ((c / 4096) % 16) ∷ hex_digit ((c / 256) % 16) ∷ hex_digit ((c / 16) % 16) ∷ hex_digit (c % 16) ∷ [])
 
--- a byte in a string of JSON
-abbrev pub json_byte : ℕ → List ℕ
-json_byte b = if is_escaped b then escape_of b else b ∷ []
+-- a character in a string of JSON
+abbrev pub json_character : ℕ → List ℕ
+json_character c = if is_escaped c then escape_of c else encode_utf8 c
 
 -- a text in a string of JSON, without the quotes
 abbrev pub json_text : List ℕ → List ℕ
-json_text text = flat_map json_byte text
+json_text text = flat_map json_character (chars text)
 
 -- the longest front of bytes that is UTF-8: what comes before the first byte at which they are not
 abbrev pub utf8_front : List ℕ → List ℕ
@@ -138,10 +150,11 @@ item_front not_utf8 = []
 item_front (too_long kept) = []
 
 -- what is told of a piece whose item is refused: its bytes, or, if it is too long, its first bytes and the limit that it is longer
--- than. Also told is what comes before the byte of it at which reading stopped, if its text is no line, or at which it is not
--- UTF-8
+-- than. Also told are its line, without a carriage return that is dropped, and what comes before the byte of the line at which reading
+-- stopped, if its text is no line, or at which it is not UTF-8
 pub record Seen : Type 0 where
   pub bytes : List ℕ
+  pub line : List ℕ
   pub over : Option ℕ
   pub stop : Option (List ℕ)
 
@@ -167,14 +180,24 @@ stop_of_piece s piece = if is_too_long (limit_of s.limit) piece then None else s
 unfoldable pub over_of_piece : Settings → List ℕ → Option ℕ
 over_of_piece s piece = if is_too_long (limit_of s.limit) piece then Some s.limit else None
 
+-- the line of a piece, or the first bytes of one that is too long
+unfoldable pub seen_line : Settings → List ℕ → List ℕ
+seen_line s piece = if is_too_long (limit_of s.limit) piece then take s.limit piece else line_of s piece
+
 -- what is told of a piece
 abbrev pub seen_of_piece : Settings → List ℕ → Seen
-seen_of_piece s piece = record { bytes = kept_bytes s piece; over = over_of_piece s piece; stop = stop_of_piece s piece }
+seen_of_piece s piece =
+    record { bytes = kept_bytes s piece; line = seen_line s piece; over = over_of_piece s piece; stop = stop_of_piece s piece }
 
 -- the bytes of what a call gave: those of a piece, or the first ones of one that is too long
 abbrev pub bytes_given : Result (Bor (List ℕ)) PieceTooLong → List ℕ
 bytes_given (Ok piece) = piece.now
 bytes_given (Err fault) = fault.front.now
+
+-- the line of what a call gave, or the first bytes of a piece that is too long
+abbrev pub line_given : Settings → Result (Bor (List ℕ)) PieceTooLong → List ℕ
+line_given s (Ok piece) = line_of s piece.now
+line_given s (Err fault) = fault.front.now
 
 -- the limit, if what a call gave is too long
 abbrev pub over_given : (limit : ℕ) → Result (Bor (List ℕ)) PieceTooLong → Option ℕ
@@ -189,7 +212,7 @@ stop_given s (Err _) = None
 -- what is told of what a call gave
 abbrev pub seen_given : Settings → Result (Bor (List ℕ)) PieceTooLong → Seen
 seen_given s given =
-    record { bytes = bytes_given given; over = over_given s.limit given; stop = stop_given s given }
+    record { bytes = bytes_given given; line = line_given s given; over = over_given s.limit given; stop = stop_given s given }
 
 -- the column after these bytes, from this one on: each newline begins a line
 abbrev pub column_after : ℕ → List ℕ → ℕ

@@ -114,6 +114,7 @@ reason_of dialect limit piece line refusal = record {
   front = front_in line;
   seen = record {
     bytes = bytes_given (given_of piece);
+    line = bytes_given (given_of line);
     over = over_given limit (given_of piece);
     stop = stop_in (is_fault refusal) dialect line;
   };

@@ -44,7 +44,7 @@ fn character_column(bytes: &[u8]) -> usize
 fn ends_found(byte: u8) -> bool
     ensures { result ≡ ends_found byte }
 {
-    byte == b' ' || byte == b',' || byte == b'\n'
+    byte == b' ' || byte == b'\t' || byte == b',' || byte == b'\n'
 }
 
 // The place of the first of these bytes that ends what is told of them.
@@ -55,7 +55,7 @@ fn end_of_found(bytes: &[u8]) -> Option<usize>
     bytes.iter().position(|byte| ends_found(*byte))
 }
 
-// What is found at the start of these bytes: all before a blank, a comma or a newline.
+// What is found at the start of these bytes: all before a space, a tab, a comma or a newline.
 fn found_at(bytes: &[u8]) -> &[u8]
     ensures { result.now ≡ found_at bytes.now }
 {
@@ -87,13 +87,13 @@ fn put_found(faults: &mut String, found: &[u8]) -> Result<(), AllocError>
     faults.push_str("\")")
 }
 
-// Adds what is told of a piece after these bytes of it, if reading stopped there.
-fn put_found_after(faults: &mut String, stop: Option<&[u8]>, bytes: &[u8]) -> Result<(), AllocError>
+// Adds what is told of a line after these bytes of it, if reading stopped there.
+fn put_found_after(faults: &mut String, stop: Option<&[u8]>, line: &[u8]) -> Result<(), AllocError>
     ensures { OnOk result (string_bytes faults.new ≡ string_bytes faults.old
-        ++ found_after (option_map (λ s. s.now) stop.entry) bytes.now) }
+        ++ found_after (option_map (λ s. s.now) stop.entry) line.now) }
 {
     match stop {
-        Some(front) => put_found(faults, found_at(bytes_after(bytes, front.len()))),
+        Some(front) => put_found(faults, found_at(bytes_after(line, front.len()))),
         None => Ok(()),
     }
 }
@@ -128,22 +128,21 @@ fn told_after<'p>(stop: Option<&'p [u8]>, line: Piece<'p>) -> &'p [u8]
     }
 }
 
-// Adds the line for editors of the item of a piece with this line, which is refused.
+// Adds the line for editors of the item of a piece with this line, which is refused. Nothing else is told of the piece.
 pub(crate) fn tell_for_editors(
     faults: &mut String,
     telling: Telling,
     place: Place<'_>,
     refusal: &Refusal<'_>,
-    piece: Piece<'_>,
     line: Piece<'_>,
 ) -> Result<(), AllocError>
     ensures { OnOk result (string_bytes faults.new ≡ string_bytes faults.old
-        ++ editor_line place.entry (reason_of (rules_of telling.dialect) telling.limit piece.entry line.entry refusal.now)) }
+        ++ editor_line place.entry (reason_of (rules_of telling.dialect) telling.limit line.entry line.entry refusal.now)) }
 {
     let stop = stop_of(telling.dialect, refusal, line);
     put_file_or_dash(faults, place.file)?;
     put_where_after(faults, place.line.unwrap_or(0), told_after(stop, line))?;
     put_wrong_on_one_line(faults, refusal)?;
-    put_found_after(faults, stop, piece.bytes())?;
+    put_found_after(faults, stop, line.bytes())?;
     faults.push_str("\n")
 }

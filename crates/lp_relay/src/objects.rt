@@ -1,15 +1,16 @@
 //! Tells faults as objects of JSON, each on one line.
 //!
 //! The text of a fault may be as long as its line, so of a long one the start alone is told. An object that has its piece has it whole.
-ghost use Rattle.std.specs.Prelude.{◌≡◌, ◌<◌, ◌≤◌, ◌++◌, ◌∷◌, [], codes, decimal, drop, length, option_map, string_bytes, take, true, IsUtf8, OnOk, Some};
+ghost use Rattle.std.specs.Prelude.{◌≡◌, ◌<◌, ◌≤◌, ◌++◌, ◌∷◌, [], codes, decimal, drop, false, length, option_map, string_bytes, take, true, IsUtf8, OnOk, Some};
 ghost use Rattle.base64.specs.Engines.{standard};
 ghost use Rattle.base64.specs.GeneralPurpose.{encode_of};
 ghost use Rattle.influxdb_line_protocol.specs.code.Rules.{rules_of};
 ghost use Rattle.influxdb_line_protocol.specs.format.Bytes.{newline};
-ghost use Rattle.lp_relay.specs.Objects.{bytes_given, bytes_string, column_after, cut_json_text, escape_of, fault_members, first_members, is_escaped};
-ghost use Rattle.lp_relay.specs.Objects.{json_text, length_member, line_or_none, object, object_head, object_start, over_given, piece_member, piece_name};
+ghost use Rattle.lp_relay.specs.Objects.{bytes_given, bytes_string, column_after, cut_json_text, escape_of, fault_members, first_members, is_control};
+ghost use Rattle.lp_relay.specs.Objects.{is_escaped, is_layout_mark, json_character, json_text, length_member, line_or_none, object, object_head, object_start, over_given, piece_member, piece_name};
 ghost use Rattle.lp_relay.specs.Objects.{stop_members};
 ghost use Rattle.lp_relay.specs.Refusals.{front_in, given_of, is_fault, reason_of, refusal_kind, stop_in, wrong_of};
+ghost use Rattle.lp_relay.specs.Told.{hex_digit};
 
 use crate::pieces::Piece;
 use crate::refusals::Refusal;
@@ -22,30 +23,91 @@ use lp_scan::newlines::newlines_in;
 use lp_scan::trim::trimmed;
 use std::alloc::AllocError;
 
-// Whether a byte has an escape in a string of JSON.
-fn is_escaped(byte: u8) -> bool
-    ensures value { result ≡ is_escaped byte }
-    ensures ascii { result ≡ true → byte < 128 }
+// Whether a character is a control character.
+fn is_control(c: char) -> bool
+    ensures { result ≡ is_control c }
 {
-    byte < b' ' || byte == 127 || byte == b'"' || byte == b'\\'
+    c < ' ' || ('~' < c && c < '\u{a0}')
 }
 
-// Adds the escape of a byte.
-fn put_escape(faults: &mut String, byte: u8) -> Result<(), AllocError>
-    ensures { OnOk result (string_bytes faults.new ≡ string_bytes faults.old ++ escape_of byte) }
+// Whether a character separates lines or sets the direction of text.
+fn is_layout_mark(c: char) -> bool
+    ensures { result ≡ is_layout_mark c }
 {
-    match byte {
-        b'"' => faults.push_str("\\\""),
-        b'\\' => faults.push_str("\\\\"),
+    c == '\u{61c}'
+        || ('\u{200d}' < c && c < '\u{2010}')
+        || ('\u{2027}' < c && c < '\u{202f}')
+        || ('\u{2065}' < c && c < '\u{206a}')
+}
+
+// Whether a character has an escape in a string of JSON.
+fn is_escaped(c: char) -> bool
+    ensures { result ≡ is_escaped c }
+{
+    is_control(c) || c == '"' || c == '\\' || is_layout_mark(c)
+}
+
+// Adds the hexadecimal digit of a number below 16.
+fn put_digit(json: &mut String, digit: u32) -> Result<(), AllocError>
+    requires { digit < 16 }
+    ensures { OnOk result (string_bytes json.new ≡ string_bytes json.old ++ hex_digit digit ∷ []) }
+{
+    json.push(hex_digit(digit as u8))
+}
+
+// Adds the escape of a character.
+fn put_escape(json: &mut String, c: char) -> Result<(), AllocError>
+    ensures { OnOk result (string_bytes json.new ≡ string_bytes json.old ++ escape_of c) }
+{
+    match c {
+        '"' => json.push_str("\\\""),
+        '\\' => json.push_str("\\\\"),
         _ => {
-            faults.push_str("\\u00")?;
-            faults.push(hex_digit(byte / 16))?;
-            faults.push(hex_digit(byte % 16))
+            let number = c as u32;
+            json.push_str("\\u")?;
+            put_digit(json, number / 4096 % 16)?;
+            put_digit(json, number / 256 % 16)?;
+            put_digit(json, number / 16 % 16)?;
+            put_digit(json, number % 16)
         }
     }
 }
 
+// Adds a character as it stands in a string of JSON.
+fn put_character(json: &mut String, c: char) -> Result<(), AllocError>
+    ensures { OnOk result (string_bytes json.new ≡ string_bytes json.old ++ json_character c) }
+{
+    if is_escaped(c) {
+        put_escape(json, c)
+    } else {
+        json.push(c)
+    }
+}
+
+// Whether a byte is a character of ASCII that stands in a string of JSON as it is.
+fn is_plain(byte: u8) -> bool
+    ensures { result ≡ true → (byte < 128) × (is_escaped byte ≡ false) }
+{
+    (b' ' <= byte) & (byte <= b'~') & (byte != b'"') & (byte != b'\\')
+}
+
+// Whether bytes are text of ASCII that stands in a string of JSON as it is. No byte ends the loop, so that the compiler tests 16 at a time.
+#[tactic(auto, using(crate::proofs::JsonTexts::one_more_plain, crate::proofs::JsonTexts::plain_front))]
+fn are_plain(bytes: &[u8]) -> bool
+    ensures { result ≡ true → json_text bytes.now ≡ bytes.now }
+{
+    let mut are = true;
+    for at in 0..bytes.len() {
+        are = are & is_plain(bytes[at]);
+    }
+    are
+}
+
 /// Adds a text as it stands in a string of JSON, without the quotes around it.
+///
+/// A quote and a backslash get a backslash. `\u` and four hexadecimal digits stand for each character that could move a terminal's cursor or
+/// break or turn a line: the control characters up to U+001F and from U+007F to U+009F, U+061C, U+200E, U+200F, U+2028 to U+202E, and
+/// U+2066 to U+2069. Each other character is added as it is, so a reader of JSON gets the text back.
 ///
 /// # Errors
 ///
@@ -53,17 +115,13 @@ fn put_escape(faults: &mut String, byte: u8) -> Result<(), AllocError>
 pub fn put_json_text(json: &mut String, text: &str) -> Result<(), AllocError>
     ensures { OnOk result (string_bytes json.new ≡ string_bytes json.old ++ json_text text.now) }
 {
-    // What is between two bytes that have an escape is added as one run.
-    let bytes = text.as_bytes();
-    let mut start = 0;
-    for at in 0..bytes.len() {
-        if is_escaped(bytes[at]) {
-            json.push_str(&text[start..at])?;
-            put_escape(json, bytes[at])?;
-            start = at + 1;
-        }
+    if are_plain(text.as_bytes()) {
+        return json.push_str(text);
     }
-    json.push_str(&text[start..])
+    for c in text.chars() {
+        put_character(json, c)?;
+    }
+    Ok(())
 }
 
 // Adds the first members of an object: the name of the file, if one is named, and the number of the item.
@@ -178,18 +236,6 @@ fn put_stop_in(
         Some(bytes) => put_stop(faults, place, bytes),
         None => Ok(()),
     }
-}
-
-// Whether bytes stand in a string of JSON as they are. No byte ends the loop, so that the compiler tests 16 at a time.
-#[tactic(auto, using(crate::proofs::JsonTexts::one_more_plain))]
-fn are_plain(bytes: &[u8]) -> bool
-    ensures { result ≡ true → json_text bytes.now ≡ bytes.now }
-{
-    let mut are = true;
-    for at in 0..bytes.len() {
-        are = are & !is_escaped(bytes[at]);
-    }
-    are
 }
 
 // Adds a text as it stands in a string of JSON, or the characters of its start, and how many bytes it has.

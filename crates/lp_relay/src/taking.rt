@@ -772,7 +772,7 @@ fn tell(
                 has_piece: false,
             };
             let line = line_piece(settings, piece);
-            tell_for_editors(faults, telling, place, refusal, piece, line)
+            tell_for_editors(faults, telling, place, refusal, line)
         }
     }
 }

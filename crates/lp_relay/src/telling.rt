@@ -41,7 +41,8 @@ pub enum Faults {
     /// stopped, or at which the piece is not UTF-8, or else at which its text begins.
     ///
     /// Lines are counted from `first_line`, as with `Json`, and columns from 1, in characters. What is wrong has the escapes of `OneLine`, and
-    /// is cut as there. What was found where reading stopped comes after it: the bytes there before a blank, a comma or a newline.
+    /// is cut as there. What was found where reading stopped comes after it: the bytes of the line there, up to
+    /// a space, a tab, a comma or a newline.
     Editor { first_line: usize },
 }
 

@@ -1,11 +1,11 @@
 -- Words of times: without a sign, and with two dots or without.
 use Rattle.std.proofs.Common.{◌≡◌, ◌≢◌, ℕ, ◌+◌, ◌<◌, ◌==◌, ◌&&◌, ◌∙◌, List, [], ◌∷◌, Some, None, length, take, drop, slice_index, refl, sym, ap, pos, arith}
 use Rattle.std.specs.{List.position, Option.option_and_then}
-use Rattle.std.specs.Prelude.{true, false, if◌then◌else◌, nat_lt, option_map}
-use Rattle.lp_relay_program.specs.TimeWords.{asked_time, asked_times, half_number, times_at, times_between}
+use Rattle.std.specs.Prelude.{true, false, if◌then◌else◌, nat_lt, option_map, ◌^◌}
+use Rattle.lp_relay_program.specs.TimeWords.{asked_time, asked_times, number_below, times_at, times_between}
 
 -- a word that begins with no minus sign is the number itself
-pub no_sign : (word : List ℕ) → ((rest : List ℕ) → word ≢ 45 ∷ rest) → asked_time word ≡ option_map pos (half_number word)
+pub no_sign : (word : List ℕ) → ((rest : List ℕ) → word ≢ 45 ∷ rest) → asked_time word ≡ option_map pos (number_below (2 ^ 63) word)
 no_sign [] none = refl
 no_sign (b ∷ word) none = grind (arith, none word)
 

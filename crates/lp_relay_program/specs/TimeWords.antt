@@ -14,14 +14,16 @@ unit_named word =
     else (if bytes_eq word (codes "ms") then Some Millis
     else (if bytes_eq word (codes "us") then Some Micros else (if bytes_eq word (codes "ns") then Some Nanos else None)))
 
--- the number that a word writes, if it is less than 2^63
-abbrev pub half_number : List ℕ → Option ℕ
-half_number word = option_and_then (λ n. if nat_lt n (2 ^ 63) then Some n else None) (decimal word)
+-- the number that a word writes, if it is less than this limit
+abbrev pub number_below : (limit : ℕ) → List ℕ → Option ℕ
+number_below limit word = option_and_then (λ n. if nat_lt n limit then Some n else None) (decimal word)
 
--- the time that a word writes: such a number, or a minus sign and such a number
+-- the time that a word writes: a number less than 2^63, or a minus sign and a number of at most 2^63
 abbrev pub asked_time : List ℕ → Option ℤ
 asked_time [] = None
-asked_time (b ∷ word) = if b == 45 then option_map (λ n. neg_ℤ (pos n)) (half_number word) else option_map pos (half_number (b ∷ word))
+asked_time (b ∷ word) =
+    if b == 45 then option_map (λ n. neg_ℤ (pos n)) (number_below (2 ^ 63 + 1) word)
+    else option_map pos (number_below (2 ^ 63) (b ∷ word))
 
 -- an end of a range of times, as a word writes it: none if it has no byte
 abbrev pub time_end : List ℕ → Option (Option ℤ)

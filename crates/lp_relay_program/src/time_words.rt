@@ -1,6 +1,6 @@
 //! What words say of the times of lines: the unit of timestamps, a time, and a range of times.
-ghost use Rattle.std.specs.Prelude.{◌≡◌, option_map, pos};
-ghost use Rattle.lp_relay_program.specs.TimeWords.{asked_time, asked_times, half_number, range_with, time_end, times_between, unit_named};
+ghost use Rattle.std.specs.Prelude.{◌≡◌, ◌+◌, ◌^◌, neg_ℤ, option_map, pos};
+ghost use Rattle.lp_relay_program.specs.TimeWords.{asked_time, asked_times, number_below, range_with, time_end, times_between, unit_named};
 
 use lp_programs::options::{decimal_of, place_of};
 use lp_relay::TimeUnit;
@@ -26,20 +26,28 @@ pub(crate) fn unit_of(word: &str) -> Option<TimeUnit>
 }
 
 // The number that a word writes, if it is less than 2^63.
-fn half_number_of(word: &str) -> Option<i64>
-    ensures { result ≡ option_map pos (half_number word.now) }
+fn positive_of(word: &str) -> Option<i64>
+    ensures { result ≡ option_map pos (number_below (2 ^ 63) word.now) }
 {
     let number = decimal_of(word)?;
     i64::try_from(number).ok()
 }
 
-/// The time that a word writes: such a number, or a minus sign and such a number.
+// The negative of the number that a word writes, if that number is at most 2^63.
+fn negative_of(word: &str) -> Option<i64>
+    ensures { result ≡ option_map (λ n. neg_ℤ (pos n)) (number_below (2 ^ 63 + 1) word.now) }
+{
+    let number = decimal_of(word)?;
+    i64::try_from(-(number as i128)).ok()
+}
+
+/// The time that a word writes: any number that an `i64` holds, with a minus sign before a negative number.
 pub(crate) fn time_of(word: &str) -> Option<i64>
     ensures { result ≡ asked_time word.now }
 {
     match word.strip_prefix('-') {
-        Some(digits) => Some(-half_number_of(digits)?),
-        None => half_number_of(word),
+        Some(digits) => negative_of(digits),
+        None => positive_of(word),
     }
 }
 
