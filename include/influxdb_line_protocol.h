@@ -183,8 +183,10 @@ typedef struct lp_offset_part {
     uint16_t text_copied; /* the same of the value */
 } lp_offset_part;
 
-/* An item by offsets. `answer` is LP_LINE, LP_FAULT or LP_NOT_UTF8: the piece is not UTF-8. Where a line was read, `fault` and `side` are
- * 0; else `measurement`, `tags`, `fields` and the timestamp are 0, but where the row tells what a line takes. */
+/* An item by offsets. `answer` is LP_LINE, LP_FAULT or LP_NOT_UTF8: the piece is not UTF-8. Where a line was read, or the piece is not UTF-8,
+ * `fault` and `side` are 0. Where no line was read, `measurement`, `tags`, `fields`, `room_len` and the timestamp are 0; but the row after
+ * LP_MORE_PARTS or LP_MORE_ROOM tells in `tags`, `fields` and `room_len` what a line takes. `piece`, `line_at` and `stop_at` are offsets in
+ * the text. */
 typedef struct lp_offset_row {
     uint64_t line;               /* the number of the line in which the piece begins */
     int64_t timestamp;           /* 0 where the line has none */
@@ -192,12 +194,13 @@ typedef struct lp_offset_row {
     uint64_t verdict;            /* 0, until lp_offsets_verdicts tells it: the bits of the clauses that the line breaks */
     lp_span piece;               /* the piece, without the newline that ends it */
     lp_span measurement;
-    uint32_t line_at;            /* where the line begins in its piece, after blanks and comments; of what is not UTF-8 the piece */
-    uint32_t stop_at;            /* where reading the line stopped: its end, where it was read */
+    uint32_t line_at;            /* where the line begins, after the blanks and comments of its piece; at LP_NOT_UTF8 where the piece begins */
+    uint32_t stop_at;            /* where reading stopped: the end of a line that was read; at LP_NOT_UTF8 the first bad byte, which is the
+                                  * first one after the longest front of the piece that is UTF-8 */
     uint32_t parts_at;           /* where its parts begin */
     uint32_t tags;               /* so many of the parts are tags: the first ones */
     uint32_t fields;             /* and so many after them are fields */
-    uint32_t room_len;           /* so many bytes of room its texts take */
+    uint32_t room_len;           /* so many bytes of room its texts take: the lengths of those that were copied there */
     uint32_t answer;             /* of enum lp_answer */
     uint32_t fault;              /* of enum lp_fault_kind */
     uint32_t side;               /* of enum lp_side, where the fault is that of a number */
@@ -289,8 +292,10 @@ uint32_t lp_lines_block(lp_lines *lines, lp_room *room, lp_row *rows, size_t row
  * does not matter: they may hold anything, or nothing yet.
  *
  * It begins at `block->at`, 0 at first, in the line of the number `block->line`, 1 at first, and fills rows as long as rows, parts and room
- * last. Then `block` says where to go on, in which line, and how many rows, parts and bytes of room were filled. Blank pieces have no
- * row. `last`: the text ends after these bytes. Else its last piece, which no newline ends, is left: bring it again with more text.
+ * last. Then `block` says where to go on, in which line, and how many rows, parts and bytes of room were filled. `block->line` is greater
+ * by the number of newlines that were passed, and never greater than UINT64_MAX: after the text `m f=1` it is 1, and after that text and a
+ * newline it is 2. Blank pieces have no row. `last`: the text ends after these bytes. Else its last piece, which no newline ends, is left:
+ * bring it again with more text.
  *
  * LP_LINE: all rows were filled. LP_END: no item is left. LP_MORE_TEXT: what is left is a piece that goes on. LP_MORE_PARTS,
  * LP_MORE_ROOM: the line of the next piece takes more than is left: the row after the filled ones has its `tags` and `fields`, and its

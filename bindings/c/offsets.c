@@ -36,9 +36,41 @@ static void take_back(struct lent lent) {
     free(lent.room), free(lent.rows), free(lent.parts);
 }
 
+static uint64_t newlines_in(const uint8_t *text, size_t from, size_t to) {
+    uint64_t count = 0;
+    for (size_t at = from; at < to; at++) count += text[at] == '\n';
+    return count;
+}
+
+/* Reads a block. The line at its end is that at its start, and one more for each newline between them. */
 static uint32_t read_block(const uint8_t *text, size_t len, uint32_t dialect, bool last, lp_block *block, struct lent lent) {
-    return lp_offsets_block(text, len, dialect, last, block, lent.room, lent.room_len, lent.rows, lent.rows_len, lent.parts,
-                            lent.parts_len);
+    lp_block before = *block;
+    uint32_t answer = lp_offsets_block(text, len, dialect, last, block, lent.room, lent.room_len, lent.rows, lent.rows_len, lent.parts,
+                                       lent.parts_len);
+    if (answer != LP_NOT_A_DIALECT)
+        expect(block->line == before.line + newlines_in(text, before.at, block->at), "a block ends in another line");
+    return answer;
+}
+
+/* How many bytes at the start of a text are UTF-8: by the well-formed sequences of the Unicode Standard, table 3-7. */
+static size_t utf8_front(const uint8_t *text, size_t len) {
+    static const struct { uint8_t first, last, least, most, more; } WELL_FORMED[] = {
+        { 0x00, 0x7f, 0, 0, 0 },       { 0xc2, 0xdf, 0x80, 0xbf, 1 }, { 0xe0, 0xe0, 0xa0, 0xbf, 2 },
+        { 0xe1, 0xec, 0x80, 0xbf, 2 }, { 0xed, 0xed, 0x80, 0x9f, 2 }, { 0xee, 0xef, 0x80, 0xbf, 2 },
+        { 0xf0, 0xf0, 0x90, 0xbf, 3 }, { 0xf1, 0xf3, 0x80, 0xbf, 3 }, { 0xf4, 0xf4, 0x80, 0x8f, 3 },
+    };
+    size_t at = 0;
+    while (at < len) {
+        size_t row = 0, rows = sizeof WELL_FORMED / sizeof WELL_FORMED[0];
+        while (row < rows && !(text[at] >= WELL_FORMED[row].first && text[at] <= WELL_FORMED[row].last)) row++;
+        if (row == rows || WELL_FORMED[row].more > len - at - 1) return at;
+        for (size_t next = 1; next <= WELL_FORMED[row].more; next++) {
+            uint8_t least = next == 1 ? WELL_FORMED[row].least : 0x80, most = next == 1 ? WELL_FORMED[row].most : 0xbf;
+            if (text[at + next] < least || text[at + next] > most) return at;
+        }
+        at += 1 + WELL_FORMED[row].more;
+    }
+    return at;
 }
 
 static void put_span(FILE *out, const uint8_t *text, const uint8_t *room, lp_span span, uint16_t copied) {
@@ -57,13 +89,21 @@ static void put_row(FILE *out, const uint8_t *text, struct lent lent, const lp_o
     fprintf(out, "%u at %zu in %llu: ", (unsigned)row->answer, before + row->piece.at, (unsigned long long)(lines + row->line));
     put_span(out, text, lent.room, row->piece, 0);
     if (row->answer == LP_FAULT) fprintf(out, " %u %u stops %u", (unsigned)row->fault, (unsigned)row->side, row->stop_at - row->piece.at);
+    if (row->answer == LP_NOT_UTF8) {
+        size_t front = utf8_front(text + row->piece.at, row->piece.len);
+        fprintf(out, " stops %u", row->stop_at - row->piece.at);
+        expect(front < row->piece.len && row->stop_at == row->piece.at + front, "bytes that are not UTF-8 are told at another place");
+        expect(row->line_at == row->piece.at, "a piece that is not UTF-8 begins at another place");
+    }
     if (row->answer == LP_LINE) put_span(out, text, lent.room, row->measurement, row->measurement_copied);
+    else expect(row->measurement.at == 0 && row->measurement.len == 0 && row->room_len == 0, "a row without a line has a name, or takes room");
     for (uint32_t at = 0; row->answer == LP_LINE && at < row->tags + row->fields; at++, part++) {
         expect((part->kind == LP_TAG) == (at < row->tags), "a part is out of its place");
         put_span(out, text, lent.room, part->key, part->key_copied);
-        if (part->kind == LP_TAG || part->kind == LP_STRING || part->kind == LP_FLOAT)
+        if (part->kind == LP_TAG || part->kind == LP_STRING || part->kind == LP_FLOAT) {
             put_span(out, text, lent.room, part->text, part->text_copied);
-        else put_number(out, part->kind, part->number);
+            expect(part->number == 0, "a text has a number");
+        } else put_number(out, part->kind, part->number);
     }
     if (row->has_timestamp) fprintf(out, " %lld", (long long)row->timestamp);
     expect(row->key == 0 && row->verdict == 0, "what is kept for later is not 0");
@@ -370,7 +410,7 @@ static void compare_keys(const uint8_t *text, size_t len, uint32_t dialect) {
 
 static size_t random_text(uint8_t *text) {
     static const char *const words[] = { "m", ",", "=", " ", "\n", "\"", "\\", "1", "i", "a=1i", " f=", "u", "true", "#", "\t", "-2.5e3",
-                                         "\xff", "m f=1\n", ",t=\\ v", " f=\"x\"", "9999999999999999999", "\xc3\xa9" };
+                                         "\xff", "\xe2\x82", "\xf0\x9f\x98\x80", "\xed\xa0", "m f=1\n", ",t=\\ v", " f=\"x\"", "9999999999999999999", "\xc3\xa9" };
     size_t len = 0, want = draw() % LONGEST;
     while (len < want) {
         const char *word = words[draw() % (sizeof words / sizeof words[0])];
@@ -389,8 +429,57 @@ static void compare(uint32_t dialect, const uint8_t *text, size_t len) {
     compare_with_next(text, len, dialect);
 }
 
+/* Pieces that are not UTF-8, and how many of their bytes are before the first one with which they are none. */
+static const struct { const char *piece; size_t front; } NOT_UTF8[] = {
+    { "m f=1\xff", 5 },                           /* a byte that begins no character */
+    { "\xbf", 0 },                                /* one that goes on without a beginning */
+    { "m s=\"\xc3\xa9\xc3\" 1", 7 },             /* the second character ends early */
+    { "m \xe2\x82\xac=1,b=\xe2\x82", 10 },      /* the text ends in a character */
+    { "a\xc0\x80", 1 },                          /* a NUL of two bytes */
+    { "a\xe0\x9f\xbf", 1 },                      /* a character of two bytes in three */
+    { "a\xed\xa0\x80", 1 },                      /* half a pair of surrogates */
+    { "a\xf0\x9f\x98\x80\xf4\x90\x80\x80", 5 }, /* past the last character */
+    { " # c\xfe", 4 },                            /* in a comment */
+};
+
+/* Reads such a piece alone, after a line, and after so many bytes that are UTF-8. */
+static void not_utf8(void) {
+    static const size_t BEFORE[] = { 0, 55, 70, 1500, 5000 };
+    for (size_t at = 0; at < sizeof NOT_UTF8 / sizeof NOT_UTF8[0]; at++)
+        for (size_t more = 0; more < sizeof BEFORE / sizeof BEFORE[0]; more++)
+            for (uint32_t dialect = 0; dialect < DIALECTS; dialect++) {
+                size_t len = strlen(NOT_UTF8[at].piece), all = 6 + BEFORE[more] + len;
+                uint8_t *text = malloc(all);
+                memcpy(text, "m f=1\n", 6), memset(text + 6, 'a', BEFORE[more]), memcpy(text + 6 + BEFORE[more], NOT_UTF8[at].piece, len);
+                lp_block block = { 1, 0, 0, 0, 0 };
+                struct lent lent = lend(2, 1, 0);
+                expect(read_block(text, all, dialect, true, &block, lent) == LP_LINE && block.rows == 2 && block.line == 2, "two rows are not read");
+                expect(lent.rows[1].answer == LP_NOT_UTF8 && lent.rows[1].line_at == 6, "a piece that is not UTF-8 is read");
+                expect(lent.rows[1].stop_at == 6 + BEFORE[more] + NOT_UTF8[at].front, "another byte is the first with which a piece is not UTF-8");
+                take_back(lent);
+                free(text);
+            }
+}
+
+/* The line at the end of a text: each newline ends one, and the end of the text none. */
+static const struct { const char *text; uint64_t line; } ENDS[] = {
+    { "", 1 }, { "m f=1", 1 }, { "m f=1\n", 2 }, { "m f=1\nn f=1", 2 }, { "\n\n", 3 }, { "# c", 1 }, { "m s=\"a\\\nb\"", 2 }, { "m f=1\n  ", 2 },
+};
+
+static void known_ends(void) {
+    for (size_t at = 0; at < sizeof ENDS / sizeof ENDS[0]; at++)
+        for (uint32_t dialect = 0; dialect < DIALECTS; dialect++) {
+            lp_block block = { 1, 0, 0, 0, 0 };
+            struct lent lent = lend(4, 4, 4);
+            size_t len = strlen(ENDS[at].text);
+            expect(read_block((const uint8_t *)ENDS[at].text, len, dialect, true, &block, lent) == LP_END && block.at == len, "a text has more");
+            if (block.line != ENDS[at].line) printf("%s ends in line %llu\n", ENDS[at].text, (unsigned long long)block.line), failed = 1;
+            take_back(lent);
+        }
+}
+
 /* Texts with their rows, in each dialect, or as in that of the crate: where the rules of docs/FORMAT.md put them. */
-#define THREE "1 at 0 in 1: S< m f=1>S<m>S<f>S<1>\n8 at 7 in 2: S<\xff f=1>\n2 at 13 in 3: S<m f=9223372036854775808i> 4 1 stops 4\n"
+#define THREE "1 at 0 in 1: S< m f=1>S<m>S<f>S<1>\n8 at 7 in 2: S<\xff f=1> stops 0\n2 at 13 in 3: S<m f=9223372036854775808i> 4 1 stops 4\n"
 static const struct { const char *text, *rows[DIALECTS]; } KNOWN[] = {
     { "cpu,host=A usage=64i,up=t 5\n\n# c\nm\n",
       { "1 at 0 in 1: S<cpu,host=A usage=64i,up=t 5>S<cpu>S<host>S<A>S<usage>1 64S<up>5 1 5\n2 at 33 in 4: S<m> 10 0 stops 1\n",
@@ -426,6 +515,7 @@ int main(void) {
     take_back(lent);
     expect(sizeof(lp_offset_part) == 32 && sizeof(lp_offset_row) == 88, "a row or a part has another size");
     expect(lp_requests == 0, "memory was asked for");
+    not_utf8(), known_ends();
     write_rows();
     known_keys(), forged_keys();
     for (int at = 0; at < TEXTS; at++) {

@@ -111,10 +111,12 @@ static void told_at_once(const uint8_t *text, size_t len, uint32_t dialect, cons
     static lp_offset_part parts[1 << 10];
     static lp_offset_row rows[MOST];
     lp_block block = { 1, 0, 0, 0, 0 };
-    size_t told = SIZE_MAX;
+    size_t told = SIZE_MAX, newlines = 0;
     memset(rows, 0xa5, sizeof rows);
     uint32_t answer = lp_offsets_block_verdicts(text, len, dialect, true, &block, room, sizeof room, rows, MOST, parts, 1 << 10, &limits, &told);
     expect(answer == LP_END && told == count && block.rows == count && memcmp(rows, wanted, count * sizeof *rows) == 0, "rows are told otherwise at once");
+    for (size_t at = 0; at < len; at++) newlines += text[at] == '\n';
+    expect(block.at == len && block.line == 1 + newlines, "a block that is told at once ends in another line");
 }
 
 static void known_verdicts(void) {

@@ -14,8 +14,8 @@ use Rattle.influxdb_line_protocol.specs.format.Readings.{Fault}
 use Rattle.influxdb_line_protocol.specs.types.SpelledFault.{SpelledFault}
 use Rattle.lp_lines.proofs.lemmas.line.AnsweredLines.{line_room}
 use Rattle.lp_lines.proofs.lemmas.line.Filled.{takes_parted}
-use Rattle.lp_c.specs.Offsets.{bytes_at, field_at, field_len, tag_at, tag_len, texts_len}
-use Rattle.lp_c.specs.Rooms.{Grows, Shows}
+use Rattle.lp_c.specs.Offsets.{bytes_at, field_at, field_len, part_room, tag_at, tag_len, text_room, texts_len}
+use Rattle.lp_c.specs.Rooms.{Grows, Shows, TakesRoom}
 use Rattle.lp_c.specs.Placing.{Does, Places, ShowsRead, TellsPart, ToldAnswer, ToldRead, event_len, next_place, told_of}
 use Rattle.lp_c.specs.declared.placed.OffsetPart.{OffsetPart}
 use Rattle.lp_c.specs.declared.placing.Placing.{Placing}
@@ -53,6 +53,7 @@ record ToldParts {A B : Type 0} (shown : List ℕ → List ℕ → OffsetPart �
       → (parts : List OffsetPart)
       × (take (next_place old + length xs) new.parts.now ≡ take (next_place old) old.parts.now ++ parts)
       × Shows (λ r. map (shown new.line.text.now r) parts) new.room.now new.used (map (λ x. Some (logical x)) xs)
+      × TakesRoom new.room.now old.used new.used (sum_by part_room parts)
 
 module _ {A B : Type 0} (event : A → Event) (shown : List ℕ → List ℕ → OffsetPart → Option B) (logical : A → B)
     (count others : Placing → ℕ) (placed : (s : Placing) → next_place s ≡ count s + others s)
@@ -90,6 +91,9 @@ module _ {A B : Type 0} (event : A → Event) (shown : List ℕ → List ℕ →
                   (ap (λ t. shown t r put.part) memory.text
                   ∙ shows_on (λ r. shown mid.line.text.now r put.part) _ _ _ _ _ memory.grows put.shows enough r same)
                   (later.2 enough r same),
+              λ enough.
+                  let fits : mid.used ≤ length mid.room.now = omega (arith, enough, memory.grows.more, memory.grows.size) in
+                  omega (arith, put.takes fits, later.3 enough, sum_by-cons part_room put.part later.0),
             );
       }
 
@@ -103,6 +107,7 @@ module _ {A B : Type 0} (event : A → Event) (shown : List ℕ → List ℕ →
       [],
       ap (λ k. take k s.parts.now) (omega arith) ∙ sym (append-nil (take (next_place s) s.parts.now)),
       λ enough r same. refl,
+      λ enough. omega arith,
     );
   }
 
@@ -123,9 +128,10 @@ parted t f ps a b are len = (
   sym (drop-take t f ps) ∙ (ap (drop t) are ∙ drop_at a b t len),
 )
 
-module _ (l : format.Line) (begun told_tags told_fields new : Placing)
+module _ (l : format.Line) (used : ℕ) (begun told_tags told_fields new : Placing)
     (first : (begun.tags ≡ 0) × (begun.fields ≡ 0)
-    × Shows (λ r. bytes_at begun.line.text.now r begun.name.copied begun.name.span) begun.room.now begun.used l.measurement.bytes)
+    × Shows (λ r. bytes_at begun.line.text.now r begun.name.copied begun.name.span) begun.room.now begun.used l.measurement.bytes
+    × TakesRoom begun.room.now used begun.used (text_room begun.name.copied begun.name.span))
     (tags_same : SameMemory begun told_tags) (fields_same : SameMemory told_tags told_fields) (end_same : SameMemory told_fields new)
     (tags : ToldParts tag_at logical_tag (λ s. s.tags) (λ s. s.fields) begun (some_tags l.tags) told_tags)
     (fields : ToldParts field_at logical_field (λ s. s.fields) (λ s. s.tags) told_tags l.fields told_fields)
@@ -139,7 +145,7 @@ module _ (l : format.Line) (begun told_tags told_fields new : Placing)
   fields_are = last.2 ∙ omega (arith, fields.counted, tags.kept, first.1)
 
   -- the line is shown, if there are places for its parts
-  shows_read : new.tags + new.fields ≤ length new.parts.now → ShowsRead l new.line.text.now new.parts.now new.room.now (told_of new)
+  shows_read : new.tags + new.fields ≤ length new.parts.now → ShowsRead l new.line.text.now new.parts.now new.room.now used (told_of new)
   shows_read room =
       let t_len = length (some_tags l.tags) in
       let begins : next_place begun ≡ 0 = omega (arith, first.0, first.1) in
@@ -171,21 +177,30 @@ module _ (l : format.Line) (begun told_tags told_fields new : Placing)
             ap₂ (λ t ps. map (field_at t r) ps) end_same.text both.1
             ∙ shows_on (λ r. map (field_at told_fields.line.text.now r) f.0) _ _ _ _ _ end_same.grows f.2 enough r same;
         timestamp = last.0;
+        takes = λ enough.
+            let all : told_fields.used ≤ length told_fields.room.now = omega (arith, enough, end_same.grows.more, end_same.grows.size) in
+            let tags_fit : told_tags.used ≤ length told_tags.room.now = omega (arith, all, fields_same.grows.more, fields_same.grows.size) in
+            let name_fits : begun.used ≤ length begun.room.now = omega (arith, tags_fit, tags_same.grows.more, tags_same.grows.size) in
+            let of_name : text_room new.name.copied new.name.span ≡ text_room begun.name.copied begun.name.span =
+            ap (λ name. text_room name.copied name.span) names in
+            let of_parts : sum_by part_room (take (new.tags + new.fields) new.parts.now) ≡ sum_by part_room t.0 + sum_by part_room f.0 =
+            ap (sum_by part_room) own ∙ sum_by-append part_room t.0 f.0 in
+            omega (arith, last.5, f.3 all, t.3 tags_fit, first.3 name_fits, of_name, of_parts);
       }
 
   -- the line was told
-  told_line : ToldRead l new.line.text.now new.parts.now new.room.now (told_of new)
+  told_line : ToldRead l new.line.text.now new.parts.now new.room.now used (told_of new)
   told_line = record { tags = tags_are; fields = fields_are; shows = shows_read }
 
 -- what is so of a line at a text is so of it at the same text
-told_in : (l : format.Line) (s : Placing) (text : List ℕ) → s.line.text.now ≡ text → ToldRead l s.line.text.now s.parts.now s.room.now (told_of s)
-    → ToldRead l text s.parts.now s.room.now (told_of s)
-told_in l s text same told = rw (← same) told
+told_in : (l : format.Line) (s : Placing) (text : List ℕ) (used : ℕ) → s.line.text.now ≡ text
+    → ToldRead l s.line.text.now s.parts.now s.room.now used (told_of s) → ToldRead l text s.parts.now s.room.now used (told_of s)
+told_in l s text used same told = rw (← same) told
 
 -- the events of a line tell it
 events_told : (dialect : Dialect) (text : List ℕ) (l : format.Line) (old new : Placing) → length text < 2 ^ 63 → answer dialect text ≡ Ok l
     → TakesAll Places old (events_of_line l) new
-    → (new.fault ≡ old.fault) × ToldRead l new.line.text.now new.parts.now new.room.now (told_of new)
+    → (new.fault ≡ old.fault) × ToldRead l new.line.text.now new.parts.now new.room.now old.used (told_of new)
 events_told dialect text l old new short is (begun, first, told) =
     let few = line_room dialect text l is in
     let apart = takes_parted Places begun new (map tagged (some_tags l.tags) ++ map valued l.fields) (end_of_line l ∷ []) told in
@@ -198,7 +213,7 @@ events_told dialect text l old new short is (begun, first, told) =
     (λ old new x one. one.does) (λ old new x one. one.fault) front.0 apart.0 l.fields
     (omega (arith, few, short, tags.1.kept, first.does.1)) front.2 in (
       last.fault ∙ (fields.0 ∙ (tags.0 ∙ first.fault)),
-      told_line l begun front.0 apart.0 new first.does (same_memory _ _ _ front.1) (same_memory _ _ _ front.2)
+      told_line l old.used begun front.0 apart.0 new first.does (same_memory _ _ _ front.1) (same_memory _ _ _ front.2)
           (record { text = last.text; parts = last.parts; room = last.room; size = last.size; grows = last.grows })
           tags.1 fields.1 last.does,
     )
@@ -206,23 +221,23 @@ events_told dialect text l old new short is (begun, first, told) =
 -- what the format answers for a line was told
 pub answer_told : (dialect : Dialect) (text : List ℕ) (old new : Placing) (events : List Event) → length text < 2 ^ 63
     → old.fault ≡ None → AreEventsOf text events (answer dialect text) → TakesAll Places old events new
-    → ToldAnswer (answer dialect text) new.fault old.line.text.now new.parts.now new.room.now (told_of new)
+    → ToldAnswer (answer dialect text) new.fault old.line.text.now new.parts.now new.room.now old.used (told_of new)
 answer_told dialect text old new events short none are told = go (answer dialect text) refl are
   where
     -- of a fault the last event is kept
     kept_fault : (kept : Option SpelledFault) (fault : Fault) → option_map spelled_fault kept ≡ Some fault
-        → ToldAnswer (Err fault) kept old.line.text.now new.parts.now new.room.now (told_of new)
+        → ToldAnswer (Err fault) kept old.line.text.now new.parts.now new.room.now old.used (told_of new)
     kept_fault None fault is = absurd (cc)
     kept_fault (Some kept) fault is = cc
 
     -- by what is answered
     go : (read : Result format.Line Fault) → answer dialect text ≡ read → AreEventsOf text events read
-        → ToldAnswer read new.fault old.line.text.now new.parts.now new.room.now (told_of new)
+        → ToldAnswer read new.fault old.line.text.now new.parts.now new.room.now old.used (told_of new)
     go (Ok l) is are =
         let line = events_told dialect text l old new short is (rw are at told) in
         let no_fault : new.fault ≡ None = line.0 ∙ none in
-        subst (λ kept. ToldAnswer (Ok l) kept old.line.text.now new.parts.now new.room.now (told_of new)) (sym no_fault)
-        (told_in l new old.line.text.now (same_memory old new events told).text line.1)
+        subst (λ kept. ToldAnswer (Ok l) kept old.line.text.now new.parts.now new.room.now old.used (told_of new)) (sym no_fault)
+        (told_in l new old.line.text.now old.used (same_memory old new events told).text line.1)
     go (Err fault) is (front, parts, are) =
         let apart = takes_parted Places old new front (failed fault ∷ []) (rw are at told) in
         let last : Places apart.0 (failed fault) new = rw apart.2.2 at apart.2.1 in

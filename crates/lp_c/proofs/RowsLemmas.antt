@@ -47,11 +47,13 @@ module _ (dialect : Dialect) (last : Bool) (text : List ℕ) where
     tags = shows_on _ _ mid new m all grows shows.tags;
     fields = shows_on _ _ mid new m all grows shows.fields;
     timestamp = shows.timestamp;
+    no_timestamp = shows.no_timestamp;
+    room_len = shows.room_len;
     all = shows.all;
   })
   item_on piece own mid new m all row grows (fault f is clear utf8 begins answered kind side stop none_own) =
       fault f is clear utf8 begins answered kind side stop none_own
-  item_on piece own mid new m all row grows (no_text is clear bare not none_own) = no_text is clear bare not none_own
+  item_on piece own mid new m all row grows (no_text is clear bare not there none_own) = no_text is clear bare not there none_own
 
   -- so it is with all rows
   pub rows_on : (from : Spot) (mid new : List ℕ) (m all : ℕ) (rows : List OffsetRow) (parts : List OffsetPart) (spot : Spot)
@@ -123,8 +125,8 @@ all_filled dialect last text from rows parts room filled i past before =
 -- a blank piece more is passed
 pub blank_more : (dialect : Dialect) (last : Bool) (text : List ℕ) (from spot after : Spot) (piece : Piece) → PassesBlanks dialect last text from spot
     → (piece.at ≡ spot.at) × IsPieceIn dialect last text piece × HasNewlines text piece → IsBlankIn text piece
-    → after ≡ record { at = piece.next; line = min (spot.line + piece.newlines + 1) (2 ^ 64 - 1) }
+    → after ≡ record { at = piece.next; line = min (spot.line + piece.newlines) (2 ^ 64 - 1) }
     → PassesBlanks dialect last text from after
 blank_more dialect last text from spot after piece so_far is is_blank new =
-    subst (PassesBlanks dialect last text from) (sym (new ∙ ap (λ n. record { at = piece.next; line = min (spot.line + n + 1) (2 ^ 64 - 1) }) is.2))
+    subst (PassesBlanks dialect last text from) (sym (new ∙ ap (λ n. record { at = piece.next; line = min (spot.line + n) (2 ^ 64 - 1) }) is.2))
     (PassesBlanks.blank spot piece so_far is.0 is.1 is_blank)

@@ -1,6 +1,7 @@
 -- Lines whose rows surely break no clause but those about their time, their tags and their length.
 use Rattle.std.proofs.Common.{zero, suc, ◌≡◌, ◌∙◌, ℕ, ◌+◌, ◌-◌, ◌<◌, ◌≤◌, ◌==◌, List, [], ◌∷◌, ◌++◌, length, map, take, drop, Option, Some, None, Ok}
 use Rattle.std.proofs.Common.{Bor, IfSome, Bool, true, false, codes, refl, sym, ap, subst, arith, append_assoc, inl, inr, get_or, IsUtf8}
+use Rattle.std.specs.Prelude.{if◌then◌else◌}
 use Rattle.std.specs.List.{AllByRecursion, list_any}
 use Rattle.std.proofs.lemmas.Bool.{and_parts, cases_Bool, eqb-true, false≢true, le-ltb}
 use Rattle.std.proofs.lemmas.List.{drop_at, drop-take, drop_more, length-drop, length-map, length-take-le, take-append-drop, take_at, take-take}
@@ -15,7 +16,7 @@ use Rattle.lp_portable.proofs.{Repeats.risen_once, ShortFloats.short_is_sure}
 use Rattle.lp_c.specs.Numbers.{answer_number, kind_number}
 use Rattle.lp_c.specs.OffsetBlocks.{IsPieceIn, IsPlaced, OffsetRows, ShowsItem, ShowsRow, piece_in, timestamp_in}
 use Rattle.lp_c.specs.OffsetBlocks.{blank, fault, line, more, no_text, none}
-use Rattle.lp_c.specs.Offsets.{bytes_at, field_at, key_at, tag_at, text_at, value_at, with_key}
+use Rattle.lp_c.specs.Offsets.{bytes_at, field_at, has_stray_number, key_at, tag_at, text_at, value_at, with_key}
 use Rattle.lp_c.specs.SureRows.{AreSureParts, IsShownRow, IsSureRow, ShowsStrictly, SurePart, SureValue, key_in, lies_in}
 use Rattle.lp_c.specs.Verdicts.{HasPiece, IsVerdictBy, piece_there}
 use Rattle.lp_c.specs.declared.offsets.OffsetRow.{OffsetRow}
@@ -41,14 +42,25 @@ record ShownTag (text room : List ℕ) (part : OffsetPart) (t : Pair Text Text) 
 
 -- so it is, if it shows it
 tag_shown : (text room : List ℕ) (part : OffsetPart) (t : Pair Text Text) → tag_at text room part ≡ Some (logical_tag t) → ShownTag text room part t
-tag_shown text room part t is = elim (cases_Bool (part.kind == kind_number Kind.Tag)) [
-  | inl here ↦
-      let same : Some (record { key = key_at text room part; value = text_at text room part }) ≡ Some (logical_tag t) = rw here at is in
-      record { kind = eqb-true part.kind (kind_number Kind.Tag) here; key = ap (λ (p : Pair (List ℕ) (List ℕ)). p.key) (some_same _ _ same) }
-  | inr other ↦
-      let nothing : None ≡ Some (logical_tag t) = rw other at is in
+tag_shown text room part t is = elim (cases_Bool (has_stray_number part)) [
+  | inl stray ↦
+      let nothing : None ≡ Some (logical_tag t) = rw stray at is in
       absurd (cc)
+  | inr clear ↦ go (rw clear at is)
 ]
+  where
+    -- by its kind
+    go : (if part.kind == kind_number Kind.Tag
+        then Some (record { key = key_at text room part; value = text_at text room part }) else None) ≡ Some (logical_tag t)
+        → ShownTag text room part t
+    go is = elim (cases_Bool (part.kind == kind_number Kind.Tag)) [
+      | inl here ↦
+          let same : Some (record { key = key_at text room part; value = text_at text room part }) ≡ Some (logical_tag t) = rw here at is in
+          record { kind = eqb-true part.kind (kind_number Kind.Tag) here; key = ap (λ (p : Pair (List ℕ) (List ℕ)). p.key) (some_same _ _ same) }
+      | inr other ↦
+          let nothing : None ≡ Some (logical_tag t) = rw other at is in
+          absurd (cc)
+    ]
 
 -- the field that a part shows
 record ShownField (text room : List ℕ) (part : OffsetPart) (f : Pair Text (Value Text)) : Type 0 where
@@ -58,7 +70,12 @@ record ShownField (text room : List ℕ) (part : OffsetPart) (f : Pair Text (Val
 -- so it is, if it shows it
 field_shown : (text room : List ℕ) (part : OffsetPart) (f : Pair Text (Value Text)) → field_at text room part ≡ Some (logical_field f)
     → ShownField text room part f
-field_shown text room part f is = go (value_at text room part) refl is
+field_shown text room part f is = elim (cases_Bool (has_stray_number part)) [
+  | inl stray ↦
+      let nothing : None ≡ Some (logical_field f) = rw stray at is in
+      absurd (cc)
+  | inr clear ↦ go (value_at text room part) refl (rw clear at is)
+]
   where
     -- by its value
     go : (v : Option (Value (List ℕ))) → value_at text room part ≡ v → with_key (key_at text room part) v ≡ Some (logical_field f)
@@ -228,7 +245,7 @@ module _ (last : Bool) (text : List ℕ) (from : Spot) (room : List ℕ) (used :
       }
   item_shown piece number parts own rest row is placed (fault f answered clear utf8 begins faulty kind side stop none_own) = λ has.
       absurd (omega (arith, answered, has))
-  item_shown piece number parts own rest row is placed (no_text answered clear bare not none_own) = λ has.
+  item_shown piece number parts own rest row is placed (no_text answered clear bare not there none_own) = λ has.
       absurd (omega (arith, answered, has))
 
   -- each row that was filled by the strict rules shows its line, if it has one

@@ -1,5 +1,5 @@
 -- What the offsets of a line and of its parts show: texts of the caller's text and of its room; and how long these are.
-use Rattle.std.specs.Prelude.{◌≡◌, ◌≤◌, ◌<◌, ◌-◌, ◌^◌, ◌==◌, ◌+◌, ℕ, length, List, Option, Some, None, take, drop, if◌then◌else◌}
+use Rattle.std.specs.Prelude.{◌≡◌, ◌≤◌, ◌<◌, ◌-◌, ◌^◌, ◌==◌, ◌&&◌, ◌||◌, ◌+◌, ℕ, Bool, not, length, List, Option, Some, None, take, drop, if◌then◌else◌}
 use Rattle.std.specs.Int.{cast_signed, w64}
 use Rattle.std.specs.List.{sum_by}
 use Rattle.influxdb_line_protocol.specs.format.Lines as format
@@ -31,9 +31,16 @@ key_at text room part = bytes_at text room part.key_copied part.key
 abbrev pub text_at : List ℕ → List ℕ → OffsetPart → List ℕ
 text_at text room part = bytes_at text room part.text_copied part.text
 
+-- whether a part has a number beside a text: where its value is a text, its number must be 0
+abbrev pub has_stray_number : OffsetPart → Bool
+has_stray_number part =
+    (part.kind == kind_number Kind.Tag || part.kind == kind_number Kind.Float || part.kind == kind_number Kind.String)
+    && not (part.number == 0)
+
 -- the tag that a part shows, if it is one
 abbrev pub tag_at : List ℕ → List ℕ → OffsetPart → Option (Pair (List ℕ) (List ℕ))
 tag_at text room part =
+    if has_stray_number part then None else
     if part.kind == kind_number Kind.Tag
     then Some (record { key = key_at text room part; value = text_at text room part }) else None
 
@@ -53,7 +60,15 @@ with_key key (Some value) = Some (record { key = key; value = value })
 
 -- the field that a part shows, if it is one
 abbrev pub field_at : List ℕ → List ℕ → OffsetPart → Option (Pair (List ℕ) (Value (List ℕ)))
-field_at text room part = with_key (key_at text room part) (value_at text room part)
+field_at text room part = if has_stray_number part then None else with_key (key_at text room part) (value_at text room part)
+
+-- how many bytes of the room a text takes: its own, if it was copied
+abbrev pub text_room : ℕ → Span → ℕ
+text_room copied span = if copied == 0 then 0 else span.len
+
+-- how many bytes of the room the texts of a part take
+abbrev pub part_room : OffsetPart → ℕ
+part_room part = text_room part.key_copied part.key + text_room part.text_copied part.text
 
 -- how many bytes the text of a value has, if it is one
 abbrev pub value_len : Value Text → ℕ

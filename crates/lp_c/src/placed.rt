@@ -8,8 +8,8 @@ ghost use Rattle.influxdb_line_protocol.specs.code.Events.{spelled_field, spelle
 ghost use Rattle.influxdb_line_protocol.specs.code.SpelledParts.{spelled_text, spelled_value};
 ghost use Rattle.influxdb_line_protocol.specs.format.Lines.{logical_field, logical_tag};
 ghost use Rattle.lp_c.specs.Numbers.{kind_number};
-ghost use Rattle.lp_c.specs.Offsets.{IsLineIn, bytes_at, field_at, field_len, tag_at, tag_len};
-ghost use Rattle.lp_c.specs.Rooms.{Grows, Shows};
+ghost use Rattle.lp_c.specs.Offsets.{IsLineIn, bytes_at, field_at, field_len, part_room, tag_at, tag_len, text_room};
+ghost use Rattle.lp_c.specs.Rooms.{Grows, Shows, TakesRoom};
 ghost use Rattle.lp_events.specs.code.Places.{AreBefore, EndsBefore, ValueEndsBefore};
 
 use crate::lent::reads_as_spelled;
@@ -103,6 +103,7 @@ pub(crate) fn place_copy(room: &mut [u8], used: usize, spelled: Spelled<'_>) -> 
     ensures bound { length room.old < 2 ^ 32 → result.1 ≤ used + length (spelled_text spelled.entry).bytes }
     ensures shows { Shows (λ r. take result.0.span.len (drop result.0.span.at r)) room.new result.1 (spelled_text spelled.entry).bytes }
     ensures copied { result.1 ≤ length room.new → result.0.copied ≡ 1 }
+    ensures takes { TakesRoom room.new used result.1 (text_room result.0.copied result.0.span) }
 {
     let len = spelled.len();
     let all = used.saturating_add(len);
@@ -133,6 +134,7 @@ fn place_escaped(
     requires ends { EndsBefore line.now (spelled_text spelled) left }
     ensures grows { Grows room.old used room.new result.1 }
     ensures bound { length room.old < 2 ^ 32 → result.1 ≤ used + length (spelled_text spelled.entry).bytes }
+    ensures takes { TakesRoom room.new used result.1 (text_room result.0.copied result.0.span) }
     ensures shows { Shows (λ r. bytes_at text.now r result.0.copied result.0.span) room.new result.1 (spelled_text spelled.entry).bytes }
 {
     let Some(shown) = shared(spelled) else {
@@ -157,6 +159,7 @@ pub(crate) fn place_text(
     requires { EndsBefore line.line.now (spelled_text spelled) left }
     ensures grows { Grows room.old used room.new result.1 }
     ensures bound { length room.old < 2 ^ 32 → result.1 ≤ used + length (spelled_text spelled.entry).bytes }
+    ensures takes { TakesRoom room.new used result.1 (text_room result.0.copied result.0.span) }
     ensures shows { Shows (λ r. bytes_at line.entry.text.now r result.0.copied result.0.span) room.new result.1 (spelled_text spelled.entry).bytes }
 {
     if reads_as_spelled(spelled) {
@@ -192,6 +195,7 @@ pub(crate) fn place_tag(
     requires value { EndsBefore line.line.now (spelled_text value) left }
     ensures grows { Grows room.old used room.new result.1 }
     ensures bound { length room.old < 2 ^ 32 → result.1 ≤ used + tag_len (spelled_tag (key.entry, value.entry)) }
+    ensures takes { TakesRoom room.new used result.1 (part_room result.0) }
     ensures shows { Shows (λ r. tag_at line.entry.text.now r result.0) room.new result.1 (Some (logical_tag (spelled_tag (key.entry, value.entry)))) }
 {
     let (key, used) = place_text(line, key_left, room, used, key);
@@ -246,6 +250,7 @@ pub(crate) fn place_field(
     requires value { ValueEndsBefore line.line.now (spelled_value value) left }
     ensures grows { Grows room.old used room.new result.1 }
     ensures bound { length room.old < 2 ^ 32 → result.1 ≤ used + field_len (spelled_field (key.entry, value.entry)) }
+    ensures takes { TakesRoom room.new used result.1 (part_room result.0) }
     ensures shows { Shows (λ r. field_at line.entry.text.now r result.0) room.new result.1 (Some (logical_field (spelled_field (key.entry, value.entry)))) }
 {
     let (key, used) = place_text(line, key_left, room, used, key);

@@ -5,7 +5,7 @@ use Rattle.std.proofs.lemmas.List.{drop-take, length-take-le, take-take}
 use Rattle.influxdb_line_protocol.specs.format.Lines as format
 use Rattle.influxdb_line_protocol.specs.format.Readings.{Fault}
 use Rattle.influxdb_line_protocol.specs.types.SpelledFault.{SpelledFault}
-use Rattle.lp_page.specs.OffsetBlocks.{AnswersRow, BeginsAt, HasNoFault, HasNoLine, PutsRow, came_number, fault as is_fault, line as is_line, piece_in, timestamp_in}
+use Rattle.lp_page.specs.OffsetBlocks.{AnswersRow, BeginsAt, HasNoFault, HasNoLine, HasNoTime, PutsRow, came_number, fault as is_fault, line as is_line, piece_in, timestamp_in}
 use Rattle.lp_format.specs.format.{Dialect, trimmed}
 use Rattle.lp_events.specs.code.Stops.{reading_stop}
 use Rattle.lp_page.specs.Offsets.{field_at, tag_at}
@@ -18,14 +18,15 @@ use Rattle.lp_page.specs.declared.pieces.Piece.{Piece}
 
 -- a line that was told, and has all its places, is shown by its row
 pub line_answers : (read : Result format.Line Fault) (kept : Option SpelledFault) (text : List ℕ) (parts : List OffsetPart) (room : List ℕ)
-    (told : Told) (used : ℕ) (row : OffsetRow) → ToldAnswer read kept text parts room told → kept ≡ None
+    (told : Told) (used : ℕ) (row : OffsetRow) → ToldAnswer read kept text parts room used told → kept ≡ None
     → told.tags + told.fields ≤ length parts → row.tags ≡ told.tags → row.fields ≡ told.fields
     → row.measurement ≡ told.name.span → row.measurement_copied ≡ told.name.copied → timestamp_in row ≡ told.timestamp
+    → (told.timestamp ≡ None → HasNoTime row) → told.used ≤ length room → row.room_len ≡ told.used - used
     → AnswersRow read Came.Line text parts room used (row.tags + row.fields) told.used row
-line_answers (Err fault) None text parts room told used row is none fits tags fields span copied time = absurd is
-line_answers (Err fault) (Some kept) text parts room told used row is none fits tags fields span copied time = absurd (cc)
-line_answers (Ok read) (Some kept) text parts room told used row is none fits tags fields span copied time = absurd is
-line_answers (Ok read) None text parts room told used row is none fits tags fields span copied time =
+line_answers (Err fault) None text parts room told used row is none fits tags fields span copied time no_time enough takes = absurd is
+line_answers (Err fault) (Some kept) text parts room told used row is none fits tags fields span copied time no_time enough takes = absurd (cc)
+line_answers (Ok read) (Some kept) text parts room told used row is none fits tags fields span copied time no_time enough takes = absurd is
+line_answers (Ok read) None text parts room told used row is none fits tags fields span copied time no_time enough takes =
     let shows = is.shows fits in
     let own = row.tags + row.fields in
     let front : take row.tags (take own parts) ≡ take told.tags parts =
@@ -39,6 +40,8 @@ line_answers (Ok read) None text parts room told used row is none fits tags fiel
         tags = λ enough r same. ap (map (tag_at text r)) front ∙ shows.tags enough r same;
         fields = λ enough r same. ap (map (field_at text r)) back ∙ shows.fields enough r same;
         timestamp = time ∙ shows.timestamp;
+        no_timestamp = λ without. no_time (shows.timestamp ∙ without);
+        room_len = rw (span, copied, tags, fields) (omega (arith, takes, shows.takes enough));
         all = length-take-le own parts all;
       },
       all,

@@ -1,7 +1,9 @@
 -- Many items in one call, by offsets.
 use Rattle.std.specs.Prelude.{◌≡◌, ◌⊎◌, ◌<◌, ◌≤◌, ◌+◌, ◌-◌, ◌^◌, ◌==◌, ℕ, ℤ, pos, Bool, true, false, List, [], ◌∷◌, ◌++◌, length, map, min, not, take, drop}
 use Rattle.std.specs.Borrow.{Bor}
+use Rattle.std.specs.List.{sum_by}
 use Rattle.std.specs.Prelude.{if◌then◌else◌, Option, Some, None, Result, Ok, Err, IsUtf8}
+use Rattle.std.specs.Str.{IsValidUpTo}
 use Rattle.influxdb_line_protocol.specs.format.Dialects.{Dialect}
 use Rattle.influxdb_line_protocol.specs.format.Lines as format
 use Rattle.influxdb_line_protocol.specs.format.Lines.{logical_field, logical_tag, some_tags}
@@ -13,7 +15,7 @@ use Rattle.lp_events.specs.code.Stops.{reading_stop}
 use Rattle.lp_split.specs.code.{AreSeen}
 use Rattle.lp_page.specs.Crossing.{fault_seen}
 use Rattle.lp_page.specs.Numbers.{answer_number, fault_number, side_number}
-use Rattle.lp_page.specs.Offsets.{bytes_at, field_at, tag_at, texts_len}
+use Rattle.lp_page.specs.Offsets.{bytes_at, field_at, part_room, tag_at, text_room, texts_len}
 use Rattle.lp_page.specs.Portions.{IsPortionOf}
 use Rattle.lp_page.specs.Rooms.{Shows}
 use Rattle.lp_page.specs.declared.offsets.Block.{Block}
@@ -30,9 +32,13 @@ use Rattle.lp_page.specs.declared.views.Answer.{Answer}
 abbrev pub piece_in : List ℕ → Piece → List ℕ
 piece_in text piece = take piece.len (drop piece.at text)
 
--- a piece tells how many newlines it holds
+-- the bytes of a piece, and the newline that ends it, if one does: those up to the place where the next piece begins
+abbrev pub passed_with : List ℕ → Piece → List ℕ
+passed_with text piece = take (piece.next - piece.at) (drop piece.at text)
+
+-- a piece tells how many newlines come up to the next one
 abbrev pub HasNewlines : List ℕ → Piece → Type 0
-HasNewlines text piece = piece.newlines ≡ newlines_in (piece_in text piece)
+HasNewlines text piece = piece.newlines ≡ newlines_in (passed_with text piece)
 
 -- what was seen of a text is so: the portion, and, at a place, the bytes that tell of a cut
 abbrev pub IsSeenOf : Dialect → List ℕ → Seen → Type 0
@@ -54,11 +60,11 @@ IsNoPieceAt dialect false text at = IsLastPiece dialect (drop at text)
 abbrev pub in_32 : ℕ → ℕ
 in_32 n = min n (2 ^ 32 - 1)
 
--- where the next piece begins, and in which line
+-- where the next piece begins, and in which line: a newline more ends the line, and the end of the text does not
 abbrev pub spot_after : List ℕ → Spot → Piece → Spot
 spot_after text spot piece = record {
   at = piece.next;
-  line = min (spot.line + newlines_in (piece_in text piece) + 1) (2 ^ 64 - 1);
+  line = min (spot.line + newlines_in (passed_with text piece)) (2 ^ 64 - 1);
 }
 
 -- the piece holds nothing but blanks and comments
@@ -81,6 +87,10 @@ IsItemIn text piece (Some line) =
 abbrev pub timestamp_in : OffsetRow → Option ℤ
 timestamp_in row = if row.has_timestamp == 1 then Some row.timestamp else None
 
+-- a row shows no timestamp
+abbrev pub HasNoTime : OffsetRow → Type 0
+HasNoTime row = (row.has_timestamp ≡ 0) × (row.timestamp ≡ pos 0)
+
 -- a row and its parts show this line: so does each room that has the bytes in use
 pub record ShowsRow (read : format.Line) (text : List ℕ) (own : List OffsetPart) (room : List ℕ) (used : ℕ) (row : OffsetRow) : Type 0 where
   pub measurement : Shows (λ r. bytes_at text r row.measurement_copied row.measurement) room used read.measurement.bytes
@@ -88,6 +98,8 @@ pub record ShowsRow (read : format.Line) (text : List ℕ) (own : List OffsetPar
   pub fields : Shows (λ r. map (field_at text r) (take row.fields (drop row.tags own))) room used
       (map (λ field. Some (logical_field field)) read.fields)
   pub timestamp : timestamp_in row ≡ read.timestamp
+  pub no_timestamp : read.timestamp ≡ None → HasNoTime row
+  pub room_len : row.room_len ≡ text_room row.measurement_copied row.measurement + sum_by part_room own
   pub all : length own ≡ row.tags + row.fields
 
 -- what a row tells of a line that takes more parts, or more room, than are left: how many of either, and of room no more bytes than the
@@ -126,11 +138,20 @@ HasNoFault row = (row.fault ≡ 0) × (row.side ≡ 0)
 
 -- a row shows nothing of a line
 abbrev pub HasNoLine : OffsetRow → Type 0
-HasNoLine row = (row.tags ≡ 0) × (row.fields ≡ 0) × (row.has_timestamp ≡ 0) × (row.timestamp ≡ pos 0) × (row.measurement.len ≡ 0)
+HasNoLine row =
+    (row.tags ≡ 0) × (row.fields ≡ 0) × HasNoTime row × (row.measurement ≡ record { at = 0; len = 0 }) × (row.room_len ≡ 0)
 
 -- a row tells where the line of a piece begins: what is left of the piece when it is trimmed is its end
 abbrev pub BeginsAt : List ℕ → Piece → OffsetRow → Type 0
 BeginsAt text piece row = row.line_at ≡ piece.at + piece.len - length (trimmed (piece_in text piece))
+
+-- of a piece that is not UTF-8 a row tells where it begins, and its first byte with which it is no UTF-8: up to there it is, and no longer
+-- front of it is
+pub record IsNoTextAt (text : List ℕ) (piece : Piece) (row : OffsetRow) : Type 0 where
+  pub begins : row.line_at ≡ piece.at
+  pub front : ℕ
+  pub stops : row.stop_at ≡ piece.at + front
+  pub longest : IsValidUpTo (piece_in text piece) front
 
 -- what came of a line: it is shown; or it takes more than is left; or its fault is shown
 abbrev pub AnswersRow : Result format.Line Fault → Came → List ℕ → List OffsetPart → List ℕ → ℕ → ℕ → ℕ → OffsetRow → Type 0
@@ -155,7 +176,8 @@ pub data ShowsItem (dialect : Dialect) (text : List ℕ) (piece : Piece) (own : 
       → row.fault ≡ fault_number (fault_seen fault).kind → row.side ≡ side_number (fault_seen fault).side
       → row.stop_at ≡ piece.at + piece.len - length (reading_stop dialect (trimmed (piece_in text piece))).1
       → own ≡ [] → ShowsItem dialect text piece own room used row
-  no_text : row.answer ≡ answer_number Answer.NotUtf8 → HasNoFault row → HasNoLine row → ¬ IsUtf8 (piece_in text piece) → own ≡ []
+  no_text : row.answer ≡ answer_number Answer.NotUtf8 → HasNoFault row → HasNoLine row → ¬ IsUtf8 (piece_in text piece)
+      → IsNoTextAt text piece row → own ≡ []
       → ShowsItem dialect text piece own room used row
 
 -- the line of a piece takes more than is left, as a row tells

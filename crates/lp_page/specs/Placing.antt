@@ -1,5 +1,6 @@
 -- What the sink of the parts of a line puts down of each, by offsets.
 use Rattle.std.specs.Prelude.{◌≡◌, ◌<◌, ◌≤◌, ◌+◌, ◌^◌, ℕ, List, Option, Some, None, Result, Ok, Err, drop, length, map, slice_set, take}
+use Rattle.std.specs.List.{sum_by}
 use Rattle.influxdb_line_protocol.specs.code.Events.{Event, ended, failed, named, tagged, valued}
 use Rattle.influxdb_line_protocol.specs.code.SpelledParts.{spelled_fault}
 use Rattle.influxdb_line_protocol.specs.format.Lines as format
@@ -7,8 +8,8 @@ use Rattle.influxdb_line_protocol.specs.format.Lines.{logical_field, logical_tag
 use Rattle.influxdb_line_protocol.specs.format.Readings.{Fault, Text}
 use Rattle.influxdb_line_protocol.specs.types.SpelledFault.{SpelledFault}
 use Rattle.lp_lines.specs.code.Filling.{KeepsFault}
-use Rattle.lp_page.specs.Offsets.{bytes_at, field_at, field_len, tag_at, tag_len}
-use Rattle.lp_page.specs.Rooms.{Grows, Shows}
+use Rattle.lp_page.specs.Offsets.{bytes_at, field_at, field_len, part_room, tag_at, tag_len, text_room}
+use Rattle.lp_page.specs.Rooms.{Grows, Shows, TakesRoom}
 use Rattle.lp_page.specs.declared.placed.OffsetPart.{OffsetPart}
 use Rattle.lp_page.specs.declared.placing.Placing.{Placing}
 use Rattle.lp_page.specs.declared.placing.Told.{Told}
@@ -23,6 +24,7 @@ pub record PutsPart {A B : Type 0} (shown : List ℕ → List ℕ → OffsetPart
   pub part : OffsetPart
   pub put : new.parts.now ≡ slice_set old.parts.now (next_place old) part
   pub shows : Shows (λ r. shown new.line.text.now r part) new.room.now new.used (Some (logical x))
+  pub takes : TakesRoom new.room.now old.used new.used (part_room part)
 
 -- a part more is counted; it is put, if there is a place for it
 pub record TellsPart {A B : Type 0} (shown : List ℕ → List ℕ → OffsetPart → Option B) (logical : A → B)
@@ -46,12 +48,14 @@ event_len (failed fault) = 0
 
 -- what the sink does with an event
 abbrev pub Does : Placing → Event → Placing → Type 0
-Does old (named name) new = (new.tags ≡ 0) × (new.fields ≡ 0) × ShowsName name new
+Does old (named name) new =
+    (new.tags ≡ 0) × (new.fields ≡ 0) × ShowsName name new
+    × TakesRoom new.room.now old.used new.used (text_room new.name.copied new.name.span)
 Does old (tagged tag) new = TellsPart tag_at logical_tag (λ s. s.tags) (λ s. s.fields) old tag new
 Does old (valued field) new = TellsPart field_at logical_field (λ s. s.fields) (λ s. s.tags) old field new
 Does old (ended series timestamp) new =
     (new.timestamp ≡ timestamp) × (new.tags ≡ old.tags) × (new.fields ≡ old.fields) × (new.name ≡ old.name)
-    × (new.parts.now ≡ old.parts.now)
+    × (new.parts.now ≡ old.parts.now) × (new.used ≡ old.used)
 Does old (failed fault) new = Unit {0}
 
 -- the sink takes an event: it puts it into the same memory, and keeps a fault
@@ -76,23 +80,25 @@ told_of s = record {
   fault = s.fault;
 }
 
--- a line is shown by each room that has the bytes in use, if all its texts had a place
-pub record ShowsRead (read : format.Line) (text : List ℕ) (parts : List OffsetPart) (room : List ℕ) (told : Told) : Type 0 where
+-- a line is shown by each room that has the bytes in use, if all its texts had a place: after so many bytes that were in use before
+pub record ShowsRead (read : format.Line) (text : List ℕ) (parts : List OffsetPart) (room : List ℕ) (used : ℕ) (told : Told) : Type 0 where
   pub measurement : Shows (λ r. bytes_at text r told.name.copied told.name.span) room told.used read.measurement.bytes
   pub tags : Shows (λ r. map (tag_at text r) (take told.tags parts)) room told.used
       (map (λ tag. Some (logical_tag tag)) (some_tags read.tags))
   pub fields : Shows (λ r. map (field_at text r) (take told.fields (drop told.tags parts))) room told.used
       (map (λ field. Some (logical_field field)) read.fields)
   pub timestamp : told.timestamp ≡ read.timestamp
+  pub takes : TakesRoom room used told.used
+      (text_room told.name.copied told.name.span + sum_by part_room (take (told.tags + told.fields) parts))
 
 -- a line was told: its parts are counted; and it is shown, if there are places for them
-pub record ToldRead (read : format.Line) (text : List ℕ) (parts : List OffsetPart) (room : List ℕ) (told : Told) : Type 0 where
+pub record ToldRead (read : format.Line) (text : List ℕ) (parts : List OffsetPart) (room : List ℕ) (used : ℕ) (told : Told) : Type 0 where
   pub tags : told.tags ≡ length (some_tags read.tags)
   pub fields : told.fields ≡ length read.fields
-  pub shows : told.tags + told.fields ≤ length parts → ShowsRead read text parts room told
+  pub shows : told.tags + told.fields ≤ length parts → ShowsRead read text parts room used told
 
 -- what the format answers for a line was told: the line, or the fault that is kept
-abbrev pub ToldAnswer : Result format.Line Fault → Option SpelledFault → List ℕ → List OffsetPart → List ℕ → Told → Type 0
-ToldAnswer (Ok read) None text parts room told = ToldRead read text parts room told
-ToldAnswer (Err fault) (Some kept) text parts room told = spelled_fault kept ≡ fault
-ToldAnswer answer kept text parts room told = ⊥
+abbrev pub ToldAnswer : Result format.Line Fault → Option SpelledFault → List ℕ → List OffsetPart → List ℕ → ℕ → Told → Type 0
+ToldAnswer (Ok read) None text parts room used told = ToldRead read text parts room used told
+ToldAnswer (Err fault) (Some kept) text parts room used told = spelled_fault kept ≡ fault
+ToldAnswer answer kept text parts room used told = ⊥

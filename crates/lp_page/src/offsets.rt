@@ -1,6 +1,6 @@
 //! Many items in one call, by offsets: for callers whose memory moves, or that may keep no pointers of others.
 
-ghost use Rattle.std.specs.Prelude.{◌≡◌, ◌≢◌, ◌↔◌, ◌⊎◌, ◌≤◌, ◌<◌, ◌+◌, ◌-◌, ◌^◌, drop, false, length, take, true};
+ghost use Rattle.std.specs.Prelude.{◌≡◌, ◌≢◌, ◌↔◌, ◌⊎◌, ◌≤◌, ◌<◌, ◌+◌, ◌-◌, ◌^◌, IsUtf8, None, drop, false, length, take, true};
 ghost use Rattle.influxdb_line_protocol.specs.code.Rules.{rules_of};
 ghost use Rattle.influxdb_line_protocol.specs.code.SpelledParts.{spelled_fault};
 ghost use Rattle.influxdb_line_protocol.specs.format.Lines.{answer};
@@ -8,7 +8,7 @@ ghost use Rattle.lp_events.specs.code.Stops.{IsStopOf, reading_stop};
 ghost use Rattle.lp_page.specs.Crossing.{dialect_of, fault_seen};
 ghost use Rattle.lp_page.specs.Numbers.{IsNoDialect, answer_number, fault_number, side_number};
 ghost use Rattle.lp_page.specs.Offsets.{IsLineIn};
-ghost use Rattle.lp_page.specs.OffsetBlocks.{AnswersRow, HasNoFault, HasNoLine, IsItemIn, IsPlaced, IsSeenOf, PutsRow, ReadsOffsets, ReadsRow, ReadsRows, block_answer, came_number, has_row, in_32, is_too_much, own_of, timestamp_in};
+ghost use Rattle.lp_page.specs.OffsetBlocks.{AnswersRow, HasNoFault, HasNoLine, HasNoTime, IsItemIn, IsNoTextAt, IsPlaced, IsSeenOf, PutsRow, ReadsOffsets, ReadsRow, ReadsRows, block_answer, came_number, has_row, in_32, is_too_much, own_of, piece_in, timestamp_in};
 ghost use Rattle.lp_page.specs.Rooms.{Grows};
 ghost use Rattle.lp_page.specs.declared.offsets.Came.TheVariants as Came;
 ghost use Rattle.lp_page.specs.declared.views.Answer.TheVariants as Answer;
@@ -38,9 +38,9 @@ pub struct OffsetRow {
     pub piece: Span,
     /// Where the measurement lies.
     pub measurement: Span,
-    /// Where the line begins in the text, after the blanks and comments of its piece.
+    /// Where the line begins in the text, after the blanks and comments of its piece. If the piece is not UTF-8, where that begins.
     pub line_at: u32,
-    /// Where reading it stopped: where it ends, if it was read.
+    /// Where in the text reading it stopped: where it ends, if it was read. If the piece is not UTF-8, its first byte with which it is none.
     pub stop_at: u32,
     /// How many parts those before it have.
     pub parts_at: u32,
@@ -161,6 +161,7 @@ fn show_need(row: &mut OffsetRow, tags: usize, fields: usize, room_len: usize)
 #[inline(always)]
 fn show_time(row: &mut OffsetRow, timestamp: Option<i64>)
     ensures time { timestamp_in row.new ≡ timestamp }
+    ensures none { timestamp ≡ None → HasNoTime row.new }
     ensures others { row.new ≡ record row.old { timestamp = row.new.timestamp; has_timestamp = row.new.has_timestamp } }
 {
     match timestamp {
@@ -255,6 +256,7 @@ fn begun_row(piece: Piece, line: u64, parts: usize) -> OffsetRow
     requires { (piece.at < 2 ^ 32) × (piece.len < 2 ^ 32) × (parts < 2 ^ 32) }
     ensures placed { IsPlaced piece line parts result }
     ensures shows { HasNoFault result × HasNoLine result }
+    ensures begins { result.line_at ≡ piece.at }
 {
     OffsetRow {
         line,
@@ -277,6 +279,23 @@ fn begun_row(piece: Piece, line: u64, parts: usize) -> OffsetRow
         side: 0,
         measurement_copied: 0,
         has_timestamp: 0,
+    }
+}
+
+// Shows that a piece is not UTF-8, and its first byte with which it is none.
+#[cold]
+#[inline(never)]
+fn show_no_text(text: &[u8], piece: Piece, row: &mut OffsetRow)
+    requires text { length text.now < 2 ^ 32 }
+    requires piece { piece.at + piece.len ≤ length text.now }
+    requires bytes { ¬ IsUtf8 (piece_in text.now piece) }
+    requires begun { row.old.line_at ≡ piece.at }
+    ensures shows { IsNoTextAt text.now piece row.new }
+    ensures answer { row.new ≡ record row.old { answer = came_number Came.NotUtf8; stop_at = row.new.stop_at } }
+{
+    row.answer = Came::NotUtf8.number();
+    if let Err(error) = str::from_utf8(&text[piece.at..piece.at + piece.len]) {
+        row.stop_at = in_32(piece.at + error.valid_up_to());
     }
 }
 
@@ -310,7 +329,7 @@ fn put_row(
 {
     *row = begun_row(piece, number, before);
     let Some(line) = item else {
-        row.answer = Came::NotUtf8.number();
+        show_no_text(text, piece, row);
         return (Came::NotUtf8, 0, used);
     };
     let end = piece.at + piece.len;

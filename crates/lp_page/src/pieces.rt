@@ -22,7 +22,7 @@ pub(crate) struct Piece {
     pub(crate) len: usize,
     /// Where the next one begins, or the text ends.
     pub(crate) next: usize,
-    /// How many newlines it holds.
+    /// How many newlines it holds, with the one that ends it, if one does.
     pub(crate) newlines: usize,
 }
 
@@ -88,7 +88,7 @@ fn piece_at(
                 at,
                 len: cut.at,
                 next,
-                newlines: newlines_before(rest, cut),
+                newlines: newlines_before(rest, cut) + 1,
             })
         }
         None if last && at < text.len() => Some(Piece {
@@ -106,14 +106,11 @@ fn piece_at(
 pub(crate) fn pass(spot: &mut Spot, piece: Piece)
     ensures { spot.new ≡ record {
       at = piece.next;
-      line = min (spot.old.line + piece.newlines + 1) (2 ^ 64 - 1);
+      line = min (spot.old.line + piece.newlines) (2 ^ 64 - 1);
     } }
 {
     spot.at = piece.next;
-    spot.line = spot
-        .line
-        .saturating_add(piece.newlines as u64)
-        .saturating_add(1);
+    spot.line = spot.line.saturating_add(piece.newlines as u64);
 }
 
 // The next piece that is not blank, and its line, if it is UTF-8. Those before it are passed. So many are asked for, and so many of

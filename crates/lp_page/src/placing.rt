@@ -99,7 +99,7 @@ fn tell_line<'l, 'a>(dialect: Dialect, placing: &mut Placing<'l, 'a>) -> Option<
     ensures bound { length placing.old.room.now < 2 ^ 32 → (read : Line) → answer (rules_of dialect) placing.old.line.line.now ≡ Ok read
         → placing.new.used ≤ placing.old.used + texts_len read }
     ensures told { ToldAnswer (answer (rules_of dialect) placing.old.line.line.now) placing.new.fault placing.old.line.text.now
-        placing.new.parts.now placing.new.room.now (told_of placing.new) }
+        placing.new.parts.now placing.new.room.now placing.old.used (told_of placing.new) }
     ensures stop { IsStopOf (rules_of dialect) placing.old.line.line.now result }
 {
     read_placed_events(dialect, placing.line.line, placing)
@@ -127,7 +127,7 @@ pub(crate) fn put_told<'a>(
     ensures grows { Grows room.old used room.new result.0.used }
     ensures bound { length room.old < 2 ^ 32 → (read : Line) → answer (rules_of dialect) line.entry.line.now ≡ Ok read
         → result.0.used ≤ used + texts_len read }
-    ensures told { ToldAnswer (answer (rules_of dialect) line.entry.line.now) result.0.fault line.entry.text.now parts.new room.new result.0 }
+    ensures told { ToldAnswer (answer (rules_of dialect) line.entry.line.now) result.0.fault line.entry.text.now parts.new room.new used result.0 }
     ensures stop { IsStopOf (rules_of dialect) line.entry.line.now result.1 }
 {
     let mut placing = Placing {

@@ -26,7 +26,7 @@ returns-then-not-is_too_much-clause-reads c =
         own = take put.result.1 put.new.parts;
         parts_are = own_after c.args.filled.now.parts put.result.1 _ c.args.parts.now put.new.parts c.requires.parts.1 put.ensures.fits;
         shows = puts_shows (rules_of c.args.dialect) text piece put.result.0 _ _ put.new.room c.args.filled.now.room put.result.2 put.new.row put.ensures.puts fits;
-        after = c.pass.ensures ∙ ap (λ n. record { at = piece.next; line = min (spot.line + n + 1) (2 ^ 64 - 1) }) gives.2;
+        after = c.pass.ensures ∙ ap (λ n. record { at = piece.next; line = min (spot.line + n) (2 ^ 64 - 1) }) gives.2;
       };
       passes = λ no. absurd (false≢true (sym no ∙ ap not fits));
     }

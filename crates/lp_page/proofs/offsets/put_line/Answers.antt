@@ -12,4 +12,5 @@ returns-clause-answers c =
     c.args.used _ told.ensures.told c.in_default.is (omega (arith, c.if-parts-told.false, c.if-parts-told-2.false))
     (ap (λ (r : OffsetRow). r.tags) c.show_time.ensures.others) (ap (λ (r : OffsetRow). r.fields) c.show_time.ensures.others)
     (ap (λ (r : OffsetRow). r.measurement) c.show_time.ensures.others) (ap (λ (r : OffsetRow). r.measurement_copied) c.show_time.ensures.others)
-    c.show_time.ensures.time
+    c.show_time.ensures.time c.show_time.ensures.none (omega (arith, c.if-room-told.false))
+    (omega (arith, ap (λ (r : OffsetRow). r.room_len) c.show_time.ensures.others))

@@ -21,6 +21,7 @@ returns-then-place-self-clause-takes c =
           part = put.result.0;
           put = ap (λ n. slice_set c.args.self.now.parts.now n put.result.0) (grind arith);
           shows = put.ensures.shows;
+          takes = put.ensures.takes;
         };
       };
     }
