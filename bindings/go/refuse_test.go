@@ -40,41 +40,62 @@ func heavy() string {
 	return text.String()
 }
 
-// No verdict and no key is another one where memory was refused: it is an error, and comes once there is memory.
+// No verdict and no key is another one where memory was refused: it is an error, and comes once there is memory. They are asked for of each
+// line, or of those alone that take memory.
 func TestRefusedRows(t *testing.T) {
 	text := []byte(heavy())
-	for _, dialect := range []Dialect{Strict, NewlineDelimited} {
-		d, failures := NewDecoderWithBytes(nil), 0
-		d.SetDialect(dialect)
+	for _, of := range []struct {
+		dialect Dialect
+		all     bool
+	}{{Strict, true}, {NewlineDelimited, true}, {Strict, false}} {
+		d, verdicts, keys := NewDecoderWithBytes(nil), 0, 0
+		d.SetDialect(of.dialect)
 		eachRefused(t, func() {
 			for d.ResetBytes(text); d.Next(); {
-				wanted, series := Verdict(1<<ClauseUnsigned), "xm,a=1"
-				if bytes.HasPrefix(d.Raw(), []byte("m,b")) {
-					wanted |= 1 << ClauseRepeatedField
-					series = "xm,a=2,b" + string(d.Raw()[3:9]) + "=1,c=3,d=4,e=5,f=6,g=7,h=8,i=9,j=10"
-				}
-				verdict, err := d.Verdict()
-				if err == errMemory {
-					failures++
-					verdict, err = d.Verdict()
-				}
-				if verdict != wanted || err != nil {
-					t.Fatalf("%q: %d, and not %d: %v", d.Raw(), verdict, wanted, err)
-				}
-				key, err := d.AppendSeriesKey([]byte("x"))
-				if err == errMemory && string(key) == "x" {
-					failures++
-					key, err = d.AppendSeriesKey(key)
-				}
-				if string(key) != series || err != nil {
-					t.Fatalf("%q: %q, and not %q: %v", d.Raw(), key, series, err)
+				isHeavy := bytes.HasPrefix(d.Raw(), []byte("m,b"))
+				if isHeavy || of.all {
+					verdicts, keys = verdicts+tellsVerdict(t, d, isHeavy), keys+tellsKey(t, d, isHeavy)
 				}
 			}
 		})
-		if failures == 0 {
-			t.Error("nothing fails")
+		if keys == 0 || verdicts == 0 && !of.all {
+			t.Errorf("%d keys and %d verdicts fail", keys, verdicts)
 		}
 	}
+}
+
+// tellsVerdict sees that the verdict of a line is right. It gives 1 if that failed once.
+func tellsVerdict(t *testing.T, d *Decoder, isHeavy bool) (failed int) {
+	wanted := Verdict(1 << ClauseUnsigned)
+	if isHeavy {
+		wanted |= 1 << ClauseRepeatedField
+	}
+	verdict, err := d.Verdict()
+	if err == errMemory {
+		failed = 1
+		verdict, err = d.Verdict()
+	}
+	if verdict != wanted || err != nil {
+		t.Fatalf("%q: %d, and not %d: %v", d.Raw(), verdict, wanted, err)
+	}
+	return failed
+}
+
+// tellsKey does so of the key, which is appended to a text that stays.
+func tellsKey(t *testing.T, d *Decoder, isHeavy bool) (failed int) {
+	wanted := "xm,a=1"
+	if isHeavy {
+		wanted = "xm,a=2,b" + string(d.Raw()[3:9]) + "=1,c=3,d=4,e=5,f=6,g=7,h=8,i=9,j=10"
+	}
+	key, err := d.AppendSeriesKey([]byte("x"))
+	if err == errMemory && string(key) == "x" {
+		failed = 1
+		key, err = d.AppendSeriesKey(key)
+	}
+	if string(key) != wanted || err != nil {
+		t.Fatalf("%q: %q, and not %q: %v", d.Raw(), key, wanted, err)
+	}
+	return failed
 }
 
 // Where memory was refused for a line, it is not written, and Err says so; the others are.
