@@ -16,8 +16,8 @@ if [ $# = 0 ]; then
 fi
 cp "$archive" "$built/liblp_c.a"
 # The parser is found where Debian has it, by Go without modules.
-mkdir -p "$built/path/src/influxdb_line_protocol" "$built/path/src/golang"
-cp -r "$top/bindings/go" "$built/path/src/influxdb_line_protocol/lineprotocol"
+mkdir -p "$built/path/src/yomskafi.example/lineprotocol" "$built/path/src/golang"
+cp -r "$top/bindings/go" "$built/path/src/yomskafi.example/lineprotocol/v3"
 cp "$here/golang/main.go" "$built/path/src/golang/"
 export GO111MODULE=off GOPATH=$built/path:/usr/share/gocode:/usr/local/share/gocode GOCACHE=$built/cache GOMAXPROCS=1
 export CGO_CFLAGS="-O2 -I$top/include -I$top/bindings/c" CGO_LDFLAGS="-L$built"

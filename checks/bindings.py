@@ -1,8 +1,8 @@
 #!/usr/bin/env python3
 """Whether the packages in Rust and Python declare the numbers, structs and calls that they use as
-include/influxdb_line_protocol.h has them; and whether these and the package in Go have its clauses in their order, with their words, and
-the bits of each server. What a package does not use, or includes from the header, it need not declare. The table of clauses in
-docs/FORMAT.md has them too, and how the faults of lp_relay name them.
+include/influxdb_line_protocol.h has them; and whether these and the packages in Go and JavaScript have its clauses by their names, in their order,
+with their words, and the bits of each server. What a package does not use, or includes from the header, it need not declare. The table of clauses
+in docs/FORMAT.md has them too, and how the faults of lp_relay name them.
 
     checks/bindings.py          prints each difference; status 1 where there is one
 """
@@ -15,6 +15,7 @@ from header import HEADER, SCALARS, TOP, WORDS, c_name, clauses_of_header, enume
 RUST = TOP / "bindings" / "rust" / "src" / "border.rs"
 PYTHON = TOP / "bindings" / "python" / "src" / "line_protocol"
 GO = TOP / "bindings" / "go" / "portable.go"
+JS = TOP / "bindings" / "js" / "core.js"
 
 
 def rust_type(kind):
@@ -68,18 +69,24 @@ def masks_in(text):
     return {name.lower(): int(mask, 16) for name, mask in re.findall(r"\bOF_(\w+?)(?:: u64)? = (0x\w+)", text.replace("_OF_", " OF_"))}
 
 
+def no_line_in(text):
+    """What is no line, where a package has its bit alone: it has no words."""
+    rows = re.findall(r"^(?:const )?_?([A-Z]\w*_LINE)(?:: u64)? = (\d+);?$", text, flags=re.M)
+    return [(enumerator(name), int(bit).bit_length() - 1, None) for name, bit in rows]
+
+
 def clauses_of_rust():
     """The clauses of the package, each with its place and its words; and the bits of each server."""
     text = (RUST.parent / "portable.rs").read_text(encoding="utf-8")
     rows = re.findall(r'^    (\w+) = (\d+), "(.*)";$', text, flags=re.M)
-    return [(enumerator(name), int(place), words) for name, place, words in rows], masks_in(text)
+    return no_line_in(text) + [(enumerator(name), int(place), words) for name, place, words in rows], masks_in(text)
 
 
 def clauses_of_python():
     """The same. There a clause has the place that it has in the dictionary, from 1 on."""
     text = (PYTHON / "portable.py").read_text(encoding="utf-8")
     rows = re.findall(r'^    "(\w+)": "(.*)",$', text, flags=re.M)
-    return [(enumerator(name), place, words) for place, (name, words) in enumerate(rows, 1)], masks_in(text)
+    return no_line_in(text) + [(enumerator(name), place, words) for place, (name, words) in enumerate(rows, 1)], masks_in(text)
 
 
 def clauses_of_go():
@@ -91,6 +98,13 @@ def clauses_of_go():
     return [(enumerator(name.removeprefix("Clause")), place, words.get(name)) for place, name in enumerate(names)], masks
 
 
+def clauses_of_javascript():
+    """The same. There a clause has the place that it has in the list, and names its servers."""
+    rows = re.findall(r'^    \["(\w+)", (BOTH|INFLUX1|VICTORIA), "(.*)"\],$', JS.read_text(encoding="utf-8"), flags=re.M)
+    masks = {server: sum(1 << place for place, (_, to, _) in enumerate(rows) if to in ("BOTH", server.upper())) for server in ("influx1", "victoria")}
+    return [(enumerator(name), place, words) for place, (name, _, words) in enumerate(rows)], masks
+
+
 def clauses_in_words():
     """The clauses of the header, each with its place and its words."""
     rows = re.findall(r"#define LP_CLAUSE_(\w+) +\(UINT64_C\(1\) << (\d+)\) +/\* (.*) \*/", HEADER.read_text(encoding="utf-8"))
@@ -98,11 +112,13 @@ def clauses_in_words():
 
 
 def clause_differences():
-    """Where a package has other clauses than the header, in words. Rust and Python have none for what is no line."""
+    """Where a package has other clauses than the header, in words. Rust and Python have no words for what is no line."""
     wanted, masks = clauses_in_words(), clauses_of_header()[1]
+    wordless = [(*wanted[0][:2], None), *wanted[1:]]
     if len(wanted) != len(clauses_of_header()[0]):
         yield "a clause of the header has no words"
-    packages = {"Rust": (clauses_of_rust(), wanted[1:]), "Python": (clauses_of_python(), wanted[1:]), "Go": (clauses_of_go(), wanted)}
+    packages = {"Rust": (clauses_of_rust(), wordless), "Python": (clauses_of_python(), wordless), "Go": (clauses_of_go(), wanted),
+                "JavaScript": (clauses_of_javascript(), wanted)}
     for package, ((clauses, its_masks), its_wanted) in packages.items():
         for one in sorted(set(clauses) ^ set(its_wanted), key=str):
             yield f"{package}: the clause {one} is not in both, the package and the header"
@@ -134,7 +150,7 @@ def main():
         return 1
     counts = "; ".join(
         "{} has {} enums, {} structs and {} calls".format(package, *map(len, given)) for package, given in packages.items())
-    print(f"bindings: {counts}, as the header has them; and these and Go have its {len(clauses_in_words())} clauses, docs/FORMAT.md too")
+    print(f"bindings: {counts}, as the header has them; and these, Go and JavaScript have its {len(clauses_in_words())} clauses, docs/FORMAT.md too")
     return 0
 
 

@@ -512,23 +512,23 @@ build_go() {
     fi
     mkdir "$work/go"
     tar -C "$work/go" -xzf "$work/one/influxdb-line-protocol-go-$version-x86_64-linux.tgz"
-    printf '%s\n' 'package main' 'import ("fmt"; "strings"; "influxdb_line_protocol/lineprotocol")' 'func main() {' \
+    printf '%s\n' 'package main' 'import ("fmt"; "strings"; "yomskafi.example/lineprotocol/v3")' 'func main() {' \
         'd := lineprotocol.NewDecoder(strings.NewReader("x\nm f=1i"))' \
         'for d.Next() { name, err := d.Measurement(); fmt.Printf("%s %v\n", name, err) } }' >"$work/go/main.go"
     printf 'module prog\n\ngo 1.19\n' >"$work/go/go.mod"
     export GOCACHE=$work/go/cache GOPATH=$work/go/path GOFLAGS=-modcacherw GOPROXY=off
     for how in "$module" "$top/bindings/go"; do
-        (cd "$work/go" && go mod edit -replace "influxdb_line_protocol/lineprotocol=$how" && go mod tidy && go build -o prog .) >"$work/log" 2>&1 ||
+        (cd "$work/go" && go mod edit -replace "yomskafi.example/lineprotocol/v3=$how" && go mod tidy && go build -o prog .) >"$work/log" 2>&1 ||
             fail "over $how no program in Go was built: $(cat "$work/log")"
         equal "what a program in Go prints" $' at line 1:2: A generic parsing error occurred: TakeWhile1\nm <nil>' "$(LD_LIBRARY_PATH=$prefix/lib "$work/go/prog")"
     done
     cp -R "$prefix/$documents/examples/endpoint" "$work/go"
-    (cd "$work/go/endpoint" && go mod edit -replace "influxdb_line_protocol/lineprotocol=$module" && go build -o endpoint .) >"$work/log" 2>&1 ||
+    (cd "$work/go/endpoint" && go mod edit -replace "yomskafi.example/lineprotocol/v3=$module" && go build -o endpoint .) >"$work/log" 2>&1 ||
         fail "the endpoint of the examples is not built over the packed module: $(cat "$work/log")"
     # A library of another version ends the program as it starts.
     cp -R "$module" "$work/go/other"
     make_other "$work/go/other/liblp_c.a"
-    (cd "$work/go" && go mod edit -replace "influxdb_line_protocol/lineprotocol=$work/go/other" && go build -o other_prog .) >"$work/log" 2>&1 ||
+    (cd "$work/go" && go mod edit -replace "yomskafi.example/lineprotocol/v3=$work/go/other" && go build -o other_prog .) >"$work/log" 2>&1 ||
         fail "over another version no program in Go was built: $(cat "$work/log")"
     ! "$work/go/other_prog" >"$work/out" 2>"$work/err" || fail "a program in Go runs over the library of another version"
     equal "what a program in Go says of another version" "panic: lineprotocol: the library is of version 2.1.0: this module needs one of version 3" \

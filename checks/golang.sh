@@ -28,8 +28,8 @@ golang_lacks() {
 # prepare_golang ARCHIVE [TAGS]: goes to the package, as it is to be run over the archive and with these build tags.
 prepare_golang() {
     cp "$1" "$built/liblp_c.a"
-    mkdir -p "$built/path/src/influxdb_line_protocol"
-    cp -r "$top/bindings/go" "$built/path/src/influxdb_line_protocol/lineprotocol"
+    mkdir -p "$built/path/src/yomskafi.example/lineprotocol"
+    cp -r "$top/bindings/go" "$built/path/src/yomskafi.example/lineprotocol/v3"
     cp -r "$here/golang" "$built/path/src/beside"
     export GO111MODULE=off GOFLAGS=-tags=lp_lib_dir${2:+,$2} GOPATH=$built/path:$sources GOCACHE=${GOCACHE:-$built/cache} CGO_ENABLED=1
     export CGO_CFLAGS="-O2 -I$top/include -I$top/bindings/c" CGO_LDFLAGS="-L$built" LP_TOP=$top

@@ -58,6 +58,7 @@ OTHERS = {
     r"[a-z]_[a-z]": "a database makes it of a measurement and a field",
     r"snafu|(snafu::)?ErrorCompat|BytesMut|Unpin": "it is of Rust",
     r"lzma|makefile|sys\.stdin\.buffer": "it is of Python",
+    r"yomskafi\.example/lineprotocol/v3|influxdb_line_protocol/lineprotocol": "the module in Go has this path, or had it",
     r"l/8": "it is of split",
     r"\d+/\d+|K/N": "it is a shard",
     r"mapreduce\..*|stream\..*|textinputformat\..*|RDD\.pipe|(whole)?[tT]ext(File|Files)": "it is of Hadoop or Spark",

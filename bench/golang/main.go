@@ -19,7 +19,7 @@ import (
 
 	"github.com/influxdata/influxdb/models"
 
-	"influxdb_line_protocol/lineprotocol"
+	"yomskafi.example/lineprotocol/v3"
 )
 
 const rounds = 9

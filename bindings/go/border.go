@@ -171,6 +171,9 @@ func (b *block) tellVerdicts(text []byte, at int) error {
 	return nil
 }
 
+// errChanged is of a line that is none any more.
+var errChanged = errors.New("lineprotocol: the bytes of the line were changed after Next, and are not UTF-8")
+
 // appendKey appends the key of the series of a row, which was read from this text.
 func (b *block) appendKey(dst, text []byte, row *C.lp_offset_row) ([]byte, error) {
 	for {
@@ -181,8 +184,10 @@ func (b *block) appendKey(dst, text []byte, row *C.lp_offset_row) ([]byte, error
 			return dst[:len(dst)+int(key.len)], nil
 		case C.LP_MORE_ROOM:
 			dst = append(dst, make([]byte, int(key.len))...)[:len(dst)]
-		default:
+		case C.LP_OUT_OF_MEMORY:
 			return dst, errMemory
+		default:
+			return dst, errChanged
 		}
 	}
 }

@@ -1,5 +1,6 @@
 // Package lineprotocol reads and writes InfluxDB line protocol by a proved library. Its names are those of
-// github.com/influxdata/line-protocol/v2/lineprotocol, so a program over that package changes its import.
+// github.com/influxdata/line-protocol/v2/lineprotocol, so a program over that package changes its import. It is imported as
+// yomskafi.example/lineprotocol/v3, and `go mod edit -replace` says in which folder it lies.
 //
 // What it does otherwise: a line is read as a whole, so a line with a fault gives none of its tags and fields, but the fault; each line
 // after it is read as ever. The parts of a line may be asked for in any order. Raw gives a line as it came, Fault its fault, AppendSeriesKey
@@ -15,6 +16,7 @@ package lineprotocol
 import "C"
 
 import (
+	"bufio"
 	"bytes"
 	"errors"
 	"fmt"
@@ -49,19 +51,32 @@ const (
 
 var units = [...]time.Duration{time.Nanosecond, time.Microsecond, time.Millisecond, time.Second}
 
-// Duration gives the unit as a duration.
+// Duration gives the unit as a duration. It panics if the precision is none of the four.
 func (p Precision) Duration() time.Duration { return units[p] }
 
-// ErrTimeRange is of a time that no int64 of nanoseconds holds. It is an ErrValueOutOfRange.
+// number gives how many units after 1970 a time is, rounded down. False: no int64 holds that.
+func (p Precision) number(at time.Time) (number int64, ok bool) {
+	unit := int64(p.Duration())
+	inSecond := int64(time.Second) / unit
+	seconds, rest := at.Unix(), int64(at.Nanosecond())/unit
+	number = seconds*inSecond + rest // the number of another time, if the product has more than 64 bits
+	back := time.Unix(number/inSecond, number%inSecond*unit)
+	return number, back.Unix() == seconds && int64(back.Nanosecond())/unit == rest
+}
+
+// ErrTimeRange is the error of a time that is out of range. Time of a Decoder gives it if no int64 of nanoseconds holds the time; EndLine of an
+// Encoder, if no int64 of the unit of its precision does. It is an ErrValueOutOfRange.
 var ErrTimeRange = fmt.Errorf("lineprotocol: the time is out of range: %w", ErrValueOutOfRange)
 
 // MaxLine is how many bytes a line may have that NewDecoder reads, if SetMaxLine says nothing else.
 const MaxLine = 16 << 20
 
-// A Decoder reads lines one after another: those of a reader, or of bytes.
+// A Decoder reads lines one after another: those of a reader, or of bytes. A zero Decoder is as NewDecoder(nil) makes it: it has nothing to
+// read, so Next gives false, and Err says why. Reset and ResetBytes give it something to read.
 type Decoder struct {
 	reader  io.Reader
 	err     error
+	failed  error // of the reader: err, once the lines that came before it are read
 	dialect Dialect
 	most    int
 	// The bytes from at to end are not read yet; the first of them is in this line.
@@ -89,15 +104,24 @@ type Decoder struct {
 	search  search
 }
 
-// NewDecoder makes a decoder that reads r to its end, in blocks. Lines have MaxLine bytes at most.
+// NewDecoder makes a decoder that reads r to its end, in blocks. Lines have MaxLine bytes at most. If r is nil, there is nothing to read until
+// Reset or ResetBytes is called: Next gives false, and Err an error.
 func NewDecoder(r io.Reader) *Decoder {
-	d := &Decoder{most: MaxLine, block: newBlock()}
+	d := new(Decoder)
 	d.Reset(r)
 	return d
 }
 
+// ready gives a zero decoder its memory and its limits.
+func (d *Decoder) ready() {
+	if d.block.rows == nil {
+		d.most, d.block = MaxLine, newBlock()
+	}
+}
+
 // Reset begins anew with another reader, in the memory that the decoder has, by its dialect, its limits and its greatest length of a line.
 func (d *Decoder) Reset(r io.Reader) {
+	d.ready()
 	buf := d.buf
 	if d.reader == nil {
 		buf = make([]byte, 64<<10)
@@ -107,13 +131,15 @@ func (d *Decoder) Reset(r io.Reader) {
 
 // NewDecoderWithBytes makes a decoder that reads buf in place. It must stay as it is until all was read. No line is too long.
 func NewDecoderWithBytes(buf []byte) *Decoder {
-	d := &Decoder{most: math.MaxInt, block: newBlock()}
+	d := new(Decoder)
 	d.ResetBytes(buf)
+	d.most = math.MaxInt
 	return d
 }
 
 // ResetBytes begins anew with other bytes, in the memory that the decoder has, by its dialect, its limits and its greatest length of a line.
 func (d *Decoder) ResetBytes(buf []byte) {
+	d.ready()
 	*d = Decoder{dialect: d.dialect, most: d.most, line: 1, buf: buf, end: len(buf), ended: true, block: d.block, row: -1, spelled: d.spelled}
 }
 
@@ -122,13 +148,15 @@ func (d *Decoder) SetDialect(dialect Dialect) { d.dialect = dialect }
 
 // SetMaxLine says how many bytes a line may have, its newline left out. A longer one is a fault, told as soon as more bytes have come.
 func (d *Decoder) SetMaxLine(most int) {
+	d.ready()
 	if most < 0 {
 		most = 0
 	}
 	d.most = most
 }
 
-// Err gives the error of the reader, if there was one. Then Next gave false.
+// Err gives the error of the reader, if there was one, after Next gave false. Next gives all lines first that came whole before the error, with
+// their newlines. It gives no line of which a part came: the rest might have changed it. No line comes after an error, until Reset.
 func (d *Decoder) Err() error { return d.err }
 
 // Next goes to the next line, also to one that has a fault. False: there is none, or the reader failed, as Err says.
@@ -184,13 +212,16 @@ func (d *Decoder) passBlanks(end int) bool {
 
 // tell tells of a piece that is too long, which begins in this line.
 func (d *Decoder) tell(piece []byte, line uint64) {
-	d.front = piece[:d.most]
+	d.front = piece[:d.most:d.most]
 	d.fault = &DecodeError{Line: int64(line), Column: 1, Kind: TooLong, Err: tooLong}
 }
 
 // fill reads a block of lines, or finds one that is too long. False: no line is left.
 func (d *Decoder) fill() bool {
 	d.row, d.rows, d.next, d.taken = -1, 0, 0, 0
+	if d.reader == nil && !d.ended {
+		d.err = errNoInput
+	}
 	if d.passing {
 		d.pass()
 	}
@@ -268,8 +299,13 @@ func (d *Decoder) take(text []byte) {
 
 var newline = []byte{'\n'}
 
-// more reads more bytes, after those that are not read yet. The buffer grows if they fill it.
+// more reads more bytes, after those that are not read yet. The buffer grows if they fill it. If the reader fails, the bytes that came with its
+// error are read first: the error is told in the place of more.
 func (d *Decoder) more() {
+	if d.failed != nil {
+		d.err = d.failed
+		return
+	}
 	if d.at > 0 {
 		d.end = copy(d.buf, d.buf[d.at:d.end])
 		d.at = 0
@@ -281,16 +317,17 @@ func (d *Decoder) more() {
 	}
 	for tries := 0; tries < 100; tries++ {
 		n, err := d.reader.Read(d.buf[d.end:])
+		if n < 0 || n > len(d.buf)-d.end {
+			d.err = bufio.ErrBadReadCount
+			return
+		}
 		d.end += n
 		if err == io.EOF {
 			d.ended = true
 			return
 		}
-		if err != nil {
-			d.err = err
-			return
-		}
-		if n > 0 {
+		d.failed = err
+		if err != nil || n > 0 {
 			return
 		}
 	}
@@ -300,16 +337,13 @@ func (d *Decoder) more() {
 // faultOf makes the fault of a row.
 func (d *Decoder) faultOf(row *C.lp_offset_row) *DecodeError {
 	piece := d.view(row.piece, 0)
-	fault := &DecodeError{Line: int64(row.line), Column: 1}
-	switch {
-	case len(piece) > d.most:
-		fault.Kind, fault.Err = TooLong, tooLong
-	case row.answer == C.LP_NOT_UTF8:
-		fault.Kind, fault.Err = NotUTF8, notUTF8
-	default:
-		before := piece[:row.stop_at-row.piece.at]
-		fault.Line += int64(bytes.Count(before, newline))
-		fault.Column = len(before) - bytes.LastIndexByte(before, '\n')
+	if len(piece) > d.most {
+		return &DecodeError{Line: int64(row.line), Column: 1, Kind: TooLong, Err: tooLong}
+	}
+	before := piece[:row.stop_at-row.piece.at]
+	fault := &DecodeError{Line: int64(row.line) + int64(bytes.Count(before, newline)), Kind: NotUTF8, Err: notUTF8}
+	fault.Column = len(before) - bytes.LastIndexByte(before, '\n')
+	if row.answer != C.LP_NOT_UTF8 {
 		fault.Kind, fault.Err = faultKinds[row.fault], faultText{append([]byte(nil), piece...), d.dialect}
 	}
 	return fault
@@ -328,15 +362,22 @@ func (d *Decoder) current() (*C.lp_offset_row, error) {
 	if d.fault != nil {
 		return nil, d.fault
 	}
-	if d.row < 0 {
+	if !d.hasRow() {
 		return nil, errNoLine
 	}
 	return &d.block.rows[d.row], nil
 }
 
-var errNoLine = errors.New("lineprotocol: Next gave no line")
+// hasRow tells whether Next gave a row.
+func (d *Decoder) hasRow() bool { return 0 <= d.row && d.row < d.rows }
 
-// Fault gives the fault of this line, or nil if it has none.
+var (
+	errNoLine  = errors.New("lineprotocol: Next gave no line")
+	errNoInput = errors.New("lineprotocol: the decoder has no reader and no bytes")
+)
+
+// Fault gives the fault of this line, or nil if it has none. Compare it with nil before you assign it to an error: an error that holds a nil
+// *DecodeError is not nil. A fault stays as it is after Next.
 func (d *Decoder) Fault() *DecodeError { return d.fault }
 
 // Raw gives this line as it came, with the blanks and comments before it, and without the newline that ends it: of one that is too long
@@ -345,12 +386,12 @@ func (d *Decoder) Raw() []byte {
 	if d.front != nil {
 		return d.front
 	}
-	if d.row < 0 {
+	if !d.hasRow() {
 		return nil
 	}
 	raw := d.view(d.block.rows[d.row].piece, 0)
 	if len(raw) > d.most {
-		raw = raw[:d.most]
+		raw = raw[:d.most:d.most]
 	}
 	return raw
 }
@@ -360,7 +401,7 @@ func (d *Decoder) Line() int64 {
 	if d.front != nil {
 		return d.fault.Line
 	}
-	if d.row < 0 {
+	if !d.hasRow() {
 		return 0
 	}
 	return int64(d.block.rows[d.row].line)
@@ -380,9 +421,9 @@ func (d *Decoder) Measurement() ([]byte, error) {
 // stay in their order. Two lines have the same key exactly if they have the same measurement and, for each tag key, the same values in the
 // same order; if each name is one that an Encoder writes, the key reads back as the series. So a map by keys groups lines by series.
 //
-// It gives the fault of the line, if it has one, or an error if Next gave no line or memory was refused; dst then comes back as it was. It may
-// be called at any time before the next call of Next, and moves neither NextTag nor NextField. dst must share no memory with the text that is
-// read.
+// It gives the fault of the line, if it has one, or an error if Next gave no line, if memory was refused, or if you changed bytes of the line
+// after Next so that they are not UTF-8; dst then comes back as it was. It may be called at any time before the next call of Next, and moves
+// neither NextTag nor NextField. dst must share no memory with the text that is read.
 //
 // A key that stands in the line as it is is copied from there: one call of the library finds these keys of many lines, if most are asked for.
 // Any other key is a call of its own. Its time goes by the length of the key, and by a sort of the tags that are out of order. No memory of
@@ -487,7 +528,7 @@ func (d *Decoder) TimeBytes() ([]byte, error) {
 }
 
 // Time gives the time of the line, whose number is of this precision, or defaultTime if it has none. Else it gives the fault of the line,
-// or ErrTimeRange.
+// or ErrTimeRange if no int64 of nanoseconds holds the time. Each time of the years 1678 to 2261 is held. Timestamp gives the number of any time.
 func (d *Decoder) Time(prec Precision, defaultTime time.Time) (time.Time, error) {
 	row, err := d.current()
 	if err != nil {

@@ -6,6 +6,7 @@ import "C"
 import (
 	"errors"
 	"fmt"
+	"math"
 	"strconv"
 	"time"
 )
@@ -14,12 +15,19 @@ import (
 var (
 	// ErrNotAdmitted is of a line that would not read back: a name is empty, holds a tab or a newline, or ends in a backslash.
 	ErrNotAdmitted = errors.New("lineprotocol: the line would not read back")
-	// ErrNotALine is of a line that is none: it has no field, or a text that is not UTF-8.
-	ErrNotALine = errors.New("lineprotocol: no line: it has no field, or a text that is not UTF-8")
+	// ErrNotALine is of a line that is none. The words of the error say why: the line has no field, a text of it is not UTF-8, a field is NaN,
+	// infinite or a zero Value, or all texts have 2 GiB or more.
+	ErrNotALine = errors.New("lineprotocol: no line")
 	// ErrOrder is of a call out of its order: StartLine, AddTag, AddField, EndLine.
 	ErrOrder = errors.New("lineprotocol: a call out of its order")
 	// ErrTagOrder is of a tag whose key does not come after that of the tag before it.
 	ErrTagOrder = errors.New("lineprotocol: a tag out of its order")
+)
+
+var (
+	errNoField = fmt.Errorf("%w: it has no field", ErrNotALine)
+	errNotUTF8 = fmt.Errorf("%w: a text is not UTF-8", ErrNotALine)
+	errTooLong = fmt.Errorf("%w: its texts have 2 GiB or more", ErrNotALine)
 )
 
 // An EncodeError says which line is not written, and why. The others are written.
@@ -46,12 +54,12 @@ const (
 )
 
 // An Encoder writes lines. A line that would not read back as it was given is not written, and Err says so; the others are. Lines are
-// gathered, and one call of the library writes many: Bytes and Err see to it that all that were ended are written.
+// gathered, and one call of the library writes many: Bytes and Err see to it that all that were ended are written, also amid a line.
 type Encoder struct {
 	dialect Dialect
 	prec    Precision
 	lax     bool
-	err     error
+	err     *EncodeError
 	state   state
 	// The line that is begun: its number, where its text and its parts begin, and the key of its last tag.
 	number   int64
@@ -72,8 +80,14 @@ func (e *Encoder) SetPrecision(prec Precision) { e.prec = prec }
 // SetLax says whether tags may come in any order. If not, which is so at first, each key comes after the one before it.
 func (e *Encoder) SetLax(lax bool) { e.lax = lax }
 
-// Err gives the error of the first line that was not written, if there is one.
-func (e *Encoder) Err() error { e.flush(); return e.err }
+// Err gives the error of the first line that was not written, an *EncodeError, or nil if there is none.
+func (e *Encoder) Err() error {
+	e.flush()
+	if e.err == nil {
+		return nil
+	}
+	return e.err
+}
 
 // ClearErr lets the error go.
 func (e *Encoder) ClearErr() { e.flush(); e.err = nil }
@@ -98,9 +112,9 @@ func (e *Encoder) fail(err error) {
 	e.state = dropped
 }
 
-// refuse keeps the first error.
+// refuse keeps the error of the first line. That of a line which the library refuses is known later than that of a call out of its order.
 func (e *Encoder) refuse(number int64, err error) {
-	if e.err == nil {
+	if e.err == nil || number < e.err.Line {
 		e.err = &EncodeError{number, err}
 	}
 }
@@ -117,7 +131,7 @@ func (e *Encoder) StartLineRaw(measurement []byte) {
 		e.flush()
 	}
 	e.number++
-	e.texts, e.at, e.state = len(e.gathered.texts), len(e.gathered.parts), tags
+	e.texts, e.at, e.state, e.gathered.over = len(e.gathered.texts), len(e.gathered.parts), tags, false
 	e.row = C.lp_offset_row{line: C.uint64_t(e.number), parts_at: C.uint32_t(e.at)}
 	e.row.measurement = e.gathered.text(measurement)
 }
@@ -141,7 +155,8 @@ func (e *Encoder) AddTagRaw(key, value []byte) {
 	e.row.tags++
 }
 
-// AddField adds a field.
+// AddField adds a field. If its value is NaN, infinite or a zero Value, of which NewValue and FloatValue say false, the line is not written:
+// ErrNotALine.
 func (e *Encoder) AddField(key string, value Value) { e.AddFieldRaw(bytesOf(key), value) }
 
 // AddFieldRaw does so of bytes.
@@ -162,11 +177,15 @@ func (e *Encoder) AddFieldRaw(key []byte, value Value) {
 	case String:
 		part.kind, part.text = C.LP_STRING, g.text(value.bytes)
 	case Float:
-		at := len(g.texts)
-		g.texts = strconv.AppendFloat(g.texts, value.FloatV(), 'g', -1, 64)
-		part.kind, part.text = C.LP_FLOAT, span(at, len(g.texts)-at)
+		number := value.FloatV()
+		if math.IsNaN(number) || math.IsInf(number, 0) {
+			e.fail(fmt.Errorf("%w: the field %q is %v", ErrNotALine, string(key), number))
+			return
+		}
+		var literal [32]byte
+		part.kind, part.text = C.LP_FLOAT, g.text(strconv.AppendFloat(literal[:0], number, 'g', -1, 64))
 	default:
-		e.fail(ErrNotALine)
+		e.fail(fmt.Errorf("%w: the field %q is a zero Value", ErrNotALine, string(key)))
 		return
 	}
 	g.parts = append(g.parts, part)
@@ -174,25 +193,27 @@ func (e *Encoder) AddFieldRaw(key []byte, value Value) {
 	e.state = fields
 }
 
-// EndLine ends a line, at a time, or without one if that is zero.
+// EndLine ends a line, at a time, or without one if at.IsZero(). The line has the time as a number in the unit of SetPrecision, rounded down,
+// as at.Unix() is: half a second before 1970 is -1 in seconds. The line is not written, and Err says why, if no int64 holds the number
+// (ErrTimeRange), if the line has no field (ErrNotALine), or if no line was begun (ErrOrder). Each time of the years 1678 to 2261 can be written in
+// nanoseconds, and any of the years 0 to 9999 in a greater unit.
 func (e *Encoder) EndLine(at time.Time) {
-	if at.IsZero() {
-		e.end(false, 0)
-		return
-	}
-	e.end(true, at.UnixNano()/int64(e.prec.Duration()))
-}
-
-func (e *Encoder) end(has bool, number int64) {
-	if e.state != fields {
+	number, ok := e.prec.number(at)
+	switch {
+	case e.state == between:
 		e.outOfOrder()
-		e.state = between
-		return
+	case e.state == tags:
+		e.fail(errNoField)
+	case e.state == fields && e.gathered.over:
+		e.fail(errTooLong)
+	case e.state == fields && !ok && !at.IsZero():
+		e.fail(fmt.Errorf("%w: %s in units of %v", ErrTimeRange, at.UTC().Format(time.RFC3339Nano), e.prec.Duration()))
+	case e.state == fields:
+		if !at.IsZero() {
+			e.row.timestamp, e.row.has_timestamp = C.int64_t(number), 1
+		}
+		e.gathered.rows = append(e.gathered.rows, e.row)
 	}
-	if has {
-		e.row.timestamp, e.row.has_timestamp = C.int64_t(number), 1
-	}
-	e.gathered.rows = append(e.gathered.rows, e.row)
 	e.state = between
 }
 
@@ -200,6 +221,7 @@ func (e *Encoder) end(has bool, number int64) {
 func (e *Encoder) outOfOrder() {
 	switch e.state {
 	case between:
+		e.flush()
 		e.refuse(e.number, ErrOrder)
 	case tags, fields:
 		e.fail(ErrOrder)
@@ -211,7 +233,7 @@ type gathered struct {
 	texts []byte
 	rows  []C.lp_offset_row
 	parts []C.lp_offset_part
-	// Whether a text found no place, since 32 bits do not hold where it would lie.
+	// Whether a text of the line that is begun found no place, since 32 bits do not hold where it would lie.
 	over bool
 }
 
@@ -223,7 +245,7 @@ const (
 func (g *gathered) isFull() bool { return len(g.rows) >= mostRows || len(g.texts) >= mostTexts }
 
 func (g *gathered) clear() {
-	g.texts, g.rows, g.parts, g.over = g.texts[:0], g.rows[:0], g.parts[:0], false
+	g.texts, g.rows, g.parts = g.texts[:0], g.rows[:0], g.parts[:0]
 }
 
 func span(at, length int) C.lp_span { return C.lp_span{at: C.uint32_t(at), len: C.uint32_t(length)} }
@@ -270,7 +292,7 @@ func (e *Encoder) flush() {
 	}
 }
 
-var writeErrors = map[C.uint32_t]error{C.LP_NOT_ADMITTED: ErrNotAdmitted, C.LP_NOT_A_LINE: ErrNotALine, C.LP_OUT_OF_MEMORY: errMemory}
+var writeErrors = map[C.uint32_t]error{C.LP_NOT_ADMITTED: ErrNotAdmitted, C.LP_NOT_A_LINE: errNotUTF8, C.LP_OUT_OF_MEMORY: errMemory}
 
 var errMemory = errors.New("lineprotocol: a request for memory was refused")
 

@@ -5,7 +5,9 @@ import (
 	"errors"
 	"math"
 	"reflect"
+	"strconv"
 	"strings"
+	"syscall"
 	"testing"
 	"time"
 )
@@ -64,7 +66,9 @@ func TestEncoderRefuses(t *testing.T) {
 			e.AddField("f", Value{kind: Float, number: math.Float64bits(math.NaN())})
 			e.EndLine(time.Time{})
 		}},
-		{ErrOrder, func(e *Encoder) { e.StartLine("m"); e.EndLine(time.Time{}) }},
+		{ErrNotALine, func(e *Encoder) { e.StartLine("m"); e.EndLine(time.Time{}) }},
+		{ErrNotALine, func(e *Encoder) { e.StartLine("m"); e.AddTag("k", "v"); e.EndLine(time.Unix(0, 1)) }},
+		{ErrOrder, func(e *Encoder) { e.StartLine("m") }},
 		{ErrOrder, func(e *Encoder) { e.StartLine("m"); e.AddField("f", one); e.AddTag("k", "v"); e.EndLine(time.Time{}) }},
 		{ErrOrder, func(e *Encoder) { e.StartLine("m"); e.AddField("f", one) }},
 		{ErrTagOrder, func(e *Encoder) {
@@ -93,7 +97,7 @@ func TestEncoderRefuses(t *testing.T) {
 		row.make(&e)
 		good("last")
 		var why *EncodeError
-		if got := string(e.Bytes()); got != "first,k=v f=1i\nlast,k=v f=1i\n" || !errors.As(e.Err(), &why) || why.Line != 2 || why.Err != row.err {
+		if got := string(e.Bytes()); got != "first,k=v f=1i\nlast,k=v f=1i\n" || !errors.As(e.Err(), &why) || why.Line != 2 || !errors.Is(why, row.err) {
 			t.Errorf("%v: %q, %v", row.err, got, e.Err())
 		}
 		e.ClearErr()
@@ -142,6 +146,163 @@ func TestEncoderTimes(t *testing.T) {
 		e.EndLine(at)
 		if got := string(e.Bytes()); got != "m f=1i "+wanted+"\n" {
 			t.Errorf("%q", got)
+		}
+	}
+}
+
+// The words of what is no line say why.
+func TestNotALineSaysWhy(t *testing.T) {
+	infinite, _ := FloatValue(math.Inf(-1))
+	for _, row := range []struct {
+		value Value
+		words string
+	}{
+		{Value{kind: Float, number: math.Float64bits(math.NaN())}, `line 1: lineprotocol: no line: the field "f g" is NaN`},
+		{infinite, `line 1: lineprotocol: no line: the field "f g" is -Inf`},
+		{Value{}, `line 1: lineprotocol: no line: the field "f g" is a zero Value`},
+		{Value{kind: String, bytes: []byte("\xff")}, "line 1: lineprotocol: no line: a text is not UTF-8"},
+	} {
+		var e Encoder
+		e.StartLine("m")
+		e.AddField("f g", row.value)
+		e.EndLine(time.Time{})
+		if err := e.Err(); !errors.Is(err, ErrNotALine) || err.Error() != row.words || len(e.Bytes()) != 0 {
+			t.Errorf("%v, and not %s", err, row.words)
+		}
+	}
+	var e Encoder
+	e.StartLine("m")
+	e.EndLine(time.Time{})
+	if err := e.Err(); err == nil || err.Error() != "line 1: lineprotocol: no line: it has no field" {
+		t.Error(err)
+	}
+}
+
+// Err gives the error of the first line of those that are not written, whether a call or the library tells of it, and the others are written,
+// whatever their place among those that one call of the library writes.
+func TestFirstError(t *testing.T) {
+	const many = 2500
+	faults := []func(e *Encoder){
+		func(e *Encoder) { e.AddTag("k", "v\\"); e.AddField("f", IntValue(1)); e.EndLine(time.Time{}) },           // ErrNotAdmitted
+		func(e *Encoder) { e.AddTag("k", "v"); e.AddTag("a", "v"); e.EndLine(time.Time{}) },                       // ErrTagOrder
+		func(e *Encoder) { e.AddTag("k", "\xff"); e.AddField("f", IntValue(1)); e.EndLine(time.Time{}) },          // ErrNotALine
+		func(e *Encoder) { e.AddField("f", IntValue(1)); e.AddTag("k", "v"); e.EndLine(time.Time{}) },             // ErrOrder
+		func(e *Encoder) { e.AddField("f", IntValue(1)); e.EndLine(time.Date(3000, 1, 1, 0, 0, 0, 0, time.UTC)) }, // ErrTimeRange
+		func(e *Encoder) { e.AddField("f", Value{}); e.AddField("g", IntValue(1)); e.EndLine(time.Unix(0, 1)) },   // ErrNotALine
+	}
+	errs := []error{ErrNotAdmitted, ErrTagOrder, ErrNotALine, ErrOrder, ErrTimeRange, ErrNotALine}
+	for first := range faults {
+		var e Encoder
+		wanted, refused := "", 0
+		for line := 1; line <= many; line++ {
+			e.StartLine("m" + strconv.Itoa(line))
+			if line >= 150 && line%3 == 0 {
+				faults[(first+refused)%len(faults)](&e)
+				refused++
+				continue
+			}
+			e.AddField("f", IntValue(1))
+			e.EndLine(time.Time{})
+			wanted += "m" + strconv.Itoa(line) + " f=1i\n"
+		}
+		var why *EncodeError
+		if !errors.As(e.Err(), &why) || why.Line != 150 || !errors.Is(why, errs[first]) {
+			t.Errorf("%v, and not %v", e.Err(), errs[first])
+		}
+		if string(e.Bytes()) != wanted {
+			t.Errorf("%d bytes are written, and not %d", len(e.Bytes()), len(wanted))
+		}
+	}
+	var e Encoder
+	e.StartLine("m\n")
+	e.AddField("f", IntValue(1))
+	e.EndLine(time.Time{})
+	e.EndLine(time.Time{}) // out of its order, after the line
+	if !errors.Is(e.Err(), ErrNotAdmitted) {
+		t.Error(e.Err())
+	}
+}
+
+// What was written may be asked for amid a line, which goes on, and is as it was.
+func TestBytesAmidALine(t *testing.T) {
+	for _, look := range []func(e *Encoder){
+		func(e *Encoder) { e.Bytes() }, func(e *Encoder) { e.Err() }, func(e *Encoder) { e.ClearErr() }, func(e *Encoder) { e.SetDialect(Strict) },
+	} {
+		var e Encoder
+		wanted := ""
+		for line := 0; line < 3; line++ {
+			e.StartLine("m")
+			look(&e)
+			e.AddTag("a", "1")
+			look(&e)
+			e.AddTag("b", "c d")
+			look(&e)
+			e.AddField("f", IntValue(int64(line)))
+			look(&e)
+			e.AddField("s", value(t, "x"))
+			if got := string(e.Bytes()); got != wanted {
+				t.Errorf("%q, and not %q", got, wanted)
+			}
+			e.EndLine(time.Time{})
+			wanted += "m,a=1,b=c\\ d f=" + strconv.Itoa(line) + "i,s=\"x\"\n"
+		}
+		if got := string(e.Bytes()); got != wanted || e.Err() != nil {
+			t.Errorf("%q, and not %q: %v", got, wanted, e.Err())
+		}
+	}
+}
+
+// Lines that were ended are written in the dialect in which they were ended.
+func TestDialectOfLines(t *testing.T) {
+	var e Encoder
+	for _, dialect := range []Dialect{Crate, NewlineDelimited, Strict} {
+		e.SetDialect(dialect)
+		e.StartLine("m")
+		e.AddField("s", value(t, "a\nb"))
+		e.EndLine(time.Time{})
+	}
+	var why *EncodeError
+	if got := string(e.Bytes()); got != "m s=\"a\nb\"\nm s=\"a\nb\"\n" || !errors.As(e.Err(), &why) || why.Line != 2 || why.Err != ErrNotAdmitted {
+		t.Errorf("%q, %v", got, e.Err())
+	}
+}
+
+// What an encoder gathers goes by its longest line, and not by how much it writes.
+func TestEncoderHoldsLittle(t *testing.T) {
+	var e Encoder
+	long := value(t, strings.Repeat("x", 10000))
+	for line := 0; line < 3000; line++ {
+		e.StartLine("m")
+		e.AddField("s", long)
+		e.EndLine(time.Time{})
+		if cap(e.gathered.texts) > 1<<20 || cap(e.gathered.rows) > 4096 {
+			t.Fatalf("line %d: %d bytes and %d rows are held", line, cap(e.gathered.texts), cap(e.gathered.rows))
+		}
+	}
+	if e.Err() != nil || len(e.Bytes()) != 3000*len("m s=\"\"\n")+3000*10000 {
+		t.Errorf("%d bytes, %v", len(e.Bytes()), e.Err())
+	}
+}
+
+// A text that 32 bits cannot place is an error of its line, wherever it stands, and is never written as an empty one.
+func TestTooLongTexts(t *testing.T) {
+	text, err := syscall.Mmap(-1, 0, 1<<31, syscall.PROT_READ, syscall.MAP_ANON|syscall.MAP_PRIVATE|syscall.MAP_NORESERVE)
+	if err != nil {
+		t.Skip(err)
+	}
+	defer syscall.Munmap(text)
+	for place := 0; place < 5; place++ {
+		e, texts, one := Encoder{}, [5][]byte{[]byte("m"), []byte("k"), []byte("v"), []byte("f"), []byte("s")}, IntValue(1)
+		texts[place] = text
+		e.StartLineRaw(texts[0])
+		e.AddTagRaw(texts[1], texts[2])
+		e.AddFieldRaw(texts[3], Value{kind: String, bytes: texts[4]})
+		e.EndLine(time.Time{})
+		e.StartLine("n")
+		e.AddField("f", one)
+		e.EndLine(time.Time{})
+		if got := string(e.Bytes()); got != "n f=1i\n" || !errors.Is(e.Err(), ErrNotALine) || !strings.HasSuffix(e.Err().Error(), "2 GiB or more") {
+			t.Errorf("place %d: %q, %v", place, got, e.Err())
 		}
 	}
 }

@@ -6,7 +6,7 @@ import (
 	"strings"
 	"time"
 
-	"influxdb_line_protocol/lineprotocol"
+	"yomskafi.example/lineprotocol/v3"
 )
 
 // [go_faults]

@@ -1,3 +1,3 @@
-module influxdb_line_protocol/lineprotocol
+module yomskafi.example/lineprotocol/v3
 
 go 1.19

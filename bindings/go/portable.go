@@ -182,6 +182,7 @@ func DefaultLimits() Limits {
 // SetLimits says by which limits Verdict tells of this line and of those that come: DefaultLimits if it is not called. A number of bytes or of
 // tags that is less than 0 is taken as 0.
 func (d *Decoder) SetLimits(limits Limits) {
+	d.ready()
 	d.block.limits = C.lp_limits{line: size(limits.Line), tags: size(limits.Tags)}
 	d.block.limits.earliest, d.block.limits.latest = C.int64_t(limits.Earliest), C.int64_t(limits.Latest)
 	d.block.verdicts.upto = 0

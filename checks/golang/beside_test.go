@@ -15,7 +15,7 @@ import (
 
 	"github.com/influxdata/influxdb/models"
 
-	"influxdb_line_protocol/lineprotocol"
+	"yomskafi.example/lineprotocol/v3"
 )
 
 // The time of a point whose line has none.

@@ -9,7 +9,7 @@ import (
 	"strings"
 	"testing"
 
-	"influxdb_line_protocol/lineprotocol"
+	"yomskafi.example/lineprotocol/v3"
 )
 
 // A line for a running server: its text, and what the strict reader reads of it. A value is as line protocol has it, a string between quotes,

@@ -8,7 +8,7 @@ import (
 	"strconv"
 	"testing"
 
-	"influxdb_line_protocol/lineprotocol"
+	"yomskafi.example/lineprotocol/v3"
 )
 
 // A server's parser: what it reads of a text, and what it is to read of a point. A value "any" may be any.

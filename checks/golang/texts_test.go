@@ -9,7 +9,7 @@ import (
 	"strings"
 	"testing"
 
-	"influxdb_line_protocol/lineprotocol"
+	"yomskafi.example/lineprotocol/v3"
 )
 
 // LP_TOP names the folder of the repository, LP_CORPORA one with files of line protocol.

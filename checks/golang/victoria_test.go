@@ -6,8 +6,8 @@ import (
 	"flag"
 	"strconv"
 
-	"influxdb_line_protocol/lineprotocol"
 	"victoria"
+	"yomskafi.example/lineprotocol/v3"
 )
 
 func init() {

@@ -1,7 +1,7 @@
-module influxdb_line_protocol/endpoint
+module yomskafi.example/endpoint
 
 go 1.19
 
-require influxdb_line_protocol/lineprotocol v0.0.0
+require yomskafi.example/lineprotocol/v3 v3.0.0
 
-replace influxdb_line_protocol/lineprotocol => ../../bindings/go
+replace yomskafi.example/lineprotocol/v3 => ../../bindings/go

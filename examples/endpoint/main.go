@@ -26,7 +26,7 @@ import (
 	"time"
 	"unicode/utf8"
 
-	"influxdb_line_protocol/lineprotocol"
+	"yomskafi.example/lineprotocol/v3"
 )
 
 // An endpoint is what the command line says, and what all requests share.

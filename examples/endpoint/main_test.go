@@ -16,7 +16,7 @@ import (
 	"testing"
 	"time"
 
-	"influxdb_line_protocol/lineprotocol"
+	"yomskafi.example/lineprotocol/v3"
 )
 
 // A stub is in the place of the server. It keeps what it takes, in order; it does not take lines with `conflict` or `panic`, as InfluxDB does
