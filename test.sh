@@ -3,10 +3,11 @@
 # takes nothing that other commands proved.
 #
 #   1. The checks of documents and scripts. If one fails, nothing else is run.
-#   2. The archives of lp_c and lp_checks are built; beside that, the checks of bin/take, of the launchers and of completion.
+#   2. The archives of lp_c and lp_checks are built; beside that, the checks of bin/take, of the launchers and of completion. Where Node
+#      can run it, the module of lp_page is built for WebAssembly too, over what was proved with the archives.
 #   3. The misuses, which begin with what was proved for the archives. The gate sets that aside, so they come before it.
 #   4. The gate, on every second processor if there are four, since two are often one core; and beside it the checks that link the archives.
-#   5. The checks of the programs that the gate made, and beside them that of Python, which runs one of them too.
+#   5. The checks of the programs that the gate made, and beside them those of Python and JavaScript, which run one of them too.
 #
 # Before the gate's last line, which comes last, it tells how long each part took, what the gate did for each crate, what the checks
 # left out, and which failed. The status is that of the gate, or 1 if a check failed.
@@ -54,6 +55,7 @@ beside_gate() {
     part bindings/go bindings/go/test.sh "$made/liblp_c.a"
 }
 beside_programs() {
+    LP_RELAY=$made/lp_relay_program part checks/page.sh checks/page.sh "$made/page"
     LP_RELAY=$made/lp_relay_program part bindings/python bindings/python/test.sh "$made/liblp_c.a"
     part checks/apart.sh checks/apart.sh "$made/lp_relay_program"
 }
@@ -107,11 +109,17 @@ print_left_out() {
 part checks/documents.sh checks/documents.sh || stop checks/documents.sh
 part checks/lint.sh checks/lint.sh || stop checks/lint.sh
 beside beside_archives
-part "lp_c and lp_checks, proved" build_all test lp_checks lp_c || stop "the build of lp_c and lp_checks"
+archives=(lp_checks lp_c)
+! checks/page.sh --can-run || archives+=(lp_page)
+part "the archives, proved" build_all test "${archives[@]}" || stop "the build of ${archives[*]}"
 joined
 cp crates/lp_c/out/liblp_c.a crates/lp_checks/out/liblp_checks.a "$made"
 export ARCHIVES=$made
 set +e
+if [[ ${archives[*]} == *lp_page* ]]; then
+    sources lp_page >crates/lp_page/out/launcher.stamp
+    part packaging/page packaging/page/build.sh "$made/page"
+fi
 beside beside_gate
 part misuses/check.sh misuses/check.sh
 every_second=(taskset -c "0-$(($(nproc --all) - 1)):2")

@@ -1,8 +1,9 @@
 #!/usr/bin/env python3
 """Whether the packages in Rust and Python declare the numbers, structs and calls that they use as
-include/influxdb_line_protocol.h has them; and whether these and the packages in Go and JavaScript have its clauses by their names, in their order,
-with their words, and the bits of each server. What a package does not use, or includes from the header, it need not declare. The table of clauses
-in docs/FORMAT.md has them too, and how the faults of lp_relay name them.
+include/influxdb_line_protocol.h has them; whether the package in JavaScript has its numbers, and the sizes and places that C lays its
+structs out by; and whether these and the package in Go have its clauses by their names, in their order, with their words, and the bits of each server.
+What a package does not use, or includes from the header, it need not declare. The table of clauses in docs/FORMAT.md has them too, and how
+the faults of lp_relay name them.
 
     checks/bindings.py          prints each difference; status 1 where there is one
 """
@@ -15,7 +16,8 @@ from header import HEADER, SCALARS, TOP, WORDS, c_name, clauses_of_header, enume
 RUST = TOP / "bindings" / "rust" / "src" / "border.rs"
 PYTHON = TOP / "bindings" / "python" / "src" / "line_protocol"
 GO = TOP / "bindings" / "go" / "portable.go"
-JS = TOP / "bindings" / "js" / "core.js"
+JS = TOP / "bindings" / "js"
+SIZES = {"bool": 1, "uint16_t": 2, "uint32_t": 4, "uint64_t": 8, "int64_t": 8, "size_t": 8}  # of 64-bit C, as WebAssembly has it too
 
 
 def rust_type(kind):
@@ -49,6 +51,57 @@ def of_python():
     for name, body in re.findall(r"class (\w+)\(IntEnum\):(.*?)(?=\n\n\n)", items, flags=re.S):
         enums[c_name(name)] = [(enumerator(n), v) for n, v in re.findall(r"^    (\w+) = (\d+)$", body, flags=re.M) if int(v) < 100]
     return enums, {}, {}
+
+
+def core_js():
+    """The text of core.js."""
+    return (JS / "core.js").read_text(encoding="utf-8")
+
+
+def names_in(text, name):
+    """The strings of a list of core.js."""
+    return re.findall(r'"(.*?)"', re.search(rf"const {name} = \[(.*?)\];", text, flags=re.S)[1])
+
+
+def of_js(text):
+    """The enums that core.js declares: as lists, in which a name stands at its number, and as constants."""
+    lists = {"lp_dialect": (names_in(text, "DIALECTS"), ""), "lp_fault_kind": (names_in(text, "FAULTS"), "none"),
+             "lp_side": (names_in(text, "SIDES"), "neither")}
+    enums = {name: [(enumerator((one or first).replace("-", "_")), str(at)) for at, one in enumerate(names)] for name, (names, first) in lists.items()}
+    constants = re.search(r"^const (END = .*);\nconst (INTEGER = .*);$", text, flags=re.M)
+    for name, body in zip(("lp_answer", "lp_kind"), constants.groups()):
+        enums[name] = [(enumerator(one), number) for one, number in re.findall(r"(\w+) = (\d+)", body)]
+    return enums, {}, {}
+
+
+def layout(structs, name):
+    """How many bytes a struct takes in C, how it is aligned, and where its members lie."""
+    size, widest, places = 0, 1, {}
+    for kind, member in structs[name]:
+        width, align = (SIZES[kind],) * 2 if kind in SIZES else layout(structs, kind)[:2]
+        size = -(-size // align) * align
+        places[member] = size, width
+        size, widest = size + width, max(widest, align)
+    return -(-size // widest) * widest, widest, places
+
+
+def js_differences(text, structs):
+    """Where core.js has another size of a struct, or another place of a member in words, or in halves of them, than C; and where it has
+    other faults than index.d.ts."""
+    numbers = {name: int(number) for name, number in re.findall(r"\b([A-Z_]+) = (\d+)(?=[,;])", text)}
+    for name, struct in {"ROW": "lp_offset_row", "PART": "lp_offset_part", "BLOCK": "lp_block", "CUTS": "lp_cuts"}.items():
+        size, _, places = layout(structs, struct)
+        if numbers.get(name) != size:
+            yield f"JavaScript: {name} is {numbers.get(name)}, and {struct} takes {size} bytes"
+        for member, place in numbers.items():
+            if member.startswith(name + "_"):
+                at, width = places.get(member.removeprefix(name + "_").lower(), (-1, 4))
+                if place != at // min(width, 4):
+                    yield f"JavaScript: {member} is {place}, which is not where {struct} has it"
+    told = re.findall(r"^    (\w+): ", re.search(r"const MESSAGES = \{(.*?)\n\};", text, flags=re.S)[1], flags=re.M)
+    declared = re.search(r"export type FaultKind =(.*?);", (JS / "index.d.ts").read_text(encoding="utf-8"), flags=re.S)[1]
+    for kind in set(told) ^ set(re.findall(r'"(\w+)"', declared)):
+        yield f"JavaScript: the fault {kind} is not in both, core.js and index.d.ts"
 
 
 def differences(package, given, header):
@@ -98,10 +151,11 @@ def clauses_of_go():
     return [(enumerator(name.removeprefix("Clause")), place, words.get(name)) for place, name in enumerate(names)], masks
 
 
-def clauses_of_javascript():
-    """The same. There a clause has the place that it has in the list, and names its servers."""
-    rows = re.findall(r'^    \["(\w+)", (BOTH|INFLUX1|VICTORIA), "(.*)"\],$', JS.read_text(encoding="utf-8"), flags=re.M)
-    masks = {server: sum(1 << place for place, (_, to, _) in enumerate(rows) if to in ("BOTH", server.upper())) for server in ("influx1", "victoria")}
+def clauses_of_js(text):
+    """The same. There a clause has the place that it has in the list, and its servers beside it, of which the bits are made here."""
+    servers = {name: re.findall(r"(\w+): true", body) for name, body in re.findall(r"\b([A-Z0-9]+) = \{ (influx1: .*?) \}", text)}
+    rows = re.findall(r'^    \["(\w+)", (\w+), "(.*)"\],$', text, flags=re.M)
+    masks = {server: sum(1 << place for place, row in enumerate(rows) if server in servers[row[1]]) for server in ("influx1", "victoria")}
     return [(enumerator(name), place, words) for place, (name, _, words) in enumerate(rows)], masks
 
 
@@ -118,7 +172,7 @@ def clause_differences():
     if len(wanted) != len(clauses_of_header()[0]):
         yield "a clause of the header has no words"
     packages = {"Rust": (clauses_of_rust(), wordless), "Python": (clauses_of_python(), wordless), "Go": (clauses_of_go(), wanted),
-                "JavaScript": (clauses_of_javascript(), wanted)}
+                "JavaScript": (clauses_of_js(core_js()), wanted)}
     for package, ((clauses, its_masks), its_wanted) in packages.items():
         for one in sorted(set(clauses) ^ set(its_wanted), key=str):
             yield f"{package}: the clause {one} is not in both, the package and the header"
@@ -141,16 +195,17 @@ def page_differences():
 
 
 def main():
-    header = of_header()
-    packages = {"Rust": of_rust(), "Python": of_python()}
+    header, js = of_header(), core_js()
+    packages = {"Rust": of_rust(), "Python": of_python(), "JavaScript": of_js(js)}
     found = [one for package, given in packages.items() for one in differences(package, given, header)]
-    found += [*clause_differences(), *page_differences()]
+    found += [*clause_differences(), *page_differences(), *js_differences(js, header[1])]
     if found:
         print("\n".join(f"bindings: {one}" for one in found), file=sys.stderr)
         return 1
     counts = "; ".join(
         "{} has {} enums, {} structs and {} calls".format(package, *map(len, given)) for package, given in packages.items())
-    print(f"bindings: {counts}, as the header has them; and these, Go and JavaScript have its {len(clauses_in_words())} clauses, docs/FORMAT.md too")
+    print(f"bindings: {counts}, as the header has them, and JavaScript has its layout; "
+          f"and these, Go and JavaScript have its {len(clauses_in_words())} clauses, docs/FORMAT.md too")
     return 0
 
 

@@ -3,7 +3,7 @@
 #
 #   checks/long.sh [SECONDS]    what is installed; a relay of more than 2^32 bytes; the tables and the shell lines of docs/INTEROP.md;
 #                               what servers make of portable lines, by a seed of the day; relays by Slurm and by ssh; columns by
-#                               Dask; the page in a browser, and the package for JavaScript in Node; the tests of the Python package under the address sanitizer; the fuzzer for so many seconds, 600
+#                               Dask; the tests of the Python package under the address sanitizer; the fuzzer for so many seconds, 600
 #                               if none are given; the Go module beside ParsePoints, by Go's fuzzer for a minute; what ParsePoints
 #                               reads beside its definition, over millions of texts; a million generated texts, compared with the
 #                               Rust crate; and the wrong bodies of checks/bodies/
@@ -18,7 +18,6 @@ relay=$here/../crates/lp_relay_program/out/lp_relay_program
 "$here/servers.sh" "$here/../crates/lp_c/out/liblp_c.a" "$(date +%Y%m%d)"
 "$here/engines.sh" "$relay"
 "$here/dask.sh"
-"$here/page.sh"
 WATCHED=1 "$here/../bindings/python/test.sh"
 "$here/fuzz.sh" "${1:-600}"
 "$here/go_beside.sh" --fuzz 60

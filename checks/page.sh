@@ -1,18 +1,24 @@
 #!/usr/bin/env bash
 # Tests the package for JavaScript in Node, and the page in Chromium: the table of answers in both, also as the cards show it; the text of each
-# card of the examples; faults and their places, beside those of lp_relay, if that is built; each control, by clicks and by the keyboard
-# alone; 10 MB of pasted text; what is portable, beside the rows and the hostile texts of checks/portable.py; and that the console says
-# nothing, and nothing is fetched.
+# card of the examples; faults and their places, beside those of lp_relay, if that is built; the items of random texts in parts, with limits,
+# beside a model; each control, by clicks and by the keyboard alone; 10 MB of pasted text; what is portable, beside the rows and the hostile
+# texts of checks/portable.py; and that the console says nothing, and nothing is fetched.
 #
 #     checks/page.sh [FOLDER [PICTURES]]
+#     checks/page.sh --can-run              status 0 if Node can run the module, and nothing else
 #
 # FOLDER is one that packaging/page/build.sh made; without it one is made. PICTURES is a folder for pictures of each example at two widths, light
-# and dark; without it they are thrown away.
+# and dark; without it they are thrown away. LP_RELAY names a built lp_relay; without it that of this repository is taken.
 set -euo pipefail
 here=$(cd "$(dirname "$0")" && pwd)
 top=$(dirname "$here")
 . "$here/left_out.sh"
-if ! command -v node >/dev/null || [ "$(node -p 'process.versions.node.split(".")[0]')" -lt 20 ]; then
+node=$(node -p 'process.versions.node.split(".")[0]' 2>/dev/null) || node=0
+if [ "${1-}" = --can-run ]; then
+    [ "$node" -ge 20 ]
+    exit
+fi
+if [ "$node" -lt 20 ]; then
     left_out checks/page.sh "there is no Node 20 or later"
     exit 0
 fi
@@ -22,7 +28,7 @@ folder=${1-$work/made} pictures=${2-$work/pictures}
 [ $# != 0 ] || "$top/packaging/page/build.sh" "$folder"
 mkdir -p "$pictures"
 flag=--experimental-wasm-memory64
-[ "$(node -p 'process.versions.node.split(".")[0]')" -lt 24 ] || flag=--no-warnings
+[ "$node" -lt 24 ] || flag=--no-warnings
 package=$(realpath "$folder")/influxdb-line-protocol-js table=$top/checks/tables/answers.tsv
 size=$(stat -c %s "$package/lp_page.wasm")
 if [ "$size" -gt 250000 ]; then
@@ -30,9 +36,10 @@ if [ "$size" -gt 250000 ]; then
     exit 1
 fi
 echo "page: the module has $size bytes, and the page $(stat -c %s "$folder/try.html")"
-relay=$top/crates/lp_relay_program/out/lp_relay_program
+relay=${LP_RELAY:-$top/crates/lp_relay_program/out/lp_relay_program}
 [ -x "$relay" ] || { relay='' && left_out "faults by checks/page.sh" "lp_relay is not built"; }
 node "$flag" "$here/page/in_node.mjs" "$package" "$table" ${relay:+"$relay"}
+node "$flag" "$here/page/streams.mjs" "$package"
 if command -v tsc >/dev/null; then
     mkdir -p "$work/node_modules"
     ln -s "$package" "$work/node_modules/influxdb-line-protocol"

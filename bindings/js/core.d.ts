@@ -1,1 +1,1 @@
-export { CLAUSES, LineProtocol, NotAdmitted, TooLong, connect, hasWideMemory, seriesKey } from "./index.js";
+export { CLAUSES, LineProtocol, NotAdmitted, connect, hasWideMemory, seriesKey } from "./index.js";

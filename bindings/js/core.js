@@ -21,38 +21,38 @@ const MESSAGES = {
     tag_set_malformed: () => "Tag Set Malformed",
     generic_parsing_error: () => "A generic parsing error occurred: TakeWhile1",
     not_utf8: () => "the line is not UTF-8",
+    too_long: () => "the line is too long",
 };
 
-// What the module answers, and what a part is.
-const END = 0, LINE = 1, MORE_PARTS = 3, MORE_ROOM = 4, NOT_UTF8 = 8, MORE_TEXT = 10;
+// The numbers of the header include/influxdb_line_protocol.h, which checks/bindings.py compares with it: of answers and of kinds of parts;
+const END = 0, LINE = 1, MORE_PARTS = 3, MORE_ROOM = 4, NOT_UTF8 = 8, MORE_TEXT = 10, TOO_LONG = 11;
 const INTEGER = 1, UNSIGNED = 2, FLOAT = 3, STRING = 4;
 
-// How many bytes a row, a part and a block take.
-const ROW = 88, PART = 32, BLOCK = 32;
+// how many bytes a row, a part, a block and a search for cuts take;
+const ROW = 88, PART = 32, BLOCK = 24, CUTS = 48;
+
+// and where the members of the first three lie: in words of 32 bits, but those that are COPIED or tell of a timestamp in halves of words.
+const ROW_LINE = 0, ROW_TIMESTAMP = 2, ROW_KEY = 4, ROW_PIECE = 8, ROW_MEASUREMENT = 10, ROW_LINE_AT = 12, ROW_STOP_AT = 13, ROW_PARTS_AT = 14;
+const ROW_TAGS = 15, ROW_FIELDS = 16, ROW_ROOM_LEN = 17, ROW_ANSWER = 18, ROW_FAULT = 19, ROW_SIDE = 20;
+const ROW_MEASUREMENT_COPIED = 42, ROW_HAS_TIMESTAMP = 43;
+const PART_KEY = 0, PART_TEXT = 2, PART_NUMBER = 4, PART_KIND = 6, PART_KEY_COPIED = 14, PART_TEXT_COPIED = 15;
+const BLOCK_LINE = 0, BLOCK_AT = 2, BLOCK_ROWS = 3;
 
 // How much of a text is read at once, and the most bytes that a piece of a stream may have, if nothing else is asked for.
 const WINDOW = 1 << 16, LONGEST = 1 << 24;
 
 const encoder = new TextEncoder();
 const decoder = new TextDecoder("utf-8", { ignoreBOM: true });
+const HALF = /(\p{Surrogate})/u;
 
-/** A line that would not read back, since a name or a string of it may not be written; `index` counts lines from 0. */
+/** A name or a string of a line cannot be written: the line would not read back, or the text holds half of a surrogate pair. `what` names the
+ * part, and `index` is the number of the line, counted from 0. */
 export class NotAdmitted extends Error {
-    constructor(what, index) {
-        super(`${what} of line ${index + 1} would not read back`);
+    constructor(what, index, why = "would not read back") {
+        super(`${what} of line ${index + 1} ${why}`);
         this.name = "NotAdmitted";
         this.what = what;
         this.index = index;
-    }
-}
-
-/** A piece of a stream has more bytes than it may have; `line` is the line in which it begins, and `limit` how many it may have. */
-export class TooLong extends Error {
-    constructor(line, limit) {
-        super(`the piece that begins in line ${line} has more than ${limit} bytes`);
-        this.name = "TooLong";
-        this.line = line;
-        this.limit = limit;
     }
 }
 
@@ -67,15 +67,36 @@ function numberOf(dialect) {
     return number;
 }
 
-function bytesOf(text) {
-    if (typeof text === "string") return encoder.encode(text);
-    if (text instanceof Uint8Array) return text;
-    if (text instanceof ArrayBuffer) return new Uint8Array(text);
-    if (ArrayBuffer.isView(text)) return new Uint8Array(text.buffer, text.byteOffset, text.byteLength);
-    throw new TypeError("a text is a string or bytes");
+// The bytes of a string. Half of a surrogate pair has no UTF-8: it becomes three bytes that are none, so its line is refused as `not_utf8`.
+function encoded(text) {
+    if (text.isWellFormed()) return encoder.encode(text);
+    const parts = text.split(HALF).map((part, n) => {
+        const unit = part.charCodeAt(0), isHalf = n % 2 === 1;
+        return isHalf ? Uint8Array.of(0xe0 | unit >> 12, 0x80 | unit >> 6 & 0x3f, 0x80 | unit & 0x3f) : encoder.encode(part);
+    });
+    const bytes = new Uint8Array(parts.reduce((len, part) => len + part.length, 0));
+    parts.reduce((at, part) => (bytes.set(part, at), at + part.length), 0);
+    return bytes;
 }
 
-/* The memory of the module, behind its own: a block, rows, parts, a room for texts without their escapes, and a text. */
+function bytesOf(text) {
+    if (typeof text === "string") return encoded(text);
+    if (text instanceof ArrayBuffer) return new Uint8Array(text);
+    if (!ArrayBuffer.isView(text)) throw new TypeError("a text is a string or bytes");
+    const bytes = text instanceof Uint8Array ? text : new Uint8Array(text.buffer, text.byteOffset, text.byteLength);
+    // A view of a detached buffer has the length 0, as if it were empty, but this call throws.
+    bytes.at(0);
+    return bytes;
+}
+
+function limitOf(most) {
+    if (typeof most !== "number") throw new TypeError("maxLine is a number");
+    if (most !== Infinity && !(Number.isSafeInteger(most) && most >= 0)) throw new RangeError(`maxLine is ${most}: it is a whole number from 0 on, or Infinity`);
+    return most;
+}
+
+/* The memory of the module, behind its own: a block, a search for cuts with the place of a cut, rows, parts, a room for texts without their
+ * escapes, and a text. */
 class Border {
     constructor(calls) {
         this.calls = calls;
@@ -86,7 +107,9 @@ class Border {
     // Lays out places for so many bytes of text, rows, parts and bytes of room. What was there is lost.
     lay(text, rows, parts, room) {
         Object.assign(this, { textSize: text, rowCount: rows, partCount: parts, roomSize: room });
-        this.rows = this.base + BLOCK;
+        this.search = this.base + BLOCK;
+        this.cut = this.search + CUTS;
+        this.rows = this.cut + 8;
         this.parts = this.rows + ROW * rows;
         this.room = this.parts + PART * parts;
         this.text = this.room + ((room + 15) & ~15);
@@ -119,8 +142,8 @@ class Border {
     // Reads rows of the first `len` bytes of the text, from `at` on, which is in this line. Gives the answer.
     read(len, dialect, last, at, line) {
         const block = this.base >> 2;
-        this.unsigned[this.base >> 3] = line;
-        this.words[block + 2] = at;
+        this.unsigned[(block + BLOCK_LINE) >> 1] = line;
+        this.words[block + BLOCK_AT] = at;
         return this.calls.lp_offsets_block(
             BigInt(this.text), BigInt(len), dialect, last ? 1 : 0, BigInt(this.base), BigInt(this.room), BigInt(this.roomSize), BigInt(this.rows),
             BigInt(this.rowCount), BigInt(this.parts), BigInt(this.partCount));
@@ -129,13 +152,36 @@ class Border {
     // Makes places for the row that did not fit, though no other took any.
     enlarge() {
         const row = this.rows >> 2;
-        const parts = Math.max(this.partCount, this.words[row + 15] + this.words[row + 16]);
-        this.lay(this.textSize, this.rowCount, parts, Math.max(this.roomSize, this.words[row + 17]));
+        const parts = Math.max(this.partCount, this.words[row + ROW_TAGS] + this.words[row + ROW_FIELDS]);
+        this.lay(this.textSize, this.rowCount, parts, Math.max(this.roomSize, this.words[row + ROW_ROOM_LEN]));
     }
 
     // Tells each of so many rows the key of its series, where that stands in the text.
     tellKeys(len, rows) {
         this.calls.lp_offsets_keys(BigInt(this.text), BigInt(len), BigInt(this.rows), BigInt(rows));
+    }
+
+    // Begins a search for the ends of pieces that may have so many bytes. Gives its state.
+    beginSearch(dialect, limit) {
+        this.calls.lp_cuts_begin(dialect, limit === Infinity ? 2n ** 64n - 1n : BigInt(limit), BigInt(this.search));
+        return this.bytes.slice(this.search, this.search + CUTS);
+    }
+
+    // Searches the bytes that come next for the newline that ends the piece that goes on, and keeps the state. Gives the answer, and where
+    // that newline is: if there is none, how many bytes there are.
+    findCut(state, bytes) {
+        let answer, at = 0;
+        this.bytes.set(state, this.search);
+        do {
+            const window = bytes.subarray(at, at + WINDOW);
+            this.bytes.set(window, this.text);
+            answer = this.calls.lp_cuts_next(BigInt(this.search), BigInt(this.text), BigInt(window.length), BigInt(this.cut));
+            const cut = Number(this.unsigned[this.cut >> 3]);
+            at += cut;
+            if (cut < window.length) break;
+        } while (at < bytes.length);
+        state.set(this.bytes.subarray(this.search, this.search + CUTS));
+        return { answer, at };
     }
 
     // Whether so many bytes of the text are as the builder writes a line.
@@ -171,15 +217,15 @@ class Walk {
         let at = 0;
         for (;;) {
             const answer = border.read(len, this.dialect, last, at, this.line);
-            const block = border.base >> 2, rows = border.words[block + 3];
+            const block = border.base >> 2, rows = border.words[block + BLOCK_ROWS];
             if (this.withKeys) border.tellKeys(len, rows);
             for (let row = 0; row < rows; row++) {
                 this.items += 1;
                 if (!isAscii) this.look(row);
                 out.push(this.take(row));
             }
-            at = border.words[block + 2];
-            this.line = border.unsigned[border.base >> 3];
+            at = border.words[block + BLOCK_AT];
+            this.line = border.unsigned[(block + BLOCK_LINE) >> 1];
             if (answer === END || answer === MORE_TEXT) break;
             if (answer === MORE_PARTS || answer === MORE_ROOM) {
                 if (rows === 0) {
@@ -197,7 +243,7 @@ class Walk {
     // Of a window that is not all ASCII, the text of the piece of a row takes its place.
     look(row) {
         const border = this.border, words = (border.rows + ROW * row) >> 2;
-        const at = border.words[words + 8], len = border.words[words + 9];
+        const at = border.words[words + ROW_PIECE], len = border.words[words + ROW_PIECE + 1];
         this.window = decoder.decode(border.bytes.subarray(border.text + at, border.text + at + len));
         this.isAscii = this.window.length === len;
         this.windowAt = at;
@@ -213,43 +259,53 @@ class Walk {
 
     // The item of a row.
     take(row) {
-        const answer = this.border.words[((this.border.rows + ROW * row) >> 2) + 18];
+        const answer = this.border.words[((this.border.rows + ROW * row) >> 2) + ROW_ANSWER];
         return answer === LINE ? this.lineOf(row) : this.faultOf(row, answer);
     }
 
     lineOf(row) {
-        const { words, halves, longs, rows } = this.border, place = rows + ROW * row, word = place >> 2, half = place >> 1;
-        const tagCount = words[word + 15], fieldCount = words[word + 16];
+        const { words, halves, longs, rows } = this.border, word = (rows + ROW * row) >> 2, half = 2 * word;
+        const tagCount = words[word + ROW_TAGS], fieldCount = words[word + ROW_FIELDS];
         const tags = [], fields = [], window = this.window, from = this.windowAt, isAscii = this.isAscii;
-        let part = (this.border.parts + PART * words[word + 14]) >> 2;
-        for (const end = part + 8 * tagCount; part < end; part += 8) {
+        let part = (this.border.parts + PART * words[word + ROW_PARTS_AT]) >> 2;
+        for (const end = part + (PART >> 2) * tagCount; part < end; part += PART >> 2) {
             // Most texts are parts of the window, as they stand.
-            if (isAscii && words[part + 7] === 0) {
-                const key = words[part] - from, value = words[part + 2] - from;
-                tags.push([window.substring(key, key + words[part + 1]), window.substring(value, value + words[part + 3])]);
+            if (isAscii && halves[2 * part + PART_KEY_COPIED] === 0 && halves[2 * part + PART_TEXT_COPIED] === 0) {
+                const key = words[part + PART_KEY] - from, value = words[part + PART_TEXT] - from;
+                tags.push([window.substring(key, key + words[part + PART_KEY + 1]), window.substring(value, value + words[part + PART_TEXT + 1])]);
             } else {
-                tags.push([this.textAt(words[part], words[part + 1], halves[2 * part + 14]), this.textAt(words[part + 2], words[part + 3], halves[2 * part + 15])]);
+                tags.push([this.keyOf(part), this.partText(part)]);
             }
         }
-        for (const end = part + 8 * fieldCount; part < end; part += 8) {
-            const key = this.textAt(words[part], words[part + 1], halves[2 * part + 14]);
-            fields.push([key, this.valueOf(part, words[part + 6])]);
+        for (const end = part + (PART >> 2) * fieldCount; part < end; part += PART >> 2) {
+            fields.push([this.keyOf(part), this.valueOf(part, words[part + PART_KIND])]);
         }
         const line = {
-            measurement: this.textAt(words[word + 10], words[word + 11], halves[half + 42]),
+            measurement: this.textAt(words[word + ROW_MEASUREMENT], words[word + ROW_MEASUREMENT + 1], halves[half + ROW_MEASUREMENT_COPIED]),
             tags,
             fields,
-            timestamp: halves[half + 43] === 1 ? longs[(place >> 3) + 1] : null,
+            timestamp: halves[half + ROW_HAS_TIMESTAMP] === 1 ? longs[(word + ROW_TIMESTAMP) >> 1] : null,
         };
         if (this.hasMore) this.addMore(line, word);
         return line;
     }
 
+    // The key of a part, and its value or literal, if that is a text.
+    keyOf(part) {
+        const { words, halves } = this.border;
+        return this.textAt(words[part + PART_KEY], words[part + PART_KEY + 1], halves[2 * part + PART_KEY_COPIED]);
+    }
+
+    partText(part) {
+        const { words, halves } = this.border;
+        return this.textAt(words[part + PART_TEXT], words[part + PART_TEXT + 1], halves[2 * part + PART_TEXT_COPIED]);
+    }
+
     // Adds to a line what the options ask for.
     addMore(line, word) {
-        const { words } = this.border, at = words[word + 12], end = words[word + 13];
+        const { words } = this.border, at = words[word + ROW_LINE_AT], end = words[word + ROW_STOP_AT];
         if (this.withPlaces) Object.assign(line, this.placeOf(word));
-        if (this.withKeys) line.key = words[word + 4] === 0 ? seriesKey(line) : this.textAt(at, words[word + 4], 0);
+        if (this.withKeys) line.key = words[word + ROW_KEY] === 0 ? seriesKey(line) : this.textAt(at, words[word + ROW_KEY], 0);
         if (this.withWritten) {
             line.text = this.textAt(at, end - at, 0);
             line.asWritten = this.border.isAsWritten(at, end - at);
@@ -257,20 +313,21 @@ class Walk {
     }
 
     valueOf(part, kind) {
-        const { words, halves, longs, unsigned } = this.border;
-        if (kind === INTEGER) return longs[(part >> 1) + 2];
+        const { words, longs, unsigned } = this.border, number = part + PART_NUMBER;
+        if (kind === INTEGER) return longs[number >> 1];
         if (kind === FLOAT) {
-            const literal = this.textAt(words[part + 2], words[part + 3], 0), number = Number(literal);
-            return this.withLiterals || !Number.isFinite(number) ? { float: literal } : number;
+            const literal = this.partText(part), value = Number(literal);
+            return this.withLiterals || !Number.isFinite(value) ? { float: literal } : value;
         }
-        if (kind === STRING) return this.textAt(words[part + 2], words[part + 3], halves[2 * part + 15]);
-        return kind === UNSIGNED ? { unsigned: unsigned[(part >> 1) + 2] } : words[part + 4] === 1;
+        if (kind === STRING) return this.partText(part);
+        return kind === UNSIGNED ? { unsigned: unsigned[number >> 1] } : words[number] === 1;
     }
 
     // Where an item is: its number, the line and the byte at which its text begins and its piece does, and how long its text is.
     placeOf(word) {
         const { words, longs, bytes, text } = this.border;
-        const at = words[word + 8], end = at + words[word + 9], textAt = words[word + 12], pieceLine = Number(longs[word >> 1]);
+        const at = words[word + ROW_PIECE], end = at + words[word + ROW_PIECE + 1], textAt = words[word + ROW_LINE_AT];
+        const pieceLine = Number(longs[(word + ROW_LINE) >> 1]);
         let line = pieceLine;
         for (let n = at; n < textAt; n++) if (bytes[text + n] === 10) line += 1;
         return {
@@ -281,18 +338,34 @@ class Walk {
 
     faultOf(row, answer) {
         const { words, bytes, text } = this.border, word = (this.border.rows + ROW * row) >> 2;
-        const place = this.placeOf(word), at = words[word + 12], end = words[word + 8] + words[word + 9];
-        const refused = bytes.slice(text + words[word + 8], text + end);
-        const fault = answer === NOT_UTF8 ? "not_utf8" : FAULTS[words[word + 19]];
-        const stop = answer === NOT_UTF8 ? at + utf8Front(refused) : words[word + 13];
+        const place = this.placeOf(word), at = words[word + ROW_LINE_AT], end = words[word + ROW_PIECE] + words[word + ROW_PIECE + 1];
+        const refused = bytes.slice(text + words[word + ROW_PIECE], text + end);
+        const fault = answer === NOT_UTF8 ? "not_utf8" : FAULTS[words[word + ROW_FAULT]];
+        const stop = answer === NOT_UTF8 ? at + utf8Front(refused) : words[word + ROW_STOP_AT];
         let stopLine = place.line, lineAt = at;
         for (let n = at; n < stop; n++) if (bytes[text + n] === 10) { stopLine += 1; lineAt = n + 1; }
         if (stopLine === place.line) while (lineAt > 0 && bytes[text + lineAt - 1] !== 10) lineAt -= 1;
         const named = this.namedBy(fault, stop, end);
         return {
-            fault, message: MESSAGES[fault](named), text: named, side: SIDES[words[word + 20]], ...place, stopOffset: this.offset + stop, stopLine,
+            fault, message: MESSAGES[fault](named), text: named, side: SIDES[words[word + ROW_SIDE]], ...place, stopOffset: this.offset + stop, stopLine,
             stopColumn: stop - lineAt + 1, refused,
         };
+    }
+
+    // The item of a piece that has more bytes than the limit, of which these came so far. It is not read, so reading stopped at its first byte.
+    longFault(bytes, limit) {
+        this.items += 1;
+        const line = Number(this.line), offset = this.offset;
+        return {
+            fault: "too_long", message: MESSAGES.too_long(), text: "", side: "", item: this.items, line, offset, length: limit, pieceLine: line,
+            pieceOffset: offset, pieceLength: limit, stopOffset: offset, stopLine: line, stopColumn: 1, refused: bytes.slice(0, limit), longerThan: limit,
+        };
+    }
+
+    // Passes bytes that are not read.
+    pass(bytes) {
+        this.offset += bytes.length;
+        for (let at = bytes.indexOf(10); at >= 0; at = bytes.indexOf(10, at + 1)) this.line += 1n;
     }
 
     // What a fault names: the number at which reading stopped, or all that is left there.
@@ -385,26 +458,44 @@ function pairsOf(pairs, what) {
     return list;
 }
 
-// A text that is UTF-8 whatever it held: half a pair of surrogates becomes U+FFFD, as it does in bytes.
-const wellFormed = text => (/[\ud800-\udfff]/.test(text) ? decoder.decode(encoder.encode(text)) : text);
+// The measurement and the tags of a line.
+function seriesOf(line) {
+    const measurement = line?.measurement;
+    if (typeof measurement !== "string") throw new TypeError("a line has a measurement, which is a string");
+    const tags = pairsOf(line.tags, "tags").map(([key, value]) => {
+        if (typeof value !== "string") throw new TypeError(`the value of the tag ${key} is no string`);
+        return [key, value];
+    });
+    return { measurement, tags };
+}
 
 // A line as it is meant.
 function pointOf(line) {
-    if (!line || typeof line.measurement !== "string") throw new TypeError("a line has a measurement, which is a string");
-    const tags = pairsOf(line.tags, "tags").map(([key, value]) => {
-        if (typeof value !== "string") throw new TypeError(`the value of the tag ${key} is no string`);
-        return [wellFormed(key), wellFormed(value)];
-    });
-    const fields = pairsOf(line.fields, "fields").map(([key, value]) => {
-        const one = meant(value);
-        return [wellFormed(key), one.kind === "s" ? { kind: "s", value: wellFormed(one.value) } : one];
-    });
+    const series = seriesOf(line), fields = pairsOf(line.fields, "fields").map(([key, value]) => [key, meant(value)]);
     if (fields.length === 0) throw new TypeError("a line has a field");
     let time = line.timestamp ?? null;
     if (time instanceof Date) time = BigInt(time.getTime()) * 1_000_000n;
     if (time !== null && typeof time !== "bigint") throw new TypeError("a timestamp is a bigint of nanoseconds, or a Date");
     if (time !== null) inRange(time, -(2n ** 63n), 2n ** 63n - 1n, "timestamp");
-    return { measurement: wellFormed(line.measurement), tags, fields, timestamp: time };
+    return { ...series, fields, timestamp: time };
+}
+
+// Each text of a line as it is meant, after what it is in words.
+function* textsOf({ measurement, tags, fields = [] }) {
+    yield ["the measurement", measurement];
+    for (const [n, [key, value]] of tags.entries()) {
+        yield [`the key of tag ${n + 1}`, key];
+        yield [`the value of tag ${n + 1}`, value];
+    }
+    for (const [n, [key, { kind, value }]] of fields.entries()) {
+        yield [`the key of field ${n + 1}`, key];
+        if (kind === "s") yield [`the string of field ${n + 1}`, value];
+    }
+}
+
+// Refuses a line if some text of it holds half of a surrogate pair.
+function refuseHalves(point, index) {
+    for (const [what, text] of textsOf(point)) if (!text.isWellFormed()) throw new NotAdmitted(what, index, "holds half of a surrogate pair");
 }
 
 const spelledSeries = ({ measurement, tags }) =>
@@ -458,6 +549,7 @@ function compareByBytes(a, b) {
 class Items {
     #walk;
     #bytes;
+    #length;
     #from = 0;
     #size = WINDOW;
     #made = [];
@@ -466,6 +558,7 @@ class Items {
     constructor(walk, bytes) {
         this.#walk = walk;
         this.#bytes = bytes;
+        this.#length = bytes.length;
     }
 
     [Symbol.iterator]() {
@@ -474,20 +567,21 @@ class Items {
 
     next() {
         while (this.#next === this.#made.length) {
-            if (this.#from >= this.#bytes.length) return { done: true, value: undefined };
+            if (this.#from >= this.#length) return { done: true, value: undefined };
             this.#step();
         }
         return { done: false, value: this.#made[this.#next++] };
     }
 
     return(value) {
-        this.#from = this.#bytes.length;
+        this.#from = this.#length;
         this.#next = this.#made.length;
         return { done: true, value };
     }
 
     #step() {
-        const to = Math.min(this.#from + this.#size, this.#bytes.length), isLast = to === this.#bytes.length;
+        if (this.#bytes.length !== this.#length) throw new TypeError("the buffer of the text was detached or resized while the text was read");
+        const to = Math.min(this.#from + this.#size, this.#length), isLast = to === this.#length;
         this.#made = [];
         this.#next = 0;
         const passed = this.#walk.step(this.#bytes.subarray(this.#from, to), isLast, this.#made);
@@ -511,26 +605,12 @@ export class LineProtocol {
 
     /** The items of a stream, as its parts come. */
     async *read(source, options = {}) {
-        const walk = new Walk(this.#border, numberOf(options.dialect ?? "crate"), options), most = options.maxLine ?? LONGEST;
-        const held = new Held();
-        let tried = 0, hasNewline = false;
+        const feed = new Feed(new Walk(this.#border, numberOf(options.dialect ?? "crate"), options), limitOf(options.maxLine ?? LONGEST));
         for await (const part of partsOf(source)) {
-            held.add(part);
-            hasNewline ||= part.includes(10);
-            // A piece ends at a newline, though not at each in a string. If none of many bytes ended it, it is read again only once they are
-            // half as many more.
-            if (hasNewline && (walk.dialect === 2 || tried < 1024 || held.bytes.length >= 1.5 * tried)) {
-                const items = [];
-                held.pass(passWindows(walk, held.bytes, false, items));
-                tried = held.bytes.length;
-                hasNewline = false;
-                yield* items;
-            }
-            if (held.bytes.length > most) throw new TooLong(Number(walk.line), most);
+            feed.held.add(part);
+            yield* feed.items(false);
         }
-        const items = [];
-        passWindows(walk, held.bytes, true, items);
-        yield* items;
+        yield* feed.items(true);
     }
 
     /** A line, or each line of a list, as text: each with its newline. It is read again before it is handed out. */
@@ -539,6 +619,7 @@ export class LineProtocol {
         const list = lines && typeof lines.measurement === "string" ? [lines] : [...lines];
         const points = list.map(pointOf);
         points.forEach((point, index) => {
+            refuseHalves(point, index);
             const what = notAdmitted(point, dialect);
             if (what) throw new NotAdmitted(what, index);
         });
@@ -611,16 +692,16 @@ export class LineProtocol {
             border.put(window);
             let passed = 0;
             for (;;) {
-                const answer = border.read(window.length, number, last, passed, line), block = border.base >> 2, rows = border.words[block + 3];
+                const answer = border.read(window.length, number, last, passed, line), block = border.base >> 2, rows = border.words[block + BLOCK_ROWS];
                 for (let row = 0; row < rows; row++) {
-                    const word = (border.rows + ROW * row) >> 2, came = border.words[word + 18];
-                    at.push(from + border.words[word + 8]);
-                    len.push(border.words[word + 9]);
-                    lines.push(Number(border.longs[word >> 1]));
-                    kinds.push(came === LINE ? 0 : came === NOT_UTF8 ? FAULTS.length : border.words[word + 19]);
+                    const word = (border.rows + ROW * row) >> 2, came = border.words[word + ROW_ANSWER];
+                    at.push(from + border.words[word + ROW_PIECE]);
+                    len.push(border.words[word + ROW_PIECE + 1]);
+                    lines.push(Number(border.longs[(word + ROW_LINE) >> 1]));
+                    kinds.push(came === LINE ? 0 : came === NOT_UTF8 ? FAULTS.length : border.words[word + ROW_FAULT]);
                 }
-                passed = border.words[block + 2];
-                line = border.unsigned[border.base >> 3];
+                passed = border.words[block + BLOCK_AT];
+                line = border.unsigned[(block + BLOCK_LINE) >> 1];
                 if (answer === END || answer === MORE_TEXT) break;
                 if (rows === 0) {
                     border.enlarge();
@@ -637,10 +718,10 @@ export class LineProtocol {
 
 /** The key of the series of a line, which the series has alone: its tags in the order of their keys, by bytes. */
 export function seriesKey(line) {
-    if (!line || typeof line.measurement !== "string") throw new TypeError("a line has a measurement, which is a string");
-    const tags = pairsOf(line.tags, "tags").map(([key, value]) => [wellFormed(key), wellFormed(String(value))]);
+    const { measurement, tags } = seriesOf(line);
+    refuseHalves({ measurement, tags }, 0);
     tags.sort(([key], [other]) => compareByBytes(key, other));
-    return spelledSeries({ measurement: wellFormed(line.measurement), tags });
+    return spelledSeries({ measurement, tags });
 }
 
 /* Bytes that wait for more. They are moved only as often as their memory doubles. */
@@ -673,32 +754,57 @@ class Held {
     }
 }
 
-// Passes as many windows as end in a text, and gives how many bytes they take.
-function passWindows(walk, bytes, last, items) {
-    let from = 0, size = WINDOW;
-    while (from < bytes.length) {
-        const to = Math.min(from + size, bytes.length);
-        const passed = walk.step(bytes.subarray(from, to), last && to === bytes.length, items);
-        from += passed;
-        if (to === bytes.length) return from;
-        size = passed === 0 ? 2 * size : WINDOW;
+/* The items of a stream, as its bytes come. What is held begins with the piece that goes on. */
+class Feed {
+    constructor(walk, limit) {
+        Object.assign(this, { walk, limit, held: new Held(), search: walk.border.beginSearch(walk.dialect, limit) });
+        // How many of the held bytes were searched, and whether the piece that goes on is too long: of that one nothing is held.
+        this.searched = 0;
+        this.isLong = false;
     }
-    return from;
+
+    // The items of what is held, as far as pieces have ended.
+    *items(isLast) {
+        for (let items = this.next(isLast); items; items = this.next(isLast)) yield* items;
+    }
+
+    // The items of the next window, or that of the next piece if it does not end in the window; `null` if more bytes must come.
+    next(isLast) {
+        const { walk, limit, held } = this, bytes = held.bytes, items = [];
+        if (bytes.length === 0) return null;
+        if (this.searched === 0 && !this.isLong) {
+            // A piece that ends in this window has no more bytes than the limit.
+            const window = bytes.subarray(0, Math.min(WINDOW, limit + 1)), isEnd = isLast && window.length === bytes.length && window.length <= limit;
+            const passed = walk.step(window, isEnd, items);
+            held.pass(isEnd ? window.length : passed);
+            if (isEnd || passed > 0) return items;
+        }
+        const { answer, at } = walk.border.findCut(this.search, bytes.subarray(this.searched)), end = this.searched + at, hasEnd = end < bytes.length;
+        const piece = bytes.subarray(0, end + 1), isLong = answer === TOO_LONG;
+        this.searched = hasEnd || isLong ? 0 : end;
+        if (!hasEnd && !isLong && !isLast) return null;
+        if (isLong) {
+            if (!this.isLong) items.push(walk.longFault(bytes, limit));
+            walk.pass(piece);
+        } else {
+            walk.step(piece, !hasEnd, items);
+        }
+        this.isLong = isLong && !hasEnd;
+        held.pass(piece.length);
+        return items;
+    }
 }
 
-// The parts of a stream as bytes. Of strings half a pair of surrogates waits for the other half.
+// The parts of a stream as bytes. The first half of a surrogate pair that ends a string waits for the string that comes next.
 async function* partsOf(source) {
     let half = "";
     for await (const part of iterated(source)) {
-        if (typeof part !== "string") {
-            yield bytesOf(part);
-            continue;
-        }
-        const text = half + part;
-        half = /[\ud800-\udbff]$/.test(text) ? text.slice(-1) : "";
-        yield encoder.encode(half ? text.slice(0, -1) : text);
+        const isText = typeof part === "string", text = isText ? half + part : half;
+        half = isText && /[\ud800-\udbff]$/.test(text) ? text.slice(-1) : "";
+        if (text !== half) yield encoded(half ? text.slice(0, -1) : text);
+        if (!isText) yield bytesOf(part);
     }
-    if (half) yield encoder.encode(half);
+    if (half) yield encoded(half);
 }
 
 // Some engines cannot go over a ReadableStream.

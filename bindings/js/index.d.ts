@@ -36,10 +36,14 @@ export interface LineLike {
 
 export type FaultKind =
     | "measurement_value_invalid" | "field_set_missing" | "integer_value_invalid" | "uinteger_value_invalid" | "timestamp_value_invalid"
-    | "ends_with_backslash" | "cannot_parse_entire_line" | "tag_set_malformed" | "generic_parsing_error" | "not_utf8";
+    | "ends_with_backslash" | "cannot_parse_entire_line" | "tag_set_malformed" | "generic_parsing_error" | "not_utf8" | "too_long";
 
 /** A piece that is no line. `text` is the number out of its range, or what is left of the line; `stop..` tells the byte at which reading
- * stopped, and `refused` are the bytes of the piece. */
+ * stopped, and `refused` are the bytes of the piece.
+ *
+ * The fault of a piece that has more bytes than `maxLine` of a Reader is `too_long`, also if the piece is a comment or blank. Nothing of the
+ * piece is read: `stop..` is its first byte. `refused` are its first bytes, as many as `longerThan`, which is that limit; so `length` and
+ * `pieceLength` are too. */
 export interface Fault extends Place {
     fault: FaultKind;
     message: string;
@@ -49,6 +53,7 @@ export interface Fault extends Place {
     stopLine: number;
     stopColumn: number;
     refused: Uint8Array;
+    longerThan?: number;
 }
 
 export type Item = Line | Fault;
@@ -67,30 +72,41 @@ export interface ParseOptions extends Options {
 }
 
 export interface ReadOptions extends ParseOptions {
-    /** So many bytes a piece may have: 16 MiB if none are given. */
+    /** The most bytes that a piece may have, without the newline that ends it: 16 MiB by default. `Infinity` is no limit. */
     maxLine?: number;
 }
 
+/** A string, or bytes of UTF-8. A string can hold half of a surrogate pair, which has no UTF-8: its line is then refused as `not_utf8`, and
+ * `refused` has the three bytes `ed a0 80` to `ed bf bf` in place of that half. */
 export type Text = string | Uint8Array | ArrayBuffer | ArrayBufferView;
 
-/** The items of a text, one after another. */
+/** The items of a text, one after another. Throws TypeError if the text is neither a string nor bytes, or if its buffer is detached, also
+ * while the items are read; RangeError if no dialect has this name. */
 export function parse(text: Text, options: ParseOptions & { places: true }): IterableIterator<(Line & Place) | Fault>;
 export function parse(text: Text, options?: ParseOptions): IterableIterator<Item>;
 
-/** The items of a stream, as its parts come. Throws TooLong where a piece has more bytes than it may have. */
+/** The items of a stream, as its parts come. The parts may be cut anywhere, also within a character or a surrogate pair.
+ *
+ * A piece that has more bytes than `maxLine` is a fault `too_long`, which comes as soon as more bytes have come. The items after it follow.
+ * A Reader holds the piece that goes on, but of a piece that is too long no more than a part.
+ *
+ * The iteration throws what the source throws; TypeError if a part is neither a string nor bytes, or if `maxLine` is no number; RangeError
+ * if no dialect has this name, or if `maxLine` is no whole number from 0 on. */
 export class Reader implements AsyncIterable<Item> {
     constructor(source: ReadableStream<Uint8Array | string> | AsyncIterable<Uint8Array | string> | Iterable<Uint8Array | string>, options?: ReadOptions);
     [Symbol.asyncIterator](): AsyncIterableIterator<Item>;
 }
 
 /** A line, or lines, as text that is read as these and as nothing else, whatever comes after it. Throws NotAdmitted, and writes nothing, if
- * a name or a string rules that out. */
+ * a name or a string rules that out, or holds half of a surrogate pair. Throws TypeError if a member of a line has another type, and RangeError
+ * if a number has no place in 64 bits. */
 export function write(lines: LineLike | Iterable<LineLike>, options?: Options): string;
 
 /** Each line of a text in one spelling, a line for each other item, and how many there are of each. */
 export function rebuild(text: Text, options?: Options): { batch: string; faults: string; carried: number; refused: number };
 
-/** The key of the series of a line, which the series has alone. */
+/** The key of the series of a line, which the series has alone. Throws NotAdmitted if a name holds half of a surrogate pair, and TypeError if
+ * the measurement or a tag is no string. */
 export function seriesKey(line: Pick<LineLike, "measurement" | "tags">): string;
 
 /** What the options of a server change. */
@@ -117,14 +133,11 @@ export function brokenClauses(text: Text, limits?: Limits): string[];
 /** Whether servers read a line as this reader does in the dialect "strict". */
 export function isPortable(text: Text, to?: "influx1" | "victoria" | "all", limits?: Limits): boolean;
 
+/** A line cannot be written. `what` names the part that rules it out, as in "the value of tag 1", and `index` is the number of the line,
+ * counted from 0. */
 export class NotAdmitted extends Error {
     readonly what: string;
     readonly index: number;
-}
-
-export class TooLong extends Error {
-    readonly line: number;
-    readonly limit: number;
 }
 
 /** Whether this engine has the 64-bit memory that the module needs. */

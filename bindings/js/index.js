@@ -1,7 +1,7 @@
 /* InfluxDB line protocol: the calls of core.js over the module beside this file. */
 import { connect } from "./core.js";
 
-export { CLAUSES, LineProtocol, NotAdmitted, TooLong, connect, hasWideMemory, seriesKey } from "./core.js";
+export { CLAUSES, LineProtocol, NotAdmitted, connect, hasWideMemory, seriesKey } from "./core.js";
 
 // Node reads the file, and a browser fetches it.
 async function moduleBytes() {

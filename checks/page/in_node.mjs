@@ -12,7 +12,7 @@ import { answered, countsOf, rowsOf } from "./answers.mjs";
 
 const [folder, what, relay] = process.argv.slice(2);
 const package_ = await import(pathToFileURL(`${folder}/index.js`));
-const { CLAUSES, NotAdmitted, Reader, TooLong, brokenClauses, isPortable, parse, rebuild, seriesKey, write } = package_;
+const { CLAUSES, NotAdmitted, Reader, brokenClauses, isPortable, parse, rebuild, seriesKey, write } = package_;
 
 function same(got, wanted, of) {
     const text = it => JSON.stringify(it, (_, value) => (typeof value === "bigint" ? `${value}n` : value));
@@ -97,12 +97,12 @@ same(rebuild("m  f=t\nm f"), { batch: "m f=true\n", faults: "item 2: No fields w
 same([isPortable("m f=1u"), isPortable("m f=1u", "victoria"), isPortable("m f=1i 1590488773254420000")], [false, true, true], "what is portable");
 const bad = [...parse(Uint8Array.from([109, 32, 102, 61, 49, 10, 109, 32, 0xc3, 0x28, 61, 49, 10, 110, 32, 102, 61, 50]))];
 same(bad.map(it => it.measurement ?? [it.fault, it.line, it.stopColumn]), ["m", ["not_utf8", 2, 3], "n"], "bytes that are not UTF-8");
-try {
-    await gathered(["m f=1\n", "m s=\"".padEnd(200, "x")], { maxLine: 100 });
-    same("nothing is thrown", "TooLong", "a long piece");
-} catch (error) {
-    same([error instanceof TooLong, error.message], [true, "the piece that begins in line 2 has more than 100 bytes"], "a long piece");
-}
+throws(() => seriesKey({ measurement: "m", tags: { a: 1 } }), TypeError, "the value of the tag a is no string", "a key of a number");
+// Of LongLabels the series counts as it is spelled, and the field key without its escapes: so crates/lp_portable has it.
+for (const [series, key, wanted] of [
+    [`m,k=${"\\=".repeat(15_997)}`, "f", []], [`m,k=x${"\\=".repeat(15_997)}`, "f", ["LongLabels"]],
+    [`m,k=${"\\=".repeat(15_000)},l=${"x".repeat(1980)}`, "\\,\\=\\ abc".repeat(2), []], [`m,k=${"\\=".repeat(15_000)},l=${"x".repeat(1981)}`, "\\,\\=\\ abc".repeat(2), ["LongLabels"]],
+]) same(brokenClauses(`${series} ${key}=1`), wanted, `labels of ${series.length} and ${key.length} bytes`);
 console.log(`page: ${texts.length} texts as one stream, in ${streams} cuts, ${keys} keys, and what is written and refused`);
 
 // The first program of the page of the package prints what it says.
@@ -119,13 +119,15 @@ if (relay) {
     const hostile = Array.from({ length: 60 }, () => Buffer.concat(Array.from({ length: 60 }, () => parts[dice(parts.length)])));
     for (const text of [Buffer.from(texts.join("\n")), ...hostile]) {
         for (const [dialect, ...flags] of [["crate"], ["strict", "--strict"], ["newline-delimited", "--newline-delimited"]]) {
-            const told = spawnSync(relay, [...flags, "--faults", "json", "--verbatim", "--check"], { input: text, maxBuffer: 1 << 28 }).stderr;
-            const wanted = told.toString().split("\n").filter(Boolean).map(JSON.parse)
-                .map(it => [it.item, it.line, it.offset, it.piece_line, it.piece_offset, it.kind, it.stop_line, it.stop_column]);
-            const got = [...parse(text, { dialect })].filter(it => it.fault)
-                .map(it => [it.item, it.line, it.offset, it.pieceLine, it.pieceOffset, it.fault, it.stopLine, it.stopColumn]);
-            same(got, wanted, `the faults of ${JSON.stringify(text.toString())}, ${dialect}`);
-            faults += got.length;
+            for (const maxLine of [1 << 24, 20]) {
+                const told = spawnSync(relay, [...flags, "--faults", "json", "--verbatim", "--check", `--max-line=${maxLine}`], { input: text, maxBuffer: 1 << 28 }).stderr;
+                const wanted = told.toString().split("\n").filter(Boolean).map(JSON.parse)
+                    .map(it => [it.item, it.line, it.offset, it.piece_line, it.piece_offset, it.kind, it.longer_than ?? [it.length, it.stop_line, it.stop_column]]);
+                const got = (await gathered([text], { dialect, maxLine })).filter(it => it.fault)
+                    .map(it => [it.item, it.line, it.offset, it.pieceLine, it.pieceOffset, it.fault, it.longerThan ?? [it.pieceLength, it.stopLine, it.stopColumn]]);
+                same(got, wanted, `the faults of ${JSON.stringify(text.toString())}, ${dialect}, of lines of up to ${maxLine} bytes`);
+                faults += got.length;
+            }
         }
     }
     console.log(`page: ${faults} faults are those that lp_relay tells, at the same places`);

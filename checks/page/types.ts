@@ -1,17 +1,14 @@
 /* What the types of the package let a program say. It is not run: checks/page.sh asks TypeScript whether it is right. */
 import {
-    CLAUSES, Item, Line, NotAdmitted, Reader, TooLong, brokenClauses, connect, hasWideMemory, isPortable, parse, rebuild, seriesKey, write,
+    CLAUSES, Item, Line, NotAdmitted, Reader, brokenClauses, connect, hasWideMemory, isPortable, parse, rebuild, seriesKey, write,
 } from "influxdb-line-protocol";
 import * as core from "influxdb-line-protocol/core.js";
 
 export async function times(stream: ReadableStream<Uint8Array>): Promise<bigint[]> {
     const found: bigint[] = [];
-    try {
-        for await (const item of new Reader(stream, { dialect: "strict", maxLine: 100 })) {
-            if (!("fault" in item) && item.timestamp !== null) found.push(item.timestamp);
-        }
-    } catch (error) {
-        if (error instanceof TooLong) console.log(error.line, error.limit);
+    for await (const item of new Reader(stream, { dialect: "strict", maxLine: 100 })) {
+        if (!("fault" in item) && item.timestamp !== null) found.push(item.timestamp);
+        if ("fault" in item && item.fault === "too_long") console.log(item.line, item.longerThan);
     }
     return found;
 }

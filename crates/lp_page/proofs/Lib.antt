@@ -1,3 +1,4 @@
+pub mod CutLemmas
 pub mod PlacedLemmas
 pub mod PlacingLemmas
 pub mod PortionLemmas

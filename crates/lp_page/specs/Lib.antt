@@ -1,4 +1,5 @@
 pub mod Crossing
+pub mod Cutting
 pub mod Numbers
 pub mod OffsetBlocks
 pub mod Offsets
