@@ -53,6 +53,7 @@ beside_gate() {
     part bindings/c bindings/c/test.sh "$made/liblp_c.a"
     LP_LIB_DIR=$made part bindings/rust bindings/rust/test.sh
     part bindings/go bindings/go/test.sh "$made/liblp_c.a"
+    part checks/endpoint.sh checks/endpoint.sh "$made/liblp_c.a"
 }
 beside_programs() {
     LP_RELAY=$made/lp_relay_program part checks/page.sh checks/page.sh "$made/page"

@@ -12,6 +12,7 @@ import gzip
 import json
 import os
 import resource
+import shutil
 import signal
 import socket
 import subprocess
@@ -436,6 +437,38 @@ def full_spool(trial):
     return len(taken)
 
 
+def failing(trial, path, tell):
+    """What a body is answered while no sync of this path succeeds, as strace has it."""
+    told = trial.folder / "strace"
+    words = ["strace", "-f", "-p", str(trial.endpoint.process.pid), "-P", str(path), "-e", "trace=fsync", "-e", "inject=fsync:error=EIO"]
+    with open(told, "wb") as log, subprocess.Popen(words, stdout=log, stderr=log) as watching:
+        until("strace watches", lambda: " attached" in told.read_text())
+        said = tell()
+        watching.send_signal(signal.SIGINT)
+    want(f"a sync of {path} that fails", " = -1 EIO" in told.read_text(), True)
+    return said
+
+
+def synced(make):
+    """What the device does not have is not answered by 204: the file of refused lines, a file of the spool, and the names of both."""
+    if shutil.which("strace") is None or subprocess.run(["strace", "-o", os.devnull, "true"], stderr=subprocess.DEVNULL, check=False).returncode:
+        return "left out"
+    with make("synced", "-spool", "spool") as trial:
+        spool = trial.folder / "spool"
+        want("a refused line", failing(trial, trial.refused_path, lambda: trial.write("m n=1i 1\nm"))[0], 503)
+        want("the name of the file of refused lines", failing(trial, trial.folder, lambda: trial.write("m n=2i 2\nm"))[0], 503)
+        want("what is stored of them", trial.influx.query("SELECT n FROM m", trial.db), [])
+        trial.influx.end()
+        want("a file of the spool", failing(trial, spool / f"{1:020}.part", lambda: trial.write("m n=3i 3"))[0], 503)
+        want("what the spool has", list(spool.glob("*")), [])
+        want("the name of a file of the spool", failing(trial, spool, lambda: trial.write("m n=4i 4"))[0], 503)
+        want("once the device is well", trial.write("m n=5i 5"), (204, ""))
+        trial.influx.start()
+        trial.drained()
+        want("what is stored then", trial.influx.values(trial.db)[-1], 5)
+        return "done"
+
+
 def full(make):
     """A disk is full, a file is as long as it may be, or the spool is."""
     counts = []
@@ -455,7 +488,7 @@ def full(make):
     return counts
 
 
-TRIALS = [answers, bodies, killed, ended, full, poisoned, portable, away]
+TRIALS = [answers, bodies, killed, ended, synced, full, poisoned, portable, away]
 
 
 def main():

@@ -24,8 +24,8 @@ TEXTS = {"401": "authorization failed", "404": 'database not found: "d"', "413":
 
 
 def lines_of(body):
-    """The lines of a body; a newline within a string is a byte of its line."""
-    return re.findall(r'(?:[^"\n\\]|\\.|"(?:[^"\\]|\\.)*")+\n', body, re.DOTALL)
+    """The lines of a body; a newline within a string is a byte of its line, and the last line may lack its own."""
+    return re.findall(r'(?:[^"\n\\]|\\.|"(?:[^"\\]|\\.)*")+(?:\n|\Z)', body, re.DOTALL)
 
 
 def words_of(lines):
@@ -72,7 +72,7 @@ def judged(body, lines):
         if dropped:
             return "400", f"partial write: {text} dropped={len(dropped)}", kept
     if good != lines:
-        text = "\n".join(f"unable to parse '{each[:-1].lstrip()}': invalid number" for each in lines if "bad" in each)
+        text = "\n".join(f"unable to parse '{each.rstrip(chr(10)).lstrip()}': invalid number" for each in lines if "bad" in each)
         return "400", f"partial write: {text} dropped=0" if good else text, good
     return "204", "", lines
 
@@ -107,10 +107,10 @@ class Handler(BaseHTTPRequestHandler):
         if code == "hold":
             while not (FOLDER / "go").exists():
                 time.sleep(0.01)
-        if code in ("close", "slow"):
+        if code == "close":
             return
-        answer = "" if code in ("204", "hold") else in_json(text) if text else "Internal Server Error"
-        self.send_response({"hold": 204, "cut": 400}.get(code) or int(code))
+        answer = "" if code in ("204", "hold", "slow") else in_json(text) if text else "Internal\nServer Error"
+        self.send_response({"hold": 204, "slow": 204, "cut": 400}.get(code) or int(code))
         self.send_header("Content-Length", str(1000 if code == "cut" else len(answer.encode())))
         self.end_headers()
         self.wfile.write(answer.encode())

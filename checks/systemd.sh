@@ -14,7 +14,7 @@ top=$(cd "$(dirname "$0")/.." && pwd)
 relay=${1:+$(readlink -f "$1")}
 work=$(mktemp -d)
 # shellcheck disable=SC2046
-trap '{ kill $(jobs -p) || true; } 2>/dev/null; rm -rf "$work"' EXIT
+trap '{ kill $(jobs -p) || true; umount "$work/lib" || true; } 2>/dev/null; rm -rf "$work"' EXIT
 
 # wrong WHAT [FILE]: ends the check.
 wrong() {
@@ -89,6 +89,8 @@ connect() {
     "${words[@]}"
 }
 
+most() { sed -n "s/^$1=//p" "$work/units/lp-relay.socket"; }
+[ "$(most MaxConnectionsPerSource)" -lt "$(most MaxConnections)" ] || wrong "one address can take all connections"
 if command -v systemd-socket-activate >/dev/null; then
     connect one 'm f=1 1\nbad\nm f=2u 2\nm s="open 3\nm f=4 4\n' 1
     same "the batch" "$work/lib/spool/one-000001.lp" 'm f=1 1\nm f=4 4\n'
@@ -107,6 +109,38 @@ else
     left_out "the service of a connection" "there is no systemd-socket-activate, for checks/systemd.sh"
 fi
 
+# What comes of the service's call on this input, for a run of this ID. Sets: status.
+relay_input() {
+    mapfile -t words < <(words_of lp-relay@.service ExecStart "$1")
+    status=0
+    "${words[@]}" <"$work/input" 2>>"$work/log/faults.jsonl" || status=$?
+}
+
+# One connection of refused lines alone, and what it writes to the file of all connections.
+rm -f "$work/log/faults.jsonl"
+yes x | head -n 20000 >"$work/input"
+relay_input flood
+[ "$status" = 1 ] || wrong "the status of a connection of refused lines alone is $status"
+cmp "$work/input" "$work/lib/refused/flood.lp" || wrong "not all refused lines of a connection are kept"
+[ "$(wc -l <"$work/log/faults.jsonl"):$(tail -n 1 "$work/log/faults.jsonl")" = '1001:{"faults_not_told":19000}' ] ||
+    wrong "20,000 refused lines make a file of faults of $(wc -lc <"$work/log/faults.jsonl") lines and bytes"
+
+# A device that is full in the middle of a connection.
+if mount -t tmpfs -o size=1m systemd "$work/lib" 2>"$work/said"; then
+    mkdir "$work/lib"/{spool,refused}
+    { seq -f 'bad%.0f' 100 && seq -f 'm f=%.0f' 200000; } >"$work/input"
+    relay_input full
+    [ "$status" = 2 ] || wrong "the status of a connection on a full device is $status"
+    same "what is refused before the device is full" "$work/lib/refused/full.lp" "$(seq -f 'bad%.0f' 100)\n"
+    cat "$work/lib"/spool/full-*.lp >"$work/lines"
+    [ -s "$work/lines" ] || wrong "a full device has no batch"
+    sed 1,100d "$work/input" | head -c "$(wc -c <"$work/lines")" | cmp - "$work/lines" || wrong "the batches of a full device are not the first lines"
+    umount "$work/lib"
+    echo "systemd: a connection tells 1,000 faults at most, and what it refused is kept if the device is full"
+else
+    left_out "a full device of the service" "no tmpfs can be mounted here, for checks/systemd.sh"
+fi
+
 # What a relay leaves that is killed, before and after it is killed.
 left_of() { (cd "$work/lib" && cat ./*/killed* && echo ./*/killed*); }
 mapfile -t words < <(words_of lp-relay@.service ExecStart killed)
@@ -115,14 +149,14 @@ mkfifo "$work/fifo"
 process=$!
 exec 4>"$work/fifo"
 printf 'm f=1 1\nbad\nm f=2 2\nm f=' >&4
-wait_for "a file beside its place" test -s "$work/lib/refused/killed.lp.lp_relay-$process-0" -a -s "$work/lib/spool/killed-000001.lp.lp_relay-$process-0"
+wait_for "a file beside its place" test -s "$work/lib/refused/killed.lp" -a -s "$work/lib/spool/killed-000001.lp.lp_relay-$process-0"
 "$top/examples/systemd/left.sh" "$work/lib/spool" "$work/lib/refused" 2>"$work/said"
 same "what left.sh says of files that are written" "$work/said" ''
 kill -9 "$process"
 wait "$process" 2>/dev/null || true
 exec 4>&-
 same "what is left" <(left_of) \
-    "bad\nm f=1 1\nm f=2 2\n./refused/killed.lp.lp_relay-$process-0 ./spool/killed-000001.lp.lp_relay-$process-0\n"
+    "bad\nm f=1 1\nm f=2 2\n./refused/killed.lp ./spool/killed-000001.lp.lp_relay-$process-0\n"
 # A line that was cut is no line, since it could be read as another one.
 printf 'm f=1 1\nm f=12' >"$work/lib/spool/cut-000001.lp.lp_relay-999999999-0"
 printf 'm f=12' >"$work/lib/spool/cut-000002.lp.lp_relay-999999999-0"

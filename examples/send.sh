@@ -14,12 +14,17 @@
 #   429, other 5xx, none    it stays, and so do those after it
 #   anything else           the same, and nothing is tried again: the address or the credentials are wrong
 #
+# A batch that cannot be read to its end stays too, whatever the server answers. The batches after it are sent, and the status is 2.
+#
 # Dead letters are files of lines as they came. A comment before them has the answer, so `lp_relay --strict` reads them as they are. A batch
 # that has what `lp_relay --strict` refuses cannot be cut: all of it goes there then.
 #
 # What is stored is not sent again, with two exceptions. If an answer is lost, the call is made again. If a 400 names no line, it does not
 # tell what is stored: then lines that have a time are sent again. InfluxDB keeps these once, VictoriaMetrics twice. Lines that have no
 # time would be other points, so they go to the dead letters, below a comment that they may be stored.
+#
+# If the device is full, the script removes FOLDER/.send/reserve, 4 MiB that an earlier run has put there. If there is none, it first posts
+# batches without a note of the call in .send, until those that are stored have made room. If it is killed meanwhile, that call is made again.
 #
 # LP_TRIES: how often a batch is posted if its answer may change, by default 5. LP_WAIT: the seconds before the second try, by default 1;
 # each next wait is twice as long. LP_TIMEOUT: the seconds that a call may take, by default 60. LP_CURL: a file of options for curl, as
@@ -41,6 +46,12 @@ say() {
 fail() {
     say "$1"
     exit 2
+}
+
+# Ends the run, since its state cannot be written. The next run has the room of the reserve.
+fail_full() {
+    rm -f .send/reserve
+    fail "$folder/.send cannot be written"
 }
 
 # Prints a path as it is from the root, since the run goes on in the folder.
@@ -73,7 +84,7 @@ take_words() {
 # Without flock it is a link that names the process, beside a file that names its call.
 lock() {
     busy="another send.sh is at work in $folder"
-    touch .send/lock || fail "$folder/.send cannot be written"
+    touch .send/lock || fail_full
     if command -v flock >/dev/null; then
         exec 9>.send/lock
         flock -n 9 || fail "$busy"
@@ -94,25 +105,30 @@ lock() {
     trap 'rm -f .send/held; [ -n "$is_told" ] || exit 2' EXIT
 }
 
-# Calls the server, and prints the code of its answer and the status of curl. It goes on if the run is cut off.
+# Calls the server, and prints the code of its answer, how many bytes of the file were posted, and the status of curl. It goes on if the
+# run is cut off.
 call() {
     curl_status=0
     set -- --data-binary "@$1" --url "$url"
     [ -z "$options" ] || set -- -K "$options" "$@"
-    curl -sS -g --max-time "$timeout" -H 'Content-Type: text/plain; charset=utf-8' -o .send/text -w '%{http_code}' "$@" || curl_status=$?
-    echo " $curl_status"
+    told=$(curl -sS -g --max-time "$timeout" -H 'Content-Type: text/plain; charset=utf-8' -o .send/text -w '%{http_code} %{size_upload}' "$@") ||
+        curl_status=$?
+    echo "${told:-000 0} $curl_status"
 }
 
-# Prints what a call is of: the sum of its file, and that of the URL.
+# Prints what a call is of: the sum of its file, the size, and the sum of the URL. Fails if the file cannot be read.
 call_of() {
-    cksum "$1"
-    printf '%s\n' "$url" | cksum
+    cksum "$1" && wc -c <"$1" && printf '%s\n' "$url" | cksum
 }
 
 # Posts a file once. `.send/posted` says which call the answer is for.
 post() {
     rm -f .send/answer
-    { call_of "$1" >.send/posted && : >.send/text; } || fail "$folder/.send cannot be written"
+    if ! answer=$(call_of "$1" 2>&1); then
+        code=unread
+        return
+    fi
+    { printf '%s\n' "$answer" >.send/posted && : >.send/text; } || fail_full
     call "$1" >.send/answer 2>.send/why &
     echo $! >.send/call
     wait $! || true
@@ -120,23 +136,24 @@ post() {
     [ -n "$curl_status" ] || fail "${1#./}: its answer is lost, since $folder/.send cannot be written"
 }
 
-# Sets: code, that of the answer, or 000 if there is none, and answer, that and what is said, on one line.
+# Sets: code, that of the answer, or 000 if there is none, or `unread` if curl did not read all of the file; answer, that and what is said, on
+# one line; uploaded and size, how many bytes were posted and how many the file has.
 read_answer() {
-    code='' curl_status=''
-    read -r code curl_status <.send/answer || true
-    if [ "$code $curl_status" = '204 0' ]; then
-        answer=204
-    elif [ "$curl_status" = 0 ]; then
-        answer="$code $(head -c 1000 .send/text | tr '[:cntrl:]' '[ *]' | sed 's/ *$//')"
-    else
-        code=000
-        answer=$(tail -n 1 .send/why)
-    fi
+    code='' uploaded='' curl_status='' size=''
+    read -r code uploaded curl_status <.send/answer || true
+    { read -r _ && read -r size; } <.send/posted || true
+    case $curl_status:$code:$uploaded in
+    "0:204:$size") answer=204 ;;
+    0:204:*) code=unread answer="$uploaded of its $size bytes were read" ;;
+    0:*) answer="$code $(head -c 1000 .send/text | tr '[:cntrl:]' '[ *]' | sed 's/ *$//')" ;;
+    26:*) code=unread answer=$(head -n 1 .send/why) ;;
+    *) code=000 answer=$(tail -n 1 .send/why) ;;
+    esac
 }
 
 # Tells whether a run that was cut off has left an answer that decides what becomes of a file, and reads it.
 is_answered() {
-    [ -s .send/answer ] && [ "$(cat .send/posted)" = "$(call_of "$1")" ] || return 1
+    [ -s .send/answer ] && [ "$(cat .send/posted)" = "$(call_of "$1" 2>/dev/null)" ] || return 1
     read_answer
     case $code in 204 | 400 | 413) ;; *) return 1 ;; esac
 }
@@ -144,7 +161,7 @@ is_answered() {
 # Tells whether a further call may be answered otherwise. By these statuses curl says that it cannot call, or cannot keep the answer.
 may_change() {
     case $code:$curl_status in
-    000:[1-4] | 000:23 | 000:26 | 000:60 | 000:12[67]) return 1 ;;
+    000:[1-4] | 000:23 | 000:60 | 000:12[67]) return 1 ;;
     000:* | 408:* | 429:* | 5??:*) ;;
     *) return 1 ;;
     esac
@@ -189,7 +206,7 @@ finish() {
 # Takes a batch out of the folder, for what is beside it in `.send`: dead letters, stored lines or halves. Before it goes, nothing of
 # these counts; from then on the next run finishes what this one does not. All of it is on the device then.
 take_out() {
-    printf '%s\n' "${1#./}" >.send/name || fail "$folder/.send cannot be written"
+    printf '%s\n' "${1#./}" >.send/name || fail_full
     for made in .send/name .send/*.lp; do
         [ ! -e "$made" ] || sync "$made" 2>/dev/null || sync
     done
@@ -221,7 +238,7 @@ send_both() {
 
 # Puts all lines of a batch to the dead letters.
 refuse_all() {
-    { printf '# %s\n' "$answer" && cat "$1"; } >.send/dead.lp || fail "$folder/.send cannot be written"
+    { printf '# %s\n' "$answer" && cat "$1"; } >.send/dead.lp || fail_full
     take_out "$1"
 }
 
@@ -245,7 +262,7 @@ in_json='
 # shellcheck disable=SC2016
 name_lines() {
     status=0
-    awk -v size="$(wc -c <"$1")" -v dead=.send/dead.lp -v stored=.send/stored.lp "$in_json"'
+    awk -v size="$(wc -c <"$1")" -v dead=.send/dead.lp -v stored="${sent:+.send/stored.lp}" "$in_json"'
         # The last line of the text that the next name has, if that text begins at this line, and else 0.
         function last_named(line,    text, at, part) {
             part = line_at[line]
@@ -272,7 +289,7 @@ name_lines() {
             next_name = 1
             for (line = 1; line <= count; line++) {
                 last = next_name <= names ? last_named(line) : 0
-                if (!last) { print line_at[line] >stored; others++; continue }
+                if (!last) { if (stored) print line_at[line] >stored; others++; continue }
                 print "# 400 unable to parse: " reason >dead
                 while (line < last) print line_at[line++] >dead
                 print line_at[line] >dead
@@ -280,7 +297,7 @@ name_lines() {
             }
             exit !names || next_name <= names || size != 0 || (others && !is_partial)
         }' .send/text "$1" || status=$?
-    [ "$status" -le 1 ] || fail "$folder/.send cannot be written"
+    [ "$status" -le 1 ] || fail_full
     return "$status"
 }
 
@@ -289,7 +306,7 @@ name_lines() {
 # shellcheck disable=SC2016
 part_lines() {
     status=0 name='[A-Za-z0-9_./:@%-]*'
-    printf '# may be stored: %s\n' "$answer" >.send/dead.lp || fail "$folder/.send cannot be written"
+    printf '# may be stored: %s\n' "$answer" >.send/dead.lp || fail_full
     named=$(sed -n "s/^.*input field .\"\\($name\\).\" on measurement .\"\\($name\\).\" is type \\([a-z]*\\), .*/\\1 \\2 \\3/p" .send/text)
     awk -v named="$named" -v dead=.send/dead.lp -v part=.send/part- -v nothing="$2" '
         # What begins a line that has the field, with a value of that type.
@@ -318,7 +335,7 @@ part_lines() {
             if (is_going) { print text >>dead; timeless++ }
             exit timeless ? nothing && !first && !second : !first || !second
         }' "$1" || status=$?
-    [ "$status" -le 1 ] || fail "$folder/.send cannot be written"
+    [ "$status" -le 1 ] || fail_full
     return "$status"
 }
 
@@ -346,7 +363,7 @@ refuse() {
     case $answer in
     '400 {"error":"unable to parse '* | '400 {"error":"partial write: unable to parse '*)
         rm -f .send/dead.lp .send/stored.lp
-        if name_lines "$1"; then
+        if [ "$uploaded" = "$size" ] && name_lines "$1"; then
             case $answer in *'"partial'*) well=yes failures=0 ;; esac
             take_out "$1"
             return
@@ -399,7 +416,7 @@ send() {
     case $code in
     204)
         well=yes failures=0
-        [ -z "$sent" ] || cp -- "$1" .send/stored.lp || fail "$folder/.send cannot be written"
+        [ -z "$sent" ] || cp -- "$1" .send/stored.lp || fail_full
         take_out "$1"
         ;;
     400) refuse "$1" "$2" ;;
@@ -408,7 +425,56 @@ send() {
         if [ "$lines" -gt 1 ]; then post_halves "$1" "$2"; else refuse_all "$1"; fi
         ;;
     500) search "$1" "$2" ;;
+    unread)
+        unread="${1#./}: $answer"
+        say "$unread: it is left"
+        batches_left=$((batches_left + 1))
+        ;;
     *) if may_change; then stop "$1"; else fail "${1#./}: $answer"; fi ;;
+    esac
+}
+
+# Makes the reserve, if the device has room for four of these.
+keep_reserve() {
+    [ ! -e .send/reserve ] || return 0
+    [ "$(df -Pk .send | awk 'NR == 2 { print $4 }')" -lt 16384 ] || head -c 4194304 /dev/urandom >.send/reserve || rm -f .send/reserve
+}
+
+# Tells whether `.send` has room for so many bytes.
+has_room() {
+    status=0
+    head -c "$1" /dev/zero 2>/dev/null >.send/room || status=1
+    rm -f .send/room
+    return "$status"
+}
+
+# Makes room on a full device for what becomes of the first batch. Without the reserve, batches that the server stores make it.
+make_room() {
+    need=$(wc -c 2>/dev/null <"$1") || need=0
+    need=$((32768 + 2 * need))
+    ! has_room "$need" || return 0
+    rm -f .send/reserve
+    for batch in "$@"; do
+        ! has_room "$need" || return 0
+        is_answered "$batch" || post_unnoted "$batch"
+        case $code in
+        204) batches=$((batches + 1)) ;;
+        400 | 413 | 500 | unread) continue ;;
+        *) return 0 ;;
+        esac
+        if [ -n "$sent" ]; then place "$batch" "$sent/${batch#./}"; else rm -- "$batch"; fi
+    done
+}
+
+# Posts a batch without a note of the call. Sets: code, as `read_answer` does.
+post_unnoted() {
+    code=unread
+    size=$(wc -c 2>/dev/null <"$1") || return 0
+    answer=$(call "$1" 2>/dev/null)
+    case $answer in
+    "204 $size 0") code=204 ;;
+    204\ *) ;;
+    *) code=${answer%% *} ;;
     esac
 }
 
@@ -424,7 +490,9 @@ end() {
     for batch in ./*.lp; do
         [ ! -f "$batch" ] || batches_left=$((batches_left + 1))
     done
+    keep_reserve
     say "$batches batches sent, $refused lines refused, $batches_left batches left"
+    [ -z "$unread" ] || fail "$unread"
     [ "$batches_left" = 0 ] || exit 75
     [ "$refused" = 0 ] || exit 1
     exit 0
@@ -432,7 +500,8 @@ end() {
 
 # well: yes if the server has stored lines since the first answer of the batch under way that may be a failure of the server.
 # failures: how often it has failed since it stored lines.
-refused=0 well='' failures=0 batches=0 batches_left=0 is_told=''
+# unread: which batch cannot be read, and why.
+refused=0 well='' failures=0 batches=0 batches_left=0 is_told='' unread=''
 back=''
 [ ! -t 2 ] || back=$(printf '\r\033[K')
 # Where a command fails unlooked for, the status is that of a failure.
@@ -447,6 +516,7 @@ lock
 rm -f .send/left
 if [ -e .send/out ]; then finish; else rm -f .send/dead.lp .send/stored.lp .send/part-*; fi
 set -- ./*.lp
+[ ! -f "$1" ] || make_room "$@"
 for batch in "$@"; do
     [ -f "$batch" ] || continue
     [ -z "$back" ] || printf '%ssend: %s of %s batches' "$back" "$batches" "$#" >&2

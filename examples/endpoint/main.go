@@ -55,14 +55,18 @@ func newEndpoint(words []string) (*endpoint, error) {
 	flags.Int64Var(&e.maxBody, "max-body", 25e6, "`bytes` that a body may have once it is unpacked")
 	flags.Int64Var(&e.maxInFlight, "max-in-flight", 64<<20, "`bytes` that all bodies at hand may have")
 	maxLine := flags.Int("max-line", 1<<20, "`bytes` that a line may have")
+	dialect := flags.String("dialect", "strict", "`rules` by which lines are read: strict or newline-delimited")
 	portable := flags.String("portable", "", "refuse what `servers` do not store as it is read here: influx1, victoria or all")
 	_ = flags.Parse(words) // it ends the program if it fails
 	servers, known := map[string]lineprotocol.Servers{"": 0, "influx1": lineprotocol.Influx1, "victoria": lineprotocol.Victoria,
 		"all": lineprotocol.AllServers}[*portable]
+	rules, named := map[string]lineprotocol.Dialect{"strict": lineprotocol.Strict, "newline-delimited": lineprotocol.NewlineDelimited}[*dialect]
 	address, err := url.Parse(e.server)
 	switch {
 	case flags.NArg() > 0:
 		return nil, fmt.Errorf("%q is no option", flags.Arg(0))
+	case !named:
+		return nil, fmt.Errorf("-dialect is %q, and not strict or newline-delimited", *dialect)
 	case !known:
 		return nil, fmt.Errorf("-portable is %q, and not influx1, victoria or all", *portable)
 	case err != nil || address.Host == "":
@@ -74,7 +78,7 @@ func newEndpoint(words []string) (*endpoint, error) {
 	e.client.Transport = &http.Transport{MaxIdleConnsPerHost: 64, IdleConnTimeout: time.Minute}
 	e.decoders.New = func() any {
 		d := lineprotocol.NewDecoder(nil)
-		d.SetDialect(lineprotocol.Strict)
+		d.SetDialect(rules)
 		d.SetMaxLine(*maxLine)
 		return d
 	}
@@ -218,7 +222,7 @@ func (b *body) open(r *http.Request) (err error) {
 
 var errTooLarge, errBusy = &problem{413, "Request Entity Too Large"}, errors.New("too many bytes are in flight")
 
-// Read reads the text of a body. Its bytes are in flight once they came, so a body that comes slowly keeps no others out.
+// Read reads the text of a body. Its bytes are in flight once they came.
 func (b *body) Read(into []byte) (int, error) {
 	n, err := b.source.Read(into)
 	b.size += int64(n)
@@ -375,6 +379,7 @@ type spool struct {
 	folder     string
 	most       int64
 	held, last atomic.Int64 // what its files take of the disk, also those that are being written; the last number
+	lock       *os.File     // the folder, which no other endpoint has
 }
 
 // open counts the files of the folder, and removes what was not finished.
@@ -382,7 +387,14 @@ func (s *spool) open() error {
 	if s.folder == "" {
 		return nil
 	}
-	err := os.MkdirAll(s.folder, 0o700)
+	_ = os.MkdirAll(s.folder, 0o700) // without the folder it cannot be opened
+	var err error
+	if s.lock, err = os.Open(s.folder); err != nil {
+		return err
+	}
+	if err = syscall.Flock(int(s.lock.Fd()), syscall.LOCK_EX|syscall.LOCK_NB); err != nil {
+		return fmt.Errorf("another endpoint has the spool %s: %w", s.folder, err)
+	}
 	parts, unread := s.files(".part")
 	for _, path := range parts {
 		err = firstOf(err, os.Remove(path))
@@ -472,8 +484,8 @@ func middle(text []byte) (at int) {
 	return at
 }
 
-// A sender sends what the spool holds. It keeps a line that the server took, and so tells a line that the server cannot take from a server
-// that takes nothing now: it answers 500 in both cases.
+// A sender sends what the spool holds. It keeps the last lines that the server took, and so tells a line that the server cannot take from a
+// server that takes nothing now: it answers 500 in both cases.
 type sender struct {
 	*endpoint
 	to   target
@@ -526,7 +538,11 @@ func (s *sender) sendLines(ctx context.Context, to target, lines []byte) error {
 	var said *problem
 	if !errors.As(err, &said) {
 		if err == nil {
-			s.to, s.took = to, lines[:middle(lines)]
+			at := middle(lines) // the last lines, as one of the first may be an older value of their point
+			if at == len(lines) {
+				at = 0
+			}
+			s.to, s.took = to, lines[at:]
 		}
 		return err
 	}

@@ -7,6 +7,7 @@ import (
 	"encoding/json"
 	"fmt"
 	"io"
+	"net"
 	"net/http"
 	"net/http/httptest"
 	"os"
@@ -20,13 +21,16 @@ import (
 )
 
 // A stub is in the place of the server. It keeps what it takes, in order; it does not take lines with `conflict` or `panic`, as InfluxDB does
-// not; and while it is away, or sick, it takes nothing.
+// not; while it is away, or sick, it takes nothing; `answers` has the status that bodies with a text are answered by; and it may ask for
+// credentials.
 type stub struct {
 	*httptest.Server
 	mu         sync.Mutex
 	got        []string
 	asked      []*http.Request
 	away, sick bool
+	answers    map[string]int
+	password   string
 }
 
 func newStub(t *testing.T) *stub {
@@ -41,7 +45,15 @@ func (s *stub) serve(w http.ResponseWriter, r *http.Request) {
 	defer s.mu.Unlock()
 	text, _ := io.ReadAll(r.Body)
 	s.asked = append(s.asked, r)
+	for part, code := range s.answers {
+		if bytes.Contains(text, []byte(part)) {
+			w.WriteHeader(code)
+			return
+		}
+	}
 	switch {
+	case s.password != "" && r.Header.Get("Authorization") != s.password && r.URL.Query().Get("p") != s.password:
+		w.WriteHeader(401)
 	case s.away:
 		w.WriteHeader(503)
 	case s.sick, bytes.Contains(text, []byte("panic")):
@@ -64,6 +76,20 @@ func (s *stub) set(away, sick bool) {
 	s.away, s.sick = away, sick
 }
 
+// answer has bodies with a text answered by this status, and all others as ever.
+func (s *stub) answer(part string, code int) {
+	s.mu.Lock()
+	defer s.mu.Unlock()
+	s.answers = map[string]int{part: code}
+}
+
+// times gives how often the stub was asked.
+func (s *stub) times() int {
+	s.mu.Lock()
+	defer s.mu.Unlock()
+	return len(s.asked)
+}
+
 // taken gives the lines that the stub took.
 func (s *stub) taken() string {
 	s.mu.Lock()
@@ -82,7 +108,7 @@ func start(t *testing.T, s *stub, folder string, words ...string) (address strin
 	var sending sync.WaitGroup
 	sending.Add(1)
 	go func() { (&sender{endpoint: e}).run(ctx); sending.Done() }()
-	end = func() { server.Close(); cancel(); sending.Wait() }
+	end = func() { server.Close(); cancel(); sending.Wait(); e.spool.lock.Close() }
 	t.Cleanup(end)
 	return server.URL, end
 }
@@ -124,8 +150,11 @@ func get(t *testing.T, address string) string {
 }
 
 // fault gives what the module says of a line.
-func fault(line string) string {
+func fault(line string) string { return faultIn(lineprotocol.Crate, line) }
+
+func faultIn(dialect lineprotocol.Dialect, line string) string {
 	d := lineprotocol.NewDecoderWithBytes([]byte(line))
+	d.SetDialect(dialect)
 	d.Next()
 	return d.Fault().Err.Error()
 }
@@ -188,6 +217,8 @@ func TestAnswers(t *testing.T) {
 		{long, "line 1: unable to parse '" + long[:100] + "': the line is too long"},
 		{"m f=4\n m=\" f=5", "partial write: line 2: unable to parse ' m=\" f=5': what is there is not one line for the strict reader dropped=1"},
 		{"m f=\"open\nm f=6", "line 1: unable to parse 'm f=\"open\nm f=6': " + fault("m f=\"")},
+		{"m f=7i,", "line 1: unable to parse 'm f=7i,': " + faultIn(lineprotocol.Strict, "m f=7i,")},
+		{"# a=\"\nm f=8\n", ""},
 		{"m conflict=1", "partial write: field type conflict dropped=1"},
 		{"m f=\nm conflict=1", "partial write: line 1: unable to parse 'm f=': " + fault("m f=") + "\nfield type conflict dropped=1 dropped=1"},
 	} {
@@ -201,8 +232,20 @@ func TestAnswers(t *testing.T) {
 	want(t, "a panic of the server", post(t, write, "m panic=1"), `500 {"error":""}`)
 	want(t, "a body too large", post(t, write, strings.Repeat("m f=1\n", 200)), `413 {"error":"Request Entity Too Large"}`)
 	want(t, "too much to keep", post(t, write, strings.Repeat("m\n", 100)), `413 {"error":"Request Entity Too Large"}`)
-	want(t, "what goes on", s.taken(), "m f=1\nm f=2\nm f=3\nm s=\"a\nb\" 3\nm f=4\n")
-	want(t, "what is kept", fmt.Sprintf("%q", refused(t, folder)), fmt.Sprintf("%q", []string{"m f=", "m f=1\r", "\xff f=1", long[:100], " m=\" f=5", "m f=\"open\nm f=6", "m f="}))
+	want(t, "what goes on", s.taken(), "m f=1\nm f=2\nm f=3\nm s=\"a\nb\" 3\nm f=4\nm f=8\n")
+	want(t, "what is kept", fmt.Sprintf("%q", refused(t, folder)), fmt.Sprintf("%q", []string{"m f=", "m f=1\r", "\xff f=1", long[:100], " m=\" f=5", "m f=\"open\nm f=6", "m f=7i,", "m f="}))
+}
+
+// A quote that a line leaves open takes in no other line by the rules that end a line at each newline.
+func TestDialect(t *testing.T) {
+	s, folder := newStub(t), t.TempDir()
+	address, _ := start(t, s, folder, "-dialect", "newline-delimited")
+	want(t, "an open quote", post(t, address+"/write?db=x", "m f=\"open\nm f=6\nm f=7i,"),
+		`400 {"error":"partial write: line 1: unable to parse 'm f=\"open': `+fault("m f=\"")+
+			`\nline 3: unable to parse 'm f=7i,': `+faultIn(lineprotocol.NewlineDelimited, "m f=7i,")+` dropped=2"}`)
+	want(t, "what goes on", s.taken(), "m f=6\n")
+	_, err := newEndpoint([]string{"-dialect", "crate"})
+	want(t, "another one", fmt.Sprint(err), `-dialect is "crate", and not strict or newline-delimited`)
 }
 
 func TestTargets(t *testing.T) {
@@ -299,6 +342,144 @@ func TestSpool(t *testing.T) {
 	}
 }
 
+// inSpool gives how many bodies are in a spool.
+func inSpool(folder string) int {
+	files, _ := filepath.Glob(filepath.Join(folder, "*.batch"))
+	return len(files)
+}
+
+// A line that comes while others are in the spool goes after them, and they are there until the server has them.
+func TestOrder(t *testing.T) {
+	s, folder := newStub(t), t.TempDir()
+	spool := filepath.Join(folder, "spool")
+	address, _ := start(t, s, folder, "-spool", spool)
+	s.answer("f=1 ", 503)
+	want(t, "a line that the server does not take now", post(t, address+"/write?db=x", "m f=1 5"), "204")
+	wait(t, "the server is asked again", func() bool { return s.times() > 2 })
+	want(t, "the line after it", post(t, address+"/write?db=x", "m f=2 5"), "204")
+	want(t, "what the server has, and the spool", fmt.Sprintf("%q %d", s.taken(), inSpool(spool)), `"" 2`)
+	s.answer("nothing", 503)
+	wait(t, "the spool is empty", func() bool { return inSpool(spool) == 0 })
+	want(t, "what the server has then", s.taken(), "m f=1 5\nm f=2 5\n")
+}
+
+// To tell a line that the server cannot take from a sick server, lines that it has are sent again: none that a later one has written over.
+func TestSentAgain(t *testing.T) {
+	s, folder := newStub(t), t.TempDir()
+	spool := filepath.Join(folder, "spool")
+	address, _ := start(t, s, folder, "-spool", spool)
+	s.set(true, false)
+	want(t, "a point, and its next value", post(t, address+"/write?db=x", "m f=1 5\nm f=2 5"), "204")
+	panics := "m panic=\"" + strings.Repeat("x", 99) + "\" 6" // longer than the others, so these go out together
+	want(t, "a line that the server cannot take", post(t, address+"/write?db=x", panics), "204")
+	s.set(false, false)
+	wait(t, "the spool is empty", func() bool { return inSpool(spool) == 0 })
+	if !strings.HasSuffix(s.taken(), "m f=2 5\n") || strings.Count(s.taken(), "m f=2 5\n") < 2 {
+		t.Errorf("the server was sent %q", s.taken())
+	}
+	want(t, "what is refused", fmt.Sprintf("%q", refused(t, folder)), fmt.Sprintf("%q", []string{panics}))
+}
+
+// What was begun is answered before the program ends.
+func TestEnding(t *testing.T) {
+	s := newStub(t)
+	free, err := net.Listen("tcp", "127.0.0.1:0")
+	if err != nil {
+		t.Fatal(err)
+	}
+	free.Close()
+	address := "http://" + free.Addr().String()
+	e, err := newEndpoint([]string{"-listen", free.Addr().String(), "-server", s.URL, "-refused", filepath.Join(t.TempDir(), "refused")})
+	if err != nil {
+		t.Fatal(err)
+	}
+	ctx, cancel := context.WithCancel(context.Background())
+	ended, answered := make(chan error), make(chan string)
+	go func() { ended <- e.run(ctx) }()
+	wait(t, "it listens", func() bool {
+		response, err := http.Get(address + "/ping")
+		return err == nil && response.Body.Close() == nil
+	})
+	s.mu.Lock() // the server has no answer until it is told
+	go func() {
+		response, err := http.Post(address+"/write?db=x", "text/plain", strings.NewReader("m f=1"))
+		if err == nil {
+			response.Body.Close()
+			answered <- response.Status
+			return
+		}
+		answered <- err.Error()
+	}()
+	wait(t, "a body is at hand", func() bool { return e.inFlight.Load() > 0 })
+	cancel()
+	time.Sleep(100 * time.Millisecond)
+	s.mu.Unlock()
+	want(t, "what was begun", <-answered, "204 No Content")
+	want(t, "how it ends", fmt.Sprint(<-ended), "<nil>")
+}
+
+// A spool is of one endpoint: a second one would write over its files.
+func TestOneSpool(t *testing.T) {
+	s, folder := newStub(t), t.TempDir()
+	words := []string{"-refused", filepath.Join(folder, "refused"), "-spool", filepath.Join(folder, "spool")}
+	_, end := start(t, s, folder, words...)
+	_, err := newEndpoint(words)
+	want(t, "a second endpoint", fmt.Sprint(err), "another endpoint has the spool "+words[3]+": resource temporarily unavailable")
+	end()
+	start(t, s, folder, words...)
+}
+
+// A server that has too much to do, or no time, is asked again by the spool: no client is.
+func TestBusy(t *testing.T) {
+	for _, code := range []int{408, 429, 503} {
+		s, folder := newStub(t), t.TempDir()
+		address, _ := start(t, s, folder, "-spool", filepath.Join(folder, "spool"))
+		s.answer("m", code)
+		want(t, fmt.Sprint(code), post(t, address+"/write?db=x", "m f=1 5"), "204")
+		s.answer("nothing", 503)
+		wait(t, fmt.Sprint("the line after ", code), func() bool { return s.taken() == "m f=1 5\n" })
+	}
+}
+
+// The spool keeps the credentials, which are the client's, and the time of arrival.
+func TestKept(t *testing.T) {
+	s, folder := newStub(t), t.TempDir()
+	spool := filepath.Join(folder, "spool")
+	address, _ := start(t, s, folder, "-spool", spool)
+	s.password = "Token its password"
+	s.set(true, false)
+	before := time.Now()
+	want(t, "credentials in a header", post(t, address+"/write?db=x", "m f=1", "Authorization: "+s.password), "204")
+	want(t, "credentials in a URL", post(t, address+"/write?db=x&p=Token+its+password", "m f=2"), "204")
+	after := time.Now()
+	s.set(false, false)
+	wait(t, "the spool is empty", func() bool { return inSpool(spool) == 0 })
+	var values, times [2]int64
+	if _, err := fmt.Sscanf(s.taken(), "m f=%d %d\nm f=%d %d\n", &values[0], &times[0], &values[1], &times[1]); err != nil || values != [2]int64{1, 2} {
+		t.Errorf("the server has %q", s.taken())
+	} else if times[0] < before.UnixNano() || times[1] <= times[0] || after.UnixNano() < times[1] {
+		t.Errorf("of lines that came from %d to %d the server has %q", before.UnixNano(), after.UnixNano(), s.taken())
+	}
+}
+
+// What the server refuses of the spool stays there while it cannot be kept elsewhere.
+func TestRefusedLater(t *testing.T) {
+	s, folder := newStub(t), t.TempDir()
+	spool, refusedFile := filepath.Join(folder, "spool"), filepath.Join(folder, "refused")
+	address, _ := start(t, s, folder, "-spool", spool)
+	s.set(true, false)
+	want(t, "a line of another type", post(t, address+"/write?db=x", "m conflict=1 1"), "204")
+	os.Remove(refusedFile)
+	os.Mkdir(refusedFile, 0o700)
+	asked := s.times()
+	s.set(false, false)
+	wait(t, "the server is asked more than once", func() bool { return s.times() > asked+2 })
+	want(t, "what the spool has", fmt.Sprint(inSpool(spool)), "1")
+	os.Remove(refusedFile)
+	wait(t, "the spool is empty", func() bool { return inSpool(spool) == 0 })
+	want(t, "what is kept", fmt.Sprintf("%q", refused(t, folder)), `["m conflict=1 1"]`)
+}
+
 // Where nothing can be kept, nothing is sent, and the client is told to come again.
 func TestFull(t *testing.T) {
 	s, folder := newStub(t), t.TempDir()
@@ -334,5 +515,5 @@ func TestFull(t *testing.T) {
 	if err := <-done; err != nil {
 		t.Error(err)
 	}
-	want(t, "then", post(t, address+"/write?db=x", strings.Repeat("#", 999)), "204")
+	want(t, "then", post(t, address+"/write?db=x", strings.Repeat("#", 1000)), "204")
 }
