@@ -11,6 +11,22 @@ PATH=$PATH:/opt/rattle/bin
 # The folder of the kit.
 kit() { dirname "$(dirname "$(readlink -f "$(command -v rt)")")"; }
 
+# Fails if one of these Debian packages is missing, and says on one line which, and what installs it: `need NAME PACKAGE..`.
+need() {
+    local missing options=''
+    missing=$("$top/bin/setup" --list "${@:2}") && return
+    [[ $missing != *arm64* ]] || options=" --arm64"
+    echo "$1: missing Debian packages: ${missing//$'\n'/, }; to install them, run as root: $top/bin/setup$options" >&2
+    return 1
+}
+
+# Fails if there is no kit, and says so.
+need_kit() {
+    ! command -v rt >/dev/null || return 0
+    echo "$1: the Rattle kit is missing, which proves and builds: there is no rt in /opt/rattle/bin or in PATH" >&2
+    return 1
+}
+
 # The line of a crate in crates.txt.
 line_of() { grep -E "^$1( [^:]*)?:" "$top/crates.txt"; }
 
@@ -140,7 +156,7 @@ build_all() (
     local name=$1 crate rooms most below=()
     local -A lows=() weights=() jobs=() began=() took=() share=()
     shift
-    command -v rt >/dev/null || { echo "$name: there is no rt, which proves and builds $*: the kit belongs in /opt/rattle" >&2; exit 1; }
+    need_kit "$name" && need "$name" python3 || exit
     choose_most
     rooms=$(mktemp -d) || exit
     # shellcheck disable=SC2046

@@ -14,6 +14,11 @@
 set -eu
 cd "$(dirname "$0")"
 . ./launch.sh
+need_kit test && need test python3 gcc libc6-dev git || exit
+if ! python3 -c 'import sys; sys.exit(sys.version_info < (3, 10))'; then
+    echo "test: Python 3.10 or later is needed, and python3 is $(python3 --version)" >&2
+    exit 1
+fi
 made=$(mktemp -d)
 export LEFT_OUT=$made/left_out
 touch "$made"/{left_out,times,crates,failed,last}

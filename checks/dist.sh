@@ -447,7 +447,10 @@ refuse_tools() {
     for tool in bash dirname readlink sed; do
         ln -s "$(command -v "$tool")" "$work/tools"
     done
-    refused "dist: there is no dpkg-deb, *" 1 env PATH="$work/tools" "$top/bin/dist"
+    refused "dist: missing Debian packages: python3, dpkg, binutils, python3-dev, gcc, libc6-dev; to install them, run as root: $top/bin/setup" 1 \
+        env PATH="$work/tools" "$top/bin/dist" --arch amd64
+    refused "dist: missing Debian packages: *, gcc-aarch64-linux-gnu, libc6-dev-arm64-cross; *bin/setup --arm64" 1 \
+        env PATH="$work/tools" "$top/bin/dist" --arch all
     refused "dist: there is no no_python, *" 1 env PYTHON=no_python "$top/bin/dist" --built "$work/built" "$work/no"
     refused "dist: the wheel was not made: *" 1 env CFLAGS=-fsanitize=address "$top/bin/dist" --built "$work/built" "$work/no"
     rmdir "$work/no" || fail "there was no wheel, and something is made"

@@ -127,6 +127,13 @@ for _ in 1 2; do
     FAILS=lp_relay_program wanted 2 "" "$relay" ./relay
     said "lp_relay: lp_relay_program was not built" "$WHY"
 done
+# Where Python is missing, which rt needs, one line says so, and nothing is built.
+mkdir "$made/commands"
+for folder in ${PATH//:/ }; do ln -s "$folder"/* "$made/commands" 2>/dev/null || true; done
+rm "$made/commands"/python3*
+PATH=$made/commands wanted 2 "" "" ./relay
+[ "$(cat "$made/err")" = "lp_relay: missing Debian packages: python3; to install them, run as root: $copy/bin/setup" ] ||
+    { echo "launch: without Python the launcher says: $(cat "$made/err")" && exit 1; }
 wanted 7 "lp_relay_program"$'\n'"$given" "$relay" ./relay
 wanted 7 "lp_relay_program"$'\n'"$given" "" ./relay
 
