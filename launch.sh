@@ -151,8 +151,8 @@ weigh() {
 }
 
 # Shows on one line of the terminal how many crates are built, about how long all others take, and which are being proved, with how far each
-# is. The estimate begins with a rate that was measured, 60 seconds for a weight of 100, and goes by the rate of this run more and more. A
-# crate that took five seconds or less was not proved now.
+# is. The estimate begins with a rate that was measured, 300 seconds for a weight of 500, and goes by the rate of this run more and more.
+# A crate that took five seconds or less was not proved now.
 show() {
     local crate said words='' all=0 got=0 columns
     for crate in "${below[@]}"; do
@@ -164,7 +164,7 @@ show() {
         fi
         [ "${took[$crate]-9}" -le 5 ] || all=$((all + 100 * weights[$crate])) got=$((got + weights[$crate] * ${share[$crate]-0}))
     done
-    [ "$all" = "$got" ] || words=", about $((1 + (60 + SECONDS) * (all - got) / (10000 + got) / 60)) min left$words"
+    [ "$all" = "$got" ] || words=", about $((1 + (300 + SECONDS) * (all - got) / (50000 + got) / 60)) min left$words"
     columns=$(stty size <&2 2>/dev/null) || true
     columns=${columns#* }
     [ "${columns:-0}" -gt 0 ] || columns=80

@@ -191,7 +191,7 @@ PAGE
 rm -r "$copy"/crates/*/out
 if command -v script >/dev/null; then
     shown "lp_relay: lp_relay_program: not built from these sources yet" "lp_relay: 0 of 2 crates, about 31 min left, lp_low" \
-        "lp_relay: 0 of 2 crates, about 5 min left, lp_low (5 of 10)" "lp_relay: lp_low: done in " "lp_relay: 1 of 2 crates, about "
+        "lp_relay: 0 of 2 crates, about 13 min left, lp_low (5 of 10)" "lp_relay: lp_low: done in " "lp_relay: 1 of 2 crates, about "
     # Of a crate that was built since its last change no proof is awaited.
     echo '// more' >>"$copy/crates/lp_relay_program/src/main.rt"
     shown "lp_relay: 0 of 2 crates, about 21 min left, lp_low"
