@@ -21,7 +21,8 @@ if ! command -v rt >/dev/null; then
     exit 0
 fi
 work=$(mktemp -d)
-trap 'rm -rf --one-file-system "$work"' EXIT
+# shellcheck disable=SC2046
+trap '{ kill -s KILL $(jobs -p) && sleep 1 || true; } 2>/dev/null; rm -rf --one-file-system "$work"' EXIT
 root=$work/fresh
 told=()
 
@@ -30,23 +31,24 @@ fail() {
     exit 1
 }
 
-# Runs a command in a bare Debian, in the folder /sources, with the folder KIT as /opt/rattle if it is given: `inside ROOT KIT COMMAND..`. All that
-# it starts, and what is mounted, ends with it.
-inside() {
-    # shellcheck disable=SC2016
-    unshare --mount --pid --fork --kill-child bash -c 'mount -t proc proc "$1/proc" && { [ -z "$2" ] || mount --bind -o ro "$2" "$1/opt/rattle"; } &&
-        exec chroot "$1" /usr/bin/env -i HOME=/root TERM=xterm PATH=/usr/sbin:/usr/bin:/sbin:/bin sh -c "cd /sources && exec \"\$@\"" sh "${@:3}"' \
-        bash "$@"
-}
+# `"${inside[@]}" ROOT KIT COMMAND..` runs a command in a bare Debian, in the folder /sources, with the folder KIT as /opt/rattle if it is given.
+# All that it starts, and what is mounted, ends with it.
+# shellcheck disable=SC2016
+inside=(unshare --mount --pid --fork --kill-child bash -c 'mount -t proc proc "$1/proc" && mount -t devpts devpts "$1/dev/pts" &&
+    { [ -z "$2" ] || mount --bind -o ro "$2" "$1/opt/rattle"; } &&
+    exec chroot "$1" /usr/bin/env -i HOME=/root TERM=xterm PATH=/usr/sbin:/usr/bin:/sbin:/bin sh -c "cd /sources && exec \"\$@\"" sh "${@:3}"' bash)
 
 # missing STATUS LINE KIT COMMAND..: in the bare Debian the command ends with this status, prints this line alone, and proves nothing.
 missing() {
     local status=0 said
-    said=$(inside "$root" "$3" "${@:4}" 2>&1) || status=$?
+    said=$("${inside[@]}" "$root" "$3" "${@:4}" 2>&1) || status=$?
     [ "$said|$status" = "$2|$1" ] || fail "${*:4} ends with status $status, not with $1, and says: $said"
     [ -z "$(find "$root/sources" -name out)" ] || fail "${*:4} proves something"
     told+=("${*:4}: $said")
 }
+
+# What the terminal shows so far, a line for each state of its last line.
+screen() { tr '\r' '\n' 2>/dev/null <"$work/log" || true; }
 
 bare_debian checks/fresh.sh "$root" || exit 0
 mkdir -p "$root/sources" "$root/opt/rattle"
@@ -63,28 +65,28 @@ missing 2 "lp_relay: the Rattle kit is missing, which proves and builds: there i
 missing 2 "lp_relay: $packages python3; $install" "$(kit)" ./lp_relay
 missing 1 "test: $packages python3, gcc, libc6-dev, git; $install" "$(kit)" ./test.sh
 missing 1 "dist: $packages python3, binutils, python3-dev, gcc, libc6-dev; $install" "$(kit)" bin/dist
-inside "$root" "" bin/setup >"$work/log" 2>&1 || fail "bin/setup ends with status $?: $(tail -n 1 "$work/log")"
-[ -z "$(inside "$root" "" bin/setup --list)" ] || fail "bin/setup installs not all that it lists"
+"${inside[@]}" "$root" "" bin/setup >"$work/log" 2>&1 || fail "bin/setup ends with status $?: $(tail -n 1 "$work/log")"
+[ -z "$("${inside[@]}" "$root" "" bin/setup --list)" ] || fail "bin/setup installs not all that it lists"
 missing 1 "dist: $packages gcc-aarch64-linux-gnu, libc6-dev-arm64-cross; $install --arm64" "$(kit)" bin/dist --arch all
 
 if $start; then
     # On a terminal, from the start.
     SECONDS=0
-    inside "$root" "$(kit)" script -qefc "./lp_relay <examples/two_lines.lp" /tmp/screen </dev/null >/dev/null 2>&1 &
-    until tr '\r' '\n' <"$root/tmp/screen" 2>/dev/null | grep -qE 'lp_relay: [1-9][0-9]* of [0-9]+ crates, about [0-9]+ min left, lp_'; do
-        if ! kill -0 $! 2>/dev/null || [ "$SECONDS" -ge 1200 ]; then fail "no crate is proved: $(tail -c 500 "$root/tmp/screen")"; fi
+    "${inside[@]}" "$root" "$(kit)" script -qefc "./lp_relay <examples/two_lines.lp" /tmp/screen </dev/null >"$work/log" 2>&1 &
+    until screen | grep -qE 'lp_relay: [1-9][0-9]* of [0-9]+ crates, about [0-9]+ min left, lp_'; do
+        if ! kill -0 $! 2>/dev/null || [ "$SECONDS" -ge 1200 ]; then fail "no crate is proved: $(tail -c 500 "$work/log")"; fi
         sleep 1
     done
-    kill $!
+    kill -s KILL $!
     wait $! || true
-    told+=("the proof begins: $(tr '\r' '\n' <"$root/tmp/screen" | grep -oE 'lp_relay: 0 of .* min left' | head -n 1)")
+    told+=("the proof begins: $(screen | grep -oE 'lp_relay: 0 of .* min left' | head -n 1)")
 else
     status=0
-    inside "$root" "$(kit)" sh -c './lp_relay <examples/two_lines.lp' >"$work/out" 2>"$work/err" || status=$?
+    "${inside[@]}" "$root" "$(kit)" sh -c './lp_relay <examples/two_lines.lp' >"$work/out" 2>"$work/err" || status=$?
     [ "$(cat "$work/out")|$(cat "$work/err")|$status" = "cpu usage=64i|item 2: No fields were provided|1" ] ||
         fail "./lp_relay ends with status $status: $(tail -n 3 "$work/out" "$work/err")"
-    inside "$root" "" checks/readme.sh crates/lp_relay_program/out/lp_relay_program || fail "README.md shows another output"
-    inside "$root" "$(kit)" bin/dist >"$work/log" 2>&1 || fail "bin/dist: $(tail -n 3 "$work/log")"
+    "${inside[@]}" "$root" "" checks/readme.sh crates/lp_relay_program/out/lp_relay_program || fail "README.md shows another output"
+    "${inside[@]}" "$root" "$(kit)" bin/dist >"$work/log" 2>&1 || fail "bin/dist: $(tail -n 3 "$work/log")"
     dist=$root/sources/dist
     told+=("the first output is that of README.md")
 fi
@@ -92,8 +94,8 @@ fi
 # The packages, in a Debian without the kit.
 root=$work/second
 cp -r "$dist" "$root/sources/dist"
-inside "$root" "" apt-get update >"$work/log" 2>&1 || true
-inside "$root" "" sh -c 'apt-get install -y --no-install-recommends ./dist/*_amd64.deb' >"$work/log" 2>&1 || fail "the packages: $(tail -n 1 "$work/log")"
-inside "$root" "" checks/readme.sh /usr/bin/lp_relay >"$work/log" || fail "the installed lp_relay prints something else: $(cat "$work/log")"
+"${inside[@]}" "$root" "" apt-get update >"$work/log" 2>&1 || true
+"${inside[@]}" "$root" "" sh -c 'apt-get install -y --no-install-recommends ./dist/*_amd64.deb' >"$work/log" 2>&1 || fail "the packages: $(tail -n 1 "$work/log")"
+"${inside[@]}" "$root" "" checks/readme.sh /usr/bin/lp_relay >"$work/log" || fail "the installed lp_relay prints something else: $(cat "$work/log")"
 told+=("the packages are installed without the kit, and print what README.md shows")
 printf 'fresh: %s\n' "${told[@]}"
