@@ -2,14 +2,30 @@
 # For the scripts that build crates. `launch NAME CRATE ARGUMENTS..`, of `lp_rebuild`, `lp_relay` and `lp_series`, runs the
 # program of a crate, and ends with its exit status. What was not built from these sources is proved and built first; a terminal sees how
 # far that is.
-# Crates that do not stand on one another are proved side by side. A run of rt keeps others out of its crate's folder and of those of the
-# crates below. So where more than one crate can be proved, each is proved in a copy of the sources: rt takes what was proved in
-# another copy, by the folder rattle-kept beside the kit. Where that cannot be written to, one crate is proved after the other.
+# Crates that do not stand on one another are proved side by side. A run of rt keeps others out of its crate's folder and of the folders of
+# the crates below. So if more than one crate can be proved, each is proved in a copy of the sources, which begins with the folders out/ of the
+# crate and of the crates below. rt takes from these only what was built from the same sources and by the same kit.
 top=$(cd "$(dirname "$(readlink -f "${BASH_SOURCE[0]}")")" && pwd)
 PATH=$PATH:/opt/rattle/bin
 
 # The folder of the kit.
 kit() { dirname "$(dirname "$(readlink -f "$(command -v rt)")")"; }
+
+# Fails if one of these Debian packages is missing, and says on one line which, and what installs it: `need NAME PACKAGE..`.
+need() {
+    local missing options=''
+    missing=$("$top/bin/setup" --list "${@:2}") && return
+    [[ $missing != *arm64* ]] || options=" --arm64"
+    echo "$1: missing Debian packages: ${missing//$'\n'/, }; to install them, run as root: $top/bin/setup$options" >&2
+    return 1
+}
+
+# Fails if there is no kit, and says so.
+need_kit() {
+    ! command -v rt >/dev/null || return 0
+    echo "$1: the Rattle kit is missing, which proves and builds: there is no rt in /opt/rattle/bin or in PATH" >&2
+    return 1
+}
 
 # The line of a crate in crates.txt.
 line_of() { grep -E "^$1( [^:]*)?:" "$top/crates.txt"; }
@@ -45,25 +61,32 @@ run_rt() {
     wait "$child"
 }
 
+# Makes a folder `room` with a copy of a crate and of the crates below, and with what was built of them.
+copy_crates() {
+    local low below=()
+    mkdir "$room" && "$top/bin/take" "$room" "$1" || return
+    add_below "$1"
+    for low in "${below[@]}"; do
+        [ -d "$top/crates/$low/out" ] || continue
+        # rt replaces the files of a library that it builds anew, and never writes into them, so that a link will do for a copy.
+        if [ "$low" = "$1" ]; then cp -a "$top/crates/$low/out" "$room/crates/$low"; continue; fi
+        mkdir "$room/crates/$low/out" || return
+        cp -al "$top/crates/$low/out/rlib" "$room/crates/$low/out" || cp -a "$top/crates/$low/out/rlib" "$room/crates/$low/out" || return
+    done
+}
+
 # A job: proves and builds a crate, in a copy of the sources if a folder for it is given.
 build() {
-    local crate=$1 room=${2-} command=lib made out=$top/crates/$1/out child=''
+    local crate=$1 room=${2-} command=lib child=''
     trap '[ -z "$child" ] || kill "$child"; wait; exit 1' TERM
-    made=$(made_of "$crate")
-    [ "$made" != "$crate" ] || command=run
+    [ "$(made_of "$crate")" != "$crate" ] || command=run
     [ -n "$room" ] || { run_rt "$top"; return; }
-    mkdir "$room" && "$top/bin/take" "$room" "$crate" && run_rt "$room" || return
-    [ -n "$made" ] || { run_rt "$top"; return; }
-    rm -rf "$out/incremental" && mkdir -p "$out" && mv "$room/crates/$crate/out"/* "$out/"
+    copy_crates "$crate" && run_rt "$room" && rm -rf "$top/crates/$crate/out" && mv "$room/crates/$crate/out" "$top/crates/$crate"
 }
 
 # Puts into `most` how many crates are proved at a time: one a processor, and 3 GB of memory for each.
 choose_most() {
-    local kept
-    most=$(awk -v most="$(nproc)" '/^MemAvailable:/ { free = int($2 / 3000000); print free < most ? free : most }' /proc/meminfo)
-    kept=$(dirname "$(kit)")/rattle-kept
-    [ -e "$kept" ] || kept=${kept%/*}
-    [ -d "$kept" ] && [ -w "$kept" ] && [ "$most" -gt 1 ] || most=1
+    most=$(awk -v most="$(nproc)" '/^MemAvailable:/ { free = int($2 / 3000000); print free < 1 ? 1 : free < most ? free : most }' /proc/meminfo)
 }
 
 # Starts a job for each crate whose lower crates are built.
@@ -116,8 +139,20 @@ end_jobs() {
     done
 }
 
-# Shows on one line of the terminal which crates are being proved, how far each is, and about how long all takes yet, by their lines. A
-# crate that took five seconds or less was not proved now.
+# Puts into `weights` about how long the proof of a crate takes, in seconds of processors: CONTRIBUTING.md has a table of what was measured. It
+# is 0 if the crate, and each one below, was built after the last change of its files.
+weigh() {
+    local crate=$1 low built=$top/crates/$1/out/rlib/stamp
+    weights[$crate]=$(sed -n "s/^| \`$crate\` | \([0-9]*\) |.*/\1/p" "$top/CONTRIBUTING.md" 2>/dev/null) || true
+    weights[$crate]=${weights[$crate]:-60}
+    for low in ${lows[$crate]}; do [ "${weights[$low]}" = 0 ] || return 0; done
+    [ -e "$built" ] && [ -z "$(find "$top/crates/$crate"/{src,specs,proofs} -newer "$built" -print -quit 2>/dev/null)" ] || return 0
+    weights[$crate]=0
+}
+
+# Shows on one line of the terminal how many crates are built, about how long all others take, and which are being proved, with how far each
+# is. The estimate begins with a rate that was measured, 300 seconds for a weight of 500, and goes by the rate of this run more and more.
+# A crate that took five seconds or less was not proved now.
 show() {
     local crate said words='' all=0 got=0 columns
     for crate in "${below[@]}"; do
@@ -129,10 +164,12 @@ show() {
         fi
         [ "${took[$crate]-9}" -le 5 ] || all=$((all + 100 * weights[$crate])) got=$((got + weights[$crate] * ${share[$crate]-0}))
     done
-    [ "$SECONDS" -lt 20 ] || [ "$got" = 0 ] || words=", about $((1 + SECONDS * (all - got) / got / 60)) min left$words"
-    columns=$(stty size <&2 2>/dev/null) || columns="24 80"
+    [ "$all" = "$got" ] || words=", about $((1 + (300 + SECONDS) * (all - got) / (50000 + got) / 60)) min left$words"
+    columns=$(stty size <&2 2>/dev/null) || true
+    columns=${columns#* }
+    [ "${columns:-0}" -gt 0 ] || columns=80
     words="$name: ${#took[@]} of ${#below[@]} crates$words"
-    printf '\r\033[K%s' "${words:0:${columns#* }-1}" >&2
+    printf '\r\033[K%s' "${words:0:columns-1}" >&2
 }
 
 # Proves and builds crates and the libraries on which they stand. `$1` is whom a message is from.
@@ -140,17 +177,15 @@ build_all() (
     local name=$1 crate rooms most below=()
     local -A lows=() weights=() jobs=() began=() took=() share=()
     shift
-    command -v rt >/dev/null || { echo "$name: there is no rt, which proves and builds $*: the kit belongs in /opt/rattle" >&2; exit 1; }
+    need_kit "$name" && need "$name" python3 || exit
     choose_most
-    rooms=$(mktemp -d) || exit
+    mkdir -p "$top/out" && rooms=$(mktemp -d "$top/out/rooms.XXXXXX") || exit
     # shellcheck disable=SC2046
-    trap '{ kill $(jobs -p) || true; } 2>/dev/null; wait; rm -rf "$rooms"' EXIT
+    trap '{ kill $(jobs -p) || true; } 2>/dev/null; wait; rm -rf "$rooms"; rmdir "$top/out" 2>/dev/null' EXIT
     for crate in "$@"; do add_below "$crate"; done
     for crate in "${below[@]}"; do
         lows[$crate]=$(named_by "$crate")
-        # A line of code takes ten times as long as one of a definition or a proof.
-        weights[$crate]=$(find "$top/crates/$crate"/{src,specs,proofs} -type f \
-            -exec awk '{ lines += FILENAME ~ "/src/" ? 10 : 1 } END { print lines + 0 }' {} + 2>/dev/null) || true
+        weigh "$crate"
     done
     SECONDS=0
     while [ ${#took[@]} -lt ${#below[@]} ]; do
@@ -172,7 +207,7 @@ build_if_changed() {
             [ "$(cat "$top/crates/$crate/out/launcher.stamp" 2>/dev/null)" != "${stamps[$crate]}" ]; then changed+=("$crate"); fi
     done
     [ ${#changed[@]} -gt 0 ] || return 0
-    [ ! -t 2 ] || echo "$name: proving and building ${changed[*]}, which takes some minutes" >&2
+    [ ! -t 2 ] || echo "$name: ${changed[*]}: not built from these sources yet, so proved and built now" >&2
     build_all "$name" "${changed[@]}" || return 1
     for crate in "${changed[@]}"; do echo "${stamps[$crate]}" >"$top/crates/$crate/out/launcher.stamp"; done
 }

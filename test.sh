@@ -15,6 +15,11 @@
 set -eu
 cd "$(dirname "$0")"
 . ./launch.sh
+need_kit test && need test python3 gcc libc6-dev git || exit
+if ! python3 -c 'import sys; sys.exit(sys.version_info < (3, 10))'; then
+    echo "test: Python 3.10 or later is needed, and python3 is $(python3 --version)" >&2
+    exit 1
+fi
 made=$(mktemp -d)
 export LEFT_OUT=$made/left_out
 touch "$made"/{left_out,times,crates,failed,last}
@@ -68,6 +73,7 @@ joined() {
     wait "$!" || echo "checks that were cut off" >>"$made/failed"
 }
 check_programs() {
+    part checks/readme.sh checks/readme.sh "$made/lp_relay_program"
     part checks/arguments.sh checks/arguments.sh "$made/lp_rebuild_program" "$made/lp_relay_program"
     part checks/series_arguments.sh checks/series_arguments.sh "$made/lp_series_program"
     part checks/series.sh checks/series.sh "$made/lp_relay_program" "$made/lp_series_program"

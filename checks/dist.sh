@@ -2,7 +2,7 @@
 # Makes what bin/dist makes, twice, and installs by bin/install, and the wheel by pip; looks at each file, builds programs over the installed
 # library, runs the installed programs, looks for each option in its page, completes their words, and sees what is said if something is missing, and what
 # an uninstall leaves. Asks lintian of the packages. Then it installs, upgrades and removes them in a bare Debian 12, which debootstrap makes
-# and which goes at the end. What is missing here is left out.
+# and which goes at the end, and runs checks/fresh.sh. What is missing here is left out.
 #
 #     checks/dist.sh             proves and builds first what was not built from these sources
 #     checks/dist.sh FOLDER      takes files that were built before, as bin/dist does
@@ -12,6 +12,7 @@ set -euo pipefail
 top=$(cd "$(dirname "$0")/.." && pwd)
 . "$top/checks/left_out.sh"
 . "$top/checks/options.sh"
+. "$top/checks/bare_debian.sh"
 . "$top/bindings/rust/flags.sh"
 . "$top/launch.sh"
 if ! command -v "${CC:-cc}" >/dev/null || ! command -v ar >/dev/null || ! command -v dpkg-deb >/dev/null; then
@@ -447,7 +448,10 @@ refuse_tools() {
     for tool in bash dirname readlink sed; do
         ln -s "$(command -v "$tool")" "$work/tools"
     done
-    refused "dist: there is no dpkg-deb, *" 1 env PATH="$work/tools" "$top/bin/dist"
+    refused "dist: missing Debian packages: python3, dpkg, binutils, python3-dev, gcc, libc6-dev; to install them, run as root: $top/bin/setup" 1 \
+        env PATH="$work/tools" "$top/bin/dist" --arch amd64
+    refused "dist: missing Debian packages: *, gcc-aarch64-linux-gnu, libc6-dev-arm64-cross; *bin/setup --arm64" 1 \
+        env PATH="$work/tools" "$top/bin/dist" --arch all
     refused "dist: there is no no_python, *" 1 env PYTHON=no_python "$top/bin/dist" --built "$work/built" "$work/no"
     refused "dist: the wheel was not made: *" 1 env CFLAGS=-fsanitize=address "$top/bin/dist" --built "$work/built" "$work/no"
     rmdir "$work/no" || fail "there was no wheel, and something is made"
@@ -643,7 +647,7 @@ TEXT
 run_programs() {
     local folder=$1 program status first="cpu usage=64i" second="item 2: No fields were provided"
     shift
-    grep -qxF "writes \`$first\` to standard output and \`$second\` to standard error, and ends with status 1." "$top/README.md" ||
+    [[ $(<"$top/README.md") = *"$ ./lp_relay <examples/two_lines.lp"$'\n'"$first"$'\n'"$second"$'\n$ echo $?\n1\n'* ]] ||
         fail "README.md says something else of the two lines"
     for program in lp_rebuild lp_relay; do
         status=0
@@ -812,15 +816,7 @@ names_in() {
 # removes them.
 try_bare_debian() {
     local program root=$work/debian
-    if [ "$(id -u)" != 0 ] || ! command -v debootstrap >/dev/null; then
-        left_out "a bare Debian 12" "there is no debootstrap, or this is not root"
-        return
-    fi
-    # What is mounted for it is seen by this command alone.
-    if ! timeout 900 unshare --mount debootstrap --variant=minbase bookworm "$root" ${MIRROR:+"$MIRROR"} >"$work/log" 2>&1; then
-        left_out "a bare Debian 12" "debootstrap says: $(tail -n 1 "$work/log")"
-        return
-    fi
+    bare_debian "a bare Debian 12" "$root" || return 0
     names_in "$root" >"$work/bare"
     cp "${packages[@]}" "$root/tmp"
     make_old "$root"
@@ -871,5 +867,6 @@ read_documents
 read_page
 complete_all
 try_bare_debian
+"$top/checks/fresh.sh" --start "$work/one"
 if [ $# != 0 ] && [ ! -d "$1/arm64" ]; then left_out "packages for ARM64" "$1 has no folder arm64"; else "$top/checks/arm64.sh" "$@"; fi
 echo "dist: $(printf '%s; ' "${told[@]}" | sed 's/; $//')"

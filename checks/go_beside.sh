@@ -8,7 +8,7 @@
 #   checks/go_beside.sh --fuzz SECONDS [ARCHIVE]      then, for so long, also what Go's fuzzer makes of them, on GOMAXPROCS processors
 #
 # ARCHIVE: the library; if none is named, it is made first. The parser is built by Go without modules, without a network, from Debian's
-# golang-github-influxdb-influxdb-dev, installed, or unpacked as checks/setup.sh does. If it or Go is missing, that is named, and the status
+# golang-github-influxdb-influxdb-dev, installed, or unpacked as bin/setup does. If it or Go is missing, that is named, and the status
 # is 0.
 set -eu
 here=$(cd "$(dirname "$0")" && pwd)

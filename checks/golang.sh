@@ -1,7 +1,7 @@
 # shellcheck shell=bash disable=SC2154
 # For the scripts beside it, which set `here`, `top` and `built`, a folder of their own: the package of checks/golang, to be run by go, without
 # modules and without a network. The parsers beside which it reads are in Debian's packages of Go sources, installed, or unpacked as
-# checks/setup.sh does.
+# bin/setup does.
 sources=/usr/share/gocode:/usr/local/share/gocode
 
 # source_of PACKAGE: the folder of a Go package, if it is here.

@@ -8,7 +8,7 @@
 #   checks/influx.sh --write         writes the statements, and compares nothing
 #
 # ParsePoints is built by Go without modules, without a network, from Debian's golang-github-influxdb-influxdb-dev, installed, or unpacked as
-# checks/setup.sh does. If it or Go is missing, that is named, and the status is 0.
+# bin/setup does. If it or Go is missing, that is named, and the status is 0.
 set -euo pipefail
 here=$(cd "$(dirname "$0")" && pwd)
 . "$here/left_out.sh"

@@ -41,7 +41,7 @@ parser=()
 . "$here/serving.sh"
 trap 'stop; rm -rf "$work"' EXIT
 
-# The version of one of Debian's packages: as it is installed, or else as setup.sh unpacks it.
+# The version of one of Debian's packages: as it is installed, or else as bin/setup unpacks it.
 version_of() {
     # shellcheck disable=SC2016
     dpkg-query -W -f '`${Package}` ${Version}' "$1" 2>/dev/null ||

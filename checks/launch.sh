@@ -3,11 +3,11 @@
 # of `rt`: when they build, in which order and what side by side, what the program gets and gives, and what comes if a crate cannot be
 # built or the run is ended.
 set -euo pipefail
-top=$(cd "$(dirname "$0")/.." && pwd)
-. "$top/checks/left_out.sh"
+repository=$(cd "$(dirname "$0")/.." && pwd)
+. "$repository/checks/left_out.sh"
 made=$(mktemp -d)
 trap 'rm -rf "$made"' EXIT
-mkdir -p "$made"/{kit/bin,rattle-kept,elsewhere,rooms,kept}
+mkdir -p "$made"/{kit/bin,elsewhere,kept}
 copy="$made/a copy"
 for crate in lp_low lp_relay_program lp_rebuild_program lp_series_program lp_other lp_left lp_right lp_both lp_c; do
     mkdir -p "$copy/crates/$crate"/{src,specs,proofs/f}
@@ -25,7 +25,7 @@ lp_left: lp_low
 lp_right: lp_low
 lp_c staticlib: lp_left
 LINES
-cp -r "$top"/{launch.sh,lp_relay,lp_rebuild,lp_series,bin} "$copy"
+cp -r "$repository"/{launch.sh,lp_relay,lp_rebuild,lp_series,bin} "$copy"
 ln -s "$copy/lp_relay" "$made/elsewhere/relay"
 cat >"$copy/several" <<'SCRIPT'
 #!/usr/bin/env bash
@@ -34,32 +34,35 @@ build_if_changed several lp_both lp_c || exit 2
 SCRIPT
 chmod +x "$copy/several"
 
-# The stub notes the crate and the command, but not if it takes a library that it built in another folder. It fails where a lower crate is
-# not built. It says WHY and fails in the crate that FAILS names, once SLOW is being built, which takes a minute. Each crate of MEET waits
-# until all of them are being built. The program that it makes prints its arguments, a line each, and its input, and ends with status 7.
+# The stub notes the crate and the command. It fails where a lower crate is not built. It says WHY and fails in the crate that FAILS names,
+# once SLOW is being built, which takes a minute. Each crate of MEET waits until all of them are being built. In the crate SHOWN it says how far
+# it is, and waits for a moment. The program that it makes prints its arguments, a line each, and its input, and ends with status 7.
 cat >"$made/kit/bin/rt" <<'STUB'
 #!/bin/sh
 until_called() { timeout 30 sh -c 'until grep -q "^$0 " "$CALLS"; do sleep 0.05; done' "$1"; }
 crate=$(basename "$PWD")
 for low in $(sed -n "s/^$crate[^:]*://p" ../../crates.txt); do
-    [ ! -d "$COPY/crates/$low" ] || [ "$(cat "$KEPT/$low")" = here ] || { echo "$low is not built"; exit 1; }
+    [ ! -d "../$low" ] || [ -e "../$low/out/rlib/stamp" ] || { echo "$low is not built"; exit 1; }
 done
-case $PWD in "$COPY"/*) place=here ;; *) place=$PWD ;; esac
-if [ "$place $1" = "here lib" ] && grep -q / "$KEPT/$crate" 2>/dev/null; then echo here >"$KEPT/$crate"; exit; fi
 echo "$crate $1" >>"$CALLS"
 [ "$crate" != "$FAILS" ] || { [ -z "$SLOW" ] || until_called "$SLOW"; echo "$WHY" >&2; exit 1; }
 [ "$crate" != "$SLOW" ] || { echo $$ >"$KEPT/slow"; exec sleep 60; }
 case " $MEET " in *" $crate "*) for other in $MEET; do until_called "$other" || exit 1; done ;; esac
-echo "$place" >"$KEPT/$crate"
-mkdir -p out/incremental
+[ "$crate" != "$SHOWN" ] || { sleep 1.5; echo "so far: 5 of 10 functions checked"; sleep 2.5; }
+mkdir -p out/incremental out/rlib
+echo "$crate" >>out/incremental/runs
+touch out/rlib/stamp
 made=out/$crate
 [ "$1" = run ] || made=out/lib$crate.a
-printf '#!/bin/sh\necho %s\nprintf "%%s\\\\n" "$@"\ncat\nexit 7\n' "$crate" >"$made"
+printf '#!/bin/sh\necho %s\nprintf "%%s\\n" "$@"\ncat\nexit 7\n' "$crate" >"$made"
 chmod +x "$made"
 STUB
-chmod +x "$made/kit/bin/rt"
-export PATH=$made/kit/bin:$PATH CALLS=$made/calls FAILS=none SLOW='' MEET='' WHY="so far: a reason" KEPT=$made/kept COPY=$copy
-export TMPDIR=$made/rooms
+cat >"$made/kit/bin/nproc" <<'STUB'
+#!/bin/sh
+echo "$PROCESSORS"
+STUB
+chmod +x "$made/kit/bin"/*
+export PATH=$made/kit/bin:$PATH CALLS=$made/calls FAILS=none SLOW='' MEET='' SHOWN='' WHY="so far: a reason" KEPT=$made/kept PROCESSORS=4
 
 # wanted STATUS OUTPUT CALLS LAUNCHER: what a launcher gives for the arguments `--strict`, `a  b` and an empty one, and the input `in`;
 # and what it had the stub do, in this order or, if CALLS begins with `sorted`, in any. The last line of standard error is left in `last`.
@@ -72,7 +75,7 @@ wanted() {
     runs=$((runs + 1))
     calls=$(cat "$CALLS")
     [[ $3 != sorted* ]] || calls=sorted$'\n'$(sort "$CALLS")
-    if [ "$status" = "$1" ] && [ "$(cat "$made/out")" = "$2" ] && [ "$calls" = "$3" ] && [ -z "$(ls -A "$TMPDIR")" ] &&
+    if [ "$status" = "$1" ] && [ "$(cat "$made/out")" = "$2" ] && [ "$calls" = "$3" ] && [ ! -e "$copy/out" ] &&
         { [ "$status" = 2 ] || [ ! -s "$made/err" ]; }; then return; fi
     echo "launch: $4 ends with status $status, where $1 is wanted, calls rt for ($(paste -sd, "$CALLS")), and prints"
     cat "$made/out" "$made/err"
@@ -85,11 +88,9 @@ said() {
     cat "$made/err"
     exit 1
 }
-# Whether what takes a minute has ended, with nothing left in TMPDIR, or noted as built.
+# Whether what takes a minute has ended, with no copy of the sources left, and nothing noted as built.
 is_clean() {
-    local left
-    left=$(find "$copy"/crates/lp_{both,c} "$TMPDIR" -name launcher.stamp -o -name 'tmp.*' 2>/dev/null)
-    [ -z "$left" ] && ! kill -0 "$(cat "$KEPT/slow")" 2>/dev/null
+    [ -z "$(find "$copy"/crates/lp_{both,c} -name launcher.stamp)" ] && [ ! -e "$copy/out" ] && ! kill -0 "$(cat "$KEPT/slow")" 2>/dev/null
 }
 # ended WHAT: sees that this is so in a moment.
 ended() {
@@ -97,7 +98,7 @@ ended() {
         ! is_clean || return 0
         sleep 0.05
     done
-    echo "launch: where $1, something runs on, is left in TMPDIR, or is noted as built"
+    echo "launch: where $1, something runs on, a copy is left, or a crate is noted as built"
     exit 1
 }
 given=$'--strict\na  b\n\nin'
@@ -127,6 +128,13 @@ for _ in 1 2; do
     FAILS=lp_relay_program wanted 2 "" "$relay" ./relay
     said "lp_relay: lp_relay_program was not built" "$WHY"
 done
+# Where Python is missing, which rt needs, one line says so, and nothing is built.
+mkdir "$made/commands"
+for folder in ${PATH//:/ }; do ln -s "$folder"/* "$made/commands" 2>/dev/null || true; done
+rm "$made/commands"/python3*
+PATH=$made/commands wanted 2 "" "" ./relay
+[ "$(cat "$made/err")" = "lp_relay: missing Debian packages: python3; to install them, run as root: $copy/bin/setup" ] ||
+    { echo "launch: without Python the launcher says: $(cat "$made/err")" && exit 1; }
 wanted 7 "lp_relay_program"$'\n'"$given" "$relay" ./relay
 wanted 7 "lp_relay_program"$'\n'"$given" "" ./relay
 
@@ -150,14 +158,47 @@ if [ "$most" -gt 1 ]; then
         [ "$status" -gt 128 ] || { echo "launch: after SIG$signal the status is $status" && exit 1; }
         ended "SIG$signal comes"
     done
-    rm "$KEPT"/*
     MEET="lp_left lp_right" wanted 0 "" "sorted"$'\n'"$several" "$copy/several"
     wanted 0 "" "" "$copy/several"
+    # A copy begins with what was kept of an earlier proof of its crate, and what it adds is kept.
+    cp "$copy/crates/lp_left/out/incremental/runs" "$made/runs"
+    echo '// more' >>"$copy/crates/lp_left/src/lib.rt"
+    MEET="lp_left lp_right" wanted 0 "" "sorted"$'\n'"$several" "$copy/several"
+    echo lp_left | diff - <(tail -n +$(($(wc -l <"$made/runs") + 1)) "$copy/crates/lp_left/out/incremental/runs") ||
+        { echo "launch: what was kept of an earlier proof is lost" && exit 1; }
 else
-    left_out "crates side by side" "there is one processor, or less than 6 GB of memory, for checks/launch.sh"
+    left_out "crates side by side" "there is less than 6 GB of memory, for checks/launch.sh"
 fi
-# One after the other, where rt can keep nothing.
-rm -r "${KEPT:?}"/* "$made/rattle-kept" "$copy"/crates/*/out
-: >"$made/rattle-kept"
-wanted 0 "" $'lp_low lib\nlp_right lib\nlp_left lib\nlp_both run\nlp_c lib' "$copy/several"
+# One after the other, where there is one processor.
+rm -r "$copy"/crates/*/out
+PROCESSORS=1 wanted 0 "" $'lp_low lib\nlp_right lib\nlp_left lib\nlp_both run\nlp_c lib' "$copy/several"
+
+# A terminal sees from the start how long the crates take that are still to come, and then by how far they are.
+shown() {
+    (cd "$copy" && SHOWN=lp_low script -qec "./lp_relay --strict" "$made/screen" </dev/null >/dev/null) || true
+    for line in "$@"; do
+        ! grep -qF "$line" "$made/screen" || continue
+        echo "launch: a terminal does not see: $line"
+        tr '\r' '\n' <"$made/screen"
+        exit 1
+    done
+    runs=$((runs + 1))
+}
+cat >"$copy/CONTRIBUTING.md" <<'PAGE'
+| `lp_low` | 1000 | 0 |
+| `lp_relay_program` | 2000 | 0 |
+PAGE
+rm -r "$copy"/crates/*/out
+if command -v script >/dev/null; then
+    shown "lp_relay: lp_relay_program: not built from these sources yet" "lp_relay: 0 of 2 crates, about 31 min left, lp_low" \
+        "lp_relay: 0 of 2 crates, about 13 min left, lp_low (5 of 10)" "lp_relay: lp_low: done in " "lp_relay: 1 of 2 crates, about "
+    # Of a crate that was built since its last change no proof is awaited.
+    echo '// more' >>"$copy/crates/lp_relay_program/src/main.rt"
+    shown "lp_relay: 0 of 2 crates, about 21 min left, lp_low"
+else
+    left_out "what a terminal sees" "there is no script, for checks/launch.sh"
+fi
+while IFS= read -r crate; do
+    grep -q "^| \`$crate\` | [0-9]" "$repository/CONTRIBUTING.md" || { echo "launch: CONTRIBUTING.md does not say how long the proof of $crate takes" && exit 1; }
+done < <(sed -n 's/^\([a-z_]*\)\( [^:]*\)\?:.*/\1/p' "$repository/crates.txt")
 echo "launch: $runs runs of the launchers"

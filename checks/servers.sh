@@ -13,7 +13,7 @@
 # faster: 5 minutes for both.
 #
 # ARCHIVE: the library for C. The parsers are in Debian's golang-github-influxdb-influxdb-dev and
-# golang-github-victoriametrics-victoriametrics-dev; `checks/setup.sh --servers` unpacks them, and installs the servers. What is missing is
+# golang-github-victoriametrics-victoriametrics-dev; `bin/setup --servers` unpacks them, and installs the servers. What is missing is
 # left out, and is named.
 set -eu
 here=$(cd "$(dirname "$0")" && pwd)
