@@ -1,5 +1,5 @@
 //! The time of the system, as a relay gives it to lines that come without a timestamp.
-ghost use Rattle.std.specs.Prelude.{◌≡◌, ◌≤◌, None};
+ghost use Rattle.std.specs.Prelude.{◌≡◌, ◌≤ℤ◌, None};
 
 use lp_relay::Clock;
 use std::time::{self, SystemTime, UNIX_EPOCH};
@@ -32,7 +32,7 @@ impl<'a, R: time::Clock> Clock for SystemClock<'a, R> {
 
     fn now(&mut self) -> i64
         ensures told { result ≡ self.new.last }
-        ensures onward { self.old.last ≤ self.new.last }
+        ensures onward { self.old.last ≤ℤ self.new.last }
     {
         if let Some(time) = time_now(self.rt) {
             self.last = self.last.max(time);
