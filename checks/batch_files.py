@@ -55,6 +55,11 @@ class Relay:
         """What each file of the folder holds, by its name."""
         return {path.name: path.read_bytes() for path in sorted(self.room.iterdir()) if path.is_file()}
 
+    def placed(self):
+        """The same of the files in their places, and what the files beside these hold."""
+        held = self.held()
+        return ({name: text for name, text in held.items() if ".lp_relay-" not in name}, [text for name, text in held.items() if ".lp_relay-" in name])
+
 
 def same(what, has, wanted):
     """Ends the check if these differ."""
@@ -239,7 +244,12 @@ def failures(relay):
     relay.clear()
     has = relay.run(asked, line * 5 + LONG.encode() + b"\n" + line, preexec_fn=little)
     same("a device that is full", has, (2, b"", f"{UNWRITTEN}{NAME}: File too large (os error 27)\n"))
-    same("a device that is full: the files", relay.held(), files([line * 2] * 2))
+    # The lines of a pipe cannot be read again, so what there is of the next batch stays beside its place.
+    same("a device that is full: the files", relay.placed(), (files([line * 2] * 2), [(line + LONG.encode())[:1024]]))
+    relay.clear()
+    (relay.room / "one").write_bytes(line * 5 + LONG.encode() + b"\n" + line)
+    same("a device that is full, and a file", relay.run([*asked, "one"], preexec_fn=little)[0], 2)
+    same("a device that is full, and a file: the names", sorted(relay.held()), ["b-001.lp", "b-002.lp", "one"])
     relay.clear()
     same("numbers that are used up", relay.run(["--batch-lines", "1", "-o", "%01d"], line * 10),
          (2, b"", f"{UNWRITTEN}%01d: the numbers of the batches are used up\n"))
@@ -257,7 +267,7 @@ def failures(relay):
     done = subprocess.run([relay.program, *asked], input=line * 2 + b"x\n" + line, stdout=subprocess.PIPE, stderr=writer, cwd=relay.room, check=False)
     os.close(writer)
     same("nothing reads the faults", done.returncode, 141)
-    same("nothing reads the faults: the files", relay.held(), files([line * 2]))
+    same("nothing reads the faults: the files", relay.placed()[0], files([line * 2]))
 
 
 def wait_for(what, is_so):
@@ -278,6 +288,7 @@ def pauses(relay):
         process.stdin.write(line)
         process.stdin.flush()
         wait_for("a file beside its place", lambda: [path for path in relay.room.iterdir() if path.stat().st_size == len(line)])
+        same("another run with these names", relay.run(["--batch-lines", "1", "-o", NAME], line), (2, b"", f"{UNWRITTEN}{NAME}: another run is writing it\n"))
         same("a batch that is not full", first.exists(), False)
         process.stdin.write(line)
         process.stdin.flush()
@@ -286,21 +297,21 @@ def pauses(relay):
         second.write_bytes(b"old\n")
         said = process.communicate(line * 2)[1].decode()
     same("a batch that is there by then", (process.returncode, said[: len(UNWRITTEN)]), (2, UNWRITTEN))
-    same("a batch that is there by then: the files", relay.held(), {first.name: line * 2, second.name: b"old\n"})
+    same("a batch that is there by then: the files", relay.placed(), ({first.name: line * 2, second.name: b"old\n"}, [line * 2]))
 
 
 def synced(relay):
-    """All of a batch is on the device before it comes to its place, and that it is there after it."""
+    """All of a batch is on the device before it comes to its place, and that it is there after it. The first two calls see that a link can be made."""
     trace = relay.top / "trace"
     relay.clear()
     if not shutil.which("strace") or subprocess.run(["strace", "-o", trace, "true"], capture_output=True, check=False).returncode:
         subprocess.run(["bash", "-c", '. "$0"; left_out "batches on the device" "there is no strace, or it may not watch, for checks/batch_files.py"',
                         Path(__file__).with_name("left_out.sh")], check=True)
         return
-    subprocess.run(["strace", "-f", "-e", "trace=fsync,rename", "-o", trace, relay.program, "--batch-lines", "1", "-o", NAME],
+    subprocess.run(["strace", "-f", "-e", "trace=fsync,link,unlink,rename", "-o", trace, relay.program, "--batch-lines", "1", "-o", NAME],
                    input=b"m a=1i\nm a=2i\n", cwd=relay.room, check=True)
-    calls = [call for call in trace.read_text().replace("(", " ").split() if call in ("fsync", "rename")]
-    same("what the system is asked for", calls, ["fsync", "rename", "fsync"] * 2)
+    calls = [call for call in trace.read_text().replace("(", " ").split() if call in ("fsync", "link", "unlink", "rename")]
+    same("what the system is asked for", calls, ["link", "unlink"] + ["fsync", "link", "unlink", "fsync"] * 2)
 
 
 def main(arguments):

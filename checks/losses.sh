@@ -15,6 +15,8 @@ work=$(mktemp -d)
 trap 'rm -rf "$work"' EXIT
 mkdir "$work/files"
 cd "$work/files"
+newline='
+'
 
 # lost WHAT: ends the check.
 lost() {
@@ -138,11 +140,16 @@ names | grep -v -x -F -e "$left" -e out.lp_relay-9-9 >"$work/names_after"
 exec 5<out.lp_relay-8-8
 flock 5
 run "$relay" -o out a
-holds out 'm a=1i\n'
+holds out 'old\n'
 names | cmp - "$work/names_after" || lost "what an ended run left is not removed, or something else is"
-printf 'lp_relay: removed %s, which an ended run had left\n' "$left" out.lp_relay-9-9 | sort | cmp - <(sort "$work/err") ||
+printf 'lp_relay: removed %s, which an ended run had left\n' "$left" out.lp_relay-9-9 | sort | cmp - <(head -n -1 "$work/err" | sort) ||
     lost "it is not said what was removed"
+[ "$status $(tail -n 1 "$work/err")" = "2 ${unwritten}out: another run is writing it" ] || lost "a file beside that is locked"
 exec 5<&-
+unlocked=$(names | grep -v -x -F out.lp_relay-8-8)
+run "$relay" -o out a
+holds out 'm a=1i\n'
+[ "$unlocked" = "$(names)" ] || lost "what an ended run left, once it is not locked"
 rm -r out.lp_relay-* x.out*
 printf 'old\n' >out
 # A place with a name as long as names may be, also one that has no room for a whole character there.
@@ -154,17 +161,33 @@ for long in "$(printf 'n%.0s' {1..255})" "x$(printf 'ö%.0s' {1..127})"; do
     names | grep -c -F .lp_relay- | grep -q -x 1 || lost "what is beside a long name"
     rm "$long" ./*.lp_relay-*
 done
-# The lines of a run that goes on, if another one for the place begins.
+# The lines of a run that goes on, if another one for the place begins, by whatever name: that one ends before it reads anything.
+ln -s ./out link
+for words in "-o out" "--check --replace --refused out" "-o link"; do
+    begin -o out
+    # shellcheck disable=SC2086
+    { "$relay" $words || true; cat; } <b >"$work/out" 2>"$work/err"
+    [ "$(cat "$work/err" "$work/out")" = "${unwritten}${words##* }: another run is writing it${newline}m b=2i${newline}x" ] ||
+        lost "another run for the place by the words ($words)"
+    holds out 'old\n'
+    printf 'm b=2i\n' >&3
+    exec 3>&-
+    wait "$process" && status=0 || status=$?
+    [ "$status" = 0 ] || lost "the lines of a run, since another one for the place began"
+    holds out 'm b=2i\n'
+    printf 'old\n' >out
+done
+rm link
+# What came to the place of a new file while the relay ran.
+rm out
 begin -o out
-run "$relay" -o out a
-[ "$status $(cat "$work/err")" = "0 " ] || lost "a run beside another one for the place"
-holds out 'm a=1i\n'
+printf 'old\n' >out
 printf 'm b=2i\n' >&3
 exec 3>&-
 wait "$process" && status=0 || status=$?
-[ "$status" = 0 ] || lost "the lines of a run, since another one for the place began"
-holds out 'm b=2i\n'
-printf 'old\n' >out
+cp "$work/began_err" "$work/err"
+: >"$work/out"
+fails 2 "${unwritten}out: File exists (os error 17)" "a file has come to the place of a new one"
 # Who may read the file that is replaced; what a link leads to; and all that is read, if something is mounted in the place.
 if [ "$(id -u)" = 0 ] && command -v setpriv >/dev/null; then
     chown 65534:65533 out
@@ -204,11 +227,48 @@ if unshare --mount mount --bind a out 2>/dev/null; then
 else
     left_out "a mount point as output" "nothing can be mounted, for checks/losses.sh"
 fi
+# The end of a file that becomes shorter while it is read, and the line at which it was cut; and what is added to one. So that it is still
+# read then, nothing reads the output before.
+for words in changed "--range 0.. changed" -; do
+    yes 'm a=1i' | head -n 300000 >changed
+    # shellcheck disable=SC2086
+    { "$relay" $words <changed 2>"$work/err" 3>&- && echo 0 >&3 || echo $? >&3; } 3>"$work/status" |
+        { head -c 1 >/dev/null && truncate -s 1000001 changed && cat; } >"$work/out"
+    status=$(cat "$work/status")
+    name=${words##*[ -]}
+    [ "$status $(cat "$work/err")" = "2 $unread${name:+$name: }unexpected end of file" ] || lost "a file becomes shorter, by the words ($words)"
+    cmp <(printf ' a=1i\n' && yes 'm a=1i' | head -n "$(($(wc -l <"$work/out") - 1))") "$work/out" || lost "a line that was cut, by the words ($words)"
+    yes 'm a=1i' | head -n 300000 >changed
+    # shellcheck disable=SC2086,SC2094
+    "$relay" $words <changed 2>"$work/err" | { head -c 1 >/dev/null && cat a >>changed && cat; } >"$work/out"
+    [ "$(wc -l <"$work/out") $(tail -n 1 "$work/out")" = "300001 m a=1i" ] || lost "what is added to a file, by the words ($words)"
+done
+rm changed
+# The order of lines that come without a time, if the clock of the system steps back at each third look.
+if command -v cc >/dev/null; then
+    printf '%s\n' '#include <time.h>' 'int clock_gettime(clockid_t id, struct timespec *now) {' 'static int looks; (void)id; now->tv_nsec = 0;' \
+        'now->tv_sec = ++looks % 3 ? 1000 + looks : 1000 - looks; return 0; }' >"$work/clock.c"
+    cc -shared -fPIC -o "$work/clock.so" "$work/clock.c"
+    yes 'm a=1i' | head -n 100000 | LD_PRELOAD=$work/clock.so "$relay" --now 2>"$work/err" | cut -d ' ' -f 3 | uniq >"$work/out"
+    sort -n -c "$work/out" || lost "times go back by --now"
+    [ "$(wc -l <"$work/out")" -gt 3 ] || lost "by --now all lines have one time"
+else
+    left_out "a clock that steps back" "there is no cc, for checks/losses.sh"
+fi
 # Both files, if the machine stops after the run: all of both is on the device before either comes to its place.
 if strace -o "$work/trace" true 2>"$work/err"; then
     run strace -f -e trace=fsync,rename -o "$work/trace" "$relay" -o out --replace --refused refused b
     calls=$(grep -o -e 'fsync(.*= 0$' -e 'rename(.*= 0$' "$work/trace" | cut -d '(' -f 1 | paste -sd ' ')
     [ "$status $calls" = "1 fsync fsync rename rename fsync fsync" ] || lost "both files come to their places by: $calls"
+    # The same of new files, of which one has 2 MB. Whether a hard link can be made is seen before anything is read.
+    rm out refused
+    run strace -f -e trace=fsync,rename,link,unlink -o "$work/trace" "$relay" -o out --refused refused long long long long long long long long long long b
+    calls=$(grep -o -E '(fsync|rename|link|unlink)\(.*= 0$' "$work/trace" | cut -d '(' -f 1 | paste -sd ' ')
+    [ "$status $calls" = "1 link unlink link unlink fsync fsync link unlink link unlink fsync fsync" ] || lost "new files come to their places by: $calls"
+    rm out refused
+    { strace -qq -e trace=link -e inject=link:error=EPERM:when=1 -o "$work/trace" "$relay" -o out || true; cat; } <b >"$work/out" 2>"$work/err"
+    [ "$(cat "$work/err" "$work/out")" = "${unwritten}out: its file system makes no hard links, which a new file needs${newline}m b=2i${newline}x" ] ||
+        lost "a new file where no hard link can be made"
     printf 'old\n' | tee out >refused
     # The ends of parts, if a signal interrupts a read at a place.
     run strace -qq -o "$work/trace" -P "$work/files/b" -e trace=pread64 -e inject=pread64:error=EINTR:when=1 "$relay" --cut 2 b
@@ -365,6 +425,7 @@ if python3 -c 'import sys; sys.exit(sys.version_info < (3, 10))' 2>/dev/null; th
     "$top/checks/settings.py" "$relay"
     "$top/checks/forms.py" "$relay"
     "$top/checks/batch_files.py" "$relay"
+    ! strace -o "$work/trace" true 2>"$work/err" || "$top/checks/failing_calls.py" "$relay"
     "$top/checks/grammar.py" "$relay"
     "$top/checks/recording.py" "$relay"
 else

@@ -7,7 +7,7 @@ use Rattle.lp_programs.specs.declared.endings.Failure.{Failure}
 use Rattle.lp_programs.specs.declared.files.Files.{Files}
 use Rattle.lp_programs.specs.declared.files.FileState.{FileState}
 use Rattle.lp_programs.specs.declared.files.Stage.{Stage}
-use Rattle.lp_programs.specs.declared.files.Stage.TheVariants.{Beside, InPlace, Removed}
+use Rattle.lp_programs.specs.declared.files.Stage.TheVariants.{Beside, InPlace, Kept, Removed}
 
 -- a file that was made for the place of this name
 abbrev pub new_file : Bor (List ℕ) → FileState
@@ -23,15 +23,20 @@ abbrev pub after_put : FileState → Bool → FileState
 after_put file true = record file { stage = InPlace }
 after_put file false = file
 
--- where a file is after it was removed: what is in its place stays
+-- where a file is after it was removed: what is in its place stays, and what is kept
 abbrev pub stage_removed : Stage → Stage
 stage_removed Beside = Removed
 stage_removed InPlace = InPlace
+stage_removed Kept = Kept
 stage_removed Removed = Removed
 
 -- a file after it was removed
 abbrev pub after_remove : FileState → FileState
 after_remove file = record file { stage = stage_removed file.stage }
+
+-- a file that was beside its place after it was kept there
+abbrev pub after_keep : FileState → FileState
+after_keep file = record file { stage = Kept }
 
 -- this holds of each of these files that there is
 abbrev pub Each : {F : Type 0} → (F → FileState) → (FileState → Type 0) → Files F → Type 0

@@ -1,5 +1,5 @@
 -- Inputs that are read one after another.
-use Rattle.std.specs.Prelude.{◌≡◌, ℕ, ◌<◌, Bool, true, List, [], ◌∷◌, nat_lt, drop, map, take, Option, Some, None, Result, Ok, Err}
+use Rattle.std.specs.Prelude.{◌≡◌, ℕ, ◌<◌, ◌==◌, ◌&&◌, Bool, true, List, [], ◌∷◌, nat_lt, drop, map, take, Option, Some, None, Result, Ok, Err}
 use Rattle.std.specs.Io.KnownBytes.{Consumes, IsAtEnd, Keeps}
 use Rattle.lp_programs.specs.declared.inputs.Inputs.{Inputs}
 
@@ -12,6 +12,10 @@ texts_after remaining (Some input) texts = remaining input ∷ texts
 abbrev pub texts_left : {O I : Type 0} → (O → List ℕ → Option (List ℕ)) → (I → Option (List ℕ)) → Inputs O I → List (Option (List ℕ))
 texts_left bytes remaining inputs =
     texts_after remaining inputs.current (map (λ name. bytes inputs.opener name.now) inputs.names.now)
+
+-- whether an input ends early: a read into some room gave nothing, and so many bytes of it are left
+abbrev pub ends_early : (read room left : ℕ) → Bool
+ends_early read room left = (read == 0) && nat_lt 0 room && nat_lt 0 left
 
 -- the text that is left of the first input: none if no input is left
 abbrev pub first_text : List (Option (List ℕ)) → Option (List ℕ)

@@ -6,6 +6,7 @@ pub mod Files
 pub mod Inputs
 pub mod Joined
 pub mod Options
+pub mod Places
 pub mod Plain
 pub mod Refusals
 pub mod RunErrors

@@ -5,7 +5,7 @@ ghost use Rattle.std.specs.Io.KnownBytes.{Keeps, WriteAppends};
 ghost use Rattle.influxdb_line_protocol.specs.code.Rules.{rules_of};
 ghost use Rattle.influxdb_line_protocol.specs.format.Pieces.{Pieces};
 ghost use Rattle.lp_programs.specs.Batches.{both, fitting, line_size, may_be, no_lines, takes_line};
-ghost use Rattle.lp_programs.specs.Files.{IsBeside, IsInPlace, IsWhole};
+ghost use Rattle.lp_programs.specs.Files.{IsBeside, IsInPlace};
 
 use crate::batch_names::BatchNames;
 use crate::beside::{FileBeside, NEW_MODE, make_beside};
@@ -110,22 +110,22 @@ fn put_whole<'n, F: Output<'n>>(file: &mut F) -> io::Result<()>
     file.sync_place()
 }
 
-// Puts a file in its place, once all of it is on the device, or removes it.
-fn put_or_remove<'n, F: Output<'n>>(mut file: F) -> io::Result<()>
-    requires { IsBeside (F.state file) }
-{
-    let answer = put_whole(&mut file);
+// Lets a file go: one that is beside its place is kept there, if that is asked for and it holds something, or removed.
+fn leave(mut file: FileBeside<'_, '_>, is_kept: bool) {
+    if is_kept && file.is_beside() && file.may_hold_bytes() {
+        file.keep();
+    }
     file.remove();
     file.let_go();
-    answer
 }
 
-// Removes a file.
-fn remove<'n, F: Output<'n>>(mut file: F)
-    requires { IsBeside (F.state file) }
+// Puts a file in its place, once all of it is on the device, or leaves it.
+fn put_or_leave(mut file: FileBeside<'_, '_>, is_kept: bool) -> io::Result<()>
+    requires { IsBeside file.state }
 {
-    file.remove();
-    file.let_go();
+    let answer = put_whole(&mut file);
+    leave(file, is_kept);
+    answer
 }
 
 /// Files for lines, one after another, each with a number in its name.
@@ -136,6 +136,8 @@ pub(crate) struct Batches<'a, 'n> {
     names: BatchNames<'n>,
     dialect: Dialect,
     limits: Limits,
+    // Whether a batch that cannot come to its place is kept beside it, since the input cannot be read again.
+    is_kept: bool,
     // The number of the next file.
     next: u64,
     // The file that is written, and what it has so far.
@@ -159,8 +161,25 @@ fn file_of<'a, 'n>(
     }
 }
 
+// The file of the first batch, which no other run writes, and which can come to its place.
+fn first_file<'a, 'n>(
+    rt: &'a HostRuntime,
+    word: &'n str,
+    names: BatchNames<'n>,
+) -> io::Result<FileBeside<'a, 'n>> {
+    let file = file_of(rt, word, names, 1)?;
+    match file.check_place() {
+        Ok(()) => Ok(file),
+        Err(error) => {
+            leave(file, false);
+            Err(error)
+        }
+    }
+}
+
 impl<'a, 'n> Batches<'a, 'n> {
-    /// Batches of these names, of lines by the rules of a dialect. The file of the first one is made.
+    /// Batches of these names, of lines by the rules of a dialect. The file of the first one is made. If it is asked for, a batch that
+    /// cannot come to its place is kept beside it.
     ///
     /// # Errors
     ///
@@ -171,14 +190,16 @@ impl<'a, 'n> Batches<'a, 'n> {
         names: BatchNames<'n>,
         dialect: Dialect,
         limits: Limits,
+        is_kept: bool,
     ) -> Result<Self, Failure<'n>> {
-        match file_of(rt, word, names, 1) {
+        match first_file(rt, word, names) {
             Ok(file) => Ok(Batches {
                 rt,
                 word,
                 names,
                 dialect,
                 limits,
+                is_kept,
                 next: 2,
                 file: Some(file),
                 size: Size::NONE,
@@ -203,7 +224,7 @@ impl<'a, 'n> Batches<'a, 'n> {
             return Ok(());
         };
         if file.is_beside() {
-            return put_or_remove(file);
+            return put_or_leave(file, self.is_kept);
         }
         file.let_go();
         Ok(())
@@ -226,7 +247,8 @@ impl<'a, 'n> Batches<'a, 'n> {
         self.end()
     }
 
-    /// Ends a run that gave this answer: the last batch comes to its place if the run succeeded and it has a line, else it is removed.
+    /// Ends a run that gave this answer: the last batch comes to its place if the run succeeded and it has a line. Else it is removed,
+    /// or kept beside its place if that is asked for.
     ///
     /// # Errors
     ///
@@ -238,6 +260,7 @@ impl<'a, 'n> Batches<'a, 'n> {
             names: _names,
             dialect: _dialect,
             limits: _limits,
+            is_kept,
             next: _next,
             file,
             size,
@@ -250,10 +273,10 @@ impl<'a, 'n> Batches<'a, 'n> {
             return answer;
         }
         if answer.is_err() || size.bytes == 0 {
-            remove(file);
+            leave(file, is_kept && answer.is_err());
             return answer;
         }
-        match put_or_remove(file) {
+        match put_or_leave(file, is_kept) {
             Ok(()) => answer,
             Err(error) => Err(failure_of(word, error)),
         }

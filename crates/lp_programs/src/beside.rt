@@ -4,9 +4,12 @@ ghost use Rattle.std.specs.Io.{WritesAtMost};
 ghost use Rattle.std.specs.Io.KnownBytes.{Keeps, WriteAppends};
 ghost use Rattle.lp_programs.specs.Files.{new_file};
 ghost use Rattle.lp_programs.specs.Destinations.{GoesTo, PiecesGoTo, is_nowhere};
+ghost use Rattle.lp_programs.specs.Places.{has_no_links};
 
-use crate::files::{FileState, Files, Maker, Output, Stage};
-use crate::locks::{BESIDE, front_of_name, lock_made};
+use crate::endings::Failure;
+use crate::errors::{open_again, open_to_read};
+use crate::files::{FileState, Files, Maker, Output, Stage, failure_of};
+use crate::locks::{BESIDE, front_of_name, is_written, lock_made};
 use crate::places::{folder_and_file, is_mounted, place_of};
 use crate::speaking::{Notice, Speaker};
 use crate::streams::Stream;
@@ -17,6 +20,9 @@ use std::process;
 
 // How many names are tried for the file beside.
 const TRIES: u32 = 1000;
+
+// What is said where no hard link can be made.
+const NO_LINKS: &str = "its file system makes no hard links, which a new file needs";
 
 /// Who may do what with a new file, as far as the process lets them.
 pub(crate) const NEW_MODE: u32 = 0o666;
@@ -68,10 +74,12 @@ impl<'a, 'n> Output<'n> for FileBeside<'a, 'n> {
     }
 
     fn put(&mut self) -> io::Result<()> {
-        if self.is_new {
-            check_free(self.rt, self.place.as_str())?;
-        }
-        fs::rename(self.rt, self.beside.as_str(), self.place.as_str())?;
+        put_at(
+            self.rt,
+            self.beside.as_str(),
+            self.place.as_str(),
+            self.is_new,
+        )?;
         self.state.stage = Stage::InPlace;
         Ok(())
     }
@@ -86,6 +94,10 @@ impl<'a, 'n> Output<'n> for FileBeside<'a, 'n> {
             let _ = fs::remove_file(self.rt, self.beside.as_str());
             self.state.stage = Stage::Removed;
         }
+    }
+
+    fn keep(&mut self) {
+        self.state.stage = Stage::Kept;
     }
 
     fn let_go(self) {
@@ -118,7 +130,7 @@ impl<'a, 'n> Maker<'n> for System<'a> {
         let place = place_of(self.rt, name)?;
         match fs::metadata(self.rt, place.as_str()) {
             Ok(old) => self.make_over(name, place, &old),
-            Err(_) => make_beside(self.rt, name, place, false, NEW_MODE),
+            Err(_) => make_beside(self.rt, name, place, true, NEW_MODE),
         }
     }
 }
@@ -181,7 +193,7 @@ fn give_owner(file: &File, old: &Metadata) -> io::Result<()> {
 
 // Waits until all of a folder is on the device. One that may not be read, or a device that knows no such wait, is passed over.
 fn sync_folder(rt: &HostRuntime, folder: &str) -> io::Result<()> {
-    let Ok(folder) = File::open(rt, folder) else {
+    let Ok(folder) = open_to_read(rt, folder) else {
         return Ok(());
     };
     match folder.sync_all() {
@@ -229,6 +241,41 @@ impl<'a, 'n> FileBeside<'a, 'n> {
         matches!(self.state.stage, Stage::Beside)
     }
 
+    /// Sees that no other run writes a file for its place, and that it can come there, if that needs a hard link.
+    ///
+    /// # Errors
+    ///
+    /// That it is so, or what the system says if it cannot tell.
+    pub(crate) fn check_place(&self) -> io::Result<()> {
+        let (_, own) = folder_and_file(self.beside.as_str());
+        if is_written(self.rt, self.place.as_str(), own)? {
+            return Err(io::Error::new(ErrorKind::WouldBlock, "another run is writing it"));
+        }
+        if self.is_new {
+            return self.check_links();
+        }
+        Ok(())
+    }
+
+    // Sees that a hard link can be made beside its place.
+    fn check_links(&self) -> io::Result<()> {
+        let link = name_beside(
+            self.rt,
+            self.place.as_str(),
+            self.turn.saturating_add(TRIES),
+        )?;
+        fs::hard_link(self.rt, self.beside.as_str(), link.as_str()).map_err(unlinked)?;
+        fs::remove_file(self.rt, link.as_str())
+    }
+
+    /// Whether it holds a byte, or that cannot be told.
+    pub(crate) fn may_hold_bytes(&self) -> bool {
+        match self.file.metadata() {
+            Ok(file) => file.len() > 0,
+            Err(_) => true,
+        }
+    }
+
     /// Writes all of these bytes.
     pub(crate) fn write_all(&mut self, bytes: &[u8]) -> io::Result<()>
         ensures { self.new.state ≡ self.old.state }
@@ -237,13 +284,28 @@ impl<'a, 'n> FileBeside<'a, 'n> {
     }
 }
 
-// Sees that nothing is in a place.
-fn check_free(rt: &HostRuntime, place: &str) -> io::Result<()> {
-    match fs::symlink_metadata(rt, place) {
-        Ok(_) => Err(io::Error::from(ErrorKind::AlreadyExists)),
-        Err(error) if error.kind() == ErrorKind::NotFound => Ok(()),
-        Err(error) => Err(error),
+// Puts the file beside a place there: one that comes there only if nothing is there by a hard link, which replaces nothing.
+fn put_at(rt: &HostRuntime, beside: &str, place: &str, is_new: bool) -> io::Result<()> {
+    if !is_new {
+        return fs::rename(rt, beside, place);
     }
+    fs::hard_link(rt, beside, place)?;
+    fs::remove_file(rt, beside)
+}
+
+// Why no hard link can be made, where the system says this.
+fn unlinked(error: io::Error) -> io::Error {
+    if has_no_links(error.kind()) {
+        return io::Error::new(ErrorKind::Unsupported, NO_LINKS);
+    }
+    error
+}
+
+// Whether the system says so where a file system makes no hard links.
+fn has_no_links(kind: ErrorKind) -> bool
+    ensures { result ≡ has_no_links kind }
+{
+    matches!(kind, ErrorKind::PermissionDenied | ErrorKind::Unsupported)
 }
 
 // A name beside a place.
@@ -257,15 +319,24 @@ fn name_beside(rt: &HostRuntime, place: &str, turn: u32) -> io::Result<String> {
     Ok(format!(in rt.alloc(); "{folder}/{front}{BESIDE}{id}-{turn}")?)
 }
 
+// Locks a file that was just made at this path, and answers whether it is this run's, or removes it if that cannot be told.
+fn lock_or_remove(rt: &HostRuntime, path: &str, file: &File) -> io::Result<bool> {
+    let answer = lock_made(rt, path, file);
+    if answer.is_err() {
+        let _ = fs::remove_file(rt, path);
+    }
+    answer
+}
+
 // Makes a file beside a place, by a name that no file has, and locks it.
 fn create_beside(rt: &HostRuntime, place: &str, mode: u32) -> io::Result<(String, u32, File)> {
     for turn in 0..TRIES {
         let beside = name_beside(rt, place, turn)?;
         let mut options = OpenOptions::new();
         options.write(true).create_new(true).mode(mode);
-        match options.open(rt, beside.as_str()) {
+        match open_again(rt, &options, beside.as_str()) {
             Ok(file) => {
-                if lock_made(rt, beside.as_str(), &file) {
+                if lock_or_remove(rt, beside.as_str(), &file)? {
                     return Ok((beside, turn, file));
                 }
             }
@@ -329,7 +400,26 @@ impl<'a> Destinations<'a> {
     }
 }
 
+// Sees that no other run writes a file, if there is one, and that it can come to its place.
+fn check_place_of<'n>(file: &Option<FileBeside<'_, 'n>>) -> Result<(), Failure<'n>> {
+    let Some(file) = file else {
+        return Ok(());
+    };
+    file.check_place()
+        .map_err(|error| failure_of(file.name(), error))
+}
+
 impl<'a, 'n> Files<FileBeside<'a, 'n>> {
+    /// Sees that no other run writes these files, and that they can come to their places.
+    ///
+    /// # Errors
+    ///
+    /// `Write` if that is not so, or cannot be told.
+    pub(crate) fn check_places(&self) -> Result<(), Failure<'n>> {
+        check_place_of(&self.lines)?;
+        check_place_of(&self.refused)
+    }
+
     /// Where lines and refused pieces are written: lines that are only checked, and refused pieces that have neither a file beside its
     /// place nor what takes them as they come, nowhere.
     pub(crate) fn destinations<'d>(

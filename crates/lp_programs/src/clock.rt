@@ -1,10 +1,11 @@
 //! The time of the system, as a relay gives it to lines that come without a timestamp.
-ghost use Rattle.std.specs.Prelude.{None};
+ghost use Rattle.std.specs.Prelude.{◌≡◌, ◌≤ℤ◌, None};
 
 use lp_relay::Clock;
 use std::time::{self, SystemTime, UNIX_EPOCH};
 
-/// The clock of the system. If it cannot be read, it tells the last time once more.
+/// The clock of the system, as a run tells it: it never goes back. If the clock of the system does, or cannot be read, it tells the
+/// last time once more.
 #[derive(Clone, Copy)]
 pub(crate) struct SystemClock<'a, R> {
     rt: &'a R,
@@ -29,9 +30,12 @@ impl<'a, R: time::Clock> SystemClock<'a, R> {
 impl<'a, R: time::Clock> Clock for SystemClock<'a, R> {
     ghost told = { λ _. None };
 
-    fn now(&mut self) -> i64 {
+    fn now(&mut self) -> i64
+        ensures told { result ≡ self.new.last }
+        ensures onward { self.old.last ≤ℤ self.new.last }
+    {
         if let Some(time) = time_now(self.rt) {
-            self.last = time;
+            self.last = self.last.max(time);
         }
         self.last
     }

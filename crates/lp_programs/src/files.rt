@@ -3,7 +3,7 @@ ghost use Rattle.std.specs.Prelude.{◌≡◌, ◌≢◌, Bool, List, ℕ, Optio
 ghost use Rattle.std.specs.Borrow.{Bor};
 ghost use Rattle.std.specs.declared.io.Error.{Error};
 ghost use Rattle.lp_programs.specs.declared.files.FileState.{FileState};
-ghost use Rattle.lp_programs.specs.Files.{ArePutWhole, Each, HasNames, IsBeside, IsInPlace, IsRemoved, IsSettled, IsTold, IsWhole, after_put, after_remove, after_sync, file_failure, new_file};
+ghost use Rattle.lp_programs.specs.Files.{ArePutWhole, Each, HasNames, IsBeside, IsInPlace, IsRemoved, IsSettled, IsTold, IsWhole, after_keep, after_put, after_remove, after_sync, file_failure, new_file};
 
 use crate::endings::{Device, Failure};
 use lp_rebuild::RunFault;
@@ -16,6 +16,8 @@ pub enum Stage {
     Beside,
     /// In its place.
     InPlace,
+    /// Beside its place, where it stays.
+    Kept,
     /// Its removal was asked for.
     Removed,
 }
@@ -85,6 +87,11 @@ pub trait Output<'n> {
     /// Removes the file, if it is beside its place.
     fn remove(&mut self)
         ensures { state self.new ≡ after_remove (state self.old) };
+
+    /// Keeps the file beside its place, since nothing else has what it holds.
+    fn keep(&mut self)
+        requires { (state self.old).stage ≡ Stage.Beside }
+        ensures { state self.new ≡ after_keep (state self.old) };
 
     /// Lets it go.
     fn let_go(self)

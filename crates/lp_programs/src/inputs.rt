@@ -2,12 +2,12 @@
 ghost use Rattle.std.specs.Prelude.{◌≡◌, ◌<◌, List, [], ℕ, Option, None, false, is_some, true, length, IfOk, OnOk};
 ghost use Rattle.std.specs.Io.{ReadsAtMost};
 ghost use Rattle.std.specs.Io.KnownBytes.{ReadConsumes};
-ghost use Rattle.lp_programs.specs.Inputs.{ReadsOn, ReadsOne, texts_left};
+ghost use Rattle.lp_programs.specs.Inputs.{ReadsOn, ReadsOne, ends_early, texts_left};
 
 use crate::endings::Device;
-use crate::errors::shorter;
+use crate::errors::{open_to_read, shorter};
 use crate::options::Range;
-use crate::places::path_of;
+use crate::places::{STDIN, path_of, size_at};
 use crate::starts::{Start, TELLING, keep_first, start_of};
 use std::cell::Cell;
 use std::fs::File;
@@ -92,13 +92,74 @@ impl<'n, O: Opener<'n>> Read for Inputs<'n, O, O::Input> {
     }
 }
 
+// Whether a read of so many bytes into so much room shows that an input ends, of which so many bytes are left.
+fn ends_early(read: usize, room: usize, left: u64) -> bool
+    ensures { result ≡ ends_early read room left }
+{
+    read == 0 && room > 0 && left > 0
+}
+
+// Standard input, and how many bytes it had when it was opened, if it is a regular file.
+#[derive(Drop)]
+struct Standard<'a> {
+    rt: &'a HostRuntime,
+    stdin: Stdin,
+    len: u64,
+}
+
+// Another process may read from the same place, so the lengths are compared. It is an error if the file has become shorter.
+impl<'a> Read for Standard<'a> {
+    fn read(&mut self, buf: &mut [u8]) -> io::Result<usize> {
+        let n = self.stdin.read(buf)?;
+        if n == 0
+            && ends_early(
+                n,
+                buf.len(),
+                self.len.saturating_sub(size_at(self.rt, STDIN)),
+            )
+        {
+            return Err(shorter());
+        }
+        Ok(n)
+    }
+}
+
+// A file, and how many bytes it had after its place when it was opened that were not read: none if it is no regular file.
+#[derive(Drop)]
+struct Whole {
+    file: File,
+    left: u64,
+}
+
+// A file that has become longer is read to its end. It is an error if it has become shorter.
+impl Read for Whole {
+    fn read(&mut self, buf: &mut [u8]) -> io::Result<usize> {
+        let n = self.file.read(buf)?;
+        if ends_early(n, buf.len(), self.left) {
+            return Err(shorter());
+        }
+        self.left = self.left.saturating_sub(n as u64);
+        Ok(n)
+    }
+}
+
+// A file that is read from this place on, where it is.
+fn from_place(file: File, from: usize) -> io::Result<Whole> {
+    let found = file.metadata()?;
+    let len = if found.is_file() { found.len() } else { 0 };
+    Ok(Whole {
+        file,
+        left: len.saturating_sub(from as u64),
+    })
+}
+
 // What an input of the system is read from.
 #[derive(Drop)]
-enum Opened {
+enum Opened<'a> {
     /// Standard input.
-    Standard(Stdin),
+    Standard(Standard<'a>),
     /// A file, from where it is on.
-    File(File),
+    Whole(Whole),
     /// So many bytes of a file, from where it is on.
     Part(Take<File>),
 }
@@ -108,17 +169,17 @@ fn read_part(part: &mut Take<File>, buf: &mut [u8]) -> io::Result<usize>
     ensures bound { ReadsAtMost result buf.new }
 {
     let n = part.read(buf)?;
-    if n == 0 && part.limit() > 0 && !buf.is_empty() {
+    if ends_early(n, buf.len(), part.limit()) {
         return Err(shorter());
     }
     Ok(n)
 }
 
-impl Read for Opened {
+impl<'a> Read for Opened<'a> {
     fn read(&mut self, buf: &mut [u8]) -> io::Result<usize> {
         match self {
             Opened::Standard(stdin) => stdin.read(buf),
-            Opened::File(file) => file.read(buf),
+            Opened::Whole(file) => file.read(buf),
             Opened::Part(part) => read_part(part, buf),
         }
     }
@@ -127,7 +188,7 @@ impl Read for Opened {
 /// An input of the system that is open. Its first bytes are looked at: a read fails that finds it packed.
 #[derive(Drop)]
 pub struct SystemInput<'a> {
-    opened: Opened,
+    opened: Opened<'a>,
     /// Its first bytes, as long as these may tell more of it.
     first: Option<Vec<u8>>,
     /// Where it is put that it begins with a byte order mark.
@@ -196,27 +257,31 @@ impl<'a, 'n> SystemOpener<'a, 'n> {
     }
 
     // Opens a file at the start of a range.
-    fn open_range(&self, path: &str, range: Range) -> io::Result<Opened> {
-        let mut file = File::open(self.rt, path)?;
+    fn open_range(&self, path: &str, range: Range) -> io::Result<Opened<'a>> {
+        let mut file = open_to_read(self.rt, path)?;
         file.seek(SeekFrom::Start(range.from as u64))?;
         match range.to {
             Some(to) => {
                 let len = to.saturating_sub(range.from);
                 Ok(Opened::Part(file.take(len as u64)))
             }
-            None => Ok(Opened::File(file)),
+            None => Ok(Opened::Whole(from_place(file, range.from)?)),
         }
     }
 
     // Opens the input of a name, or the part of it that is read.
-    fn open_part(&self, name: &str) -> io::Result<Opened> {
+    fn open_part(&self, name: &str) -> io::Result<Opened<'a>> {
         if let Some(range) = self.range {
             return self.open_range(path_of(name), range);
         }
         if name == "-" {
-            Ok(Opened::Standard(self.rt.stdin()))
+            Ok(Opened::Standard(Standard {
+                rt: self.rt,
+                stdin: self.rt.stdin(),
+                len: size_at(self.rt, STDIN),
+            }))
         } else {
-            Ok(Opened::File(File::open(self.rt, name)?))
+            Ok(Opened::Whole(from_place(open_to_read(self.rt, name)?, 0)?))
         }
     }
 }

@@ -3,10 +3,16 @@
 //! Each run locks the file that it writes beside a place, and the system takes the lock away once the run ends, however that is. So a
 //! file of such a name that nobody locks is of a run that was ended, and the next run for the same place removes it. That reads the
 //! folder of the place once. Where files cannot be locked nothing is removed.
+//!
+//! A file that is locked is of a run that goes on. A run that finds one beside its place, once it has locked its own, ends: of two runs
+//! that begin at the same time at least one finds the other.
+ghost use Rattle.std.specs.Prelude.{◌≡◌};
+ghost use Rattle.lp_programs.specs.Places.{may_fail};
 
+use crate::errors::{open_to_read, read_folder};
 use crate::places::folder_and_file;
 use std::fs::{self, File, TryLockError};
-use std::io;
+use std::io::{self, ErrorKind};
 use std::os::unix::fs::MetadataExt;
 
 /// What comes in the name of a file beside its place after the name of that.
@@ -40,20 +46,26 @@ fn is_beside(name: &str, file: &str) -> bool {
 }
 
 // Whether a path is that of an open file, and no link.
-fn is_at(rt: &HostRuntime, path: &str, file: &File) -> bool {
-    match (file.metadata(), fs::symlink_metadata(rt, path)) {
-        (Ok(own), Ok(found)) => found.dev() == own.dev() && found.ino() == own.ino(),
-        _ => false,
+fn is_at(rt: &HostRuntime, path: &str, file: &File) -> io::Result<bool> {
+    let own = file.metadata()?;
+    match fs::symlink_metadata(rt, path) {
+        Ok(found) => Ok(found.dev() == own.dev() && found.ino() == own.ino()),
+        Err(error) if error.kind() == ErrorKind::NotFound => Ok(false),
+        Err(error) => Err(error),
     }
 }
 
 /// Locks a file that was just made at this path. Answers whether it is this run's: another run may have locked it first, and removes it.
-pub(crate) fn lock_made(rt: &HostRuntime, path: &str, file: &File) -> bool {
+///
+/// # Errors
+///
+/// What the system says if it cannot tell whether the file is still there.
+pub(crate) fn lock_made(rt: &HostRuntime, path: &str, file: &File) -> io::Result<bool> {
     match file.try_lock() {
         Ok(()) => is_at(rt, path, file),
-        Err(TryLockError::WouldBlock) => false,
+        Err(TryLockError::WouldBlock) => Ok(false),
         // Files cannot be locked there, so no run removes them.
-        Err(TryLockError::Error(_)) => true,
+        Err(TryLockError::Error(_)) => Ok(true),
     }
 }
 
@@ -62,12 +74,54 @@ fn remove_unlocked(rt: &HostRuntime, path: &str) -> io::Result<bool> {
     if !fs::symlink_metadata(rt, path)?.is_file() {
         return Ok(false);
     }
-    let file = File::open(rt, path)?;
-    if file.try_lock().is_err() || !is_at(rt, path, &file) {
+    let file = open_to_read(rt, path)?;
+    if file.try_lock().is_err() || !is_at(rt, path, &file)? {
         return Ok(false);
     }
     fs::remove_file(rt, path)?;
     Ok(true)
+}
+
+// Whether a look at a file of another run may fail so: the file is gone by then, or is another user's.
+fn may_fail(kind: ErrorKind) -> bool
+    ensures { result ≡ may_fail kind }
+{
+    matches!(kind, ErrorKind::NotFound | ErrorKind::PermissionDenied)
+}
+
+// Whether the file at this path is a regular file that a run has locked.
+fn is_locked(rt: &HostRuntime, path: &str) -> io::Result<bool> {
+    if !fs::symlink_metadata(rt, path)?.is_file() {
+        return Ok(false);
+    }
+    // A lock that others share: of two runs that look at one file none takes the other for its writer.
+    let lock = open_to_read(rt, path)?.try_lock_shared();
+    Ok(matches!(lock, Err(TryLockError::WouldBlock)))
+}
+
+/// Whether another run writes a file beside a place, where this run has the file of this name. That cannot be told of a place with a
+/// long name: the names of files beside it may be of other places too.
+///
+/// # Errors
+///
+/// What the system says if it cannot look at a file, unless that is gone by then, or is another user's; and if memory was refused.
+pub(crate) fn is_written(rt: &HostRuntime, place: &str, own: &str) -> io::Result<bool> {
+    let (folder, file) = folder_and_file(place);
+    if front_of_name(file).len() < file.len() {
+        return Ok(false);
+    }
+    for name in &names_beside(rt, place)? {
+        if name.as_str() == own {
+            continue;
+        }
+        let path = format!(in rt.alloc(); "{folder}/{name}")?;
+        match is_locked(rt, path.as_str()) {
+            Ok(false) => {}
+            Err(error) if may_fail(error.kind()) => {}
+            answer => return answer,
+        }
+    }
+    Ok(false)
 }
 
 /// The names of the files that runs have made beside a place, also of those that are not ended. A folder that cannot be read has none.
@@ -78,7 +132,7 @@ fn remove_unlocked(rt: &HostRuntime, path: &str) -> io::Result<bool> {
 pub(crate) fn names_beside(rt: &HostRuntime, place: &str) -> io::Result<Vec<String>> {
     let (folder, file) = folder_and_file(place);
     let mut names = Vec::new(rt.alloc());
-    let Ok(entries) = fs::read_dir(&rt, folder) else {
+    let Ok(entries) = read_folder(rt, folder) else {
         return Ok(names);
     };
     for entry in entries {

@@ -3,6 +3,7 @@ ghost use Rattle.std.specs.Prelude.{◌≡◌, IfOk, map};
 ghost use Rattle.lp_programs.specs.Refusals.{input_path};
 
 use crate::batch_names::BatchNames;
+use crate::errors::{open_again, read_folder};
 use crate::options::Range;
 use crate::refusals::{
     FileId, Located, OldPieces, Refusal, refusal_of, refusal_of_faults, refusal_of_old,
@@ -22,8 +23,8 @@ const MOUNTS: &str = "/proc/self/mountinfo";
 // Where the system has the standard streams.
 const STREAMS: &str = "/proc/self/fd";
 
-// Where the system has standard input.
-const STDIN: &str = "/proc/self/fd/0";
+/// Where the system has standard input.
+pub(crate) const STDIN: &str = "/proc/self/fd/0";
 
 // Where the system has standard output.
 const STDOUT: &str = "/proc/self/fd/1";
@@ -37,7 +38,7 @@ fn hold(rt: &HostRuntime, path: &str, is_read: bool) -> Option<File> {
         Err(error) if error.kind() == ErrorKind::NotFound => {
             let mut options = OpenOptions::new();
             options.read(is_read).write(!is_read);
-            options.open(rt, "/dev/null").ok()
+            open_again(rt, &options, "/dev/null").ok()
         }
         _ => None,
     }
@@ -192,7 +193,7 @@ pub fn old_refusal_at<'a>(rt: &HostRuntime, old: OldPieces, name: &'a str) -> Op
 ///
 /// What the system says if it cannot tell which files are there.
 pub fn batch_at(rt: &HostRuntime, names: BatchNames<'_>) -> io::Result<Option<String>> {
-    for entry in fs::read_dir(&rt, names.folder())? {
+    for entry in read_folder(rt, names.folder())? {
         match entry {
             Ok(entry) if names.is_one(entry.file_name()) => {
                 return Ok(Some(String::from_str(rt.alloc(), entry.file_name())?));
@@ -216,6 +217,14 @@ pub fn len_at(rt: &HostRuntime, path: &str) -> Option<usize> {
     }
 }
 
+/// How many bytes the regular file has to which a path leads: none if it is no such file, or cannot be looked at.
+pub(crate) fn size_at(rt: &HostRuntime, path: &str) -> u64 {
+    match fs::metadata(rt, path) {
+        Ok(file) if file.is_file() => file.len(),
+        _ => 0,
+    }
+}
+
 /// Why a range of the input of this name is refused, if it is. That no file is there is told once it is opened.
 pub fn range_refusal_at<'a>(rt: &HostRuntime, range: Range, name: &'a str) -> Option<Refusal<'a>> {
     refusal_of_range(range, name, len_at(rt, path_of(name)))
@@ -231,6 +240,18 @@ pub fn file_len(rt: &HostRuntime, name: &str) -> Option<usize> {
         Some(len) if len > 0 => Some(len),
         _ => None,
     }
+}
+
+/// Whether an input of these names cannot be read again: it is no regular file, as a pipe or a socket.
+pub(crate) fn are_read_once(rt: &HostRuntime, names: &[&str]) -> bool {
+    for at in 0..names.len() {
+        match fs::metadata(rt, path_of(names[at])) {
+            Ok(file) if file.is_file() => {}
+            Err(error) if error.kind() == ErrorKind::NotFound && names[at] != "-" => {}
+            _ => return true,
+        }
+    }
+    false
 }
 
 /// How many bytes are relayed, if each input is a regular file: of one of which a range is relayed, those of the range.

@@ -17,7 +17,7 @@ use crate::marks::{MarkedSource, Marks};
 use crate::meter::{Counted, Meter, MeteredSink, MeteredSource};
 use crate::options::Range;
 use crate::places::{
-    batch_at, old_refusal_at, place_of, range_refusal_at, refusal_at, relayed_len,
+    are_read_once, batch_at, old_refusal_at, place_of, range_refusal_at, refusal_at, relayed_len,
 };
 use crate::refusals::{OldPieces, Refusal, refusal_of_batches};
 use crate::speaking::{Notice, Speaker, fault_name};
@@ -149,14 +149,16 @@ fn relay_inputs<'n, W: Watcher + Drop, L: Write + Drop>(
 fn open_batches<'a, 'n>(
     rt: &'a HostRuntime,
     request: Request<'n>,
+    names: &[&str],
 ) -> Result<Option<Batches<'a, 'n>>, Failure<'n>> {
     let (Some(limits), Some(word)) = (request.batches, request.output) else {
         return Ok(None);
     };
     match batch_names_of(word) {
-        Some(names) => {
-            let batches = Batches::open(rt, word, names, request.relay.dialect, limits)?;
-            Ok(Some(batches))
+        Some(batch_names) => {
+            let is_kept = are_read_once(rt, names);
+            let dialect = request.relay.dialect;
+            Ok(Some(Batches::open(rt, word, batch_names, dialect, limits, is_kept)?))
         }
         None => Ok(None),
     }
@@ -247,7 +249,15 @@ fn open_files<'a, 'n>(
     } else {
         request.refused
     };
-    Files::open(&system, output, refused)
+    let mut files = Files::open(&system, output, refused)?;
+    match files.check_places() {
+        Ok(()) => Ok(files),
+        Err(failure) => {
+            let _ = files.finish::<()>(Err(failure));
+            files.let_go();
+            Err(failure)
+        }
+    }
 }
 
 /// Relays the inputs of these names, by a program of this name, to the files that a request names, and puts these in their places. A
@@ -267,7 +277,7 @@ pub fn relay_to_files<'n, W: Watcher + Drop>(
         Ok(stream) => stream,
         Err(failure) => return (Err(failure), watcher),
     };
-    let mut batches = match open_batches(rt, request) {
+    let mut batches = match open_batches(rt, request, names) {
         Ok(batches) => batches,
         Err(failure) => return (Err(failure), watcher),
     };

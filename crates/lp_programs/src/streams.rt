@@ -3,6 +3,7 @@
 //! What is written there stays if the run fails later, and something can read it while the relay runs. The relay hands over whole
 //! pieces, in one write each time. A file that grows is locked until the run ends, so no other run puts its pieces between.
 
+use crate::errors::open_again;
 use crate::refusals::OldPieces;
 use std::fs::{self, File, FileType, OpenOptions, TryLockError};
 use std::io::{self, ErrorKind, Write};
@@ -49,7 +50,7 @@ fn lock(file: &File) -> io::Result<()> {
 fn open_to_append(rt: &HostRuntime, name: &str) -> io::Result<File> {
     let mut options = OpenOptions::new();
     options.read(true).append(true).create(true);
-    let mut file = options.open(rt, name)?;
+    let mut file = open_again(rt, &options, name)?;
     lock(&file)?;
     if ends_within_line(&file)? {
         file.write_all(b"\n")?;
@@ -76,7 +77,7 @@ pub(crate) fn stream_of(
         Ok(file) if takes_at_once(file.file_type()) => {
             let mut options = OpenOptions::new();
             options.write(true);
-            Ok(Some(Stream::Opened(options.open(rt, name)?)))
+            Ok(Some(Stream::Opened(open_again(rt, &options, name)?)))
         }
         Ok(file) if !file.is_file() => Ok(None),
         _ if is_appended => Ok(Some(Stream::Opened(open_to_append(rt, name)?))),

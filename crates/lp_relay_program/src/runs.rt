@@ -7,7 +7,7 @@ use influxdb_line_protocol::Dialect;
 use lp_programs::arguments::refuse_words;
 use lp_programs::asked::{ReadsOn, part_ends_of};
 use lp_programs::endings::{Device, ending_of_cut, status_of_print};
-use lp_programs::errors::{LastErrors, Watched};
+use lp_programs::errors::{LastErrors, Watched, open_to_read};
 use lp_programs::inputs::{Inputs, SystemOpener};
 use lp_programs::places::file_len;
 use lp_programs::refusals::{names_of, refusal_of_parts};
@@ -17,7 +17,6 @@ use lp_programs::version::print_version;
 use lp_rebuild::{Reading, RunFault};
 use lp_relay::part_ends_at;
 use std::cell::Cell;
-use std::fs::File;
 
 /// The name of the program.
 pub(crate) const NAME: &str = "lp_relay";
@@ -31,7 +30,7 @@ fn ends_of_file<'n>(
     len: usize,
     errors: &LastErrors<'n>,
 ) -> Result<Vec<usize>, RunFault> {
-    let file = File::open(rt, name);
+    let file = open_to_read(rt, name);
     errors.input.set(Device {
         name: Some(name),
         error: file.as_ref().err().copied(),
