@@ -92,7 +92,7 @@ fn is_plain(byte: u8) -> bool
 }
 
 // Whether bytes are text of ASCII that stands in a string of JSON as it is. No byte ends the loop, so that the compiler tests 16 at a time.
-#[tactic(auto, using(crate::proofs::JsonTexts::one_more_plain, crate::proofs::JsonTexts::plain_front))]
+#[tactic(auto, using(crate::proofs::JsonTexts::one_more_plain))]
 fn are_plain(bytes: &[u8]) -> bool
     ensures { result ≡ true → json_text bytes.now ≡ bytes.now }
 {
