@@ -230,18 +230,18 @@ fi
 # The end of a file that becomes shorter while it is read, and the line at which it was cut; and what is added to one. So that it is still
 # read then, nothing reads the output before.
 for words in changed "--range 0.. changed" -; do
-    yes 'm a=1i' | head -n 300000 >changed
+    yes 'm a=1i' | head -n 60000 >changed
     # shellcheck disable=SC2086
     { "$relay" $words <changed 2>"$work/err" 3>&- && echo 0 >&3 || echo $? >&3; } 3>"$work/status" |
-        { head -c 1 >/dev/null && truncate -s 1000001 changed && cat; } >"$work/out"
+        { head -c 1 >/dev/null && truncate -s 300001 changed && cat; } >"$work/out"
     status=$(cat "$work/status")
     name=${words##*[ -]}
     [ "$status $(cat "$work/err")" = "2 $unread${name:+$name: }unexpected end of file" ] || lost "a file becomes shorter, by the words ($words)"
     cmp <(printf ' a=1i\n' && yes 'm a=1i' | head -n "$(($(wc -l <"$work/out") - 1))") "$work/out" || lost "a line that was cut, by the words ($words)"
-    yes 'm a=1i' | head -n 300000 >changed
+    yes 'm a=1i' | head -n 60000 >changed
     # shellcheck disable=SC2086,SC2094
     "$relay" $words <changed 2>"$work/err" | { head -c 1 >/dev/null && cat a >>changed && cat; } >"$work/out"
-    [ "$(wc -l <"$work/out") $(tail -n 1 "$work/out")" = "300001 m a=1i" ] || lost "what is added to a file, by the words ($words)"
+    [ "$(wc -l <"$work/out") $(tail -n 1 "$work/out")" = "60001 m a=1i" ] || lost "what is added to a file, by the words ($words)"
 done
 rm changed
 # The order of lines that come without a time, if the clock of the system steps back at each third look.

@@ -7,9 +7,9 @@ ghost use Rattle.lp_programs.specs.Destinations.{GoesTo, PiecesGoTo, is_nowhere}
 ghost use Rattle.lp_programs.specs.Places.{has_no_links};
 
 use crate::endings::Failure;
-use crate::errors::{open_again, open_to_read};
 use crate::files::{FileState, Files, Maker, Output, Stage, failure_of};
 use crate::locks::{BESIDE, front_of_name, is_written, lock_made};
+use crate::opens::{open_again, open_to_read};
 use crate::places::{folder_and_file, is_mounted, place_of};
 use crate::speaking::{Notice, Speaker};
 use crate::streams::Stream;

@@ -6,16 +6,13 @@ ghost use Rattle.std.specs.Prelude.{◌≡◌, None};
 ghost use Rattle.std.specs.Io.{ReadsAtMost};
 
 use crate::endings::{Device, Devices};
+use crate::opens::TRIES;
 use lp_rebuild::DeviceFault;
 use lp_relay::ReadAt;
-use std::alloc::Global;
 use std::cell::Cell;
-use std::fs::{self, File, OpenOptions, ReadDir};
+use std::fs::File;
 use std::io::{self, ErrorKind, Read, Write};
 use std::os::unix::fs::FileExt;
-
-// How often a call is tried that a signal interrupts: a process gets no such number of signals.
-const TRIES: u64 = u64::MAX;
 
 /// The devices of a run with the errors that they have so far.
 pub type LastErrors<'n> = Devices<Cell<Device<'n>>>;
@@ -104,50 +101,6 @@ impl<'a, 'n, W: Write> Write for Watched<'a, 'n, W> {
         self.keep(&answer);
         answer
     }
-}
-
-/// Opens a file by these options, and again as often as a signal interrupts that.
-///
-/// # Errors
-///
-/// What the system says if it cannot be opened.
-pub(crate) fn open_again(rt: &HostRuntime, options: &OpenOptions, path: &str) -> io::Result<File> {
-    for _ in 0..TRIES {
-        match options.open(rt, path) {
-            Err(error) if error.kind() == ErrorKind::Interrupted => {}
-            answer => return answer,
-        }
-    }
-    Err(io::Error::from(ErrorKind::Interrupted))
-}
-
-/// Opens a file to read it, and again as often as a signal interrupts that.
-///
-/// # Errors
-///
-/// What the system says if it cannot be opened.
-pub fn open_to_read(rt: &HostRuntime, path: &str) -> io::Result<File> {
-    let mut options = OpenOptions::new();
-    options.read(true);
-    open_again(rt, &options, path)
-}
-
-/// Opens a folder to read the names in it, and again as often as a signal interrupts that.
-///
-/// # Errors
-///
-/// What the system says if it cannot be opened.
-pub(crate) fn read_folder<'a>(
-    rt: &'a HostRuntime,
-    folder: &str,
-) -> io::Result<ReadDir<&'a HostRuntime, Global>> {
-    for _ in 0..TRIES {
-        match fs::read_dir(&rt, folder) {
-            Err(error) if error.kind() == ErrorKind::Interrupted => {}
-            answer => return answer,
-        }
-    }
-    Err(io::Error::from(ErrorKind::Interrupted))
 }
 
 // Reads at a place, and again as often as a signal interrupts that.

@@ -5,7 +5,8 @@ ghost use Rattle.std.specs.Io.KnownBytes.{ReadConsumes};
 ghost use Rattle.lp_programs.specs.Inputs.{ReadsOn, ReadsOne, ends_early, texts_left};
 
 use crate::endings::Device;
-use crate::errors::{open_to_read, shorter};
+use crate::errors::shorter;
+use crate::opens::open_to_read;
 use crate::options::Range;
 use crate::places::{STDIN, path_of, size_at};
 use crate::starts::{Start, TELLING, keep_first, start_of};

@@ -17,6 +17,7 @@ pub mod inputs;
 mod locks;
 mod marks;
 mod meter;
+pub mod opens;
 pub mod options;
 pub mod places;
 pub mod plain;

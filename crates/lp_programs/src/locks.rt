@@ -9,7 +9,7 @@
 ghost use Rattle.std.specs.Prelude.{◌≡◌};
 ghost use Rattle.lp_programs.specs.Places.{may_fail};
 
-use crate::errors::{open_to_read, read_folder};
+use crate::opens::{open_to_read, read_folder};
 use crate::places::folder_and_file;
 use std::fs::{self, File, TryLockError};
 use std::io::{self, ErrorKind};

@@ -3,7 +3,7 @@ ghost use Rattle.std.specs.Prelude.{◌≡◌, IfOk, map};
 ghost use Rattle.lp_programs.specs.Refusals.{input_path};
 
 use crate::batch_names::BatchNames;
-use crate::errors::{open_again, read_folder};
+use crate::opens::{open_again, read_folder};
 use crate::options::Range;
 use crate::refusals::{
     FileId, Located, OldPieces, Refusal, refusal_of, refusal_of_faults, refusal_of_old,

@@ -3,7 +3,7 @@
 //! What is written there stays if the run fails later, and something can read it while the relay runs. The relay hands over whole
 //! pieces, in one write each time. A file that grows is locked until the run ends, so no other run puts its pieces between.
 
-use crate::errors::open_again;
+use crate::opens::open_again;
 use crate::refusals::OldPieces;
 use std::fs::{self, File, FileType, OpenOptions, TryLockError};
 use std::io::{self, ErrorKind, Write};
