@@ -72,13 +72,14 @@ missing 1 "dist: $packages gcc-aarch64-linux-gnu, libc6-dev-arm64-cross; $instal
 if $start; then
     # On a terminal, from the start.
     SECONDS=0
-    "${inside[@]}" "$root" "$(kit)" script -qefc "./lp_relay <examples/two_lines.lp" /tmp/screen </dev/null >"$work/log" 2>&1 &
+    "${inside[@]}" "$root" "$(kit)" python3 -c 'import pty, sys; pty.spawn(sys.argv[1:])' sh -c "./lp_relay <examples/two_lines.lp" \
+        </dev/null >"$work/log" 2>&1 &
     until screen | grep -qE 'lp_relay: [1-9][0-9]* of [0-9]+ crates, about [0-9]+ min left, lp_'; do
         if ! kill -0 $! 2>/dev/null || [ "$SECONDS" -ge 1200 ]; then fail "no crate is proved: $(tail -c 500 "$work/log")"; fi
         sleep 1
     done
     kill -s KILL $!
-    wait $! || true
+    { wait $! || true; } 2>/dev/null
     told+=("the proof begins: $(screen | grep -oE 'lp_relay: 0 of .* min left' | head -n 1)")
 else
     status=0

@@ -175,7 +175,7 @@ PROCESSORS=1 wanted 0 "" $'lp_low lib\nlp_right lib\nlp_left lib\nlp_both run\nl
 
 # A terminal sees from the start how long the crates take that are still to come, and then by how far they are.
 shown() {
-    (cd "$copy" && SHOWN=lp_low script -qec "./lp_relay --strict" "$made/screen" </dev/null >/dev/null) || true
+    (cd "$copy" && SHOWN=lp_low python3 -c 'import pty, sys; pty.spawn(sys.argv[1:])' ./lp_relay --strict </dev/null >"$made/screen") || true
     for line in "$@"; do
         ! grep -qF "$line" "$made/screen" || continue
         echo "launch: a terminal does not see: $line"
@@ -189,15 +189,11 @@ cat >"$copy/CONTRIBUTING.md" <<'PAGE'
 | `lp_relay_program` | 2000 | 0 |
 PAGE
 rm -r "$copy"/crates/*/out
-if command -v script >/dev/null; then
-    shown "lp_relay: lp_relay_program: not built from these sources yet" "lp_relay: 0 of 2 crates, about 31 min left, lp_low" \
-        "lp_relay: 0 of 2 crates, about 13 min left, lp_low (5 of 10)" "lp_relay: lp_low: done in " "lp_relay: 1 of 2 crates, about "
-    # Of a crate that was built since its last change no proof is awaited.
-    echo '// more' >>"$copy/crates/lp_relay_program/src/main.rt"
-    shown "lp_relay: 0 of 2 crates, about 21 min left, lp_low"
-else
-    left_out "what a terminal sees" "there is no script, for checks/launch.sh"
-fi
+shown "lp_relay: lp_relay_program: not built from these sources yet" "lp_relay: 0 of 2 crates, about 31 min left, lp_low" \
+    "lp_relay: 0 of 2 crates, about 13 min left, lp_low (5 of 10)" "lp_relay: lp_low: done in " "lp_relay: 1 of 2 crates, about "
+# Of a crate that was built since its last change no proof is awaited.
+echo '// more' >>"$copy/crates/lp_relay_program/src/main.rt"
+shown "lp_relay: 0 of 2 crates, about 21 min left, lp_low"
 while IFS= read -r crate; do
     grep -q "^| \`$crate\` | [0-9]" "$repository/CONTRIBUTING.md" || { echo "launch: CONTRIBUTING.md does not say how long the proof of $crate takes" && exit 1; }
 done < <(sed -n 's/^\([a-z_]*\)\( [^:]*\)\?:.*/\1/p' "$repository/crates.txt")
