@@ -175,7 +175,7 @@ PROCESSORS=1 wanted 0 "" $'lp_low lib\nlp_right lib\nlp_left lib\nlp_both run\nl
 
 # A terminal sees from the start how long the crates take that are still to come, and then by how far they are.
 shown() {
-    (cd "$copy" && SHOWN=lp_low python3 -c 'import pty, sys; pty.spawn(sys.argv[1:])' ./lp_relay --strict </dev/null >"$made/screen") || true
+    (cd "$copy" && SHOWN=lp_low python3 -c 'import pty, sys; pty.spawn(sys.argv[1:])' sh -c './lp_relay --strict </dev/null' >"$made/screen" </dev/null) || true
     for line in "$@"; do
         ! grep -qF "$line" "$made/screen" || continue
         echo "launch: a terminal does not see: $line"
