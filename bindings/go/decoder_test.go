@@ -109,6 +109,30 @@ func TestTexts(t *testing.T) {
 	}
 }
 
+// Of what is not UTF-8 the place is its first byte that is not.
+func TestNotUTF8Places(t *testing.T) {
+	for _, row := range []struct {
+		text, place string
+		dialect     Dialect
+	}{
+		{"\xff", "1:1", Crate}, {"a f=1i\nm f=1\xff", "2:6", Crate}, {"m,t=\xc3 f=1", "1:5", Strict}, {"mé\xe2\x82", "1:4", Strict},
+		{"m s=\"é\n\u20ac\xbf\"", "2:4", Crate}, {"m s=\"é\n\u20ac\xbf\"", "2:4", NewlineDelimited}, {"# c\nm f=1i\n# \xed\xa0\x80", "3:3", Strict},
+	} {
+		for _, d := range []*Decoder{NewDecoderWithBytes([]byte(row.text)), NewDecoder(iotest.OneByteReader(strings.NewReader(row.text)))} {
+			d.SetDialect(row.dialect)
+			places := []string{}
+			for d.Next() {
+				if fault := d.Fault(); fault != nil && fault.Kind == NotUTF8 {
+					places = append(places, fmt.Sprintf("%d:%d", fault.Line, fault.Column))
+				}
+			}
+			if len(places) != 1 || places[0] != row.place {
+				t.Errorf("dialect %d of %q: %q, and not %s", row.dialect, row.text, places, row.place)
+			}
+		}
+	}
+}
+
 // A text of many lines, one of them with more parts and one with more to copy than a block has room for.
 func many() string {
 	var b strings.Builder

@@ -29,7 +29,7 @@ var faultKinds = [...]FaultKind{
 type DecodeError struct {
 	// Line is the line of the input in which reading stopped, from 1.
 	Line int64
-	// Column is the byte of that line at which it stopped, from 1.
+	// Column is the byte of that line at which it stopped, from 1: if the line is not UTF-8, the first byte that is not.
 	Column int
 	// Kind is what is wrong.
 	Kind FaultKind
