@@ -339,9 +339,8 @@ class Walk {
     faultOf(row, answer) {
         const { words, bytes, text } = this.border, word = (this.border.rows + ROW * row) >> 2;
         const place = this.placeOf(word), at = words[word + ROW_LINE_AT], end = words[word + ROW_PIECE] + words[word + ROW_PIECE + 1];
-        const refused = bytes.slice(text + words[word + ROW_PIECE], text + end);
+        const refused = bytes.slice(text + words[word + ROW_PIECE], text + end), stop = words[word + ROW_STOP_AT];
         const fault = answer === NOT_UTF8 ? "not_utf8" : FAULTS[words[word + ROW_FAULT]];
-        const stop = answer === NOT_UTF8 ? at + utf8Front(refused) : words[word + ROW_STOP_AT];
         let stopLine = place.line, lineAt = at;
         for (let n = at; n < stop; n++) if (bytes[text + n] === 10) { stopLine += 1; lineAt = n + 1; }
         if (stopLine === place.line) while (lineAt > 0 && bytes[text + lineAt - 1] !== 10) lineAt -= 1;
@@ -377,36 +376,6 @@ class Walk {
         while (after < end && bytes[text + after] >= 48 && bytes[text + after] <= 57) after += 1;
         return this.textAt(stop, after - stop, 0);
     }
-}
-
-// How many bytes at the start are UTF-8.
-function utf8Front(bytes) {
-    let at = 0;
-    while (at < bytes.length) {
-        const first = bytes[at];
-        let more = 0, least = 0x80, most = 0xbf;
-        if (first >= 0xc2 && first <= 0xdf) {
-            more = 1;
-        } else if (first >= 0xe0 && first <= 0xef) {
-            more = 2;
-            if (first === 0xe0) least = 0xa0;
-            if (first === 0xed) most = 0x9f;
-        } else if (first >= 0xf0 && first <= 0xf4) {
-            more = 3;
-            if (first === 0xf0) least = 0x90;
-            if (first === 0xf4) most = 0x8f;
-        } else if (first >= 0x80) {
-            return at;
-        }
-        for (let n = 1; n <= more; n++) {
-            const next = bytes[at + n];
-            if (next === undefined || next < least || next > most) return at;
-            least = 0x80;
-            most = 0xbf;
-        }
-        at += more + 1;
-    }
-    return at;
 }
 
 // How names and values are spelled.

@@ -185,6 +185,19 @@ for (const parts of [["m,a=\ud83d", "\ude00 f=1"], ["m,a=", "\ud83d", "\ude00", 
 }
 console.log("page: no call replaces half of a surrogate pair");
 
+// Reading bytes that are not UTF-8 stops after the longest front that is.
+const bytesOfUtf8 = [0x61, 0x7f, 0x80, 0x8f, 0x90, 0x9f, 0xa0, 0xbf, 0xc1, 0xc2, 0xe0, 0xed, 0xf0, 0xf4, 0xff];
+let bad = 0;
+for (let n = 0; n < 3000; n++) {
+    const bytes = Uint8Array.from({ length: 1 + dice(12) }, () => bytesOfUtf8[dice(bytesOfUtf8.length)]), [item] = parse(bytes);
+    if (isUtf8(bytes)) continue;
+    let front = bytes.length - 1;
+    while (!isUtf8(bytes.subarray(0, front))) front -= 1;
+    deepStrictEqual([item.fault, item.offset, item.stopOffset, item.stopColumn], ["not_utf8", 0, front, front + 1], Buffer.from(bytes).toString("hex"));
+    bad += 1;
+}
+console.log(`page: reading ${bad} texts that are not UTF-8 stops at the first byte that rules that out`);
+
 // A buffer that was detached holds no empty text.
 const detached = view => {
     structuredClone(view.buffer ?? view, { transfer: [view.buffer ?? view] });
