@@ -6,7 +6,7 @@
 #   2. The archives of lp_c and lp_checks are built; beside that, the checks of bin/take, of the launchers and of completion. Where Node
 #      can run it, the module of lp_page is built for WebAssembly too, over what was proved with the archives.
 #   3. The misuses, which begin with what was proved for the archives. The gate sets that aside, so they come before it.
-#   4. The gate, on every second processor if there are four, since two are often one core; and beside it the checks that link the archives.
+#   4. The gate, and beside it the checks that link the archives.
 #   5. The checks of the programs that the gate made, and beside them those of Python and JavaScript, which run one of them too.
 #
 # Before the gate's last line, which comes last, it tells how long each part took, what the gate did for each crate, what the checks
@@ -129,9 +129,7 @@ if [[ ${archives[*]} == *lp_page* ]]; then
 fi
 beside beside_gate
 part misuses/check.sh misuses/check.sh
-every_second=(taskset -c "0-$(($(nproc --all) - 1)):2")
-[ "$(nproc)" -ge 4 ] && "${every_second[@]}" true 2>/dev/null || every_second=()
-part "rt ci" "${every_second[@]}" checks/times.py run "$made/crates" rt ci | hold_last
+part "rt ci" checks/times.py run "$made/crates" rt ci | hold_last
 gate=${PIPESTATUS[0]}
 joined
 if cp crates/lp_{rebuild_program/out/lp_rebuild_program,relay_program/out/lp_relay_program,series_program/out/lp_series_program} "$made"; then
