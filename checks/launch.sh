@@ -194,7 +194,10 @@ shown "lp_relay: lp_relay_program: not built from these sources yet" "lp_relay: 
 # Of a crate that was built since its last change no proof is awaited.
 echo '// more' >>"$copy/crates/lp_relay_program/src/main.rt"
 shown "lp_relay: 0 of 2 crates, about 21 min left, lp_low"
-while IFS= read -r crate; do
-    grep -q "^| \`$crate\` | [0-9]" "$repository/CONTRIBUTING.md" || { echo "launch: CONTRIBUTING.md does not say how long the proof of $crate takes" && exit 1; }
-done < <(sed -n 's/^\([a-z_]*\)\( [^:]*\)\?:.*/\1/p' "$repository/crates.txt")
+# A crate that was never measured weighs as a small one; these were.
+top=$repository below=()
+add_below lp_relay
+for crate in "${below[@]}"; do
+    grep -q "^| \`$crate\` | [0-9]" "$top/CONTRIBUTING.md" || { echo "launch: CONTRIBUTING.md does not say how long the proof of $crate takes" && exit 1; }
+done
 echo "launch: $runs runs of the launchers"
