@@ -62,9 +62,8 @@ def compare(relay, room):
     if has != 0 or not re.fullmatch(re.escape(TEXT) + rb" [0-9]{19}\n", out):
         fail("--now", f"the status is {has}, and {len(out)} bytes go out: {said[-200:]!r}")
     has, out, said, _ = run(relay, room, ["--faults", "json+text"], BROKEN)
-    told = json.loads(said.splitlines()[0])
-    if has != 1 or out or told["piece"].encode() != BROKEN:
-        fail("--faults json+text", f"the status is {has}, and the object has {len(told['piece'])} characters of the line")
+    if has != 1 or out or json.loads(said)["piece"].encode() != BROKEN:
+        fail("--faults json+text", f"the status is {has}, and it says {said[:200]!r}")
     for form in ["editor", "raw", "line", "json"]:
         has, out, said, left = run(relay, room, ["--faults", form], BROKEN)
         if has != 1 or out or left != BROKEN + b"\n" or len(said.splitlines()) != 1:
