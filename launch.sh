@@ -67,9 +67,9 @@ copy_crates() {
     mkdir "$room" && "$top/bin/take" "$room" "$1" || return
     add_below "$1"
     for low in "${below[@]}"; do
-        [ -d "$top/crates/$low/out" ] || continue
+        [ -d "$top/crates/$low/out/rlib" ] || [ "$low" = "$1" ] || continue
         # rt replaces the files of a library that it builds anew, and never writes into them, so that a link will do for a copy.
-        if [ "$low" = "$1" ]; then cp -a "$top/crates/$low/out" "$room/crates/$low"; continue; fi
+        if [ "$low" = "$1" ]; then [ ! -d "$top/crates/$low/out" ] || cp -a "$top/crates/$low/out" "$room/crates/$low" || return; continue; fi
         mkdir "$room/crates/$low/out" || return
         cp -al "$top/crates/$low/out/rlib" "$room/crates/$low/out" || cp -a "$top/crates/$low/out/rlib" "$room/crates/$low/out" || return
     done

@@ -56,7 +56,7 @@ LIBRARIES = frozenset("libc.so.6 libm.so.6 libpthread.so.0 libdl.so.2 librt.so.1
 ARCHIVE = TOP / "crates" / "lp_c" / "out" / "liblp_c.a"
 KIT = "/opt/rattle/bin"
 
-PACKED = ["CHANGELOG.md", "LICENSE-APACHE", "LICENSE-MIT", "bin/take", "launch.sh", "include/influxdb_line_protocol.h", "bindings/build.sh",
+PACKED = ["CHANGELOG.md", "LICENSE-APACHE", "LICENSE-MIT", "bin/setup", "bin/take", "launch.sh", "include/influxdb_line_protocol.h", "bindings/build.sh",
           *(f"bindings/c/{name}" for name in ("empty.c", "heap.c", "shown.map")), "docs/python.md",
           *(f"bindings/python/{name}" for name in ("README.md", "build_backend.py", "example.py", "fast", "pyproject.toml", "shown.map", "src"))]
 """What the sources of the package are, beside the crates: what builds it and the library, and its page."""
