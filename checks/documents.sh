@@ -1,7 +1,7 @@
 #!/usr/bin/env bash
 # Compares the documents with what they copy: the list of definitions in docs/ with specs/, the blocks of code of the pages with the
 # examples, and each list of options with packaging/options.txt, as the code of the programs too; each link with what it leads to; imports
-# with the map in docs/ARCHITECTURE.md; the licences of the crates with those at the top; the header for C with crates/lp_c; the packages of
+# with the map in docs/ARCHITECTURE.md; the header for C with crates/lp_c; the packages of
 # bindings/ with the header; the version that lp_relay and lp_series tell with CHANGELOG.md, and so those of the packages in Rust and JavaScript; the sum of the logic with that of the kit that is here. And sees
 # that no sentence and no cell of a table is too long, that each lemma has a line on what it means, that each wrong body of checks/bodies/ can
 # be planted, that crates/lp_page has the items of crates/lp_c, that each public call with a body has one or an edit of must-fail/, that
@@ -14,9 +14,6 @@ if ! python3 -c 'import sys; sys.exit(sys.version_info < (3, 10))' 2>/dev/null; 
     left_out checks/documents.sh "there is no Python 3.10 or later"
     exit 0
 fi
-for copy in "$here"/../crates/*/LICENSE-*; do
-    cmp "$copy" "$here/../$(basename "$copy")"
-done
 . "$here/../launch.sh"
 told=$(sed -n 's/^pub const VERSION: &str = "\(.*\)";$/\1/p' "$top/crates/lp_programs/src/version.rt")
 if [ "$told" != "$(version)" ]; then
