@@ -1,11 +1,10 @@
 #!/usr/bin/env python3
 """The blocks of code in the documents, from examples that are proved or tested: the callers in crates/lp_examples, and the
-examples of the packages in bindings/. And each text that lists the options of the programs, as checks/options.py and
-checks/completions.py make it; the table of texts in docs/FORMAT.md, from the rows of a table that are meant for it; and the
+examples of the packages in bindings/. And the table of texts in docs/FORMAT.md, from the rows of a table that are meant for it; and the
 kinds of faults in the man page of lp_relay, from the code that names them. Those of docs/FORMAT.md must be the same.
 
-    checks/blocks.py            whether each block is a copy of its stretch, and each list is as it is made; status 1 if one is not
-    checks/blocks.py --write    writes the stretches and the lists into the files
+    checks/blocks.py            whether each block is a copy of its stretch, and each table is as it is made; status 1 if one is not
+    checks/blocks.py --write    writes the stretches and the tables into the files
 
 In a document the line `<!-- block NAME -->` comes before a block. A stretch of an example goes from the line `// [NAME]` to
 `// [end]`, or with `#` in the place of `//`; the spaces that begin all its lines are left out. A NAME with a `/` is a whole file
@@ -18,10 +17,11 @@ import sys
 import textwrap
 from pathlib import Path
 
-import completions
-import options
-
 TOP = Path(__file__).resolve().parent.parent
+sys.path.append(str(TOP / "tables"))
+from options import PAGE_WIDTH
+from records import Fault, Place
+
 EXAMPLES = TOP / "crates" / "lp_examples"
 PLACES = ["crates/lp_examples/src/*.rt", "bindings/c/example.c", "bindings/c/cuts.c", "bindings/c/writing.c",
           "bindings/c/sums.c", "bindings/c/groups.c", "bindings/c/example.cpp", "bindings/rust/examples/*.rs", "bindings/python/example.py", "bindings/go/example_test.go"]
@@ -34,10 +34,6 @@ LANGUAGES = ("rust", "antt", "c", "cpp", "rs", "python", "go")  # of the blocks 
 
 MARK = re.compile(r"^\s*(?://|#) \[(\w+)\]$")
 BLOCK = re.compile(r"^<!-- block (\S+) -->$")
-
-
-class Fault(Exception):
-    """What is wrong with a file, in words."""
 
 
 def stretches_of(path):
@@ -134,7 +130,7 @@ def texts_of_dialects():
     rows = read(ANSWERS).split("# The texts of docs/FORMAT.md", 1)[1].split("\n\n", 1)[0].split("\n")[1:]
     cells = [row.split("\t")[1:] for row in rows]
     lines = [f"| {' | '.join([shown(text), *map(shown_items, answers)])} |" for text, *answers in cells]
-    return options.Place("docs/FORMAT.md", ("| text | `Crate`", "|---"), "", lines)
+    return Place("docs/FORMAT.md", ("| text | `Crate`", "|---"), "", lines)
 
 
 def kinds():
@@ -157,8 +153,8 @@ def kinds_of_page():
         raise Fault(f"docs/FORMAT.md has not the kinds of {KINDS}: {' '.join(sorted({name for name, _ in found} ^ set(rows)))}")
     if [len(found)] * 2 != (counted := [int(n) for path, pattern in COUNTS for n in re.findall(pattern, read(path))]):
         raise Fault(f"{KINDS} has {len(found)} kinds, where {' and '.join(path for path, _ in COUNTS)} have {counted}")
-    lines = [line for name, what in found for line in (f".It Li {name}", *textwrap.wrap(what.replace("`", ""), options.PAGE_WIDTH))]
-    return options.Place("man/lp_relay.1", ('.\\" [kinds]',), '.\\" [end]', lines)
+    lines = [line for name, what in found for line in (f".It Li {name}", *textwrap.wrap(what.replace("`", ""), PAGE_WIDTH))]
+    return Place("man/lp_relay.1", ('.\\" [kinds]',), '.\\" [end]', lines)
 
 
 def first_difference(path, old, new):
@@ -176,7 +172,7 @@ def run(words):
     if unquoted:
         raise Fault(f"no document has the stretch `{unquoted[0]}`, or a link to a file of that name")
     stale += [first_difference(document, read(document), text) for document, text in texts.items() if text != read(document)]
-    lists = [*options.places(), *completions.places(), texts_of_dialects(), kinds_of_page()]
+    lists = [texts_of_dialects(), kinds_of_page()]
     for place in lists:
         old = texts.get(place.path) or read(place.path)
         texts[place.path] = place.filled(old)
@@ -187,8 +183,8 @@ def run(words):
     for path, text in texts.items():
         if text != read(path):
             (TOP / path).write_text(text, encoding="utf-8")
-    print(f"blocks: {len(quoted - {None})} are as the examples have them, {len(lists) - 2} lists of options as {options.DATA} "
-          f"has them, a table as {ANSWERS}, and the kinds of faults as {KINDS}")
+    print(f"blocks: {len(quoted - {None})} are as the examples have them, a table as {ANSWERS} has it, "
+          f"and the kinds of faults as {KINDS}")
 
 
 def main(words):
@@ -197,7 +193,7 @@ def main(words):
         return 2
     try:
         run(words)
-    except (Fault, options.Fault) as fault:
+    except Fault as fault:
         print(f"blocks: {fault}", file=sys.stderr)
         return 1
     return 0

@@ -1,6 +1,6 @@
 #!/usr/bin/env bash
 # Compares the documents with what they copy: the list of definitions in docs/ with specs/, the blocks of code of the pages with the
-# examples, and each list of options with packaging/options.txt, as the code of the programs too; each link with what it leads to; imports
+# examples, and what is made from tables/ with its table, as the options in the code of the programs too; each link with what it leads to; imports
 # with the map in docs/ARCHITECTURE.md; the header for C with crates/lp_c; the packages of
 # bindings/ with the header; the version that lp_relay and lp_series tell with CHANGELOG.md, and so those of the packages in Rust and JavaScript; the sum of the logic with that of the kit that is here. And sees
 # that no sentence and no cell of a table is too long, that each lemma has a line on what it means, that each wrong body of checks/bodies/ can
@@ -32,8 +32,9 @@ elif [ "$("$rt" version | sed -n '1s/.* logic //p')" != "$(told_logic)" ]; then
     exit 1
 fi
 status=0
-for check in definitions blocks options fault_files links prose promises layers \
+for check in definitions blocks fault_files links prose promises layers \
     lemmas header bindings bodies page_items witnesses; do
     python3 -B "$here/$check.py" || status=1
 done
+python3 -B "$here/../tables/generate.py" || status=1
 exit "$status"

@@ -11,8 +11,9 @@ import tempfile
 from itertools import combinations, permutations
 from pathlib import Path
 
+TOP = Path(__file__).resolve().parent.parent
+sys.path.append(str(TOP / "tables"))
 import completions
-from completions import TOP
 from options import ALONE, DIALECTS, FIRST
 
 FOLDER = TOP / completions.FOLDER

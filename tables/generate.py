@@ -10,9 +10,11 @@ Each kind of fact has a table and a module: the module's `places()` returns the 
 
 import sys
 
+import completions
+import options
 from records import TOP, Fault, read
 
-MODULES = []
+MODULES = [options, completions]
 
 
 def first_difference(path, old, new):

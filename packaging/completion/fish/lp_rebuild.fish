@@ -14,7 +14,7 @@ function __lp_rebuild_can
 end
 
 complete -c lp_rebuild -f
-# [options] as checks/blocks.py writes them
+# [options] as tables/generate.py writes them
 complete -c lp_rebuild -l strict -d 'reads the strict dialect' \
     -n '__lp_rebuild_can --strict'
 # [end]

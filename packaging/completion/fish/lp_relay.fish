@@ -29,7 +29,7 @@ function __lp_relay_is_first
     and contains -- $given[2] $argv
 end
 
-# [options] as checks/blocks.py writes them
+# [options] as tables/generate.py writes them
 complete -c lp_relay -l strict -d 'reads the strict dialect' \
     -n '__lp_relay_can --strict --cut --help -h --version --newline-delimited'
 complete -c lp_relay -l newline-delimited -d 'reads the newline-delimited dialect' \

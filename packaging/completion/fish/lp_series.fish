@@ -29,7 +29,7 @@ function __lp_series_is_first
     and contains -- $given[2] $argv
 end
 
-# [options] as checks/blocks.py writes them
+# [options] as tables/generate.py writes them
 complete -c lp_series -l stats -d 'tells the counts at the end' \
     -n '__lp_series_can --stats --help -h --version --key --shard'
 complete -c lp_series -l json -d 'tells the counts as one object of JSON on a line' \

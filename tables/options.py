@@ -1,21 +1,20 @@
-#!/usr/bin/env python3
-"""Whether the code of lp_relay and lp_rebuild, and their definitions, know just the options of packaging/options.txt, whose head says
-what its lines mean; status 1 if not. And whether the code of lp_series, its definitions and each text that lists its options have the
-same ones as its help. And whether each option of lp_relay, and each word of a few that comes after one, is told by hand where it must
-be: in the rows of docs/TRUST.md, in CHANGELOG.md, in a check that runs lp_relay, and in one of the lists of examples/parts.sh.
+"""The options of the programs, from tables/options.txt, whose head says what its fields mean.
 
-checks/blocks.py compares each text that lists the options of the first two with what `places` makes of them here.
+The usage and the help in the code, the man pages, completion by bash, the table of docs/FORMAT.md and the usage in docs/OPERATING.md are made
+of it. The code and the definitions of the words of lp_relay and lp_rebuild are written by hand, since they are proved: they must know just
+these options. Those of lp_series must know the options of its help, as each text that lists these. Each option of lp_relay, and each word
+of a few that comes after one, must be told in docs/TRUST.md, in CHANGELOG.md, in a check that runs lp_relay, and in one of the lists of
+examples/parts.sh.
 """
 
 import re
-import sys
 import textwrap
 from dataclasses import dataclass
-from pathlib import Path
-from typing import NamedTuple
 
-TOP = Path(__file__).resolve().parent.parent
-DATA = "packaging/options.txt"
+import records
+from records import Fault, Place, read
+
+DATA = "tables/options.txt"
 FIELDS = ("option", "short", "values", "not with", "unless", "needs", "place", "usage after", "does", "brief", "format", "lp_rebuild", "man")
 DIALECTS = "--strict", "--newline-delimited"
 FIRST, ALONE = "first or after a dialect", "alone"
@@ -41,10 +40,6 @@ CHECKS = "arguments.sh", "losses.sh", "inputs.sh", "apart.sh", "objects.py", "se
 PARTS = "examples/parts.sh"
 OPTION = re.compile(r"(--[a-z][a-z-]*)(?: ([A-Z.]+))?")
 WORD = re.compile(r'"(-[a-zA-Z]|--[a-z][a-z-]*)"')
-
-
-class Fault(Exception):
-    """What is wrong with the options, in words."""
 
 
 @dataclass
@@ -73,21 +68,12 @@ class Option:
         return f"Fl {(word or self.word)[1:]}" + (f" Cm {values}" if values else f" Ar {argument}" if argument else "")
 
 
-def record_of(text):
+def option_of(lines):
     """The option of a record."""
-    lines, field = {}, ""
-    for line in text.splitlines():
-        if not line.startswith(" "):
-            field, colon, line = line.partition(":")
-            if not colon or field not in FIELDS or field in lines:
-                raise Fault(f"{DATA}: no record can have this line, or not twice: {field}{colon}{line}")
-            lines[field] = []
-        lines[field] += [line[1:]] if line else []
-    if not lines.get("option") or not lines.get("does"):
-        raise Fault(f"{DATA}: a record has no line `option` or `does`:\n{text}")
-    head = OPTION.fullmatch(" ".join(lines["option"]))
-    if not head:
-        raise Fault(f"{DATA}: this is no option: {' '.join(lines['option'])}")
+    told = " ".join(lines.get("option", []))
+    head = OPTION.fullmatch(told)
+    if not head or not lines.get("does"):
+        raise Fault(f"{DATA}: this is no option, or it has no line `does`: {told or lines}")
     if " ".join(lines.get("place", [])) not in PLACES_TOLD:
         raise Fault(f"{DATA}: {head[1]}: there is no such place: {lines['place'][0]}")
     if long := [line for line in lines["does"] if len(line) > HELP_WIDTH]:
@@ -97,8 +83,7 @@ def record_of(text):
 
 def options():
     """The options of lp_relay."""
-    text = re.sub(r"^#.*\n", "", (TOP / DATA).read_text(encoding="utf-8"), flags=re.M)
-    found = [record_of(record) for record in re.split(r"\n\n+", text.strip("\n"))]
+    found = [option_of(lines) for lines in records.records(DATA, FIELDS)]
     words = [word for option in found for word in option.words()]
     if twice := [word for word in words if words.count(word) > 1]:
         raise Fault(f"{DATA}: {twice[0]} is there twice")
@@ -278,28 +263,6 @@ def usage_constant(lines):
     return whole if len(whole[0]) <= CODE_WIDTH else ["pub const USAGE: &str =", *f"    {text}".split("\n")]
 
 
-class Place(NamedTuple):
-    """A stretch of a file: it begins after the last of some lines that come one after another, and ends before a line. A line is told
-    by how it begins, or is empty."""
-
-    path: str
-    before: tuple
-    after: str
-    lines: list
-
-    def filled(self, text):
-        """The text of the file with this stretch."""
-        lines, at = text.split("\n"), 0
-        for mark in (*self.before, self.after):
-            start = at
-            while at < len(lines) and not (lines[at].startswith(mark) if mark else not lines[at]):
-                at += 1
-            if at == len(lines):
-                raise Fault(f"{self.path}: after line {start} no line begins so: {mark}")
-            at += 1
-        return "\n".join([*lines[:start], *self.lines, *lines[at - 1:]])
-
-
 def valued(found):
     """The options that have a value after them, as a constant of the code."""
     words = [word for option in found if option.argument for word in option.words()]
@@ -370,25 +333,25 @@ def differences(found):
     for program, paths in CODE.items():
         wanted = {word for option in found if program == "lp_relay" or option.lines.get(program) for word in option.words()}
         for path in paths:
-            has = told(path, (TOP / path).read_text(encoding="utf-8"))
+            has = told(path, read(path))
             yield from (f"{path} has no {word}" for word in sorted(wanted - has))
             yield from (f"{path} has {word}, and {DATA} does not" for word in sorted(has - wanted))
-    code, definitions = ((TOP / path).read_text(encoding="utf-8") for path in CODE["lp_relay"])
+    code, definitions = (read(path) for path in CODE["lp_relay"])
     odds = {word for option in found for other, unless in option.rivals.items() for word in (other, *unless.split()[:1])}
     fields = {word.strip("-").replace("-", "_") for word in odds}
     yield from (f"{CODE['lp_relay'][1]}: are_at_odds and {DATA} differ in {name}" for name in sorted(fields ^ at_odds(definitions)))
     last = code.partition("The options of a relay come in any order")[2].partition('";')[0]
     needs = {word for option in found if option.get("needs") for word in (option.word, option.get("needs"))}
     yield from (f"{CODE['lp_relay'][0]}: the help does not say with what {word} goes" for word in sorted(odds | needs) if word not in last)
-    listed = re.findall(r"-[\w-]+", "".join(re.findall(r"^(?:of_\w+|with_words)='(.*)'$", (TOP / PARTS).read_text(encoding="utf-8"), re.M)))
+    listed = re.findall(r"-[\w-]+", "".join(re.findall(r"^(?:of_\w+|with_words)='(.*)'$", read(PARTS), re.M)))
     wanted = [word for option in found if option.get("place") != ALONE for word in option.words()]
     yield from (f"{PARTS}: {word} is in none of the lists of options, or not once" for word in wanted if listed.count(word) != 1)
 
 
 def untold(found):
     """The options, and the words of a few after one, that are told by hand in some page or in no check."""
-    texts = {path: (TOP / path).read_text(encoding="utf-8") for path in TOLD}
-    texts["checks of lp_relay"] = "".join((TOP / "checks" / name).read_text(encoding="utf-8") for name in CHECKS)
+    texts = {path: read(path) for path in TOLD}
+    texts["checks of lp_relay"] = "".join(read(f"checks/{name}") for name in CHECKS)
     for option in found:
         for place, text in texts.items():
             for word in (option.word, *option.get("values").split()):
@@ -398,7 +361,7 @@ def untold(found):
 
 def stretch_of(path, mark, end):
     """What a file has between two marks."""
-    front, found, rest = (TOP / path).read_text(encoding="utf-8").partition(mark)
+    front, found, rest = read(path).partition(mark)
     text, ended, _ = rest.partition(end)
     if not found or not ended:
         raise Fault(f"{path} has no `{mark}`, or nothing ends it")
@@ -411,31 +374,15 @@ def differences_of_series():
     help_text = stretch_of(code, "pub const HELP", '";')
     words = {f"--{word.lstrip('-')}" for word in re.findall(r"^  (--[a-z][a-z-]*)", help_text, re.M)}
     for path in CODE_OF_SERIES:
-        yield path, words, told(path, (TOP / path).read_text(encoding="utf-8")) - {"-h"}
+        yield path, words, told(path, read(path)) - {"-h"}
     for path, mark, end, pattern in TEXTS_OF_SERIES:
         found = re.findall(pattern, stretch_of(path, mark, end), re.M)
         yield path, words, {f"--{word.lstrip('-')}" for word in found}
 
 
-def said_of_series():
-    """The same, in words."""
-    for path, words, found in differences_of_series():
-        yield from (f"{path} lacks the option {word} of lp_series, or has it alone" for word in sorted(words ^ found))
-
-
-def main(words):
-    if words:
-        print(__doc__, file=sys.stderr)
-        return 2
-    try:
-        found = options()
-        said = [f"options: {line}" for line in (*differences(found), *untold(found), *said_of_series())]
-    except Fault as fault:
-        said = [f"options: {fault}"]
-    print("\n".join(said) or f"options: code and definitions have the {len(found)} options of {DATA}, pages and checks name them, and all "
-          "texts have those of lp_series")
-    return 1 if said else 0
-
-
-if __name__ == "__main__":
-    sys.exit(main(sys.argv[1:]))
+def problems():
+    """What is wrong with texts that are written by hand."""
+    found = options()
+    yield from (*differences(found), *untold(found))
+    for path, words, has in differences_of_series():
+        yield from (f"{path} lacks the option {word} of lp_series, or has it alone" for word in sorted(words ^ has))

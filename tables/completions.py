@@ -1,13 +1,14 @@
-"""What zsh and fish complete of the words of the programs: stretches of packaging/completion/, which checks/blocks.py writes.
+"""What zsh and fish complete of the words of the programs: stretches of packaging/completion/, which tables/generate.py writes.
 
-The options of lp_relay and lp_rebuild are those of packaging/options.txt, and those of lp_series are what its usage and its help have: two
+The options of lp_relay and lp_rebuild are those of tables/options.txt, and those of lp_series are what its usage and its help have: two
 of these go together if a form of the usage has both, and not with `|` between them.
 """
 
 import re
 
 import options
-from options import ALONE, DIALECTS, FIRST, TOP, Fault, Option, Place, stretch_of
+from options import ALONE, DIALECTS, FIRST, Option, stretch_of
+from records import Fault, Place
 
 CODE = options.CODE_OF_SERIES[0]
 FOLDER = "packaging/completion"
@@ -56,7 +57,7 @@ def options_of_series(known):
             lines["place"] = [ALONE]
         found.append(Option(word, argument.strip(), lines, {}))
     if unknown := BRIEFS.keys() - {option.word for option in found}:
-        raise Fault(f"checks/completions.py: lp_series has no option {min(unknown)}")
+        raise Fault(f"tables/completions.py: lp_series has no option {min(unknown)}")
     for option in found:
         others = (other.word for other in found if other is not option and not other.lines.get("place"))
         option.rivals.update({word: "" for word in others if not go_together(option.word, word, ways)})
@@ -131,3 +132,8 @@ def places():
         found.append(Place(f"{FOLDER}/zsh/_{program}", (BEGIN,), END, specs))
         found.append(Place(f"{FOLDER}/fish/{program}.fish", (BEGIN.strip(),), END.strip(), list(lines_of_fish(words, program))))
     return found
+
+
+def problems():
+    """What is wrong with texts that are written by hand: checks/shells.py compares what the shells complete."""
+    return []
