@@ -108,7 +108,7 @@ equal() {
 # Copies what bin/install and bin/dist read.
 copy_sources() {
     mkdir -p "$1/bindings" "$1/docs"
-    (cd "$top" && cp -R --parents bin include man packaging examples launch.sh CHANGELOG.md LICENSE-* crates/lp_programs/src/version.rt "$1" && cp docs/*.md "$1/docs")
+    (cd "$top" && cp -R --parents bin include man packaging tables examples launch.sh CHANGELOG.md LICENSE-* crates/lp_programs/src/version.rt "$1" && cp docs/*.md "$1/docs")
     cp -R "$top"/bindings/{build.sh,c,go,python,rust} "$1/bindings"
 }
 

@@ -10,11 +10,10 @@ Each kind of fact has a table and a module: the module's `places()` returns the 
 
 import sys
 
-import completions
 import options
 from records import TOP, Fault, read
 
-MODULES = [options, completions]
+MODULES = [options]
 
 
 def first_difference(path, old, new):
