@@ -4,6 +4,8 @@
     checks/documents.py [NAME..]            runs all checks, or these; exit status 1 if a check finds a problem
     checks/documents.py --write [NAME..]    writes what these checks compare: `blocks` the code in the pages, `definitions` the page
                                             docs/DEFINITIONS.md, which git does not keep; without a name, also what is made from tables/
+    checks/documents.py --write --to FOLDER definitions
+                                            writes it below FOLDER, as bin/install does
     checks/documents.py --top FOLDER NAME   reads the files of FOLDER, such as installed pages, in the place of this repository
     checks/documents.py style               prints a table of how each text reads; all other checks are listed by `--help`
 
@@ -905,19 +907,20 @@ def run(tree, names):
     return failed
 
 
-def write(tree, names):
-    """Writes the files that these checks compare or make, if their text differs."""
+def write(tree, names, folder):
+    """Writes below a folder the files that these checks compare or make, if their text differs from the tree's."""
     for name in names:
         for path, text in WRITERS[name](tree).items():
             if path not in tree.paths or tree.text(path) != text:
-                (tree.top / path).write_text(text, encoding="utf-8")
+                (folder / path).parent.mkdir(parents=True, exist_ok=True)
+                (folder / path).write_text(text, encoding="utf-8")
                 print(f"documents: wrote {path}")
 
 
 def main(words):
     """Runs what the words ask for."""
-    top = words.pop(words.index("--top") + 1) if "--top" in words[:-1] else TOP
-    asked = [word for word in words if word not in ("--write", "--top")]
+    top, to = (Path(words.pop(words.index(word) + 1)) if word in words[:-1] else TOP for word in ("--top", "--to"))
+    asked = [word for word in words if word not in ("--write", "--top", "--to")]
     known = WRITERS if "--write" in words else {"style": None, **CHECKS, **SCRIPTS}
     if wrong := [word for word in asked if word not in known]:
         checks = "".join(f"\n    {name:<14}{' '.join((check.__doc__ or '').split())}" for name, check in CHECKS.items())
@@ -927,7 +930,7 @@ def main(words):
         subprocess.run([TOP / SCRIPTS["tables"], "--write"], check=False)
     tree = Tree(top)
     if "--write" in words:
-        write(tree, asked or WRITERS)
+        write(tree, asked or WRITERS, to)
         return 0
     if asked == ["style"]:
         print_style(tree)
