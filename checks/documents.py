@@ -877,7 +877,7 @@ def warning_of_style(tree):
 
 CHECKS = {"versions": check_versions, "definitions": check_definitions, "blocks": check_blocks, "links": check_links, "names": check_names,
           "layers": check_layers, "lemmas": check_lemmas, "header": check_header, "page_items": check_page_items}
-SCRIPTS = {name: f"checks/{name}.py" for name in ("promises", "fault_files", "bindings", "bodies", "witnesses")} | {"tables": "tables/generate.py"}
+SCRIPTS = {name: f"checks/{name}.py" for name in ("promises", "fault_files", "bindings", "bugs")} | {"tables": "tables/generate.py"}
 WRITERS = {"blocks": block_texts, "definitions": lambda tree: {DEFINITIONS: definitions_page(tree)}}
 
 
