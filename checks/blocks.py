@@ -19,7 +19,7 @@ from pathlib import Path
 
 TOP = Path(__file__).resolve().parent.parent
 sys.path.append(str(TOP / "tables"))
-from options import PAGE_WIDTH
+from pages import WIDTH as PAGE_WIDTH
 from records import Fault, Place
 
 EXAMPLES = TOP / "crates" / "lp_examples"
