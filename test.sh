@@ -113,7 +113,7 @@ print_left_out() {
     done <"$LEFT_OUT"
 }
 
-part checks/documents.sh checks/documents.sh || stop checks/documents.sh
+part checks/documents.py checks/documents.py || stop checks/documents.py
 part checks/lint.sh checks/lint.sh || stop checks/lint.sh
 beside beside_archives
 archives=(lp_checks lp_c)

@@ -11,8 +11,9 @@ the faults of lp_relay name them.
 import re
 import sys
 
-from header import HEADER, SCALARS, TOP, WORDS, c_name, clauses_of_header, enumerator, of_header, plain
+from documents import FIELD_NAMES, HEADER, SCALARS, TOP, Tree, c_name, clauses_of_header, enumerator, interface_of_header, plain, with_lengths
 
+TREE = Tree(TOP)
 RUST = TOP / "bindings" / "rust" / "src" / "border.rs"
 PYTHON = TOP / "bindings" / "python" / "src" / "line_protocol"
 GO = TOP / "bindings" / "go" / "portable.go"
@@ -24,7 +25,7 @@ def rust_type(kind):
     """The type in C of a type of border.rs."""
     pointer = re.fullmatch(r"\*(mut|const) (\w+)", kind)
     if not pointer:
-        return SCALARS.get(kind) or c_name(kind)
+        return c_name(kind)
     mutable, of = pointer.groups()
     return ("" if mutable == "mut" else "const ") + rust_type(of) + " *"
 
@@ -37,10 +38,10 @@ def of_rust():
         enums["lp_" + name] = [(enumerator(n), v) for n, v in re.findall(r"const (\w+): u32 = (\d+);", body)]
     for name, body in re.findall(r"struct (\w+) \{(.*?)\}", text):
         fields = [field for field in re.findall(r"(\w+): ([^,]+),", body) if "PhantomData" not in field[1]]
-        structs[c_name(name)] = [(rust_type(kind), WORDS.get(field, field)) for field, kind in fields]
+        structs[c_name(name)] = [(rust_type(kind), FIELD_NAMES.get(field, field)) for field, kind in fields]
     for name, inner, result in re.findall(r"fn (lp_\w+)\((.*?)\)(?: -> (\w+))?;", text):
-        kinds = [part.split(":", 1)[1].strip() for part in inner.split(",") if ":" in part]
-        calls[name] = (SCALARS[result] if result else "void", [rust_type(kind) for kind in kinds])
+        parts = [[word.strip() for word in part.split(":", 1)] for part in inner.split(",") if ":" in part]
+        calls[name] = (SCALARS[result] if result else "void", with_lengths((rust_type(kind), each) for each, kind in parts))
     return enums, structs, calls
 
 
@@ -147,7 +148,7 @@ def clauses_of_go():
     text = GO.read_text(encoding="utf-8")
     words = dict(re.findall(r'^\t(Clause\w+): +"(.*)",$', text, flags=re.M))
     names = re.findall(r"^\t(Clause\w+)(?: Clause = iota)?$", text, flags=re.M)
-    masks = {name.lower(): clauses_of_header()[1].get(name.lower()) for name in re.findall(r"C\.LP_OF_(\w+)", text)}
+    masks = {name.lower(): clauses_of_header(TREE)[1].get(name.lower()) for name in re.findall(r"C\.LP_OF_(\w+)", text)}
     return [(enumerator(name.removeprefix("Clause")), place, words.get(name)) for place, name in enumerate(names)], masks
 
 
@@ -161,15 +162,15 @@ def clauses_of_js(text):
 
 def clauses_in_words():
     """The clauses of the header, each with its place and its words."""
-    rows = re.findall(r"#define LP_CLAUSE_(\w+) +\(UINT64_C\(1\) << (\d+)\) +/\* (.*) \*/", HEADER.read_text(encoding="utf-8"))
+    rows = re.findall(r"#define LP_CLAUSE_(\w+) +\(UINT64_C\(1\) << (\d+)\) +/\* (.*) \*/", TREE.text(HEADER))
     return [(enumerator(name), int(place), words) for name, place, words in rows]
 
 
 def clause_differences():
     """Where a package has other clauses than the header, in words. Rust and Python have no words for what is no line."""
-    wanted, masks = clauses_in_words(), clauses_of_header()[1]
+    wanted, masks = clauses_in_words(), clauses_of_header(TREE)[1]
     wordless = [(*wanted[0][:2], None), *wanted[1:]]
-    if len(wanted) != len(clauses_of_header()[0]):
+    if len(wanted) != len(clauses_of_header(TREE)[0]):
         yield "a clause of the header has no words"
     packages = {"Rust": (clauses_of_rust(), wordless), "Python": (clauses_of_python(), wordless), "Go": (clauses_of_go(), wanted),
                 "JavaScript": (clauses_of_js(core_js()), wanted)}
@@ -195,7 +196,7 @@ def page_differences():
 
 
 def main():
-    header, js = of_header(), core_js()
+    header, js = interface_of_header(TREE), core_js()
     packages = {"Rust": of_rust(), "Python": of_python(), "JavaScript": of_js(js)}
     found = [one for package, given in packages.items() for one in differences(package, given, header)]
     found += [*clause_differences(), *page_differences(), *js_differences(js, header[1])]

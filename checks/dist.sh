@@ -663,7 +663,7 @@ run_programs() {
 read_documents() {
     local status=0
     if python3 -c 'import sys; sys.exit(sys.version_info < (3, 10))' 2>/dev/null; then
-        python3 -B "$top/checks/links.py" "$prefix/$documents" >"$work/log" || fail "$(cat "$work/log")"
+        python3 -B "$top/checks/documents.py" --top "$prefix/$documents" links >"$work/log" || fail "$(cat "$work/log")"
     else
         left_out "links of the installed documents" "there is no Python 3.10 or later"
     fi

@@ -17,7 +17,7 @@ from typing import NamedTuple
 
 from bodies import bodies_of
 from clauses import bare, function, members
-from definitions import LIBRARIES
+from documents import LIBRARIES
 from promises import TOP, handed_on_calls, read, without_types
 
 INNER = r"(?:[^()]|\((?:[^()]|\((?:[^()]|\([^()]*\))*\))*\))*"  # what is between two brackets
