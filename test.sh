@@ -75,7 +75,7 @@ joined() {
     wait "$!" || echo "checks that were cut off" >>"$made/failed"
 }
 check_programs() {
-    part checks/readme.sh checks/readme.sh "$made/lp_relay_program"
+    part checks/readme.sh checks/readme.sh "$made"/lp_{relay,rebuild,series}_program
     part checks/arguments.sh checks/arguments.sh "$made/lp_rebuild_program" "$made/lp_relay_program"
     part checks/series_arguments.sh checks/series_arguments.sh "$made/lp_series_program"
     part checks/series.sh checks/series.sh "$made/lp_relay_program" "$made/lp_series_program"

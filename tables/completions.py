@@ -19,7 +19,7 @@ FILES = {"bash": "bash/{}", "zsh": "zsh/_{}", "fish": "fish/{}.fish"}
 
 def brief(option):
     """What completion says of an option."""
-    said = option.get("brief") or re.split(r"[:;]", option.get("does"))[0]
+    said = option.get("brief") or re.split(r"[:.;]", option.get("does").replace("`", ""))[0]
     if set(said) & set("'\"[]$`\\"):
         raise Fault(f"completion cannot say this of {option.word}: {said}")
     return said

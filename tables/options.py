@@ -1,13 +1,12 @@
 """The options of the programs, from tables/options.txt and tables/series_options.txt. The head of the first says what the fields mean.
 
-Made of them are the usage and the help in the code, with the lists of options that have values, exclude each other or need another one; the
-man pages; the tables of options in docs/FORMAT.md; and the usage in docs/OPERATING.md. The code and the definitions of the words are written by
+Made of them here are the usage and the help in the code, with the lists of options that have values, exclude each other or need another one;
+the tables of options in docs/FORMAT.md; and the usage in docs/OPERATING.md. The code and the definitions of the words are written by
 hand, since they are proved: they must know just these options. Each option of lp_relay, and each word of a few that comes after one, must be
 told in docs/TRUST.md, in CHANGELOG.md, in a check that runs lp_relay, and in one of the lists of examples/parts.sh.
 """
 
 import re
-import textwrap
 from dataclasses import dataclass
 from typing import NamedTuple
 
@@ -15,12 +14,13 @@ import records
 from records import Fault, Place, read
 
 DATA, SERIES = "tables/options.txt", "tables/series_options.txt"
-FIELDS = ("option", "short", "values", "not with", "unless", "needs", "place", "usage after", "does", "brief", "format", "lp_rebuild", "man")
-SHARED = "short", "values", "does", "brief"  # what a record of lp_series takes from that of lp_relay
+FIELDS = ("option", "short", "values", "not with", "unless", "needs", "place", "usage after", "does", "default", "man", "example", "errors",
+          "see also", "brief", "help", "format", "lp_rebuild")
+SHARED = "short", "values", "does", "default", "brief", "help"  # what a record of lp_series takes from that of lp_relay
 DIALECTS = "--strict", "--newline-delimited"
 FORM, FIRST, ALONE = "a form", "first or after a dialect", "alone"
 PLACES_TOLD = {"": "", FORM: "", FIRST: f", first or after `{'` or `'.join(DIALECTS)}`", ALONE: ", alone"}  # as docs/FORMAT.md has them
-COLUMN, HELP_WIDTH, PAGE_WIDTH, CODE_WIDTH = 21, 81, 78, 100
+COLUMN, HELP_WIDTH, CODE_WIDTH = 21, 81, 100
 USAGE_WIDTH = {"lp_relay": 96, "lp_rebuild": 96, "lp_series": 104}
 
 # The files with code and definitions of each program's words.
@@ -90,7 +90,7 @@ def option_of(path, lines, shared):
         raise Fault(f"{path}: this is no option, or it has no line `does`: {told or lines}")
     if " ".join(lines.get("place", [])) not in PLACES_TOLD:
         raise Fault(f"{path}: {head[1]}: there is no such place: {lines['place'][0]}")
-    if long := [line for line in lines["does"] if len(line) > HELP_WIDTH]:
+    if long := [line for line in lines.get("help") or lines["does"] if len(line) > HELP_WIDTH]:
         raise Fault(f"{path}: {head[1]}: a line of the help has more than {HELP_WIDTH} bytes: {long[0]}")
     return Option(head[1], head[2] or "", lines, {})
 
@@ -192,53 +192,9 @@ def help_lines(found):
         if len(head) > COLUMN - 1:
             yield head
             head = ""
-        for line in option.lines["does"]:
+        for line in option.lines.get("help") or option.lines["does"]:
             yield head.ljust(COLUMN) + line
             head = ""
-
-
-def synopsis(program):
-    """The forms of the call of a program, as its page has them."""
-    def way(each, is_alone):
-        return each[0].of_page() if is_alone else " ".join(f"Oo {option.of_page()} Oc" for option in each)
-
-    for firsts, others, lasts in forms(program):
-        yield ".Nm"
-        if firsts:
-            yield "." + " | ".join(option.of_page() for option in firsts)
-        for ways in others or []:
-            yield ".Op " + " | ".join(way(each, len(each) == 1) for each in ways)
-        yield from (f".{option.of_page()}" for option in lasts)
-        if program.takes_files and others is not None:
-            yield ".Op Ar"
-
-
-def of_words(text):
-    """An option and what comes after it, as a man page has them."""
-    word, _, value = text.partition(" ")
-    return f".Fl {word[1:]}" + (f" Cm {value}" if value else "")
-
-
-def odds_of_page(option):
-    """What an option cannot be given with, as a man page says it."""
-    others = [of_words(word) for word in option.get("not with").split()]
-    if not others:
-        return []
-    lines = ["It cannot be given with", *"\nor\n".join(others).split("\n")]
-    if option.get("unless"):
-        lines[-1] += " ,"
-        lines += ["but with", of_words(option.get("unless"))]
-    return [*lines[:-1], lines[-1] + " ."]
-
-
-def page_lines(found):
-    """What a man page says of options."""
-    for option in found:
-        words = [option.of_page(word) for word in option.words()]
-        yield ".It " + " , ".join(words)
-        said = option.get("does").replace("\\", "\\e").replace("`", "")
-        yield from option.lines.get("man") or textwrap.wrap(said[0].upper() + said[1:] + ".", PAGE_WIDTH, break_on_hyphens=False)
-        yield from odds_of_page(option)
 
 
 def rows(program):
@@ -249,7 +205,7 @@ def rows(program):
             head += ", not with " + " or ".join(f"`{word}`" for word in option.get("not with").split())
             head += f", but with `{option.get('unless')}`" if option.get("unless") else ""
         rebuild = [option.get("lp_rebuild") or "wrong"] if program.name == "lp_relay" else []
-        cells = head + PLACES_TOLD[option.get("place")], *rebuild, option.get("format") or option.get("does")
+        cells = head + PLACES_TOLD[option.get("place")], *rebuild, option.get("format") or option.get("help") or option.get("does")
         yield f"| {' | '.join(cells)} |"
 
 
@@ -301,23 +257,12 @@ def places_of_code(program):
         yield Place(code, ("/// Options, each with one that it needs",), "", needs(found))
 
 
-def places_of_page(program):
-    """Each stretch of a program's man page that lists its options."""
-    page, begin, end = f"man/{program.name}.1", '.\\" [options]', '.\\" [end]'
-    parts = [program.ordinary(), [option for option in program.options if option not in program.ordinary()]]
-    if program.name == "lp_series":
-        parts = [program.options]
-    yield Place(page, (begin,), end, list(synopsis(program)))
-    for number, part in enumerate((part for part in parts if part), 2):
-        yield Place(page, (begin,) * number, end, list(page_lines(part)))
-
-
 def places():
     """Each stretch that lists options."""
     found = programs()
     relay, _, series = found
     return [
-        *(place for program in found for place in (*places_of_code(program), *places_of_page(program))),
+        *(place for program in found for place in places_of_code(program)),
         Place("docs/FORMAT.md", ("| arguments of a program", "| none |"), "| files, also before these", list(rows(relay))),
         Place("docs/FORMAT.md", ("| arguments of `lp_series`", "|---"), "| files, also before these", list(rows(series))),
         Place("docs/OPERATING.md", ("<!-- the usage of lp_relay -->", "```text"), "```", usage(relay)),
