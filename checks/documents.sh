@@ -1,5 +1,5 @@
 #!/usr/bin/env bash
-# Compares the documents with what they copy: the list of definitions in docs/ with specs/, the blocks of code of the pages with the
+# Compares the files that are made from the tables of tables/ with these; and the documents with what they copy: the list of definitions in docs/ with specs/, the blocks of code of the pages with the
 # examples, and each list of options with packaging/options.txt, as the code of the programs too; each link with what it leads to; imports
 # with the map in docs/ARCHITECTURE.md; the licences of the crates with those at the top; the header for C with crates/lp_c; the packages of
 # bindings/ with the header; the version that lp_relay and lp_series tell with CHANGELOG.md, and so those of the packages in Rust and JavaScript; the sum of the logic with that of the kit that is here. And sees
@@ -35,6 +35,7 @@ elif [ "$("$rt" version | sed -n '1s/.* logic //p')" != "$(told_logic)" ]; then
     exit 1
 fi
 status=0
+python3 -B "$top/tables/generate.py" || status=1
 for check in definitions blocks options fault_files links prose promises layers \
     lemmas header bindings bodies page_items witnesses; do
     python3 -B "$here/$check.py" || status=1

@@ -1,7 +1,7 @@
 #!/usr/bin/env python3
 """Whether include/influxdb_line_protocol.h says what crates/lp_c exports: the enums with their numbers, the structs with
-their fields, and the calls with their types; whether its clauses and their servers are those of crates/lp_portable; whether
-bindings/c/empty.c has the constants of the header; and whether packaging/symbols.in has its calls and constants.
+their fields, and the calls with their types; whether bindings/c/empty.c has the constants of the header; and whether packaging/symbols.in
+has its calls and constants.
 
     checks/header.py            prints each difference; status 1 where there is one
 """
@@ -13,7 +13,6 @@ from pathlib import Path
 TOP = Path(__file__).resolve().parent.parent
 SOURCE = TOP / "crates" / "lp_c" / "src"
 HEADER = TOP / "include" / "influxdb_line_protocol.h"
-PORTABLE = TOP / "crates" / "lp_portable" / "src" / "broken.rt"
 EMPTY = TOP / "bindings" / "c" / "empty.c"
 SYMBOLS = TOP / "packaging" / "symbols.in"
 
@@ -107,26 +106,6 @@ def of_header():
     return enums, structs, calls
 
 
-def clauses_of_source():
-    """The place of the bit of each clause, and the clauses that concern each server: a match names those that do not concern the other."""
-    text = PORTABLE.read_text(encoding="utf-8")
-    names = re.findall(r"^    (\w+),$", re.search(r"pub enum Clause \{(.*?)\n\}", text, flags=re.S)[1], flags=re.M)
-    places = {enumerator(name): place for place, name in enumerate(["NotALine"] + names)}
-    arms = re.search(r"fn concerns\(.*?match clause \{(.*?)\n    \}", text, flags=re.S)[1]
-    masks = {}
-    for arm, server in re.findall(r"((?:[|\s]*Clause::\w+)+) => !matches!\(to, Servers::(\w+)\)", arms):
-        others = [enumerator(name) for name in re.findall(r"Clause::(\w+)", arm)]
-        masks[server.lower()] = sum(1 << place for name, place in places.items() if name not in others)
-    return places, masks
-
-
-def clauses_of_header():
-    """The same of the header."""
-    text = HEADER.read_text(encoding="utf-8")
-    places = {enumerator(name): int(place) for name, place in re.findall(r"#define LP_CLAUSE_(\w+) +\(UINT64_C\(1\) << (\d+)\)", text)}
-    return places, {name.lower(): int(mask, 16) for name, mask in re.findall(r"#define LP_OF_(\w+) +UINT64_C\((\w+)\)", text)}
-
-
 def of_empty():
     """The constants that the header declares, and those of empty.c, with the initializers that they have."""
     declared = re.findall(r"^extern const (\w+) (\w+);", HEADER.read_text(encoding="utf-8"), flags=re.M)
@@ -142,8 +121,6 @@ def main():
         for name in sorted(wanted.keys() | given.keys()):
             if wanted.get(name) != given.get(name):
                 found.append(f"{what} {name}: the crate has {wanted.get(name)}, the header {given.get(name)}")
-    if clauses_of_source() != clauses_of_header():
-        found.append(f"crates/lp_portable has the clauses and masks {clauses_of_source()}, the header {clauses_of_header()}")
     wanted, made = of_empty()
     found += [f"{name} is not {initializer} in the header and in {EMPTY.name}" for _, name, initializer in set(wanted) ^ set(made)]
     symbols = re.findall(r"^ (\w+)@Base \d+\.\d+\.\d+$", SYMBOLS.read_text(encoding="utf-8"), flags=re.M)
@@ -152,9 +129,7 @@ def main():
     if found:
         print("\n".join(f"header: {one}" for one in found), file=sys.stderr)
         return 1
-    counts = [len(part) for part in header]
-    counts.append(len(clauses_of_header()[0]))
-    print("header: {} enums, {} structs and {} calls are as crates/lp_c has them, and {} clauses".format(*counts))
+    print("header: {} enums, {} structs and {} calls are as crates/lp_c has them".format(*map(len, header)))
     return 0
 
 

@@ -10,9 +10,10 @@ Each kind of fact has a table and a module: the module's `places()` returns the 
 
 import sys
 
+import clause_table
 from records import TOP, Fault, read
 
-MODULES = []
+MODULES = [clause_table]
 
 
 def first_difference(path, old, new):
