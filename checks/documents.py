@@ -636,37 +636,15 @@ def interface_of_header(tree):
     return enums, structs, calls
 
 
-def clauses_of_crate(tree):
-    """The place of the bit of each clause, and the clauses that concern each server: a match names those that do not concern the other."""
-    text = tree.text("crates/lp_portable/src/broken.rt")
-    names = re.findall(r"^    (\w+),$", re.search(r"pub enum Clause \{(.*?)\n\}", text, flags=re.S)[1], flags=re.M)
-    places = {enumerator(name): place for place, name in enumerate(["NotALine"] + names)}
-    arms = re.search(r"fn concerns\(.*?match clause \{(.*?)\n    \}", text, flags=re.S)[1]
-    masks = {}
-    for arm, server in re.findall(r"((?:[|\s]*Clause::\w+)+) => !matches!\(to, Servers::(\w+)\)", arms):
-        others = [enumerator(name) for name in re.findall(r"Clause::(\w+)", arm)]
-        masks[server.lower()] = sum(1 << place for name, place in places.items() if name not in others)
-    return places, masks
-
-
-def clauses_of_header(tree):
-    """The same of the header."""
-    text = tree.text(HEADER)
-    places = {enumerator(name): int(place) for name, place in re.findall(r"#define LP_CLAUSE_(\w+) +\(UINT64_C\(1\) << (\d+)\)", text)}
-    return places, {name.lower(): int(mask, 16) for name, mask in re.findall(r"#define LP_OF_(\w+) +UINT64_C\((\w+)\)", text)}
-
-
 def check_header(tree):
-    """The header has the enums, structs and calls of crates/lp_c, with the names of fields and parameters, and the clauses of lp_portable;
-    bindings/c/empty.c has its constants, and packaging/symbols.in its constants and calls."""
+    """The header has the enums, structs and calls of crates/lp_c, with the names of fields and parameters; bindings/c/empty.c has its
+    constants, and packaging/symbols.in its constants and calls."""
     crate, header = interface_of_crate(tree), interface_of_header(tree)
     for what, wanted, given in zip(("enum", "struct", "call"), crate, header):
         for name in sorted(wanted.keys() | given.keys()):
             tree.looked_at[f"{what}s of the header"] += 1
             if wanted.get(name) != given.get(name):
                 yield f"{what} {name}: the crate has {wanted.get(name)}, the header {given.get(name)}"
-    if clauses_of_crate(tree) != clauses_of_header(tree):
-        yield f"crates/lp_portable has the clauses and masks {clauses_of_crate(tree)}, the header {clauses_of_header(tree)}"
     constants = re.findall(r"^extern const (\w+) (\w+);", tree.text(HEADER), flags=re.M)
     made = re.findall(r"^const (\w+) (\w+) = (\w+);", tree.text(EMPTY), flags=re.M)
     for _, name, value in sorted({(kind, name, name.upper()) for kind, name in constants} ^ set(made)):

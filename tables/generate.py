@@ -11,11 +11,12 @@ Each kind of fact has a table and a module: the module's `places()` returns the 
 
 import sys
 
+import clause_table
 import options
 import pages
 from records import TOP, Fault, read
 
-MODULES = [options, pages]
+MODULES = [clause_table, options, pages]
 
 
 def first_difference(path, old, new):
