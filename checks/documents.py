@@ -7,7 +7,9 @@
     checks/documents.py --write --to FOLDER definitions
                                             writes it below FOLDER, as bin/install does
     checks/documents.py --top FOLDER NAME   reads the files of FOLDER, such as installed pages, in the place of this repository
-    checks/documents.py style               prints a table of how each text reads; all other checks are listed by `--help`
+    checks/documents.py style [FILE..]      prints a table of how each text reads, or each place of these files where a word stands for a noun
+
+`--help` prints what each check compares.
 
 Each check is a function of the table CHECKS, which reads the tree and yields problems in words. A check that has looked at nothing fails.
 Needs Python 3.10, and no package.
@@ -844,6 +846,14 @@ def print_style(tree):
         print("%-40s" % name, *("%14s" % f"{count:.{0 if at == 0 else 1}f}{mark}" for at, (count, mark) in enumerate(zip(row, marks))))
 
 
+def print_places(tree, path):
+    """Prints each place of a file where a word stands for a noun that the reader has to find."""
+    for number, line in enumerate(tree.text(path).splitlines(), 1):
+        for test in (MEASURES["what, that of"][0], MEASURES["one, so, such"][0]):
+            for found in re.finditer(test, line):
+                print(f"{path}:{number}: {line[max(0, found.start() - 40):found.end() + 40].strip()}")
+
+
 def warning_of_style(tree):
     """How many texts do not read as the models do, in words. It is no problem: no number says whether a page can be understood."""
     rows = [row for row in style_table(tree).values() if row[0] > 300]
@@ -899,20 +909,21 @@ def main(words):
     """Runs what the words ask for."""
     top, to = (Path(words.pop(words.index(word) + 1)) if word in words[:-1] else TOP for word in ("--top", "--to"))
     asked = [word for word in words if word not in ("--write", "--top", "--to")]
-    known = WRITERS if "--write" in words else {"style": None, **CHECKS, **SCRIPTS}
+    tree = Tree(top)
+    known = WRITERS if "--write" in words else ["style", *tree.paths] if "style" in asked else {**CHECKS, **SCRIPTS}
     if wrong := [word for word in asked if word not in known]:
         checks = "".join(f"\n    {name:<14}{' '.join((check.__doc__ or '').split())}" for name, check in CHECKS.items())
         print(f"{__doc__}\nThe checks:{checks}\n    {', '.join(SCRIPTS)}: the scripts of these names", file=sys.stderr)
         return 0 if wrong == ["--help"] else 2
-    if "--write" in words and not asked:
-        subprocess.run([TOP / SCRIPTS["tables"], "--write"], check=False)
-    tree = Tree(top)
+    if "style" in asked:
+        asked.remove("style")
+        for path in asked:
+            print_places(tree, path)
+        return 0 if asked else print_style(tree)
     if "--write" in words:
+        failed = 0 if asked else subprocess.run([TOP / SCRIPTS["tables"], "--write"], check=False).returncode
         write(tree, asked or WRITERS, to)
-        return 0
-    if asked == ["style"]:
-        print_style(tree)
-        return 0
+        return failed
     failed = run(tree, asked or [*CHECKS, *SCRIPTS])
     if not asked:
         print(f"style: {warning_of_style(tree)}")
