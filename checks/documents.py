@@ -323,29 +323,29 @@ IDENTIFIERS = re.compile(r"\.?[A-Za-z_]\w*(?:(?:::|\.)[A-Za-z_]\w*)*(?:\(\))?")
 NAMES_OF_OTHERS = {
     r"/.*": "it is of the machine",
     r"(.*/)?out/.*|crates/lp_c/out|dist/.*|lib\w+\.a|docs/DEFINITIONS\.md": "it is made",
-    r"again\.lp|batch\.lp|(a/b|lines)-000001\.lp|\./-x": "it is a file of the reader's",
+    r"again\.lp|a/b-000001\.lp": "it is a file of the reader's",
     r"proofs/m/f/": "it stands for the proofs of each function `m::f`",
-    r".*\b(MODULE|TYPE)": "it stands for each type",
+    r".*\bTYPE": "it stands for each type",
     r"_in": "it is the end of names",
     r"axioms": "a verdict says it",
     r"[a-z]_[a-z]": "a database makes it of a measurement and a field",
-    r"snafu|(snafu::)?ErrorCompat|BytesMut|Unpin": "it is of Rust",
+    r"snafu|(snafu::)?ErrorCompat|Unpin": "it is of Rust",
     r"lzma|makefile|sys\.stdin\.buffer": "it is of Python",
     r"yomskafi\.example/lineprotocol/v3|influxdb_line_protocol/lineprotocol": "the module in Go has this path, or had it",
     r"l/8": "it is of split",
-    r"\d+/\d+|K/N": "it is a shard",
-    r"mapreduce\..*|stream\..*|textinputformat\..*|RDD\.pipe|(whole)?[tT]ext(File|Files)": "it is of Hadoop or Spark",
+    r"K/N": "it is a shard",
+    r"stream\..*|textinputformat\..*|RDD\.pipe": "it is of Hadoop or Spark",
 }
 
 
 class Names:
-    """The names that the tree has: its paths, and the words and options of each file that is no page."""
+    """The names that the tree has: its paths, and the words and options of each file that is no page. The table above gives the tree no names."""
 
     def __init__(self, tree):
-        self.tree, self.options = tree, set()
-        self.words = [set(re.findall(r"\w+", f"{path} {tree.text(path)}")) for path in tree.paths if not path.endswith(".md")]
-        for path in tree.paths:
-            self.options.update(OPTION.findall(tree.text(path)) if not path.endswith(".md") else ())
+        texts = {path: tree.text(path) for path in tree.paths if not path.endswith(".md")}
+        self.tree, self.options = tree, {option for text in texts.values() for option in OPTION.findall(text)}
+        texts.pop("checks/documents.py", None)
+        self.words = [set(re.findall(r"\w+", f"{path} {text}")) for path, text in texts.items()]
 
     @functools.cache
     def has(self, name):
@@ -362,25 +362,30 @@ class Names:
         return None
 
 
-def names_in(span):
-    """What of a `code` may be a name: all of it; of several words the files and paths, and the options of programs of the tree."""
-    first, *others = span.split()
-    is_ours = "/" in first or first.startswith("lp_")
-    return [word for word in (first, *others) if not others or "/" in word or "::" in word or is_ours and word.startswith("--")]
+def names_on(tree, page):
+    """What of each `code` on a page may be a name, with its line: all of it; of several words the files and paths, and the options of programs
+    of the tree. The first column of a table of CHANGELOG.md may name what is gone."""
+    text = re.sub(r"^ *```.*?^ *```", lambda block: "\n" * block[0].count("\n"), tree.text(page), flags=re.S | re.M)
+    text = re.sub(r"^\| .*? \|", "", text, flags=re.M) if page == "CHANGELOG.md" else text
+    for span in re.finditer(r"`([^`]+)`", text):
+        first, *others = span[1].split()
+        is_ours = "/" in first or first.startswith("lp_")
+        for word in (first, *others):
+            if not others or "/" in word or "::" in word or is_ours and word.startswith("--"):
+                yield text.count("\n", 0, span.start()) + 1, word
 
 
 def check_names(tree):
-    """Each file, option, identifier and path of identifiers that a page names in `code` is in the tree. The first column of a table of
-    CHANGELOG.md may name what is gone."""
-    names = Names(tree)
-    for page in tree.pages():
-        text = re.sub(r"^ *```.*?^ *```", lambda block: "\n" * block[0].count("\n"), tree.text(page), flags=re.S | re.M)
-        text = re.sub(r"^\| .*? \|", "", text, flags=re.M) if page == "CHANGELOG.md" else text
-        for span in re.finditer(r"`([^`]+)`", text):
-            for name in names_in(span[1]):
-                tree.looked_at["names on pages"] += 1
-                if names.has(name.rstrip(",;")) is False and not any(re.fullmatch(other, name) for other in NAMES_OF_OTHERS):
-                    yield f"{page}:{text.count(chr(10), 0, span.start()) + 1}: nothing in the tree has `{name}`"
+    """Each file, option, identifier and path of identifiers that a page names in `code` is in the tree, or NAMES_OF_OTHERS says whose it is."""
+    names, used = Names(tree), set()
+    for page, line, name in ((page, line, name) for page in tree.pages() for line, name in names_on(tree, page)):
+        tree.looked_at["names on pages"] += 1
+        if names.has(name.rstrip(",;")) is False:
+            others = [other for other in NAMES_OF_OTHERS if re.fullmatch(other, name)]
+            used.update(others)
+            if not others:
+                yield f"{page}:{line}: nothing in the tree has `{name}`"
+    yield from (f"checks/documents.py: no page names what NAMES_OF_OTHERS has as {other}" for other in NAMES_OF_OTHERS if other not in used)
 
 
 # Layers
