@@ -21,7 +21,7 @@ TOP = Path(__file__).resolve().parent.parent
 DOCS = TOP / "docs"
 LIBRARIES = [
     "lp_format", "lp_scan", "lp_split", "lp_values", "lp_events", "lp_lines", "lp_build", "lp_written", "lp_portable", "lp_influx",
-    "influxdb_line_protocol", "lp_rebuild", "lp_relay", "lp_series", "lp_programs", "lp_relay_program", "lp_series_program", "lp_c",
+    "influxdb_line_protocol", "lp_rebuild", "lp_relay", "lp_series", "lp_programs", "lp_relay_program", "lp_series_program", "lp_offsets", "lp_c",
 ]
 
 HEAD = """\
@@ -52,12 +52,13 @@ PARTS = {
     "relay": ("The relay", "The definitions of `lp_relay`."),
     "series": ("Series", "The definitions of `lp_series`."),
     "programs": ("The programs", "The definitions of `lp_programs`, `lp_relay_program` and `lp_series_program`."),
-    "callers": ("Callers in C", "The definitions of `lp_c`."),
+    "callers": ("Callers in C", "The definitions of `lp_offsets` and `lp_c`."),
 }
 
 
 # The parts of the crates above the library.
-ROOMS = {"lp_rebuild": "program", "lp_relay": "relay", "lp_series": "series", "lp_c": "callers", **dict.fromkeys(PROGRAMS, "programs")}
+ROOMS = {"lp_rebuild": "program", "lp_relay": "relay", "lp_series": "series", "lp_offsets": "callers", "lp_c": "callers",
+         **dict.fromkeys(PROGRAMS, "programs")}
 
 
 @dataclass

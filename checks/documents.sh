@@ -1,10 +1,10 @@
 #!/usr/bin/env bash
 # Compares the documents with what they copy: the list of definitions in docs/ with specs/, the blocks of code of the pages with the
 # examples, and each list of options with packaging/options.txt, as the code of the programs too; each link with what it leads to; imports
-# with the map in docs/ARCHITECTURE.md; the licences of the crates with those at the top; the header for C with crates/lp_c; the packages of
+# with the map in docs/ARCHITECTURE.md; the licences of the crates with those at the top; the header for C with crates/lp_c and crates/lp_offsets; the packages of
 # bindings/ with the header; the version that lp_relay and lp_series tell with CHANGELOG.md, and so those of the packages in Rust and JavaScript; the sum of the logic with that of the kit that is here. And sees
 # that no sentence and no cell of a table is too long, that each lemma has a line on what it means, that each wrong body of checks/bodies/ can
-# be planted, that crates/lp_page has the items of crates/lp_c, that each public call with a body has one or an edit of must-fail/, that
+# be planted, that each public call with a body has one or an edit of must-fail/, that
 # docs/TRUST.md names each public call with a clause and each condition, that CONTRIBUTING.md has a row for each file that names a fault, and
 # that what pages name in code is there. Needs Python 3.10, and no package.
 set -eu
@@ -36,7 +36,7 @@ elif [ "$("$rt" version | sed -n '1s/.* logic //p')" != "$(told_logic)" ]; then
 fi
 status=0
 for check in definitions blocks options fault_files links prose promises layers \
-    lemmas header bindings bodies page_items witnesses; do
+    lemmas header bindings bodies witnesses; do
     python3 -B "$here/$check.py" || status=1
 done
 exit "$status"

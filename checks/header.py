@@ -1,5 +1,5 @@
 #!/usr/bin/env python3
-"""Whether include/influxdb_line_protocol.h says what crates/lp_c exports: the enums with their numbers, the structs with
+"""Whether include/influxdb_line_protocol.h says what crates/lp_c exports, also of crates/lp_offsets: the enums with their numbers, the structs with
 their fields, and the calls with their types; whether its clauses and their servers are those of crates/lp_portable; whether
 bindings/c/empty.c has the constants of the header; and whether packaging/symbols.in has its calls and constants.
 
@@ -11,7 +11,7 @@ import sys
 from pathlib import Path
 
 TOP = Path(__file__).resolve().parent.parent
-SOURCE = TOP / "crates" / "lp_c" / "src"
+SOURCES = [TOP / "crates" / crate / "src" for crate in ("lp_offsets", "lp_c")]
 HEADER = TOP / "include" / "influxdb_line_protocol.h"
 PORTABLE = TOP / "crates" / "lp_portable" / "src" / "broken.rt"
 EMPTY = TOP / "bindings" / "c" / "empty.c"
@@ -63,14 +63,15 @@ def parameter_types(kind):
 
 
 def of_source():
-    """The enums, structs and calls of crates/lp_c, as C has them."""
-    text = plain("\n".join(path.read_text(encoding="utf-8") for path in sorted(SOURCE.glob("*.rt"))))
+    """The enums, structs and calls of crates/lp_c and crates/lp_offsets, as C has them."""
+    files = [path.read_text(encoding="utf-8") for source in SOURCES for path in sorted(source.glob("*.rt"))]
+    text = plain("\n".join(files).replace("#[repr(C)]", "repr_c"))
     text = text.replace("<'_>", "")
     enums, structs, calls = {}, {}, {}
     for name, body in re.findall(r"pub enum (\w+) \{(.*?)\}", text):
         if "=" in body:
             enums[c_name(name)] = [(enumerator(n), v) for n, v in re.findall(r"(\w+) = (\d+)", body)]
-    for name, body in re.findall(r"pub struct (\w+) \{(.*?)\}", text):
+    for name, body in re.findall(r"repr_c pub struct (\w+) \{(.*?)\}", text):
         fields = re.findall(r"pub (\w+): ([^,]+),", body)
         structs[c_name(name)] = [one for n, k in fields for one in field_types(n, k.strip())]
     for name, inner, result in re.findall(r'pub extern "C" fn (\w+)\((.*?)\)(?: -> (\w+))?', text):
