@@ -114,7 +114,8 @@ def check_versions(tree):
 
 LIBRARIES = [
     "lp_format", "lp_scan", "lp_split", "lp_values", "lp_events", "lp_lines", "lp_build", "lp_written", "lp_portable", "lp_influx",
-    "influxdb_line_protocol", "lp_rebuild", "lp_relay", "lp_series", "lp_programs", "lp_relay_program", "lp_series_program", "lp_c",
+    "influxdb_line_protocol", "lp_rebuild", "lp_relay", "lp_series", "lp_programs", "lp_relay_program", "lp_series_program", "lp_offsets",
+    "lp_c",
 ]
 PROGRAMS = ["lp_programs", "lp_relay_program", "lp_series_program"]
 # Crates of which a caller names what their roots hand on, and crates all of whose public functions are for callers.
@@ -140,6 +141,7 @@ ROOMS = {
     "lp_relay": ("The relay", "The definitions of `lp_relay`."),
     "lp_series": ("Series", "The definitions of `lp_series`."),
     "programs": ("The programs", "The definitions of `lp_programs`, `lp_relay_program` and `lp_series_program`."),
+    "lp_offsets": ("Rows by offsets", "The definitions of `lp_offsets`."),
     "lp_c": ("Callers in C", "The definitions of `lp_c`."),
 }
 DEFINITION = re.compile(r"^(?:(?:abbrev|unfoldable) )?pub (?:(data|record) )?(\S+)(.*)$")
@@ -591,12 +593,13 @@ def parameter_in_c(name, kind):
 
 
 def interface_of_crate(tree):
-    """The enums, structs and calls of crates/lp_c, as C has them."""
-    text = plain("\n".join(tree.text(path) for path in tree.glob("crates/lp_c/src/*.rt"))).replace("<'_>", "")
+    """The enums, structs and calls of crates/lp_offsets and crates/lp_c, as C has them."""
+    paths = [path for crate in ("lp_offsets", "lp_c") for path in tree.glob(f"crates/{crate}/src/*.rt")]
+    text = plain("\n".join(tree.text(path) for path in paths).replace("#[repr(C)]", "repr_c")).replace("<'_>", "")
     enums = {c_name(name): [(enumerator(n), v) for n, v in re.findall(r"(\w+) = (\d+)", body)]
              for name, body in re.findall(r"pub enum (\w+) \{(.*?)\}", text) if "=" in body}
     structs = {c_name(name): [one for n, kind in re.findall(r"pub (\w+): ([^,]+),", body) for one in field_in_c(n, kind.strip())]
-               for name, body in re.findall(r"pub struct (\w+) \{(.*?)\}", text)}
+               for name, body in re.findall(r"repr_c pub struct (\w+) \{(.*?)\}", text)}
     structs["lp_text"] = [("const uint8_t *", "at"), ("size_t", "len")]
     calls = {}
     for name, inner, result in re.findall(r'pub extern "C" fn (\w+)\((.*?)\)(?: -> (\w+))?', text):
@@ -637,7 +640,7 @@ def interface_of_header(tree):
 
 
 def check_header(tree):
-    """The header has the enums, structs and calls of crates/lp_c, with the names of fields and parameters; bindings/c/empty.c has its
+    """The header has the enums, structs and calls of crates/lp_c and crates/lp_offsets, with the names of fields and parameters; bindings/c/empty.c has its
     constants, and packaging/symbols.in its constants and calls."""
     crate, header = interface_of_crate(tree), interface_of_header(tree)
     for what, wanted, given in zip(("enum", "struct", "call"), crate, header):
@@ -651,31 +654,6 @@ def check_header(tree):
         yield f"{name} is not {value} in both {HEADER} and {EMPTY}"
     symbols = re.findall(r"^ (\w+)@Base \d+\.\d+\.\d+$", tree.text(SYMBOLS), flags=re.M)
     yield from (f"{name} is not in both {HEADER} and {SYMBOLS}" for name in sorted({name for _, name in constants} ^ set(symbols) ^ header[2].keys()))
-
-
-# The items of crates/lp_page
-
-def items(tree, path):
-    """The items of a file: what stands between two blank lines, without imports and the comments at the start of a file."""
-    for block in re.split(r"\n\n+", tree.text(path).replace("Rattle.lp_c.", "Rattle.lp_page.")):
-        lines = [line for line in block.rstrip().split("\n") if not re.match(r"(ghost use|use|pub use|pub mod|mod) |//!|#!\[", line)]
-        item = re.sub(r"\n\}$", "", "\n".join(lines))  # The last item of a block of methods ends with the block.
-        if item and not (path.endswith(".antt") and len(lines) == 1 and item.startswith("--")):
-            yield item
-
-
-def check_page_items(tree):
-    """Each item of crates/lp_page in a file that lp_c has too is an item of lp_c. The kit takes no static library as a part of another, so
-    lp_page has copies of the items of lp_c that ask for no memory."""
-    own, other = "crates/lp_page/", "crates/lp_c/"
-    places = [f"{own}{folder}/**/*.{end}" for folder in ("src", "specs", "proofs") for end in ("rt", "antt")]
-    for path in tree.glob(*places):
-        if (there := other + path.removeprefix(own)) in tree.paths and not path.endswith(("/lib.rt", "/Lib.antt")):
-            known = {*items(tree, there)}
-            for item in items(tree, path):
-                tree.looked_at["items of lp_page"] += 1
-                if item not in known:
-                    yield f"{path} has what lp_c has otherwise, or not: {item.splitlines()[0]}"
 
 
 # Blocks of code
@@ -854,7 +832,7 @@ def warning_of_style(tree):
 # The program
 
 CHECKS = {"versions": check_versions, "definitions": check_definitions, "blocks": check_blocks, "links": check_links, "names": check_names,
-          "layers": check_layers, "lemmas": check_lemmas, "header": check_header, "page_items": check_page_items}
+          "layers": check_layers, "lemmas": check_lemmas, "header": check_header}
 SCRIPTS = {name: f"checks/{name}.py" for name in ("promises", "fault_files", "bindings", "bugs")} | {"tables": "tables/generate.py"}
 WRITERS = {"blocks": block_texts, "definitions": lambda tree: {DEFINITIONS: definitions_page(tree)}}
 
