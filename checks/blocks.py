@@ -1,8 +1,7 @@
 #!/usr/bin/env python3
 """The blocks of code in the documents, from examples that are proved or tested: the callers in crates/lp_examples, and the
 examples of the packages in bindings/. And each text that lists the options of the programs, as checks/options.py and
-checks/completions.py make it; the table of texts in docs/FORMAT.md, from the rows of a table that are meant for it; and the
-kinds of faults in the man page of lp_relay, from the code that names them. Those of docs/FORMAT.md must be the same.
+checks/completions.py make it; and the table of texts in docs/FORMAT.md, from the rows of a table that are meant for it.
 
     checks/blocks.py            whether each block is a copy of its stretch, and each list is as it is made; status 1 if one is not
     checks/blocks.py --write    writes the stretches and the lists into the files
@@ -27,9 +26,6 @@ PLACES = ["crates/lp_examples/src/*.rt", "bindings/c/example.c", "bindings/c/cut
           "bindings/c/sums.c", "bindings/c/groups.c", "bindings/c/example.cpp", "bindings/rust/examples/*.rs", "bindings/python/example.py", "bindings/go/example_test.go"]
 DOCUMENTS = ["README.md", "docs/RATTLE.md", "docs/BINDINGS.md", "bindings/python/README.md"]
 ANSWERS = "checks/tables/answers.tsv"
-KINDS = "crates/lp_relay/src/kinds.rt"
-# What counts the kinds, since it cannot read that file.
-COUNTS = ("checks/lp_checks.h", r"LP_KINDS = (\d+)"), ("checks/series_arguments.sh", r"= (\d+) \] \|\| fail \"the metrics have not")
 LANGUAGES = ("rust", "antt", "c", "cpp", "rs", "python", "go")  # of the blocks that must be copies
 
 MARK = re.compile(r"^\s*(?://|#) \[(\w+)\]$")
@@ -137,30 +133,6 @@ def texts_of_dialects():
     return options.Place("docs/FORMAT.md", ("| text | `Crate`", "|---"), "", lines)
 
 
-def kinds():
-    """The kinds of faults, each with its name and what is said of it, in the order of the names."""
-    text = read(KINDS)
-    said = dict(re.findall(r"^    /// (.*)\n    (\w+),$", text, re.M))
-    meant = {kind: what for what, kind in said.items()}
-    named = re.findall(r"^ +Kind::(\w+) => \"(\w+)\",$", text, re.M)
-    listed = re.findall(r"^    Kind::(\w+),$", text, re.M)
-    if sorted(listed) != sorted(meant) or sorted(listed) != sorted(kind for kind, _ in named):
-        raise Fault(f"{KINDS}: a kind is not listed, has no name, or is not told in one line")
-    return sorted((name, meant[kind]) for kind, name in named)
-
-
-def kinds_of_page():
-    """The kinds in the man page. Those of docs/FORMAT.md are looked at too."""
-    found = kinds()
-    rows = re.findall(r"^\| `(\w+)` \|", read("docs/FORMAT.md").partition("| `kind` | the fault |\n")[2].partition("\n\n")[0], re.M)
-    if sorted(rows) != [name for name, _ in found]:
-        raise Fault(f"docs/FORMAT.md has not the kinds of {KINDS}: {' '.join(sorted({name for name, _ in found} ^ set(rows)))}")
-    if [len(found)] * 2 != (counted := [int(n) for path, pattern in COUNTS for n in re.findall(pattern, read(path))]):
-        raise Fault(f"{KINDS} has {len(found)} kinds, where {' and '.join(path for path, _ in COUNTS)} have {counted}")
-    lines = [line for name, what in found for line in (f".It Li {name}", *textwrap.wrap(what.replace("`", ""), options.PAGE_WIDTH))]
-    return options.Place("man/lp_relay.1", ('.\\" [kinds]',), '.\\" [end]', lines)
-
-
 def first_difference(path, old, new):
     """The place of the first line that differs, in words."""
     old, new = old.split("\n"), new.split("\n")
@@ -176,7 +148,7 @@ def run(words):
     if unquoted:
         raise Fault(f"no document has the stretch `{unquoted[0]}`, or a link to a file of that name")
     stale += [first_difference(document, read(document), text) for document, text in texts.items() if text != read(document)]
-    lists = [*options.places(), *completions.places(), texts_of_dialects(), kinds_of_page()]
+    lists = [*options.places(), *completions.places(), texts_of_dialects()]
     for place in lists:
         old = texts.get(place.path) or read(place.path)
         texts[place.path] = place.filled(old)
@@ -187,8 +159,8 @@ def run(words):
     for path, text in texts.items():
         if text != read(path):
             (TOP / path).write_text(text, encoding="utf-8")
-    print(f"blocks: {len(quoted - {None})} are as the examples have them, {len(lists) - 2} lists of options as {options.DATA} "
-          f"has them, a table as {ANSWERS}, and the kinds of faults as {KINDS}")
+    print(f"blocks: {len(quoted - {None})} are as the examples have them, {len(lists) - 1} lists of options as {options.DATA} "
+          f"has them, and a table as {ANSWERS}")
 
 
 def main(words):

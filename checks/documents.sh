@@ -5,7 +5,7 @@
 # bindings/ with the header; the version that lp_relay and lp_series tell with CHANGELOG.md, and so those of the packages in Rust and JavaScript; the sum of the logic with that of the kit that is here. And sees
 # that no sentence and no cell of a table is too long, that each lemma has a line on what it means, that each wrong body of checks/bodies/ can
 # be planted, that crates/lp_page has the items of crates/lp_c, that each public call with a body has one or an edit of must-fail/, that
-# docs/TRUST.md names each public call with a clause and each condition, that CONTRIBUTING.md has a row for each file that names a fault, and
+# docs/TRUST.md names each public call with a clause and each condition, and
 # that what pages name in code is there. Needs Python 3.10, and no package.
 set -eu
 here=$(cd "$(dirname "$0")" && pwd)
@@ -36,7 +36,7 @@ elif [ "$("$rt" version | sed -n '1s/.* logic //p')" != "$(told_logic)" ]; then
 fi
 status=0
 python3 -B "$top/tables/generate.py" || status=1
-for check in definitions blocks options fault_files links prose promises layers \
+for check in definitions blocks options links prose promises layers \
     lemmas header bindings bodies page_items witnesses; do
     python3 -B "$here/$check.py" || status=1
 done

@@ -11,9 +11,10 @@ Each kind of fact has a table and a module: the module's `places()` returns the 
 import sys
 
 import clause_table
+import fault_table
 from records import TOP, Fault, read
 
-MODULES = [clause_table]
+MODULES = [clause_table, fault_table]
 
 
 def first_difference(path, old, new):
