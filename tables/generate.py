@@ -38,8 +38,10 @@ def main(words):
         return 2
     try:
         changed = changed_files()
-        for path, _, text in changed if words else ():
-            (TOP / path).write_text(text, encoding="utf-8")
+        while words and changed:  # what is written may be counted elsewhere
+            for path, _, text in changed:
+                (TOP / path).write_text(text, encoding="utf-8")
+            changed = changed_files()
         found = [] if words else [first_difference(*change) for change in changed]
         found += ["run tables/generate.py --write"] if found else []
         found += [problem for module in MODULES for problem in module.problems()]
