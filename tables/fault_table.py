@@ -275,10 +275,11 @@ def of_checks():
     yield Place("checks/lp_checks.h", ("/* How many kinds",), "", [f"enum {{ LP_KINDS = {len(KINDS)} }};"])
     yield Place("checks/tables/answers.tsv", ("# The texts of faults are",), "", [
         f"fault\t{text}\t{fault.front}{carried}{fault.back}" for fault in OF_LINES for text, carried in fault.examples])
-    told = re.compile(r"(\S+): \d+ rows of (\w+)(, .*)")
-    counted = [told.fullmatch(line) for line in read("checks/tables/counts.txt").splitlines()]
-    yield Place("checks/tables/counts.txt", (), "", [
-        f"{found[1]}: {len(re.findall(f'^{found[2]}	', read(f'checks/tables/{found[1]}'), re.M))} rows of {found[2]}{found[3]}" for found in counted])
+    def recounted(found):
+        return f"{found[1]}: {len(re.findall(f'^{found[2]}	', read(f'checks/tables/{found[1]}'), re.M))} rows of {found[2]}"
+
+    counts = re.sub(r"^(\S+): \d+ rows of (\w+)", recounted, read("checks/tables/counts.txt"), flags=re.M)
+    yield Place("checks/tables/counts.txt", (), "", counts.rstrip("\n").split("\n"))
 
 
 def shown(text):
