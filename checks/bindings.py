@@ -11,8 +11,9 @@ the faults of lp_relay name them.
 import re
 import sys
 
-from header import SCALARS, TOP, WORDS, c_name, enumerator, of_header, plain
+from documents import FIELD_NAMES, HEADER, SCALARS, TOP, Tree, c_name, enumerator, interface_of_header, plain, with_lengths
 
+TREE = Tree(TOP)
 RUST = TOP / "bindings" / "rust" / "src" / "border.rs"
 PYTHON = TOP / "bindings" / "python" / "src" / "line_protocol"
 JS = TOP / "bindings" / "js"
@@ -23,7 +24,7 @@ def rust_type(kind):
     """The type in C of a type of border.rs."""
     pointer = re.fullmatch(r"\*(mut|const) (\w+)", kind)
     if not pointer:
-        return SCALARS.get(kind) or c_name(kind)
+        return c_name(kind)
     mutable, of = pointer.groups()
     return ("" if mutable == "mut" else "const ") + rust_type(of) + " *"
 
@@ -36,10 +37,10 @@ def of_rust():
         enums["lp_" + name] = [(enumerator(n), v) for n, v in re.findall(r"const (\w+): u32 = (\d+);", body)]
     for name, body in re.findall(r"struct (\w+) \{(.*?)\}", text):
         fields = [field for field in re.findall(r"(\w+): ([^,]+),", body) if "PhantomData" not in field[1]]
-        structs[c_name(name)] = [(rust_type(kind), WORDS.get(field, field)) for field, kind in fields]
+        structs[c_name(name)] = [(rust_type(kind), FIELD_NAMES.get(field, field)) for field, kind in fields]
     for name, inner, result in re.findall(r"fn (lp_\w+)\((.*?)\)(?: -> (\w+))?;", text):
-        kinds = [part.split(":", 1)[1].strip() for part in inner.split(",") if ":" in part]
-        calls[name] = (SCALARS[result] if result else "void", [rust_type(kind) for kind in kinds])
+        parts = [[word.strip() for word in part.split(":", 1)] for part in inner.split(",") if ":" in part]
+        calls[name] = (SCALARS[result] if result else "void", with_lengths((rust_type(kind), each) for each, kind in parts))
     return enums, structs, calls
 
 
@@ -117,7 +118,7 @@ def differences(package, given, header):
 
 
 def main():
-    header, js = of_header(), core_js()
+    header, js = interface_of_header(TREE), core_js()
     packages = {"Rust": of_rust(), "Python": of_python(), "JavaScript": of_js(js)}
     found = [one for package, given in packages.items() for one in differences(package, given, header)]
     found += js_differences(js, header[1])
