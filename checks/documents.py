@@ -665,9 +665,7 @@ PAGES_WITH_BLOCKS = ["README.md", "docs/RATTLE.md", "docs/BINDINGS.md", "binding
 LANGUAGES = ("rust", "antt", "c", "cpp", "rs", "python", "go")  # of the blocks that must be copies
 MARK = re.compile(r"^\s*(?://|#) \[(\w+)\]$", re.M)
 BLOCK = re.compile(r"^(?:<!-- block (\S+) -->\n+)?```(\w*)\n(.*?^)```$", re.M | re.S)
-ANSWERS, KINDS, FORMAT = "checks/tables/answers.tsv", "crates/lp_relay/src/kinds.rt", "docs/FORMAT.md"
-# What counts the kinds of faults, since it cannot read that file.
-COUNTS = ("checks/lp_checks.h", r"LP_KINDS = (\d+)"), ("checks/series_arguments.sh", r"= (\d+) \] \|\| fail \"the metrics have not")
+ANSWERS, FORMAT = "checks/tables/answers.tsv", "docs/FORMAT.md"
 
 
 def stretches(tree):
@@ -705,8 +703,8 @@ def block_texts(tree):
     linked = re.findall(r"lp_examples/src/(\w+)\.rt\)", "".join(texts.values()))
     if unquoted := sorted({name for name in known if "/" not in name} - quoted - {*linked}):
         raise Fault(f"no page has the stretch `{unquoted[0]}`, or a link to a file of that name")
-    for place in (texts_of_dialects(tree), kinds_of_page(tree)):
-        texts[place.path] = place.filled(texts.get(place.path) or tree.text(place.path))
+    place = texts_of_dialects(tree)
+    texts[place.path] = place.filled(texts.get(place.path) or tree.text(place.path))
     return texts
 
 
@@ -735,26 +733,9 @@ def texts_of_dialects(tree):
     return Place(FORMAT, ("| text | `Crate`", "|---"), "", lines)
 
 
-def kinds_of_page(tree):
-    """The kinds of faults in the man page, from the code that names them. The kinds of docs/FORMAT.md are compared too."""
-    text = tree.text(KINDS)
-    meant = {kind: what for what, kind in re.findall(r"^    /// (.*)\n    (\w+),$", text, re.M)}
-    named = re.findall(r"^ +Kind::(\w+) => \"(\w+)\",$", text, re.M)
-    if not sorted(re.findall(r"^    Kind::(\w+),$", text, re.M)) == sorted(meant) == sorted(kind for kind, _ in named):
-        raise Fault(f"{KINDS}: a kind is not listed, has no name, or is not told in one line")
-    found = sorted((name, meant[kind]) for kind, name in named)
-    rows = re.findall(r"^\| `(\w+)` \|", tree.text(FORMAT).partition("| `kind` | the fault |\n")[2].partition("\n\n")[0], re.M)
-    if sorted(rows) != [name for name, _ in found]:
-        raise Fault(f"{FORMAT} has not the kinds of {KINDS}: {' '.join(sorted({name for name, _ in found} ^ set(rows)))}")
-    if [len(found)] * 2 != (counted := [int(n) for path, pattern in COUNTS for n in re.findall(pattern, tree.text(path))]):
-        raise Fault(f"{KINDS} has {len(found)} kinds, where {' and '.join(path for path, _ in COUNTS)} have {counted}")
-    lines = [line for name, what in found for line in (f".It Li {name}", *textwrap.wrap(what.replace("`", ""), 78))]
-    return Place("man/lp_relay.1", ('.\\" [kinds]',), '.\\" [end]', lines)
-
-
 def check_blocks(tree):
-    """Each block of code in the pages is a copy of its example, each example is quoted, and the table of texts in docs/FORMAT.md and the kinds
-    of faults in the man page of lp_relay are as the rows and the code have them."""
+    """Each block of code in the pages is a copy of its example, each example is quoted, and the table of texts in docs/FORMAT.md is as the
+    rows have it."""
     for path, text in block_texts(tree).items():
         if text != tree.text(path):
             yield first_difference(path, tree.text(path), text) + "\nrun checks/documents.py --write blocks"
@@ -833,7 +814,7 @@ def warning_of_style(tree):
 
 CHECKS = {"versions": check_versions, "definitions": check_definitions, "blocks": check_blocks, "links": check_links, "names": check_names,
           "layers": check_layers, "lemmas": check_lemmas, "header": check_header}
-SCRIPTS = {name: f"checks/{name}.py" for name in ("promises", "fault_files", "bindings", "bugs")} | {"tables": "tables/generate.py"}
+SCRIPTS = {name: f"checks/{name}.py" for name in ("promises", "bindings", "bugs")} | {"tables": "tables/generate.py"}
 WRITERS = {"blocks": block_texts, "definitions": lambda tree: {DEFINITIONS: definitions_page(tree)}}
 
 
