@@ -7,7 +7,9 @@
     checks/documents.py --write --to FOLDER definitions
                                             writes it below FOLDER, as bin/install does
     checks/documents.py --top FOLDER NAME   reads the files of FOLDER, such as installed pages, in the place of this repository
-    checks/documents.py style               prints a table of how each text reads; all other checks are listed by `--help`
+    checks/documents.py style [FILE..]      prints a table of how each text reads, or each place of these files where a word stands for a noun
+
+`--help` prints what each check compares.
 
 Each check is a function of the table CHECKS, which reads the tree and yields problems in words. A check that has looked at nothing fails.
 Needs Python 3.10, and no package.
@@ -323,29 +325,29 @@ IDENTIFIERS = re.compile(r"\.?[A-Za-z_]\w*(?:(?:::|\.)[A-Za-z_]\w*)*(?:\(\))?")
 NAMES_OF_OTHERS = {
     r"/.*": "it is of the machine",
     r"(.*/)?out/.*|crates/lp_c/out|dist/.*|lib\w+\.a|docs/DEFINITIONS\.md": "it is made",
-    r"again\.lp|batch\.lp|(a/b|lines)-000001\.lp|\./-x": "it is a file of the reader's",
+    r"again\.lp|a/b-000001\.lp": "it is a file of the reader's",
     r"proofs/m/f/": "it stands for the proofs of each function `m::f`",
-    r".*\b(MODULE|TYPE)": "it stands for each type",
+    r".*\bTYPE": "it stands for each type",
     r"_in": "it is the end of names",
     r"axioms": "a verdict says it",
     r"[a-z]_[a-z]": "a database makes it of a measurement and a field",
-    r"snafu|(snafu::)?ErrorCompat|BytesMut|Unpin": "it is of Rust",
+    r"snafu|(snafu::)?ErrorCompat|Unpin": "it is of Rust",
     r"lzma|makefile|sys\.stdin\.buffer": "it is of Python",
     r"yomskafi\.example/lineprotocol/v3|influxdb_line_protocol/lineprotocol": "the module in Go has this path, or had it",
     r"l/8": "it is of split",
-    r"\d+/\d+|K/N": "it is a shard",
-    r"mapreduce\..*|stream\..*|textinputformat\..*|RDD\.pipe|(whole)?[tT]ext(File|Files)": "it is of Hadoop or Spark",
+    r"K/N": "it is a shard",
+    r"stream\..*|textinputformat\..*|RDD\.pipe": "it is of Hadoop or Spark",
 }
 
 
 class Names:
-    """The names that the tree has: its paths, and the words and options of each file that is no page."""
+    """The names that the tree has: its paths, and the words and options of each file that is no page. The table above gives the tree no names."""
 
     def __init__(self, tree):
-        self.tree, self.options = tree, set()
-        self.words = [set(re.findall(r"\w+", f"{path} {tree.text(path)}")) for path in tree.paths if not path.endswith(".md")]
-        for path in tree.paths:
-            self.options.update(OPTION.findall(tree.text(path)) if not path.endswith(".md") else ())
+        texts = {path: tree.text(path) for path in tree.paths if not path.endswith(".md")}
+        self.tree, self.options = tree, {option for text in texts.values() for option in OPTION.findall(text)}
+        texts.pop("checks/documents.py", None)
+        self.words = [set(re.findall(r"\w+", f"{path} {text}")) for path, text in texts.items()]
 
     @functools.cache
     def has(self, name):
@@ -362,25 +364,30 @@ class Names:
         return None
 
 
-def names_in(span):
-    """What of a `code` may be a name: all of it; of several words the files and paths, and the options of programs of the tree."""
-    first, *others = span.split()
-    is_ours = "/" in first or first.startswith("lp_")
-    return [word for word in (first, *others) if not others or "/" in word or "::" in word or is_ours and word.startswith("--")]
+def names_on(tree, page):
+    """What of each `code` on a page may be a name, with its line: all of it; of several words the files and paths, and the options of programs
+    of the tree. The first column of a table of CHANGELOG.md may name what is gone."""
+    text = re.sub(r"^ *```.*?^ *```", lambda block: "\n" * block[0].count("\n"), tree.text(page), flags=re.S | re.M)
+    text = re.sub(r"^\| .*? \|", "", text, flags=re.M) if page == "CHANGELOG.md" else text
+    for span in re.finditer(r"`([^`]+)`", text):
+        first, *others = span[1].split()
+        is_ours = "/" in first or first.startswith("lp_")
+        for word in (first, *others):
+            if not others or "/" in word or "::" in word or is_ours and word.startswith("--"):
+                yield text.count("\n", 0, span.start()) + 1, word
 
 
 def check_names(tree):
-    """Each file, option, identifier and path of identifiers that a page names in `code` is in the tree. The first column of a table of
-    CHANGELOG.md may name what is gone."""
-    names = Names(tree)
-    for page in tree.pages():
-        text = re.sub(r"^ *```.*?^ *```", lambda block: "\n" * block[0].count("\n"), tree.text(page), flags=re.S | re.M)
-        text = re.sub(r"^\| .*? \|", "", text, flags=re.M) if page == "CHANGELOG.md" else text
-        for span in re.finditer(r"`([^`]+)`", text):
-            for name in names_in(span[1]):
-                tree.looked_at["names on pages"] += 1
-                if names.has(name.rstrip(",;")) is False and not any(re.fullmatch(other, name) for other in NAMES_OF_OTHERS):
-                    yield f"{page}:{text.count(chr(10), 0, span.start()) + 1}: nothing in the tree has `{name}`"
+    """Each file, option, identifier and path of identifiers that a page names in `code` is in the tree, or NAMES_OF_OTHERS says whose it is."""
+    names, used = Names(tree), set()
+    for page, line, name in ((page, line, name) for page in tree.pages() for line, name in names_on(tree, page)):
+        tree.looked_at["names on pages"] += 1
+        if names.has(name.rstrip(",;")) is False:
+            others = [other for other in NAMES_OF_OTHERS if re.fullmatch(other, name)]
+            used.update(others)
+            if not others:
+                yield f"{page}:{line}: nothing in the tree has `{name}`"
+    yield from (f"checks/documents.py: no page names what NAMES_OF_OTHERS has as {other}" for other in NAMES_OF_OTHERS if other not in used)
 
 
 # Layers
@@ -803,6 +810,14 @@ def print_style(tree):
         print("%-40s" % name, *("%14s" % f"{count:.{0 if at == 0 else 1}f}{mark}" for at, (count, mark) in enumerate(zip(row, marks))))
 
 
+def print_places(tree, path):
+    """Prints each place of a file where a word stands for a noun that the reader has to find."""
+    for number, line in enumerate(tree.text(path).splitlines(), 1):
+        for test in (MEASURES["what, that of"][0], MEASURES["one, so, such"][0]):
+            for found in re.finditer(test, line):
+                print(f"{path}:{number}: {line[max(0, found.start() - 40):found.end() + 40].strip()}")
+
+
 def warning_of_style(tree):
     """How many texts do not read as the models do, in words. It is no problem: no number says whether a page can be understood."""
     rows = [row for row in style_table(tree).values() if row[0] > 300]
@@ -858,20 +873,21 @@ def main(words):
     """Runs what the words ask for."""
     top, to = (Path(words.pop(words.index(word) + 1)) if word in words[:-1] else TOP for word in ("--top", "--to"))
     asked = [word for word in words if word not in ("--write", "--top", "--to")]
-    known = WRITERS if "--write" in words else {"style": None, **CHECKS, **SCRIPTS}
+    tree = Tree(top)
+    known = WRITERS if "--write" in words else ["style", *tree.paths] if "style" in asked else {**CHECKS, **SCRIPTS}
     if wrong := [word for word in asked if word not in known]:
         checks = "".join(f"\n    {name:<14}{' '.join((check.__doc__ or '').split())}" for name, check in CHECKS.items())
         print(f"{__doc__}\nThe checks:{checks}\n    {', '.join(SCRIPTS)}: the scripts of these names", file=sys.stderr)
         return 0 if wrong == ["--help"] else 2
-    if "--write" in words and not asked:
-        subprocess.run([TOP / SCRIPTS["tables"], "--write"], check=False)
-    tree = Tree(top)
+    if "style" in asked:
+        asked.remove("style")
+        for path in asked:
+            print_places(tree, path)
+        return 0 if asked else print_style(tree)
     if "--write" in words:
+        failed = 0 if asked else subprocess.run([TOP / SCRIPTS["tables"], "--write"], check=False).returncode
         write(tree, asked or WRITERS, to)
-        return 0
-    if asked == ["style"]:
-        print_style(tree)
-        return 0
+        return failed
     failed = run(tree, asked or [*CHECKS, *SCRIPTS])
     if not asked:
         print(f"style: {warning_of_style(tree)}")
