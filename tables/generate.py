@@ -11,11 +11,12 @@ Each kind of fact has a table and a module: the module's `places()` returns the 
 
 import sys
 
+import messages
 import options
 import pages
 from records import TOP, Fault, read
 
-MODULES = [options, pages]
+MODULES = [options, pages, messages]
 
 
 def first_difference(path, old, new):
@@ -41,6 +42,8 @@ def main(words):
         print(__doc__, file=sys.stderr)
         return 2
     try:
+        if words:
+            messages.bring()
         changed = changed_files()
         for path, _, text in changed if words else ():
             (TOP / path).write_text(text, encoding="utf-8")
