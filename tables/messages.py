@@ -23,9 +23,10 @@ DISPLAYED = {"Wrong": (WRONG, r"fn show_one<|impl<'a> fmt::Display for Wrong<"),
              "Notice": (NOTICES, r"impl<'a> fmt::Display for Notice<"), "RunFault": (RUNS, r"impl fmt::Display for RunFault ")}
 DEFINED = {"Refusal": ("crates/lp_programs/specs/Refusals.antt", "refusal_text"), "RunFault": ("crates/lp_rebuild/specs/Running.antt", "run_fault_text")}
 LAST_LINE = "crates/lp_programs/src/relays.rt"
-# What quotes messages, if a segment of one has so many words at least.
-QUOTES = {2: ("checks/arguments.sh", "checks/series_arguments.sh", "checks/losses.sh", "checks/batch_files.py", "checks/given.sh"),
-          4: ("checks/bodies/*.edits", "crates/*/must-fail/*.edit", "docs/OPERATING.md", "docs/INTEROP.md", "docs/SCALING.md", "README.md")}
+# What quotes messages: checks whole ones, and these files also parts of so many words at least.
+CHECKS = ("checks/arguments.sh", "checks/series_arguments.sh", "checks/losses.sh", "checks/batch_files.py", "checks/given.sh", "checks/ranges.py",
+          "checks/posting.sh")
+PAGES, LEAST = ("checks/bodies/*.edits", "crates/*/must-fail/*.edit", "docs/OPERATING.md", "docs/INTEROP.md", "docs/SCALING.md", "README.md"), 4
 
 
 class Text(NamedTuple):
@@ -65,7 +66,7 @@ def literals(code):
 def shown_by(arm, code):
     """What an arm of this code shows, in a row. If it calls `show_value`, what that writes before the last name comes first."""
     frame = re.search(r'^fn show_value<.*?write!\(f, "([^"]*)\{\w+\}"\)', code, re.M | re.S) if "show_value(" in arm else None
-    return (frame[1] if frame else "") + "".join(literals(arm))
+    return (frame[1] if frame else "") + "".join(literals(arm.replace("show_values(values", '"{values}"')))
 
 
 def displayed(name):
@@ -180,21 +181,47 @@ def brought(text, message):
     return whole[:text.start] + part + whole[text.end:]
 
 
+def quoted(text):
+    """How a message is quoted in a check: a name of an option is one, or a variable, and any other name is of any bytes. A name that comes first
+    begins after a mark."""
+    def pattern(piece):
+        return r"(-[\w-]+|\$\w+)" if piece in ("{option}", "{other}") else r'([^"\n]*?)' if piece.startswith("{") else re.escape(piece)
+
+    begin = r"(?<=[\"':}])" if text.startswith("{") else ""
+    return begin + "".join(map(pattern, re.split(rf"({NAME})", text)))
+
+
+def requoted(whole, old, new, others):
+    """The text of a check in which each quotation of a message is as the message is now, unless another message that is longer is meant."""
+    def changed(found):
+        front = whole[max(found.start() - 1, 0):found.end()]
+        if any(len(bare(other)) > len(bare(old)) and re.search(quoted(other), front) for other in others):
+            return found[0]
+        names = [*found.groups(), ""]
+        return "".join(piece + name for piece, name in zip(re.split(NAME, new), names))
+
+    return re.sub(quoted(old), changed, whole)
+
+
 def bring():
     """Brings each text that was changed in the table to the code, the definition, and to what quotes it."""
-    quoted = set()
+    changes, known = [], texts()
     for text, message in [pair for pair in unlike(messages()) if all(pair)]:
-        quoted.update((old.strip(" :"), new.strip(" :")) for old, new in segments(text, message, read(text.path)[text.start:text.end]))
+        names = re.findall(NAME, own_text(message))
+        pieces = [piece for piece in re.split(NAME, text.text)]
+        if len(pieces) == len(names) + 1:
+            changes.append(("".join(piece + name for piece, name in zip(pieces, [*names, ""])), own_text(message)))
         text = next(again for again in texts() if (again.path, again.source, again.text) == (text.path, text.source, text.text))
         (TOP / text.path).write_text(brought(text, message), encoding="utf-8")
-    for least, paths in QUOTES.items():
-        for path in (path for pattern in paths for path in TOP.glob(pattern)):
-            whole = path.read_text(encoding="utf-8")
-            for old, new in quoted:
-                if len(old.split()) >= least:
-                    whole = whole.replace(old, new)
-            if whole != path.read_text(encoding="utf-8"):
-                path.write_text(whole, encoding="utf-8")
+    for path in (path for pattern in CHECKS + PAGES for path in TOP.glob(pattern)):
+        whole = path.read_text(encoding="utf-8")
+        text = whole
+        for old, new in dict(changes).items():
+            text = requoted(text, old, new, [other.text for other in known]) if path.parent.name == "checks" else text
+            for part, other in zip(re.split(NAME, old), re.split(NAME, new)):
+                text = text.replace(part.strip(" :"), other.strip(" :")) if part != other and len(part.split()) >= LEAST else text
+        if text != whole:
+            path.write_text(text, encoding="utf-8")
 
 
 def row(message):
