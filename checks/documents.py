@@ -4,6 +4,8 @@
     checks/documents.py [NAME..]            runs all checks, or these; exit status 1 if a check finds a problem
     checks/documents.py --write [NAME..]    writes what these checks compare: `blocks` the code in the pages, `definitions` the page
                                             docs/DEFINITIONS.md, which git does not keep; without a name, also what is made from tables/
+    checks/documents.py --write --to FOLDER definitions
+                                            writes it below FOLDER, as bin/install does
     checks/documents.py --top FOLDER NAME   reads the files of FOLDER, such as installed pages, in the place of this repository
     checks/documents.py style               prints a table of how each text reads; all other checks are listed by `--help`
 
@@ -634,37 +636,15 @@ def interface_of_header(tree):
     return enums, structs, calls
 
 
-def clauses_of_crate(tree):
-    """The place of the bit of each clause, and the clauses that concern each server: a match names those that do not concern the other."""
-    text = tree.text("crates/lp_portable/src/broken.rt")
-    names = re.findall(r"^    (\w+),$", re.search(r"pub enum Clause \{(.*?)\n\}", text, flags=re.S)[1], flags=re.M)
-    places = {enumerator(name): place for place, name in enumerate(["NotALine"] + names)}
-    arms = re.search(r"fn concerns\(.*?match clause \{(.*?)\n    \}", text, flags=re.S)[1]
-    masks = {}
-    for arm, server in re.findall(r"((?:[|\s]*Clause::\w+)+) => !matches!\(to, Servers::(\w+)\)", arms):
-        others = [enumerator(name) for name in re.findall(r"Clause::(\w+)", arm)]
-        masks[server.lower()] = sum(1 << place for name, place in places.items() if name not in others)
-    return places, masks
-
-
-def clauses_of_header(tree):
-    """The same of the header."""
-    text = tree.text(HEADER)
-    places = {enumerator(name): int(place) for name, place in re.findall(r"#define LP_CLAUSE_(\w+) +\(UINT64_C\(1\) << (\d+)\)", text)}
-    return places, {name.lower(): int(mask, 16) for name, mask in re.findall(r"#define LP_OF_(\w+) +UINT64_C\((\w+)\)", text)}
-
-
 def check_header(tree):
-    """The header has the enums, structs and calls of crates/lp_c, with the names of fields and parameters, and the clauses of lp_portable;
-    bindings/c/empty.c has its constants, and packaging/symbols.in its constants and calls."""
+    """The header has the enums, structs and calls of crates/lp_c, with the names of fields and parameters; bindings/c/empty.c has its
+    constants, and packaging/symbols.in its constants and calls."""
     crate, header = interface_of_crate(tree), interface_of_header(tree)
     for what, wanted, given in zip(("enum", "struct", "call"), crate, header):
         for name in sorted(wanted.keys() | given.keys()):
             tree.looked_at[f"{what}s of the header"] += 1
             if wanted.get(name) != given.get(name):
                 yield f"{what} {name}: the crate has {wanted.get(name)}, the header {given.get(name)}"
-    if clauses_of_crate(tree) != clauses_of_header(tree):
-        yield f"crates/lp_portable has the clauses and masks {clauses_of_crate(tree)}, the header {clauses_of_header(tree)}"
     constants = re.findall(r"^extern const (\w+) (\w+);", tree.text(HEADER), flags=re.M)
     made = re.findall(r"^const (\w+) (\w+) = (\w+);", tree.text(EMPTY), flags=re.M)
     for _, name, value in sorted({(kind, name, name.upper()) for kind, name in constants} ^ set(made)):
@@ -875,7 +855,7 @@ def warning_of_style(tree):
 
 CHECKS = {"versions": check_versions, "definitions": check_definitions, "blocks": check_blocks, "links": check_links, "names": check_names,
           "layers": check_layers, "lemmas": check_lemmas, "header": check_header, "page_items": check_page_items}
-SCRIPTS = {name: f"checks/{name}.py" for name in ("promises", "fault_files", "bindings", "bodies", "witnesses")} | {"tables": "tables/generate.py"}
+SCRIPTS = {name: f"checks/{name}.py" for name in ("promises", "fault_files", "bindings", "bugs")} | {"tables": "tables/generate.py"}
 WRITERS = {"blocks": block_texts, "definitions": lambda tree: {DEFINITIONS: definitions_page(tree)}}
 
 
@@ -905,19 +885,20 @@ def run(tree, names):
     return failed
 
 
-def write(tree, names):
-    """Writes the files that these checks compare or make, if their text differs."""
+def write(tree, names, folder):
+    """Writes below a folder the files that these checks compare or make, if their text differs from the tree's."""
     for name in names:
         for path, text in WRITERS[name](tree).items():
             if path not in tree.paths or tree.text(path) != text:
-                (tree.top / path).write_text(text, encoding="utf-8")
+                (folder / path).parent.mkdir(parents=True, exist_ok=True)
+                (folder / path).write_text(text, encoding="utf-8")
                 print(f"documents: wrote {path}")
 
 
 def main(words):
     """Runs what the words ask for."""
-    top = words.pop(words.index("--top") + 1) if "--top" in words[:-1] else TOP
-    asked = [word for word in words if word not in ("--write", "--top")]
+    top, to = (Path(words.pop(words.index(word) + 1)) if word in words[:-1] else TOP for word in ("--top", "--to"))
+    asked = [word for word in words if word not in ("--write", "--top", "--to")]
     known = WRITERS if "--write" in words else {"style": None, **CHECKS, **SCRIPTS}
     if wrong := [word for word in asked if word not in known]:
         checks = "".join(f"\n    {name:<14}{' '.join((check.__doc__ or '').split())}" for name, check in CHECKS.items())
@@ -927,7 +908,7 @@ def main(words):
         subprocess.run([TOP / SCRIPTS["tables"], "--write"], check=False)
     tree = Tree(top)
     if "--write" in words:
-        write(tree, asked or WRITERS)
+        write(tree, asked or WRITERS, to)
         return 0
     if asked == ["style"]:
         print_style(tree)

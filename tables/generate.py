@@ -11,12 +11,13 @@ Each kind of fact has a table and a module: the module's `places()` returns the 
 
 import sys
 
+import clause_table
 import messages
 import options
 import pages
 from records import TOP, Fault, read
 
-MODULES = [options, pages, messages]
+MODULES = [clause_table, options, pages, messages]
 
 
 def first_difference(path, old, new):

@@ -1,8 +1,8 @@
 """The messages of the programs, from tables/messages.txt, whose head says what its fields mean.
 
-Made of them are the tables of messages in docs/FORMAT.md, and the lists of messages in the man pages. Each text is compared with the code that
-displays it, and with its definition if it has one. A text that was changed in the table is brought, by `tables/generate.py --write`, to the code,
-the definition, and the checks and pages that quote it.
+Made of them are the tables of messages in docs/FORMAT.md, and the lists of messages in the man pages. Each text is compared with the code
+that displays it, and with its definition if it has one. A text that was changed in the table is brought, by `tables/generate.py --write`, to
+the code, the definition, and the checks and pages that quote it.
 """
 
 import re
@@ -19,14 +19,16 @@ NAME = r"\{\w*\}"
 # Where the variants of an enumeration are displayed: the file, and the functions or the `impl`; and the definition of their texts.
 WRONG, REFUSALS, NOTICES, RUNS = (f"crates/{path}.rt" for path in (
     "lp_programs/src/wrong", "lp_programs/src/refusals", "lp_programs/src/speaking", "lp_rebuild/src/program"))
-DISPLAYED = {"Wrong": (WRONG, r"fn show_one<|impl<'a> fmt::Display for Wrong<"), "Refusal": (REFUSALS, r"impl<'a> fmt::Display for Refusal<"),
+DISPLAYED = {"Wrong": (WRONG, r"fn show_one<|impl<'a> fmt::Display for Wrong<"),
+             "Refusal": (REFUSALS, r"impl<'a> fmt::Display for Refusal<"),
              "Notice": (NOTICES, r"impl<'a> fmt::Display for Notice<"), "RunFault": (RUNS, r"impl fmt::Display for RunFault ")}
-DEFINED = {"Refusal": ("crates/lp_programs/specs/Refusals.antt", "refusal_text"), "RunFault": ("crates/lp_rebuild/specs/Running.antt", "run_fault_text")}
+DEFINED = {"Refusal": ("crates/lp_programs/specs/Refusals.antt", "refusal_text"),
+           "RunFault": ("crates/lp_rebuild/specs/Running.antt", "run_fault_text")}
 LAST_LINE = "crates/lp_programs/src/relays.rt"
 # What quotes messages: checks whole ones, and these files also parts of so many words at least.
-CHECKS = ("checks/arguments.sh", "checks/series_arguments.sh", "checks/losses.sh", "checks/batch_files.py", "checks/given.sh", "checks/ranges.py",
-          "checks/posting.sh")
-PAGES, LEAST = ("checks/bodies/*.edits", "crates/*/must-fail/*.edit", "docs/OPERATING.md", "docs/INTEROP.md", "docs/SCALING.md", "README.md"), 4
+CHECKS = ("checks/arguments.sh", "checks/series_arguments.sh", "checks/losses.sh", "checks/batch_files.py", "checks/given.sh",
+          "checks/ranges.py", "checks/posting.sh")
+PAGES, LEAST = ("tables/bugs.tsv", "docs/OPERATING.md", "docs/INTEROP.md", "docs/SCALING.md", "README.md"), 4
 
 
 class Text(NamedTuple):
@@ -107,7 +109,8 @@ def errors():
 
 def texts():
     """All texts in code and definitions."""
-    return [*(text for name in DISPLAYED for text in displayed(name)), *(text for name in DEFINED for text in defined(name)), *errors()]
+    shown = [text for name in DISPLAYED for text in displayed(name)]
+    return [*shown, *(text for name in DEFINED for text in defined(name)), *errors()]
 
 
 def own_text(message):
@@ -239,14 +242,15 @@ def entry(message, program):
 
 def of_page(found, program):
     """The list of messages in the man page of a program."""
-    return [line for message in found if message["kind"] != "words" and program in message["programs"].split() for line in entry(message, program)]
+    told = [message for message in found if message["kind"] != "words" and program in message["programs"].split()]
+    return [line for message in told for line in entry(message, program)]
 
 
 def places():
     """Each stretch that lists messages."""
     found = messages()
-    words, others = ([row(message) for message in found if (message["kind"] == "words") == is_words and message["programs"] != "lp_rebuild"]
-                     for is_words in (True, False))
+    listed = [message for message in found if message["programs"] != "lp_rebuild"]
+    words, others = ([row(message) for message in listed if (message["kind"] == "words") == is_words] for is_words in (True, False))
     begin, end = '.\\" [messages]', '.\\" [end]'
     return [
         Place("docs/FORMAT.md", ("| message | if | status |", "|---"), "", others),

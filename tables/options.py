@@ -1,9 +1,9 @@
 """The options of the programs, from tables/options.txt and tables/series_options.txt. The head of the first says what the fields mean.
 
-Made of them here are the usage and the help in the code, with the lists of options that have values, exclude each other or need another one;
-the tables of options in docs/FORMAT.md; the usage in docs/OPERATING.md; and the lists of options in examples/parts.sh. The code and the
-definitions of the words are written by hand, since they are proved: they must know just these options. Each option of lp_relay, and each word
-of a few that comes after one, must be told in docs/TRUST.md, in CHANGELOG.md, and in a check that runs lp_relay.
+Made of them here are the usage and the help in the code, with the lists of options that have values, exclude each other or need another
+one; the tables of options in docs/FORMAT.md; the usage in docs/OPERATING.md; and the lists of options in examples/parts.sh. The code and
+the definitions of the words are written by hand, since they are proved: they must know just these options. Each option of lp_relay, and
+each word of a few that comes after one, must be told in docs/TRUST.md, in CHANGELOG.md, and in a check that runs lp_relay.
 """
 
 import re
@@ -304,7 +304,8 @@ def differences(program):
     if program.placed(ALONE):
         fields = {word.strip("-").replace("-", "_") for word in words_at_odds(program.options)}
         path = CODE[program.name][1]
-        yield from (f"{path}: are_at_odds and the table of {program.name} differ in {name}" for name in sorted(fields ^ at_odds(read(path))))
+        others = sorted(fields ^ at_odds(read(path)))
+        yield from (f"{path}: are_at_odds and the table of {program.name} differ in {name}" for name in others)
     wanted = {word for option in program.options for word in option.words()}
     for path in CODE[program.name]:
         has = told(path, read(path))
