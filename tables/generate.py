@@ -13,11 +13,12 @@ import sys
 
 import clause_table
 import fault_table
+import messages
 import options
 import pages
 from records import TOP, Fault, read
 
-MODULES = [clause_table, fault_table, options, pages]
+MODULES = [clause_table, fault_table, options, pages, messages]
 
 
 def first_difference(path, old, new):
@@ -43,6 +44,8 @@ def main(words):
         print(__doc__, file=sys.stderr)
         return 2
     try:
+        if words:
+            messages.bring()
         changed = changed_files()
         while words and changed:  # what is written may be counted elsewhere
             for path, _, text in changed:
