@@ -34,6 +34,8 @@ complete -c lp_relay -l strict -d 'reads the strict dialect' \
     -n '__lp_relay_can --strict --cut --help -h --version --newline-delimited'
 complete -c lp_relay -l newline-delimited -d 'reads the newline-delimited dialect' \
     -n '__lp_relay_can --newline-delimited --cut --help -h --version --strict'
+complete -c lp_relay -l whole-lines -d 'leaves a last line without a newline unread' \
+    -n '__lp_relay_can --whole-lines --cut --help -h --version'
 complete -c lp_relay -l crlf -d 'drops a carriage return at the end of each line' \
     -n '__lp_relay_can --crlf --cut --help -h --version'
 complete -c lp_relay -l verbatim -d 'writes each line that can be read as it came, byte for byte' \
