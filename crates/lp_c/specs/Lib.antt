@@ -1,5 +1,6 @@
 pub mod BlockVerdicts
 pub mod Blocks
+pub mod ClauseMessages
 pub mod Crossing
 pub mod Cutting
 pub mod Handed

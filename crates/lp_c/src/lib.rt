@@ -6,6 +6,7 @@
 
 mod block_verdicts;
 mod blocks;
+mod clause_messages;
 mod cuts;
 mod handed;
 mod handed_rows;
