@@ -116,7 +116,8 @@ def check_versions(tree):
 
 LIBRARIES = [
     "lp_format", "lp_scan", "lp_split", "lp_values", "lp_events", "lp_lines", "lp_build", "lp_written", "lp_portable", "lp_influx",
-    "influxdb_line_protocol", "lp_rebuild", "lp_relay", "lp_series", "lp_programs", "lp_relay_program", "lp_series_program", "lp_c",
+    "influxdb_line_protocol", "lp_rebuild", "lp_relay", "lp_series", "lp_programs", "lp_relay_program", "lp_series_program", "lp_offsets",
+    "lp_c",
 ]
 PROGRAMS = ["lp_programs", "lp_relay_program", "lp_series_program"]
 # Crates of which a caller names what their roots hand on, and crates all of whose public functions are for callers.
@@ -142,6 +143,7 @@ ROOMS = {
     "lp_relay": ("The relay", "The definitions of `lp_relay`."),
     "lp_series": ("Series", "The definitions of `lp_series`."),
     "programs": ("The programs", "The definitions of `lp_programs`, `lp_relay_program` and `lp_series_program`."),
+    "lp_offsets": ("Rows by offsets", "The definitions of `lp_offsets`."),
     "lp_c": ("Callers in C", "The definitions of `lp_c`."),
 }
 DEFINITION = re.compile(r"^(?:(?:abbrev|unfoldable) )?pub (?:(data|record) )?(\S+)(.*)$")
@@ -708,12 +710,13 @@ def parameter_in_c(name, kind):
 
 
 def interface_of_crate(tree):
-    """The enums, structs and calls of crates/lp_c, as C has them."""
-    text = plain("\n".join(tree.text(path) for path in tree.glob("crates/lp_c/src/*.rt"))).replace("<'_>", "")
+    """The enums, structs and calls of crates/lp_offsets and crates/lp_c, as C has them."""
+    paths = [path for crate in ("lp_offsets", "lp_c") for path in tree.glob(f"crates/{crate}/src/*.rt")]
+    text = plain("\n".join(tree.text(path) for path in paths).replace("#[repr(C)]", "repr_c")).replace("<'_>", "")
     enums = {c_name(name): [(enumerator(n), v) for n, v in re.findall(r"(\w+) = (\d+)", body)]
              for name, body in re.findall(r"pub enum (\w+) \{(.*?)\}", text) if "=" in body}
     structs = {c_name(name): [one for n, kind in re.findall(r"pub (\w+): ([^,]+),", body) for one in field_in_c(n, kind.strip())]
-               for name, body in re.findall(r"pub struct (\w+) \{(.*?)\}", text)}
+               for name, body in re.findall(r"repr_c pub struct (\w+) \{(.*?)\}", text)}
     structs["lp_text"] = [("const uint8_t *", "at"), ("size_t", "len")]
     calls = {}
     for name, inner, result in re.findall(r'pub extern "C" fn (\w+)\((.*?)\)(?: -> (\w+))?', text):
@@ -754,7 +757,7 @@ def interface_of_header(tree):
 
 
 def check_header(tree):
-    """The header has the enums, structs and calls of crates/lp_c, with the names of fields and parameters; bindings/c/empty.c has its
+    """The header has the enums, structs and calls of crates/lp_c and crates/lp_offsets, with the names of fields and parameters; bindings/c/empty.c has its
     constants, and packaging/symbols.in its constants and calls."""
     crate, header = interface_of_crate(tree), interface_of_header(tree)
     for what, wanted, given in zip(("enum", "struct", "call"), crate, header):
@@ -770,31 +773,6 @@ def check_header(tree):
     yield from (f"{name} is not in both {HEADER} and {SYMBOLS}" for name in sorted({name for _, name in constants} ^ set(symbols) ^ header[2].keys()))
 
 
-# The items of crates/lp_page
-
-def items(tree, path):
-    """The items of a file: what stands between two blank lines, without imports and the comments at the start of a file."""
-    for block in re.split(r"\n\n+", tree.text(path).replace("Rattle.lp_c.", "Rattle.lp_page.")):
-        lines = [line for line in block.rstrip().split("\n") if not re.match(r"(ghost use|use|pub use|pub mod|mod) |//!|#!\[", line)]
-        item = re.sub(r"\n\}$", "", "\n".join(lines))  # The last item of a block of methods ends with the block.
-        if item and not (path.endswith(".antt") and len(lines) == 1 and item.startswith("--")):
-            yield item
-
-
-def check_page_items(tree):
-    """Each item of crates/lp_page in a file that lp_c has too is an item of lp_c. The kit takes no static library as a part of another, so
-    lp_page has copies of the items of lp_c that ask for no memory."""
-    own, other = "crates/lp_page/", "crates/lp_c/"
-    places = [f"{own}{folder}/**/*.{end}" for folder in ("src", "specs", "proofs") for end in ("rt", "antt")]
-    for path in tree.glob(*places):
-        if (there := other + path.removeprefix(own)) in tree.paths and not path.endswith(("/lib.rt", "/Lib.antt")):
-            known = {*items(tree, there)}
-            for item in items(tree, path):
-                tree.looked_at["items of lp_page"] += 1
-                if item not in known:
-                    yield f"{path} has what lp_c has otherwise, or not: {item.splitlines()[0]}"
-
-
 # Blocks of code
 
 EXAMPLES = "crates/lp_examples/"
@@ -804,9 +782,7 @@ PAGES_WITH_BLOCKS = ["README.md", "docs/RATTLE.md", "docs/BINDINGS.md", "binding
 LANGUAGES = ("rust", "antt", "c", "cpp", "rs", "python", "go")  # of the blocks that must be copies
 MARK = re.compile(r"^\s*(?://|#) \[(\w+)\]$", re.M)
 BLOCK = re.compile(r"^(?:<!-- block (\S+) -->\n+)?```(\w*)\n(.*?^)```$", re.M | re.S)
-ANSWERS, KINDS, FORMAT = "checks/tables/answers.tsv", "crates/lp_relay/src/kinds.rt", "docs/FORMAT.md"
-# What counts the kinds of faults, since it cannot read that file.
-COUNTS = ("checks/lp_checks.h", r"LP_KINDS = (\d+)"), ("checks/series_arguments.sh", r"= (\d+) \] \|\| fail \"the metrics have not")
+ANSWERS, FORMAT = "checks/tables/answers.tsv", "docs/FORMAT.md"
 
 
 def stretches(tree):
@@ -844,8 +820,8 @@ def block_texts(tree):
     linked = re.findall(r"lp_examples/src/(\w+)\.rt\)", "".join(texts.values()))
     if unquoted := sorted({name for name in known if "/" not in name} - quoted - {*linked}):
         raise Fault(f"no page has the stretch `{unquoted[0]}`, or a link to a file of that name")
-    for place in (texts_of_dialects(tree), kinds_of_page(tree)):
-        texts[place.path] = place.filled(texts.get(place.path) or tree.text(place.path))
+    place = texts_of_dialects(tree)
+    texts[place.path] = place.filled(texts.get(place.path) or tree.text(place.path))
     return texts
 
 
@@ -874,26 +850,9 @@ def texts_of_dialects(tree):
     return Place(FORMAT, ("| text | `Crate`", "|---"), "", lines)
 
 
-def kinds_of_page(tree):
-    """The kinds of faults in the man page, from the code that names them. The kinds of docs/FORMAT.md are compared too."""
-    text = tree.text(KINDS)
-    meant = {kind: what for what, kind in re.findall(r"^    /// (.*)\n    (\w+),$", text, re.M)}
-    named = re.findall(r"^ +Kind::(\w+) => \"(\w+)\",$", text, re.M)
-    if not sorted(re.findall(r"^    Kind::(\w+),$", text, re.M)) == sorted(meant) == sorted(kind for kind, _ in named):
-        raise Fault(f"{KINDS}: a kind is not listed, has no name, or is not told in one line")
-    found = sorted((name, meant[kind]) for kind, name in named)
-    rows = re.findall(r"^\| `(\w+)` \|", tree.text(FORMAT).partition("| `kind` | the fault |\n")[2].partition("\n\n")[0], re.M)
-    if sorted(rows) != [name for name, _ in found]:
-        raise Fault(f"{FORMAT} has not the kinds of {KINDS}: {' '.join(sorted({name for name, _ in found} ^ set(rows)))}")
-    if [len(found)] * 2 != (counted := [int(n) for path, pattern in COUNTS for n in re.findall(pattern, tree.text(path))]):
-        raise Fault(f"{KINDS} has {len(found)} kinds, where {' and '.join(path for path, _ in COUNTS)} have {counted}")
-    lines = [line for name, what in found for line in (f".It Li {name}", *textwrap.wrap(what.replace("`", ""), 78))]
-    return Place("man/lp_relay.1", ('.\\" [kinds]',), '.\\" [end]', lines)
-
-
 def check_blocks(tree):
-    """Each block of code in the pages is a copy of its example, each example is quoted, and the table of texts in docs/FORMAT.md and the kinds
-    of faults in the man page of lp_relay are as the rows and the code have them."""
+    """Each block of code in the pages is a copy of its example, each example is quoted, and the table of texts in docs/FORMAT.md is as the
+    rows have it."""
     for path, text in block_texts(tree).items():
         if text != tree.text(path):
             yield first_difference(path, tree.text(path), text) + "\nrun checks/documents.py --write blocks"
@@ -978,9 +937,9 @@ def warning_of_style(tree):
 
 # The program
 
-CHECKS = {"versions": check_versions, "definitions": check_definitions, "trust": check_trust, "settings": check_settings, "blocks": check_blocks, "links": check_links, "names": check_names,
-          "layers": check_layers, "lemmas": check_lemmas, "header": check_header, "page_items": check_page_items}
-SCRIPTS = {name: f"checks/{name}.py" for name in ("fault_files", "bindings", "bugs")} | {"tables": "tables/generate.py"}
+CHECKS = {"versions": check_versions, "definitions": check_definitions, "trust": check_trust, "settings": check_settings, "blocks": check_blocks,
+          "links": check_links, "names": check_names, "layers": check_layers, "lemmas": check_lemmas, "header": check_header}
+SCRIPTS = {"bindings": "checks/bindings.py", "bugs": "checks/bugs.py", "tables": "tables/generate.py"}
 WRITERS = {"blocks": block_texts, "definitions": lambda tree: {DEFINITIONS: definitions_page(tree)}}
 
 
