@@ -80,6 +80,7 @@ check_programs() {
     part checks/series_arguments.sh checks/series_arguments.sh "$made/lp_series_program"
     part checks/series.sh checks/series.sh "$made/lp_relay_program" "$made/lp_series_program"
     part checks/losses.sh checks/losses.sh "$made/lp_relay_program"
+    part checks/failing_calls.py checks/failing_calls.py "$made"/lp_{relay,series}_program
     part checks/inputs.sh checks/inputs.sh "$made/lp_rebuild_program" "$made/lp_relay_program"
     part checks/posting.sh checks/posting.sh "$made/lp_relay_program"
     part checks/sending.sh checks/sending.sh "$made/lp_relay_program"

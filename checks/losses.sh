@@ -425,7 +425,6 @@ if python3 -c 'import sys; sys.exit(sys.version_info < (3, 10))' 2>/dev/null; th
     "$top/checks/settings.py" "$relay"
     "$top/checks/forms.py" "$relay"
     "$top/checks/batch_files.py" "$relay"
-    ! strace -o "$work/trace" true 2>"$work/err" || "$top/checks/failing_calls.py" "$relay"
     "$top/checks/grammar.py" "$relay"
     "$top/checks/recording.py" "$relay"
 else
