@@ -24,8 +24,7 @@ from pathlib import Path
 from typing import NamedTuple
 
 from clauses import bare, function, members
-from definitions import LIBRARIES
-from promises import TOP, handed_on_calls, read, without_types
+from documents import LIBRARIES, TOP, Tree, all_public_calls, without_types
 
 TABLE, TRIED, PENDING = TOP / "tables" / "bugs.tsv", TOP / "tables" / "bugs_tried.tsv", TOP / "out" / "bugs_tried.tsv"
 NEXT = " ⏎ "  # stands between the texts of a row that changes several places
@@ -51,6 +50,10 @@ class Bug(NamedTuple):
     @property
     def path(self):
         return TOP / "crates" / self.crate / self.file
+
+
+def read(path):
+    return path.read_text(encoding="utf-8")
 
 
 def bug_of_row(line):
@@ -156,7 +159,8 @@ def public_calls(bugs):
     """Each public call with a body, and the bugs in it. A body that is one call of a function has the bugs of that function: `by NAME`."""
     paths = [path for crate in LIBRARIES for path in sorted((TOP / "crates" / crate / "src").rglob("*.rt"))]
     functions = [each for path in paths for each in functions_in(path)]
-    public = {(path, name) for _, name, _, path in handed_on_calls() if path.stem != "laws" and not name.startswith(NOT_PROMISED)}
+    public = {(TOP / path, name) for _, name, _, path in all_public_calls(Tree(TOP))
+              if not path.endswith("/laws.rt") and not name.startswith(NOT_PROMISED)}
     found = bugs_in(functions, bugs)
     for call in functions:
         if (call.path, call.name) in public:

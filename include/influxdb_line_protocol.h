@@ -27,7 +27,7 @@ enum lp_answer {
     LP_MORE_PARTS = 3,    /* the line has more tags and fields than parts were lent: nothing was read */
     LP_MORE_ROOM = 4,     /* the texts take more room than was lent: nothing was read, or nothing was written */
     LP_OUT_OF_MEMORY = 5, /* a request for memory was refused */
-    LP_NOT_A_LINE = 6,    /* what was handed in is no line */
+    LP_NOT_A_LINE = 6,    /* what was handed in is no line, no fault or no clause */
     LP_WRITTEN = 7,       /* what was asked for was written */
     LP_NOT_UTF8 = 8,      /* the text is no UTF-8 */
     LP_PIECE = 9,         /* a newline of the text ends the piece */
@@ -55,19 +55,19 @@ enum lp_kind {
     LP_BOOLEAN = 5   /* a field: `boolean` */
 };
 
-/* What is wrong with a line. `fault_text` has the number of 4, 5 and 6, the key of 1, and the rest of the line of 8. */
+/* What is wrong with a line. */
 enum lp_fault_kind {
     LP_NONE = 0,
-    LP_DUPLICATE_TAG = 1,
-    LP_MEASUREMENT_VALUE_INVALID = 2,
-    LP_FIELD_SET_MISSING = 3,
-    LP_INTEGER_VALUE_INVALID = 4,
-    LP_UINTEGER_VALUE_INVALID = 5,
-    LP_TIMESTAMP_VALUE_INVALID = 6,
-    LP_ENDS_WITH_BACKSLASH = 7,
-    LP_CANNOT_PARSE_ENTIRE_LINE = 8,
-    LP_TAG_SET_MALFORMED = 9,
-    LP_GENERIC_PARSING_ERROR = 10
+    LP_DUPLICATE_TAG = 1,              /* a key of the tags is repeated: `fault_text` is the key */
+    LP_MEASUREMENT_VALUE_INVALID = 2,  /* the line does not begin with a measurement */
+    LP_FIELD_SET_MISSING = 3,          /* the line has no field */
+    LP_INTEGER_VALUE_INVALID = 4,      /* an integer is out of its range: `fault_text` is the number */
+    LP_UINTEGER_VALUE_INVALID = 5,     /* an unsigned integer is out of its range: `fault_text` is the number */
+    LP_TIMESTAMP_VALUE_INVALID = 6,    /* a timestamp is out of its range: `fault_text` is the number */
+    LP_ENDS_WITH_BACKSLASH = 7,        /* a name ends in a backslash */
+    LP_CANNOT_PARSE_ENTIRE_LINE = 8,   /* something is left after the last part that could be read: `fault_text` is the rest */
+    LP_TAG_SET_MALFORMED = 9,          /* a comma comes after the measurement, and no tag after it */
+    LP_GENERIC_PARSING_ERROR = 10      /* no space comes after the measurement */
 };
 
 /* On which side of its range a number lies. */
@@ -424,6 +424,16 @@ uint32_t lp_line_is_admitted(uint32_t dialect, const lp_line *line, const lp_par
  * repeated key, which lp_line_base puts out, is the `fault_text` of LP_DUPLICATE_TAG. It asks for no memory. LP_NOT_A_LINE:
  * `fault` is LP_NONE or no kind, or `fault_text` is no UTF-8. */
 uint32_t lp_fault_message(const lp_line *line, uint8_t *out, size_t room, size_t *len);
+
+/* Writes the message of a clause of what is portable, with no newline, at the start of `out`: what breaks the clause, in words. `clause` is
+ * one bit of a verdict, for example LP_CLAUSE_REPEATED_TAG, whose message is "two tags have one key". It asks for no memory.
+ * LP_WRITTEN: the message was written, and `len` is its length in bytes. LP_MORE_ROOM: `out` is too short, and `len` is how many bytes the
+ * message takes. LP_NOT_A_LINE: `clause` is not the bit of one clause, for example because it is 0 or has two bits; `len` is as it was.
+ * Only LP_WRITTEN changes `out`. To print all that a line breaks:
+ *
+ *     for (uint64_t left = row.verdict; left != 0; left &= left - 1)
+ *         if (lp_clause_message(left & -left, out, sizeof out, &len) == LP_WRITTEN) printf("%.*s\n", (int)len, out); */
+uint32_t lp_clause_message(uint64_t clause, uint8_t *out, size_t room, size_t *len);
 
 /* The number of the literal of a float: the nearest double, and of two that are as near that with an even significand; it is
  * infinite where the literal is too large. It asks for no memory. False: the text is no such literal, and `value` is as it was. */

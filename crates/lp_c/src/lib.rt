@@ -6,20 +6,15 @@
 
 mod block_verdicts;
 mod blocks;
-mod cuts;
+mod clause_messages;
+mod exports;
 mod handed;
 mod handed_rows;
 mod lent;
 mod messages;
 mod numbers;
-mod offsets;
-mod pieces;
-mod placed;
-mod placing;
-mod portions;
 mod reading;
 mod rebuilding;
-mod row_keys;
 mod sure_rows;
 mod telling;
 mod verdicts;
