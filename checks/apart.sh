@@ -343,6 +343,7 @@ for input in "${inputs[@]}"; do
     compare "$input" "1 8 64" --max-line 11 --summary
     compare "$input" "1 8 64" --faults json --strict
     compare "$input" "1 8 64" --newline-delimited --lines
+    compare "$input" "1 8" --newline-delimited --whole-lines --summary
 done
 # Each option in half of the runs, in any order.
 RANDOM=$seed

@@ -176,6 +176,8 @@ if [ -n "$program" ]; then
     refused "--first-item cannot be given with --lines" --lines --first-item 7
     refused "--canonical cannot be given with --verbatim" --verbatim --canonical --first-item 7 --lines --faults json
     refused "--max-fields needs --types" --max-fields 7
+    refused "--whole-lines needs --newline-delimited" --whole-lines
+    refused "--whole-lines needs --newline-delimited" --whole-lines --strict --check
     refused "--cut: x is no number" --cut x
     refused "--cut comes first, or after --strict or --newline-delimited alone" --lines --cut 2
     refused "--help comes alone" --strict --help
@@ -602,6 +604,7 @@ printf 'm a=1i' >a
 printf 'm b=2i\nx\n' >b
 : >e
 printf 'm s="x' >q
+printf 'm a=1i\nm b=2' >half
 printf 'm s="x\nm d=5i\n"' >open
 printf '"' >z
 printf 'm c=3i\n' | tee c >./-c
@@ -698,6 +701,78 @@ given 1 '' '{"file":"b","item":1,"line":1,"offset":7,"piece_line":1,"piece_offse
     --faults json --range 7.. b
 given 1 'm d=5i\n' "item 2: $x\n" --newline-delimited --range 7.. open
 given 0 '' '' --range 9..9 b
+# What comes after the last newline of an input is not read.
+whole=(--newline-delimited --whole-lines)
+counts=' bytes, 1 lines, 1 items: 1 carried, 0 refused\n'
+given 0 'm a=1i\nm b=2\n' '' --newline-delimited half
+given 0 'm a=1i\n' "7$counts" "${whole[@]}" --summary half
+given 0 'm a=1i\nm c=3i\nm a=1i\n' '21 bytes, 3 lines, 3 items: 3 carried, 0 refused\n' "${whole[@]}" --summary half a c e half
+given 0 '' '0 bytes, 0 lines, 0 items: 0 carried, 0 refused\n' "${whole[@]}" --summary a e
+given 1 'm b=2i\n' "item 2: $x\n" "${whole[@]}" b
+for range in 0..12 0..8 0..7 0..; do given 0 'm a=1i\n' "7$counts" "${whole[@]}" --summary --range "$range" half; done
+for range in 0..6 0..0 7.. 7..9 9..12 12..; do given 0 '' '0 bytes, 0 lines, 0 items: 0 carried, 0 refused\n' "${whole[@]}" --summary --range "$range" half; done
+
+# `ends OUTPUT FAULTS TEXT WORD..`: what a file and a pipe that have this text give, if no byte after the last newline is read.
+ends() {
+    local said=$2 text=$3
+    want "$([ -z "$said" ] || echo 1)" "$1" "$said"
+    status_wanted=${status_wanted:-0}
+    printf '%b' "$text" >"$work/ends"
+    shift 3
+    "$relay" "${whole[@]}" "$@" "$work/ends" >"$work/out" 2>"$work/err" && status=0 || status=$?
+    same "a file that ends within a line, with the words ($*)"
+    # shellcheck disable=SC2002
+    cat "$work/ends" | "$relay" "${whole[@]}" "$@" >"$work/out" 2>"$work/err" && status=0 || status=$?
+    same "a pipe that ends within a line, with the words ($*)"
+    "$relay" "${whole[@]}" "$@" <"$work/ends" >"$work/out" 2>"$work/err" && status=0 || status=$?
+    same "standard input that ends within a line, with the words ($*)"
+}
+ends '' '' ''
+ends '' '' 'm a=1i'
+ends '' '' '\n'
+ends '' '' '\n\n# c\n\n# m a=1i'
+ends 'm a=1i\n' '' 'm a=1i\n'
+ends 'm a=1i\n' '' 'm a=1i\n\n\n x'
+ends 'm a=1i\n' '' 'm a=1i\r\nm b=2i\r' --crlf
+ends '' "item 1: No fields were provided\n" 'm s="x\ny"'
+ends '' '' '\0357\0273\0277m a=1i'
+# Around the ends of the blocks in which an input is read, with lines that are whole, and one that is not.
+for length in 1 65528 65529 65530 65535 65536 65537 131065 131071 131072 131073 200000; do
+    long=$(printf '%*s' "$length" "" | tr ' ' x)
+    ends 'm a=1i\n' '' "m a=1i\n$long"
+    ends "m a=1i\nm,t=$long a=1i\nm c=3i\n" '' "m a=1i\nm,t=$long a=1i\nm c=3i\nm d=4"
+done
+# A last line that is too long: of a file it is not read, also in little memory. Of a pipe it is refused, so that no more is held.
+truncate -s 300M "$work/huge"
+printf 'm a=1i\n' | dd of="$work/huge" conv=notrunc status=none
+want 0 'm a=1i\n' "7$counts"
+(ulimit -v 32000 && "$relay" "${whole[@]}" --summary "$work/huge") >"$work/out" 2>"$work/err" && status=0 || status=$?
+same "a file of which the last line is too long"
+want 1 'm a=1i\n' 'item 2: the line is too long\n'
+# shellcheck disable=SC2002
+cat "$work/huge" | (ulimit -v 32000 && "$relay" "${whole[@]}" --max-line 80) >"$work/out" 2>"$work/err" && status=0 || status=$?
+same "a pipe of which the last line is too long"
+rm "$work/huge"
+# A pipe that pauses within lines, and a file that grows. What comes between two runs is in the second one.
+want 0 'm a=1i\nm b=2i\n' "14 bytes, 2 lines, 2 items: 2 carried, 0 refused\n"
+{ printf 'm a=' && sleep 0.1 && printf '1i\nm b' && sleep 0.1 && printf '=2i' && sleep 0.1 && printf '\nm c=3'; } |
+    "$relay" "${whole[@]}" --summary >"$work/out" 2>"$work/err" && status=0 || status=$?
+same "a pipe that pauses within lines"
+from=0
+: >"$work/ends"
+want 0 '' ''
+: >"$work/all"
+for text in 'm a=1i\nm b' '=2i' '\n' '' 'm c=3i\nm d=4i\nm' ' e=5i\n'; do
+    printf '%b' "$text" >>"$work/ends"
+    "$relay" "${whole[@]}" --summary --range "$from.." "$work/ends" >>"$work/all" 2>"$work/err" && status=0 || status=$?
+    from=$((from + $(sed -n 's/ bytes, .*//p' "$work/err")))
+done
+cmp "$work/all" "$work/ends"
+# A file of the system that does not tell how many bytes it has is read as a pipe is.
+"$relay" --newline-delimited --faults raw /proc/version >"$work/out_wanted" 2>"$work/err_wanted" && status_wanted=0 || status_wanted=$?
+"$relay" "${whole[@]}" --faults raw /proc/version >"$work/out" 2>"$work/err" && status=0 || status=$?
+same "a file that tells no length"
+[ -s "$work/err" ]
 given 0 '' '' --range 9.. b
 given 0 '' '' --range 000.. e
 given 0 'm s=4i\n' '7 bytes, 1 lines, 1 items: 1 carried, 0 refused\n' --range 0..7 --summary -

@@ -229,7 +229,7 @@ def failures(relay):
     asked = ["--batch-lines", "2", "-o", NAME]
     none = "No such file or directory (os error 2)"
     relay.clear()
-    same("a folder that is not there", relay.run(["--batch-lines", "2", "-o", f"none/{NAME}"], line), (2, b"", f"{UNWRITTEN}none/{NAME}: {none}\n"))
+    same("a folder that is not there", relay.run(["--batch-lines", "2", "-o", f"none/{NAME}"], line), (2, b"", f"{UNWRITTEN}none/{NAME % 1}: {none}\n"))
     (relay.room / "one").write_bytes(line * 5)
     same("an input that is not there", relay.run([*asked, "one", "none"]), (2, b"", f"lp_relay: cannot read the input: none: {none}\n"))
     same("an input that is not there: the files", relay.held(), {"one": line * 5, **files([line * 2] * 2)})
@@ -243,12 +243,14 @@ def failures(relay):
 
     relay.clear()
     has = relay.run(asked, line * 5 + LONG.encode() + b"\n" + line, preexec_fn=little)
-    same("a device that is full", has, (2, b"", f"{UNWRITTEN}{NAME}: File too large (os error 27)\n"))
+    same("a device that is full", has, (2, b"", f"{UNWRITTEN}{NAME % 3}: File too large (os error 27)\n"))
     # The lines of a pipe cannot be read again, so what there is of the next batch stays beside its place.
     same("a device that is full: the files", relay.placed(), (files([line * 2] * 2), [(line + LONG.encode())[:1024]]))
     relay.clear()
     (relay.room / "one").write_bytes(line * 5 + LONG.encode() + b"\n" + line)
-    same("a device that is full, and a file", relay.run([*asked, "one"], preexec_fn=little)[0], 2)
+    error = '{"run_error":{"kind":"write","file":"%s","text":"cannot write the output: %s: File too large (os error 27)"}}\n'
+    has = relay.run([*asked, "--faults", "json", "one"], preexec_fn=little)
+    same("a device that is full, and a file", has, (2, b"", error % (NAME % 3, NAME % 3)))
     same("a device that is full, and a file: the names", sorted(relay.held()), ["b-001.lp", "b-002.lp", "one"])
     relay.clear()
     same("numbers that are used up", relay.run(["--batch-lines", "1", "-o", "%01d"], line * 10),
@@ -259,7 +261,7 @@ def failures(relay):
     if os.getuid():
         relay.clear()
         relay.room.chmod(0o555)
-        same("a folder that cannot be written to", relay.run(asked, line), (2, b"", f"{UNWRITTEN}{NAME}: Permission denied (os error 13)\n"))
+        same("a folder that cannot be written to", relay.run(asked, line), (2, b"", f"{UNWRITTEN}{NAME % 1}: Permission denied (os error 13)\n"))
         relay.room.chmod(0o755)
     relay.clear()
     reader, writer = os.pipe()
@@ -288,7 +290,7 @@ def pauses(relay):
         process.stdin.write(line)
         process.stdin.flush()
         wait_for("a file beside its place", lambda: [path for path in relay.room.iterdir() if path.stat().st_size == len(line)])
-        same("another run with these names", relay.run(["--batch-lines", "1", "-o", NAME], line), (2, b"", f"{UNWRITTEN}{NAME}: another run is writing it\n"))
+        same("another run with these names", relay.run(["--batch-lines", "1", "-o", NAME], line), (2, b"", f"{UNWRITTEN}{NAME % 1}: another run is writing it\n"))
         same("a batch that is not full", first.exists(), False)
         process.stdin.write(line)
         process.stdin.flush()
@@ -296,7 +298,7 @@ def pauses(relay):
         same("a batch that is full", first.read_bytes(), line * 2)
         second.write_bytes(b"old\n")
         said = process.communicate(line * 2)[1].decode()
-    same("a batch that is there by then", (process.returncode, said[: len(UNWRITTEN)]), (2, UNWRITTEN))
+    same("a batch that is there by then", (process.returncode, said), (2, f"{UNWRITTEN}{NAME % 2}: File exists (os error 17)\n"))
     same("a batch that is there by then: the files", relay.placed(), ({first.name: line * 2, second.name: b"old\n"}, [line * 2]))
 
 

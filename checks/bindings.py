@@ -1,9 +1,8 @@
 #!/usr/bin/env python3
 """Whether the packages in Rust and Python declare the numbers, structs and calls that they use as
 include/influxdb_line_protocol.h has them; whether the package in JavaScript has its numbers, and the sizes and places that C lays its
-structs out by; and whether these and the package in Go have its clauses by their names, in their order, with their words, and the bits of each server.
-What a package does not use, or includes from the header, it need not declare. The table of clauses in docs/FORMAT.md has them too, and how
-the faults of lp_relay name them.
+structs out by. What a package does not use, or includes from the header, it need not declare. tables/generate.py writes the faults and the
+clauses of the packages.
 
     checks/bindings.py          prints each difference; status 1 where there is one
 """
@@ -86,8 +85,7 @@ def layout(structs, name):
 
 
 def js_differences(text, structs):
-    """Where core.js has another size of a struct, or another place of a member in words, or in halves of them, than C; and where it has
-    other faults than index.d.ts."""
+    """Where core.js has another size of a struct, or another place of a member in words, or in halves of them, than C."""
     numbers = {name: int(number) for name, number in re.findall(r"\b([A-Z_]+) = (\d+)(?=[,;])", text)}
     for name, struct in {"ROW": "lp_offset_row", "PART": "lp_offset_part", "BLOCK": "lp_block", "CUTS": "lp_cuts"}.items():
         size, _, places = layout(structs, struct)
@@ -98,10 +96,6 @@ def js_differences(text, structs):
                 at, width = places.get(member.removeprefix(name + "_").lower(), (-1, 4))
                 if place != at // min(width, 4):
                     yield f"JavaScript: {member} is {place}, which is not where {struct} has it"
-    told = re.findall(r"^    (\w+): ", re.search(r"const MESSAGES = \{(.*?)\n\};", text, flags=re.S)[1], flags=re.M)
-    declared = re.search(r"export type FaultKind =(.*?);", (JS / "index.d.ts").read_text(encoding="utf-8"), flags=re.S)[1]
-    for kind in set(told) ^ set(re.findall(r'"(\w+)"', declared)):
-        yield f"JavaScript: the fault {kind} is not in both, core.js and index.d.ts"
 
 
 def differences(package, given, header):

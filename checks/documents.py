@@ -7,7 +7,9 @@
     checks/documents.py --write --to FOLDER definitions
                                             writes it below FOLDER, as bin/install does
     checks/documents.py --top FOLDER NAME   reads the files of FOLDER, such as installed pages, in the place of this repository
-    checks/documents.py style               prints a table of how each text reads; all other checks are listed by `--help`
+    checks/documents.py style [FILE..]      prints a table of how each text reads, or each place of these files where a word stands for a noun
+
+`--help` prints what each check compares.
 
 Each check is a function of the table CHECKS, which reads the tree and yields problems in words. A check that has looked at nothing fails.
 Needs Python 3.10, and no package.
@@ -114,7 +116,8 @@ def check_versions(tree):
 
 LIBRARIES = [
     "lp_format", "lp_scan", "lp_split", "lp_values", "lp_events", "lp_lines", "lp_build", "lp_written", "lp_portable", "lp_influx",
-    "influxdb_line_protocol", "lp_rebuild", "lp_relay", "lp_series", "lp_programs", "lp_relay_program", "lp_series_program", "lp_c",
+    "influxdb_line_protocol", "lp_rebuild", "lp_relay", "lp_series", "lp_programs", "lp_relay_program", "lp_series_program", "lp_offsets",
+    "lp_c",
 ]
 PROGRAMS = ["lp_programs", "lp_relay_program", "lp_series_program"]
 # Crates of which a caller names what their roots hand on, and crates all of whose public functions are for callers.
@@ -140,6 +143,7 @@ ROOMS = {
     "lp_relay": ("The relay", "The definitions of `lp_relay`."),
     "lp_series": ("Series", "The definitions of `lp_series`."),
     "programs": ("The programs", "The definitions of `lp_programs`, `lp_relay_program` and `lp_series_program`."),
+    "lp_offsets": ("Rows by offsets", "The definitions of `lp_offsets`."),
     "lp_c": ("Callers in C", "The definitions of `lp_c`."),
 }
 DEFINITION = re.compile(r"^(?:(?:abbrev|unfoldable) )?pub (?:(data|record) )?(\S+)(.*)$")
@@ -321,29 +325,29 @@ IDENTIFIERS = re.compile(r"\.?[A-Za-z_]\w*(?:(?:::|\.)[A-Za-z_]\w*)*(?:\(\))?")
 NAMES_OF_OTHERS = {
     r"/.*": "it is of the machine",
     r"(.*/)?out/.*|crates/lp_c/out|dist/.*|lib\w+\.a|docs/DEFINITIONS\.md": "it is made",
-    r"again\.lp|batch\.lp|(a/b|lines)-000001\.lp|\./-x": "it is a file of the reader's",
+    r"again\.lp|a/b-000001\.lp": "it is a file of the reader's",
     r"proofs/m/f/": "it stands for the proofs of each function `m::f`",
-    r".*\b(MODULE|TYPE)": "it stands for each type",
+    r".*\bTYPE": "it stands for each type",
     r"_in": "it is the end of names",
     r"axioms": "a verdict says it",
     r"[a-z]_[a-z]": "a database makes it of a measurement and a field",
-    r"snafu|(snafu::)?ErrorCompat|BytesMut|Unpin": "it is of Rust",
+    r"snafu|(snafu::)?ErrorCompat|Unpin": "it is of Rust",
     r"lzma|makefile|sys\.stdin\.buffer": "it is of Python",
     r"yomskafi\.example/lineprotocol/v3|influxdb_line_protocol/lineprotocol": "the module in Go has this path, or had it",
     r"l/8": "it is of split",
-    r"\d+/\d+|K/N": "it is a shard",
-    r"mapreduce\..*|stream\..*|textinputformat\..*|RDD\.pipe|(whole)?[tT]ext(File|Files)": "it is of Hadoop or Spark",
+    r"K/N": "it is a shard",
+    r"stream\..*|textinputformat\..*|RDD\.pipe": "it is of Hadoop or Spark",
 }
 
 
 class Names:
-    """The names that the tree has: its paths, and the words and options of each file that is no page."""
+    """The names that the tree has: its paths, and the words and options of each file that is no page. The table above gives the tree no names."""
 
     def __init__(self, tree):
-        self.tree, self.options = tree, set()
-        self.words = [set(re.findall(r"\w+", f"{path} {tree.text(path)}")) for path in tree.paths if not path.endswith(".md")]
-        for path in tree.paths:
-            self.options.update(OPTION.findall(tree.text(path)) if not path.endswith(".md") else ())
+        texts = {path: tree.text(path) for path in tree.paths if not path.endswith(".md")}
+        self.tree, self.options = tree, {option for text in texts.values() for option in OPTION.findall(text)}
+        texts.pop("checks/documents.py", None)
+        self.words = [set(re.findall(r"\w+", f"{path} {text}")) for path, text in texts.items()]
 
     @functools.cache
     def has(self, name):
@@ -360,25 +364,30 @@ class Names:
         return None
 
 
-def names_in(span):
-    """What of a `code` may be a name: all of it; of several words the files and paths, and the options of programs of the tree."""
-    first, *others = span.split()
-    is_ours = "/" in first or first.startswith("lp_")
-    return [word for word in (first, *others) if not others or "/" in word or "::" in word or is_ours and word.startswith("--")]
+def names_on(tree, page):
+    """What of each `code` on a page may be a name, with its line: all of it; of several words the files and paths, and the options of programs
+    of the tree. The first column of a table of CHANGELOG.md may name what is gone."""
+    text = re.sub(r"^ *```.*?^ *```", lambda block: "\n" * block[0].count("\n"), tree.text(page), flags=re.S | re.M)
+    text = re.sub(r"^\| .*? \|", "", text, flags=re.M) if page == "CHANGELOG.md" else text
+    for span in re.finditer(r"`([^`]+)`", text):
+        first, *others = span[1].split()
+        is_ours = "/" in first or first.startswith("lp_")
+        for word in (first, *others):
+            if not others or "/" in word or "::" in word or is_ours and word.startswith("--"):
+                yield text.count("\n", 0, span.start()) + 1, word
 
 
 def check_names(tree):
-    """Each file, option, identifier and path of identifiers that a page names in `code` is in the tree. The first column of a table of
-    CHANGELOG.md may name what is gone."""
-    names = Names(tree)
-    for page in tree.pages():
-        text = re.sub(r"^ *```.*?^ *```", lambda block: "\n" * block[0].count("\n"), tree.text(page), flags=re.S | re.M)
-        text = re.sub(r"^\| .*? \|", "", text, flags=re.M) if page == "CHANGELOG.md" else text
-        for span in re.finditer(r"`([^`]+)`", text):
-            for name in names_in(span[1]):
-                tree.looked_at["names on pages"] += 1
-                if names.has(name.rstrip(",;")) is False and not any(re.fullmatch(other, name) for other in NAMES_OF_OTHERS):
-                    yield f"{page}:{text.count(chr(10), 0, span.start()) + 1}: nothing in the tree has `{name}`"
+    """Each file, option, identifier and path of identifiers that a page names in `code` is in the tree, or NAMES_OF_OTHERS says whose it is."""
+    names, used = Names(tree), set()
+    for page, line, name in ((page, line, name) for page in tree.pages() for line, name in names_on(tree, page)):
+        tree.looked_at["names on pages"] += 1
+        if names.has(name.rstrip(",;")) is False:
+            others = [other for other in NAMES_OF_OTHERS if re.fullmatch(other, name)]
+            used.update(others)
+            if not others:
+                yield f"{page}:{line}: nothing in the tree has `{name}`"
+    yield from (f"checks/documents.py: no page names what NAMES_OF_OTHERS has as {other}" for other in NAMES_OF_OTHERS if other not in used)
 
 
 # Layers
@@ -591,12 +600,13 @@ def parameter_in_c(name, kind):
 
 
 def interface_of_crate(tree):
-    """The enums, structs and calls of crates/lp_c, as C has them."""
-    text = plain("\n".join(tree.text(path) for path in tree.glob("crates/lp_c/src/*.rt"))).replace("<'_>", "")
+    """The enums, structs and calls of crates/lp_offsets and crates/lp_c, as C has them."""
+    paths = [path for crate in ("lp_offsets", "lp_c") for path in tree.glob(f"crates/{crate}/src/*.rt")]
+    text = plain("\n".join(tree.text(path) for path in paths).replace("#[repr(C)]", "repr_c")).replace("<'_>", "")
     enums = {c_name(name): [(enumerator(n), v) for n, v in re.findall(r"(\w+) = (\d+)", body)]
              for name, body in re.findall(r"pub enum (\w+) \{(.*?)\}", text) if "=" in body}
     structs = {c_name(name): [one for n, kind in re.findall(r"pub (\w+): ([^,]+),", body) for one in field_in_c(n, kind.strip())]
-               for name, body in re.findall(r"pub struct (\w+) \{(.*?)\}", text)}
+               for name, body in re.findall(r"repr_c pub struct (\w+) \{(.*?)\}", text)}
     structs["lp_text"] = [("const uint8_t *", "at"), ("size_t", "len")]
     calls = {}
     for name, inner, result in re.findall(r'pub extern "C" fn (\w+)\((.*?)\)(?: -> (\w+))?', text):
@@ -637,7 +647,7 @@ def interface_of_header(tree):
 
 
 def check_header(tree):
-    """The header has the enums, structs and calls of crates/lp_c, with the names of fields and parameters; bindings/c/empty.c has its
+    """The header has the enums, structs and calls of crates/lp_c and crates/lp_offsets, with the names of fields and parameters; bindings/c/empty.c has its
     constants, and packaging/symbols.in its constants and calls."""
     crate, header = interface_of_crate(tree), interface_of_header(tree)
     for what, wanted, given in zip(("enum", "struct", "call"), crate, header):
@@ -653,31 +663,6 @@ def check_header(tree):
     yield from (f"{name} is not in both {HEADER} and {SYMBOLS}" for name in sorted({name for _, name in constants} ^ set(symbols) ^ header[2].keys()))
 
 
-# The items of crates/lp_page
-
-def items(tree, path):
-    """The items of a file: what stands between two blank lines, without imports and the comments at the start of a file."""
-    for block in re.split(r"\n\n+", tree.text(path).replace("Rattle.lp_c.", "Rattle.lp_page.")):
-        lines = [line for line in block.rstrip().split("\n") if not re.match(r"(ghost use|use|pub use|pub mod|mod) |//!|#!\[", line)]
-        item = re.sub(r"\n\}$", "", "\n".join(lines))  # The last item of a block of methods ends with the block.
-        if item and not (path.endswith(".antt") and len(lines) == 1 and item.startswith("--")):
-            yield item
-
-
-def check_page_items(tree):
-    """Each item of crates/lp_page in a file that lp_c has too is an item of lp_c. The kit takes no static library as a part of another, so
-    lp_page has copies of the items of lp_c that ask for no memory."""
-    own, other = "crates/lp_page/", "crates/lp_c/"
-    places = [f"{own}{folder}/**/*.{end}" for folder in ("src", "specs", "proofs") for end in ("rt", "antt")]
-    for path in tree.glob(*places):
-        if (there := other + path.removeprefix(own)) in tree.paths and not path.endswith(("/lib.rt", "/Lib.antt")):
-            known = {*items(tree, there)}
-            for item in items(tree, path):
-                tree.looked_at["items of lp_page"] += 1
-                if item not in known:
-                    yield f"{path} has what lp_c has otherwise, or not: {item.splitlines()[0]}"
-
-
 # Blocks of code
 
 EXAMPLES = "crates/lp_examples/"
@@ -687,9 +672,7 @@ PAGES_WITH_BLOCKS = ["README.md", "docs/RATTLE.md", "docs/BINDINGS.md", "binding
 LANGUAGES = ("rust", "antt", "c", "cpp", "rs", "python", "go")  # of the blocks that must be copies
 MARK = re.compile(r"^\s*(?://|#) \[(\w+)\]$", re.M)
 BLOCK = re.compile(r"^(?:<!-- block (\S+) -->\n+)?```(\w*)\n(.*?^)```$", re.M | re.S)
-ANSWERS, KINDS, FORMAT = "checks/tables/answers.tsv", "crates/lp_relay/src/kinds.rt", "docs/FORMAT.md"
-# What counts the kinds of faults, since it cannot read that file.
-COUNTS = ("checks/lp_checks.h", r"LP_KINDS = (\d+)"), ("checks/series_arguments.sh", r"= (\d+) \] \|\| fail \"the metrics have not")
+ANSWERS, FORMAT = "checks/tables/answers.tsv", "docs/FORMAT.md"
 
 
 def stretches(tree):
@@ -727,8 +710,8 @@ def block_texts(tree):
     linked = re.findall(r"lp_examples/src/(\w+)\.rt\)", "".join(texts.values()))
     if unquoted := sorted({name for name in known if "/" not in name} - quoted - {*linked}):
         raise Fault(f"no page has the stretch `{unquoted[0]}`, or a link to a file of that name")
-    for place in (texts_of_dialects(tree), kinds_of_page(tree)):
-        texts[place.path] = place.filled(texts.get(place.path) or tree.text(place.path))
+    place = texts_of_dialects(tree)
+    texts[place.path] = place.filled(texts.get(place.path) or tree.text(place.path))
     return texts
 
 
@@ -757,26 +740,9 @@ def texts_of_dialects(tree):
     return Place(FORMAT, ("| text | `Crate`", "|---"), "", lines)
 
 
-def kinds_of_page(tree):
-    """The kinds of faults in the man page, from the code that names them. The kinds of docs/FORMAT.md are compared too."""
-    text = tree.text(KINDS)
-    meant = {kind: what for what, kind in re.findall(r"^    /// (.*)\n    (\w+),$", text, re.M)}
-    named = re.findall(r"^ +Kind::(\w+) => \"(\w+)\",$", text, re.M)
-    if not sorted(re.findall(r"^    Kind::(\w+),$", text, re.M)) == sorted(meant) == sorted(kind for kind, _ in named):
-        raise Fault(f"{KINDS}: a kind is not listed, has no name, or is not told in one line")
-    found = sorted((name, meant[kind]) for kind, name in named)
-    rows = re.findall(r"^\| `(\w+)` \|", tree.text(FORMAT).partition("| `kind` | the fault |\n")[2].partition("\n\n")[0], re.M)
-    if sorted(rows) != [name for name, _ in found]:
-        raise Fault(f"{FORMAT} has not the kinds of {KINDS}: {' '.join(sorted({name for name, _ in found} ^ set(rows)))}")
-    if [len(found)] * 2 != (counted := [int(n) for path, pattern in COUNTS for n in re.findall(pattern, tree.text(path))]):
-        raise Fault(f"{KINDS} has {len(found)} kinds, where {' and '.join(path for path, _ in COUNTS)} have {counted}")
-    lines = [line for name, what in found for line in (f".It Li {name}", *textwrap.wrap(what.replace("`", ""), 78))]
-    return Place("man/lp_relay.1", ('.\\" [kinds]',), '.\\" [end]', lines)
-
-
 def check_blocks(tree):
-    """Each block of code in the pages is a copy of its example, each example is quoted, and the table of texts in docs/FORMAT.md and the kinds
-    of faults in the man page of lp_relay are as the rows and the code have them."""
+    """Each block of code in the pages is a copy of its example, each example is quoted, and the table of texts in docs/FORMAT.md is as the
+    rows have it."""
     for path, text in block_texts(tree).items():
         if text != tree.text(path):
             yield first_difference(path, tree.text(path), text) + "\nrun checks/documents.py --write blocks"
@@ -844,6 +810,14 @@ def print_style(tree):
         print("%-40s" % name, *("%14s" % f"{count:.{0 if at == 0 else 1}f}{mark}" for at, (count, mark) in enumerate(zip(row, marks))))
 
 
+def print_places(tree, path):
+    """Prints each place of a file where a word stands for a noun that the reader has to find."""
+    for number, line in enumerate(tree.text(path).splitlines(), 1):
+        for test in (MEASURES["what, that of"][0], MEASURES["one, so, such"][0]):
+            for found in re.finditer(test, line):
+                print(f"{path}:{number}: {line[max(0, found.start() - 40):found.end() + 40].strip()}")
+
+
 def warning_of_style(tree):
     """How many texts do not read as the models do, in words. It is no problem: no number says whether a page can be understood."""
     rows = [row for row in style_table(tree).values() if row[0] > 300]
@@ -854,8 +828,8 @@ def warning_of_style(tree):
 # The program
 
 CHECKS = {"versions": check_versions, "definitions": check_definitions, "blocks": check_blocks, "links": check_links, "names": check_names,
-          "layers": check_layers, "lemmas": check_lemmas, "header": check_header, "page_items": check_page_items}
-SCRIPTS = {name: f"checks/{name}.py" for name in ("promises", "fault_files", "bindings", "bugs")} | {"tables": "tables/generate.py"}
+          "layers": check_layers, "lemmas": check_lemmas, "header": check_header}
+SCRIPTS = {name: f"checks/{name}.py" for name in ("promises", "bindings", "bugs")} | {"tables": "tables/generate.py"}
 WRITERS = {"blocks": block_texts, "definitions": lambda tree: {DEFINITIONS: definitions_page(tree)}}
 
 
@@ -899,20 +873,21 @@ def main(words):
     """Runs what the words ask for."""
     top, to = (Path(words.pop(words.index(word) + 1)) if word in words[:-1] else TOP for word in ("--top", "--to"))
     asked = [word for word in words if word not in ("--write", "--top", "--to")]
-    known = WRITERS if "--write" in words else {"style": None, **CHECKS, **SCRIPTS}
+    tree = Tree(top)
+    known = WRITERS if "--write" in words else ["style", *tree.paths] if "style" in asked else {**CHECKS, **SCRIPTS}
     if wrong := [word for word in asked if word not in known]:
         checks = "".join(f"\n    {name:<14}{' '.join((check.__doc__ or '').split())}" for name, check in CHECKS.items())
         print(f"{__doc__}\nThe checks:{checks}\n    {', '.join(SCRIPTS)}: the scripts of these names", file=sys.stderr)
         return 0 if wrong == ["--help"] else 2
-    if "--write" in words and not asked:
-        subprocess.run([TOP / SCRIPTS["tables"], "--write"], check=False)
-    tree = Tree(top)
+    if "style" in asked:
+        asked.remove("style")
+        for path in asked:
+            print_places(tree, path)
+        return 0 if asked else print_style(tree)
     if "--write" in words:
+        failed = 0 if asked else subprocess.run([TOP / SCRIPTS["tables"], "--write"], check=False).returncode
         write(tree, asked or WRITERS, to)
-        return 0
-    if asked == ["style"]:
-        print_style(tree)
-        return 0
+        return failed
     failed = run(tree, asked or [*CHECKS, *SCRIPTS])
     if not asked:
         print(f"style: {warning_of_style(tree)}")

@@ -17,35 +17,19 @@ import random
 import re
 import subprocess
 import sys
+from pathlib import Path
 
-KINDS = {
-    "measurement_value_invalid": "Invalid measurement was provided",
-    "field_set_missing": "No fields were provided",
-    "integer_value_invalid": "Unable to parse integer value '",
-    "uinteger_value_invalid": "Unable to parse unsigned integer value '",
-    "timestamp_value_invalid": "Unable to parse timestamp value '",
-    "ends_with_backslash": "Measurements, tag keys and values, and field keys may not end with a backslash",
-    "cannot_parse_entire_line": "Could not parse entire line. Found trailing content: '",
-    "tag_set_malformed": "Tag Set Malformed",
-    "generic_parsing_error": "A generic parsing error occurred: TakeWhile1",
-    "name_not_admitted": "a name cannot be written again",
-    "not_as_written": "not as written: ",
-    "not_portable": "not portable to ",
-    "field_type_conflict": "field type conflict: field ",
-    "too_many_fields": "too many fields: field ",
-    "time_overflow": "time overflow: ",
-    "time_out_of_range": "time out of range: ",
-    "time_missing": "time missing: the line has no timestamp",
-    "not_utf8": "the line is not UTF-8",
-    "too_long": "the line is too long",
-}
+sys.path.insert(0, str(Path(__file__).resolve().parent.parent / "tables"))
+import fault_table
+
+# What the text of each kind begins with.
+KINDS = {fault.kind: fault.front for fault in fault_table.KINDS}
 
 # Kinds of items in which reading does not stop.
-NO_STOPS = ("name_not_admitted", "not_as_written", "not_portable", "field_type_conflict", "too_many_fields", "time_overflow",
-            "time_out_of_range", "time_missing", "too_long")
+NO_STOPS = {fault.kind for fault in fault_table.KINDS if not fault.number} - {"not_utf8"}
 
 # Kinds whose text ends in what is at the stop, between quotes.
-NUMBERS = ("integer_value_invalid", "uinteger_value_invalid", "timestamp_value_invalid")
+NUMBERS = {fault.kind for fault in fault_table.KINDS if fault.carries == "number"}
 
 # Lines of each kind, and parts that break strings of JSON.
 LINES = [
@@ -265,8 +249,19 @@ def compare(command, text, words):
     return len(objects)
 
 
+def give_kinds(command):
+    """Each example of tables/faults.txt gives its fault."""
+    for fault in fault_table.KINDS:
+        for example, _ in fault.examples:
+            text = example.encode().decode("unicode_escape").encode("latin-1")
+            lines = faults_of(command, text, "--faults", "json", *fault.words.split()).splitlines()
+            if [json.loads(line)["kind"] for line in lines] != [fault.kind]:
+                sys.exit(f"objects: {example} with {fault.words} gives {lines}, and not {fault.kind}")
+
+
 def main():
     count = 0
+    give_kinds(sys.argv[1:])
     for number in range(TEXTS):
         count += compare(sys.argv[1:], text_of(random.Random(number)), WORDS[number % len(WORDS)])
     print(f"objects: {count} objects of faults, over {TEXTS} texts, are JSON and say what the fault lines say")

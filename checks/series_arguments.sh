@@ -212,7 +212,8 @@ report() {
     ends 0 "105 bytes, *" --prometheus metrics
     [ ! -s "$work/out" ] || fail "--prometheus writes to standard output"
     stays "after --prometheus"
-    [ "$(grep -c '^lp_series_refused_total{kind="[a-z_0-9]*"} 0$' metrics)" = 19 ] || fail "the metrics have not 19 kinds of faults"
+    kinds=$(sed -n 's/^enum { LP_KINDS = \(.*\) };$/\1/p' "$top/checks/lp_checks.h")
+    [ "$(grep -c '^lp_series_refused_total{kind="[a-z_0-9]*"} 0$' metrics)" = "$kinds" ] || fail "the metrics have not $kinds kinds of faults"
     metrics=$(grep -v -e '^#' -e refused metrics | sed 's/^lp_series_//' | paste -sd '|')
     [ "$metrics" = 'bytes_total 105|lines_total 7|points_total 7|points_without_time_total 4|series 3|points_beyond_total 0|measurement_points_total{measurement="a\"\\b"} 2|measurement_points_total{measurement="ü"} 5|measurement_series{measurement="a\"\\b"} 2|measurement_series{measurement="ü"} 1|measurement_fields{measurement="a\"\\b"} 5|measurement_fields{measurement="ü"} 1|measurement_mixed_fields{measurement="a\"\\b"} 1|measurement_mixed_fields{measurement="ü"} 1|tag_values{tag="t\",1"} 1' ] ||
         fail "the metrics are $metrics"

@@ -9,13 +9,17 @@
 enum { NONE = -1, SHORT_LIMIT = 30, LONG = 17 << 20, MANY = 100001 };
 
 /* The kinds of faults, in their order. */
-enum kind { TRAILING, BACKSLASH, NO_FIELDS, TYPE, GENERIC, INTEGER, MEASUREMENT, NAME, NOT_AS_WRITTEN, NOT_PORTABLE, NOT_UTF8, TAGS,
-            NO_TIME, TIME_OUT_OF_RANGE, TIME_OVERFLOW, TIMESTAMP, TOO_LONG, FIELDS, UNSIGNED };
+enum kind {
+    CANNOT_PARSE_ENTIRE_LINE, ENDS_WITH_BACKSLASH, FIELD_SET_MISSING, FIELD_TYPE_CONFLICT, GENERIC_PARSING_ERROR, INTEGER_VALUE_INVALID,
+    MEASUREMENT_VALUE_INVALID, NAME_NOT_ADMITTED, NOT_AS_WRITTEN, NOT_PORTABLE, NOT_UTF8, TAG_SET_MALFORMED, TIME_MISSING,
+    TIME_OUT_OF_RANGE, TIME_OVERFLOW, TIMESTAMP_VALUE_INVALID, TOO_LONG, TOO_MANY_FIELDS, UINTEGER_VALUE_INVALID,
+};
 
 static const char *const NAMES[LP_KINDS] = {
-    "cannot_parse_entire_line", "ends_with_backslash", "field_set_missing", "field_type_conflict", "generic_parsing_error", "integer_value_invalid",
-    "measurement_value_invalid", "name_not_admitted", "not_as_written", "not_portable", "not_utf8", "tag_set_malformed",
-    "time_missing", "time_out_of_range", "time_overflow", "timestamp_value_invalid", "too_long", "too_many_fields", "uinteger_value_invalid",
+    "cannot_parse_entire_line", "ends_with_backslash", "field_set_missing", "field_type_conflict", "generic_parsing_error",
+    "integer_value_invalid", "measurement_value_invalid", "name_not_admitted", "not_as_written", "not_portable", "not_utf8",
+    "tag_set_malformed", "time_missing", "time_out_of_range", "time_overflow", "timestamp_value_invalid", "too_long", "too_many_fields",
+    "uinteger_value_invalid",
 };
 
 /* How lines go out. */
@@ -32,22 +36,22 @@ static const struct piece SHORT[] = {
     {"m a=1i", "m a=1i", NULL, NONE, NONE, 0},
     {"m  a=2i", "m a=2i", "not as written: the spaces", NOT_AS_WRITTEN, NONE, 0},
     {" \tm a=3i", "m a=3i", NULL, NONE, NONE, 2},
-    {"w\\\t a=1i", NULL, UNNAMED, NAME, NONE, 0},
+    {"w\\\t a=1i", NULL, UNNAMED, NAME_NOT_ADMITTED, NONE, 0},
     {"", NULL, NULL, NONE, NONE, 0},
     {"# c", NULL, NULL, NONE, NONE, 0},
     {"m s=\"a\nb\"", "m s=\"a\nb\"", NULL, NONE, NONE, 0},
-    {"m a=1x", NULL, "Could not parse entire line. Found trailing content: 'x'", TRAILING, 5, 0},
-    {"m s=\"\n\n\" x", NULL, "Could not parse entire line. Found trailing content: ' x'", TRAILING, 8, 0},
-    {"m\\\\ a=1i", NULL, "Measurements, tag keys and values, and field keys may not end with a backslash", BACKSLASH, 0, 0},
-    {"m 5", NULL, "No fields were provided", NO_FIELDS, 3, 0},
-    {"  x", NULL, "A generic parsing error occurred: TakeWhile1", GENERIC, 3, 2},
-    {"m a=9223372036854775808i", NULL, "Unable to parse integer value '9223372036854775808'", INTEGER, 4, 0},
-    {",x", NULL, "Invalid measurement was provided", MEASUREMENT, 0, 0},
+    {"m a=1x", NULL, "Could not parse entire line. Found trailing content: 'x'", CANNOT_PARSE_ENTIRE_LINE, 5, 0},
+    {"m s=\"\n\n\" x", NULL, "Could not parse entire line. Found trailing content: ' x'", CANNOT_PARSE_ENTIRE_LINE, 8, 0},
+    {"m\\\\ a=1i", NULL, "Measurements, tag keys and values, and field keys may not end with a backslash", ENDS_WITH_BACKSLASH, 0, 0},
+    {"m 5", NULL, "No fields were provided", FIELD_SET_MISSING, 3, 0},
+    {"  x", NULL, "A generic parsing error occurred: TakeWhile1", GENERIC_PARSING_ERROR, 3, 2},
+    {"m a=9223372036854775808i", NULL, "Unable to parse integer value '9223372036854775808'", INTEGER_VALUE_INVALID, 4, 0},
+    {",x", NULL, "Invalid measurement was provided", MEASUREMENT_VALUE_INVALID, 0, 0},
     {"\xff", NULL, "the line is not UTF-8", NOT_UTF8, 0, 0},
-    {"m, a=1i", NULL, "Tag Set Malformed", TAGS, 2, 0},
-    {"m a=1i 9223372036854775808", NULL, "Unable to parse timestamp value '9223372036854775808'", TIMESTAMP, 7, 0},
+    {"m, a=1i", NULL, "Tag Set Malformed", TAG_SET_MALFORMED, 2, 0},
+    {"m a=1i 9223372036854775808", NULL, "Unable to parse timestamp value '9223372036854775808'", TIMESTAMP_VALUE_INVALID, 7, 0},
     {"m s=\"\n123456789012345678901234\"", NULL, "the line is too long", TOO_LONG, NONE, 0},
-    {"m a=18446744073709551616u", NULL, "Unable to parse unsigned integer value '18446744073709551616'", UNSIGNED, 4, 0},
+    {"m a=18446744073709551616u", NULL, "Unable to parse unsigned integer value '18446744073709551616'", UINTEGER_VALUE_INVALID, 4, 0},
 };
 
 /* ---- texts ---- */
@@ -265,11 +269,11 @@ static void long_pieces(void) {
     const struct piece pieces[] = {
         {line, line, NULL, NONE, NONE, 0},
         {spaced, line, "not as written: the spaces", NOT_AS_WRITTEN, NONE, 0},
-        {name, NULL, "A generic parsing error occurred: TakeWhile1", GENERIC, LONG, 0},
-        {told, NULL, fault, TRAILING, 6, 0},
-        {lines, NULL, "Could not parse entire line. Found trailing content: ' x'", TRAILING, LONG + 6, 0},
+        {name, NULL, "A generic parsing error occurred: TakeWhile1", GENERIC_PARSING_ERROR, LONG, 0},
+        {told, NULL, fault, CANNOT_PARSE_ENTIRE_LINE, 6, 0},
+        {lines, NULL, "Could not parse entire line. Found trailing content: ' x'", CANNOT_PARSE_ENTIRE_LINE, LONG + 6, 0},
         {"m a=1i", "m a=1i", NULL, NONE, NONE, 0},
-        {"x", NULL, "A generic parsing error occurred: TakeWhile1", GENERIC, 1, 0},
+        {"x", NULL, "A generic parsing error occurred: TakeWhile1", GENERIC_PARSING_ERROR, 1, 0},
     };
     for (size_t at = 0; at < COUNT(LARGE); at++) relay_copies(LARGE[at], SIZE_MAX, pieces, COUNT(pieces), 1, SIZE_MAX);
     char *texts[] = {line, spaced, name, told, fault, lines};

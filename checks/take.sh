@@ -53,7 +53,7 @@ touch "$made/to/crates/lp_scan/src/of_an_older_state.rt"
 # A static library is named in another form. Its line comes once, however often it is taken.
 for _ in 1 2; do
     take 0 --update "$made/to" lp_examples lp_c
-    compare "${library[@]}" lp_rebuild lp_examples lp_c
+    compare "${library[@]}" lp_rebuild lp_examples lp_offsets lp_c
 done
 [ -e "$made/to/crates/lp_scan/out/mine" ] && [ -e "$made/to/crates/lp_lines/out/mine" ]
 [ ! -e "$made/to/crates/lp_relay" ]

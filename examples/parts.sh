@@ -19,14 +19,14 @@ counts_of() {
 }
 export -f counts_of
 
-# The options of a relay: those of each part, of which some have a word after them; and those that name files or a part, say where
-# numbers begin, or give otherwise in parts than in one run, since they look at what came before. tables/options.py compares these lists.
-of_parts=' --strict --newline-delimited --crlf --verbatim --canonical --lines --progress --summary --check '
+# The options of a relay, as tables/generate.py writes them: those of each part, of which some have a word after them; and those that name
+# files or a part, say where numbers begin, or give otherwise in parts than in one run, since they look at what came before.
+of_parts=' --strict --newline-delimited --whole-lines --crlf --verbatim --canonical --lines --progress --summary --check '
 with_words=' --portable --time-unit --default-time --times --faults --max-line '
 of_files=' --output -o --batch-lines --batch-bytes --refused --append --replace '
 of_numbers=' --first-item --first-line '
 of_ranges=' --range --cut '
-of_runs=' --types --max-fields --max-faults --now '
+of_runs=' --types --max-fields --now --max-faults '
 
 # Sets `options` to those of the relay of a part, as words of which none is `--option=word`, and whether the counts of the whole are
 # asked for.

@@ -55,19 +55,19 @@ enum lp_kind {
     LP_BOOLEAN = 5   /* a field: `boolean` */
 };
 
-/* What is wrong with a line. `fault_text` has the number of 4, 5 and 6, the key of 1, and the rest of the line of 8. */
+/* What is wrong with a line. */
 enum lp_fault_kind {
     LP_NONE = 0,
-    LP_DUPLICATE_TAG = 1,
-    LP_MEASUREMENT_VALUE_INVALID = 2,
-    LP_FIELD_SET_MISSING = 3,
-    LP_INTEGER_VALUE_INVALID = 4,
-    LP_UINTEGER_VALUE_INVALID = 5,
-    LP_TIMESTAMP_VALUE_INVALID = 6,
-    LP_ENDS_WITH_BACKSLASH = 7,
-    LP_CANNOT_PARSE_ENTIRE_LINE = 8,
-    LP_TAG_SET_MALFORMED = 9,
-    LP_GENERIC_PARSING_ERROR = 10
+    LP_DUPLICATE_TAG = 1,              /* a key of the tags is repeated: `fault_text` is the key */
+    LP_MEASUREMENT_VALUE_INVALID = 2,  /* the line does not begin with a measurement */
+    LP_FIELD_SET_MISSING = 3,          /* the line has no field */
+    LP_INTEGER_VALUE_INVALID = 4,      /* an integer is out of its range: `fault_text` is the number */
+    LP_UINTEGER_VALUE_INVALID = 5,     /* an unsigned integer is out of its range: `fault_text` is the number */
+    LP_TIMESTAMP_VALUE_INVALID = 6,    /* a timestamp is out of its range: `fault_text` is the number */
+    LP_ENDS_WITH_BACKSLASH = 7,        /* a name ends in a backslash */
+    LP_CANNOT_PARSE_ENTIRE_LINE = 8,   /* something is left after the last part that could be read: `fault_text` is the rest */
+    LP_TAG_SET_MALFORMED = 9,          /* a comma comes after the measurement, and no tag after it */
+    LP_GENERIC_PARSING_ERROR = 10      /* no space comes after the measurement */
 };
 
 /* On which side of its range a number lies. */

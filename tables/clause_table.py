@@ -56,6 +56,11 @@ def of_lp_portable():
     yield Place(code, ("fn concerns(", "    match clause {"), "    }",
                 arm(lone["influx1"], "!matches!(to, Servers::Victoria)") + arm(lone["victoria"], "!matches!(to, Servers::Influx1)") + arm(both, "true"))
     yield Place(code, ("    pub fn has(", "        match clause {"), "        }", each(lambda c: f"            Clause::{c.name} => self.{c.snake},"))
+    count = len(CLAUSES)
+    yield Place(code, ("    pub(crate) fn place", "        ensures value"), "    {", [f"        ensures within {{ result < {count} }}"])
+    yield Place(code, ("    fn bit(", "        ensures value"), "    {", [f"        ensures within {{ result ≤ 2 ^ {count} }}"])
+    yield Place("crates/lp_portable/src/sure.rt", ("fn bit_if(", "    ensures value"), "{", [f"    ensures within {{ result ≤ 2 ^ {count} }}"])
+    yield Place("crates/lp_portable/proofs/broken/Broken/bits/Invariants.antt", ("  bits :",), "}", [f"  small : l.bits ≤ l.at * 2 ^ {count};"])
     wrapped = textwrap.wrap(" ".join(clause.snake for clause in CLAUSES), 140)
     yield Place(forms, ("pub data Clause",), "", [f"  {line} : Clause" for line in wrapped])
     for word, server in (("is_of_influx", "victoria"), ("is_of_victoria", "influx1")):

@@ -12,11 +12,13 @@ Each kind of fact has a table and a module: the module's `places()` returns the 
 import sys
 
 import clause_table
+import fault_table
+import messages
 import options
 import pages
 from records import TOP, Fault, read
 
-MODULES = [clause_table, options, pages]
+MODULES = [clause_table, fault_table, options, pages, messages]
 
 
 def first_difference(path, old, new):
@@ -42,9 +44,13 @@ def main(words):
         print(__doc__, file=sys.stderr)
         return 2
     try:
+        if words:
+            messages.bring()
         changed = changed_files()
-        for path, _, text in changed if words else ():
-            (TOP / path).write_text(text, encoding="utf-8")
+        while words and changed:  # what is written may be counted elsewhere
+            for path, _, text in changed:
+                (TOP / path).write_text(text, encoding="utf-8")
+            changed = changed_files()
         found = [] if words else [first_difference(*change) for change in changed]
         found += ["run tables/generate.py --write"] if found else []
         found += [problem for module in MODULES for problem in module.problems()]

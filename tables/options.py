@@ -1,9 +1,9 @@
 """The options of the programs, from tables/options.txt and tables/series_options.txt. The head of the first says what the fields mean.
 
-Made of them here are the usage and the help in the code, with the lists of options that have values, exclude each other or need another one;
-the tables of options in docs/FORMAT.md; and the usage in docs/OPERATING.md. The code and the definitions of the words are written by
-hand, since they are proved: they must know just these options. Each option of lp_relay, and each word of a few that comes after one, must be
-told in docs/TRUST.md, in CHANGELOG.md, in a check that runs lp_relay, and in one of the lists of examples/parts.sh.
+Made of them here are the usage and the help in the code, with the lists of options that have values, exclude each other or need another
+one; the tables of options in docs/FORMAT.md; the usage in docs/OPERATING.md; and the lists of options in examples/parts.sh. The code and
+the definitions of the words are written by hand, since they are proved: they must know just these options. Each option of lp_relay, and
+each word of a few that comes after one, must be told in docs/TRUST.md, in CHANGELOG.md, and in a check that runs lp_relay.
 """
 
 import re
@@ -14,8 +14,8 @@ import records
 from records import Fault, Place, read
 
 DATA, SERIES = "tables/options.txt", "tables/series_options.txt"
-FIELDS = ("option", "short", "values", "not with", "unless", "needs", "place", "usage after", "does", "default", "man", "example", "errors",
-          "see also", "brief", "help", "format", "lp_rebuild")
+FIELDS = ("option", "short", "values", "not with", "unless", "needs", "place", "usage after", "in parts", "does", "default", "man", "example",
+          "errors", "see also", "brief", "help", "format", "lp_rebuild")
 SHARED = "short", "values", "does", "default", "brief", "help"  # what a record of lp_series takes from that of lp_relay
 DIALECTS = "--strict", "--newline-delimited"
 FORM, FIRST, ALONE = "a form", "first or after a dialect", "alone"
@@ -30,8 +30,8 @@ CODE = {"lp_relay": ("crates/lp_relay_program/src/words.rt", "crates/lp_relay_pr
 # Where each option of lp_relay is told by hand: these pages, and one of these checks.
 TOLD = "docs/TRUST.md", "CHANGELOG.md"
 CHECKS = "arguments.sh", "losses.sh", "inputs.sh", "apart.sh", "objects.py", "settings.py", "batch_files.py", "ranges.py"
-# What relays a file in parts, and knows which options each part can have.
-PARTS = "examples/parts.sh"
+# What relays a file in parts, and the names of its lists of options, by what the field `in parts` has.
+PARTS, LISTS = "examples/parts.sh", {"each": "of_parts", "files": "of_files", "numbers": "of_numbers", "ranges": "of_ranges", "run": "of_runs"}
 OPTION = re.compile(r"(--[a-z][a-z-]*)(?: ([A-Z./]+))?")
 WORD = re.compile(r'"(-[a-zA-Z]|--[a-z][a-z-]*)"')
 
@@ -257,6 +257,17 @@ def places_of_code(program):
         yield Place(code, ("/// Options, each with one that it needs",), "", needs(found))
 
 
+def lists_of_parts(found):
+    """The lists of options in what relays a file in parts. The options of each part that take a word have a list of their own."""
+    lists = {name: [] for name in ("of_parts", "with_words", *LISTS.values())}
+    for option in (option for option in found if option.get("place") != ALONE):
+        if option.get("in parts") not in LISTS:
+            raise Fault(f"{DATA}: {option.word}: `in parts` is none of {', '.join(LISTS)}: {option.get('in parts')}")
+        name = LISTS[option.get("in parts")]
+        lists["with_words" if name == "of_parts" and option.argument else name] += option.words()
+    return [f"{name}=' {' '.join(words)} '" for name, words in lists.items()]
+
+
 def places():
     """Each stretch that lists options."""
     found = programs()
@@ -265,6 +276,7 @@ def places():
         *(place for program in found for place in places_of_code(program)),
         Place("docs/FORMAT.md", ("| arguments of a program", "| none |"), "| files, also before these", list(rows(relay))),
         Place("docs/FORMAT.md", ("| arguments of `lp_series`", "|---"), "| files, also before these", list(rows(series))),
+        Place(PARTS, ("# The options of a relay, as tables/generate.py writes them", "#"), "", lists_of_parts(relay.options)),
         Place("docs/OPERATING.md", ("<!-- the usage of lp_relay -->", "```text"), "```", usage(relay)),
     ]
 
@@ -292,7 +304,8 @@ def differences(program):
     if program.placed(ALONE):
         fields = {word.strip("-").replace("-", "_") for word in words_at_odds(program.options)}
         path = CODE[program.name][1]
-        yield from (f"{path}: are_at_odds and the table of {program.name} differ in {name}" for name in sorted(fields ^ at_odds(read(path))))
+        others = sorted(fields ^ at_odds(read(path)))
+        yield from (f"{path}: are_at_odds and the table of {program.name} differ in {name}" for name in others)
     wanted = {word for option in program.options for word in option.words()}
     for path in CODE[program.name]:
         has = told(path, read(path))
@@ -301,15 +314,12 @@ def differences(program):
 
 
 def differences_of_relay(found):
-    """Where definitions, the help and the lists of options of parts differ from the records of lp_relay."""
+    """Where the end of the help does not say how the options of lp_relay go together."""
     code = read(CODE["lp_relay"][0])
     odds = words_at_odds(found)
     last = code.partition("The options of a relay come in any order")[2].partition('";')[0]
     needs = {word for option in found if option.get("needs") for word in (option.word, option.get("needs"))}
     yield from (f"{CODE['lp_relay'][0]}: the help does not say with what {word} goes" for word in sorted(odds | needs) if word not in last)
-    listed = re.findall(r"-[\w-]+", "".join(re.findall(r"^(?:of_\w+|with_words)='(.*)'$", read(PARTS), re.M)))
-    wanted = [word for option in found if option.get("place") != ALONE for word in option.words()]
-    yield from (f"{PARTS}: {word} is in none of the lists of options, or not once" for word in wanted if listed.count(word) != 1)
 
 
 def differences_of_series(found):

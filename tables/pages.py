@@ -130,7 +130,7 @@ def synopsis(program):
 
 
 def places_of(program):
-    """Each stretch of a program's man page that lists its options. The page of lp_relay has those that are other tasks in a list of their own."""
+    """Each stretch of a program's man page that lists its options. In that of lp_relay those that are other tasks have a list of their own."""
     page, parts = f"man/{program.name}.1", [program.options]
     if program.name == "lp_relay":
         parts = [program.ordinary(), [option for option in program.options if option not in program.ordinary()]]
@@ -155,7 +155,8 @@ def examples():
 def problems():
     """What is wrong with the examples, before they are run: checks/readme.sh runs them."""
     for head, *lines in examples():
-        if not lines[0].startswith("$ ") or not any(head.split()[1] in line and head.split()[2] in line for line in lines if line.startswith("$ ")):
+        commands, (_, program, word) = [line for line in lines if line.startswith("$ ")], head.split()
+        if lines[0] not in commands or not any(program in line and word in line for line in commands):
             yield f"the example of {head[2:]} does not run it"
         if long := [line for line in lines if len(line) > WIDTH]:
             raise Fault(f"the example of {head[2:]} has a line of more than {WIDTH} characters: {long[0]}")

@@ -18,6 +18,8 @@ class Fault(Exception):
 
 def read(path):
     """The text of a file of the repository."""
+    if not (TOP / path).is_file():
+        raise Fault(f"there is no file {path}")
     return (TOP / path).read_text(encoding="utf-8")
 
 

@@ -54,11 +54,17 @@ static void put_line(FILE *out, const lp_line *line, const lp_part *part) {
 
 static void put_fault(FILE *out, const lp_line *line) {
     static const char *const names[] = {
-        [LP_NONE] = "no fault", [LP_DUPLICATE_TAG] = "DuplicateTag", [LP_MEASUREMENT_VALUE_INVALID] = "MeasurementValueInvalid",
-        [LP_FIELD_SET_MISSING] = "FieldSetMissing", [LP_INTEGER_VALUE_INVALID] = "IntegerValueInvalid",
-        [LP_UINTEGER_VALUE_INVALID] = "UIntegerValueInvalid", [LP_TIMESTAMP_VALUE_INVALID] = "TimestampValueInvalid",
-        [LP_ENDS_WITH_BACKSLASH] = "EndsWithBackslash", [LP_CANNOT_PARSE_ENTIRE_LINE] = "rest",
-        [LP_TAG_SET_MALFORMED] = "TagSetMalformed", [LP_GENERIC_PARSING_ERROR] = "TakeWhile1",
+        [LP_NONE] = "no fault",
+        [LP_DUPLICATE_TAG] = "DuplicateTag",
+        [LP_MEASUREMENT_VALUE_INVALID] = "MeasurementValueInvalid",
+        [LP_FIELD_SET_MISSING] = "FieldSetMissing",
+        [LP_INTEGER_VALUE_INVALID] = "IntegerValueInvalid",
+        [LP_UINTEGER_VALUE_INVALID] = "UIntegerValueInvalid",
+        [LP_TIMESTAMP_VALUE_INVALID] = "TimestampValueInvalid",
+        [LP_ENDS_WITH_BACKSLASH] = "EndsWithBackslash",
+        [LP_CANNOT_PARSE_ENTIRE_LINE] = "rest",
+        [LP_TAG_SET_MALFORMED] = "TagSetMalformed",
+        [LP_GENERIC_PARSING_ERROR] = "TakeWhile1",
     };
     static const char *const sides[] = { [LP_NEITHER] = "", [LP_ABOVE] = " Above", [LP_BELOW] = " Below" };
     fprintf(out, "%s%s", names[line->fault], sides[line->side]);

@@ -393,19 +393,28 @@ static bool has_message(uint32_t fault, lp_text text, const char *wanted) {
 static bool are_messages(void) {
     const lp_text text = TEXT("q\xc3\xa9"), none = LP_NO_TEXT;
     lp_requests = 0;
-    bool good = has_message(LP_DUPLICATE_TAG, text, "Must not contain duplicate tags, but \"q\xc3\xa9\" was repeated");
+    bool good = true;
+    good &= has_message(LP_DUPLICATE_TAG, text, "Must not contain duplicate tags, but \"q\xc3\xa9\" was repeated");
     good &= has_message(LP_DUPLICATE_TAG, none, "Must not contain duplicate tags, but \"\" was repeated");
+    good &= has_message(LP_MEASUREMENT_VALUE_INVALID, text, "Invalid measurement was provided");
     good &= has_message(LP_MEASUREMENT_VALUE_INVALID, none, "Invalid measurement was provided");
-    good &= has_message(LP_FIELD_SET_MISSING, none, "No fields were provided");
     good &= has_message(LP_FIELD_SET_MISSING, text, "No fields were provided");
+    good &= has_message(LP_FIELD_SET_MISSING, none, "No fields were provided");
     good &= has_message(LP_INTEGER_VALUE_INVALID, text, "Unable to parse integer value 'q\xc3\xa9'");
+    good &= has_message(LP_INTEGER_VALUE_INVALID, none, "Unable to parse integer value ''");
     good &= has_message(LP_UINTEGER_VALUE_INVALID, text, "Unable to parse unsigned integer value 'q\xc3\xa9'");
+    good &= has_message(LP_UINTEGER_VALUE_INVALID, none, "Unable to parse unsigned integer value ''");
     good &= has_message(LP_TIMESTAMP_VALUE_INVALID, text, "Unable to parse timestamp value 'q\xc3\xa9'");
+    good &= has_message(LP_TIMESTAMP_VALUE_INVALID, none, "Unable to parse timestamp value ''");
+    good &= has_message(LP_ENDS_WITH_BACKSLASH, text, "Measurements, tag keys and values, and field keys may not end with a backslash");
     good &= has_message(LP_ENDS_WITH_BACKSLASH, none, "Measurements, tag keys and values, and field keys may not end with a backslash");
     good &= has_message(LP_CANNOT_PARSE_ENTIRE_LINE, text, "Could not parse entire line. Found trailing content: 'q\xc3\xa9'");
     good &= has_message(LP_CANNOT_PARSE_ENTIRE_LINE, none, "Could not parse entire line. Found trailing content: ''");
+    good &= has_message(LP_TAG_SET_MALFORMED, text, "Tag Set Malformed");
     good &= has_message(LP_TAG_SET_MALFORMED, none, "Tag Set Malformed");
-    return good & has_message(LP_GENERIC_PARSING_ERROR, none, "A generic parsing error occurred: TakeWhile1") & (lp_requests == 0);
+    good &= has_message(LP_GENERIC_PARSING_ERROR, text, "A generic parsing error occurred: TakeWhile1");
+    good &= has_message(LP_GENERIC_PARSING_ERROR, none, "A generic parsing error occurred: TakeWhile1");
+    return good & (lp_requests == 0);
 }
 
 /* What is no fault has no message, and then the room and the length are as they were. */
@@ -422,8 +431,9 @@ static bool is_no_message(uint32_t fault, lp_text text) {
 }
 
 static bool are_no_messages(void) {
+    const uint32_t next = LP_GENERIC_PARSING_ERROR + 1;
     const lp_text text = TEXT("q"), broken = TEXT("\xc3");
-    return is_no_message(LP_NONE, text) && is_no_message(LP_GENERIC_PARSING_ERROR + 1, text) && is_no_message(UINT32_MAX, text) &&
+    return is_no_message(LP_NONE, text) && is_no_message(next, text) && is_no_message(UINT32_MAX, text) &&
            is_no_message(LP_INTEGER_VALUE_INVALID, broken) && is_no_message(LP_FIELD_SET_MISSING, broken);
 }
 

@@ -220,8 +220,8 @@ func TestClauses(t *testing.T) {
 	if !verdict.Breaks(ClauseRoundedFloat) || verdict.Breaks(ClauseNewline) || verdict.Breaks(64) || verdict.Portable(AllServers) {
 		t.Error("a verdict breaks what it does not")
 	}
-	words := fmt.Sprint(ClauseNotALine, "; ", ClauseRepeatedField, "; ", ClauseTimeNotKept, "; ", Clause(33))
-	if words != "what is there is not one line for the strict reader; two fields have one key; the timestamp is before or after what is kept; Clause(33)" {
+	words := fmt.Sprint(ClauseNotALine, "; ", ClauseRepeatedField, "; ", ClauseTimeNotKept, "; ", Clause(63))
+	if words != "what is there is not one line for the strict reader; two fields have one key; the timestamp is before or after what is kept; Clause(63)" {
 		t.Error(words)
 	}
 	if limits := DefaultLimits(); limits != (Limits{262144, 29, 1000000, math.MaxInt64}) {

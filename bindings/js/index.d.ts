@@ -35,8 +35,17 @@ export interface LineLike {
 }
 
 export type FaultKind =
-    | "measurement_value_invalid" | "field_set_missing" | "integer_value_invalid" | "uinteger_value_invalid" | "timestamp_value_invalid"
-    | "ends_with_backslash" | "cannot_parse_entire_line" | "tag_set_malformed" | "generic_parsing_error" | "not_utf8" | "too_long";
+    | "measurement_value_invalid"
+    | "field_set_missing"
+    | "integer_value_invalid"
+    | "uinteger_value_invalid"
+    | "timestamp_value_invalid"
+    | "ends_with_backslash"
+    | "cannot_parse_entire_line"
+    | "tag_set_malformed"
+    | "generic_parsing_error"
+    | "not_utf8"
+    | "too_long";
 
 /** A piece that is no line. `text` is the number out of its range, or what is left of the line; `stop..` tells the byte at which reading
  * stopped, and `refused` are the bytes of the piece.

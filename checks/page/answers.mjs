@@ -6,9 +6,15 @@ const DIALECTS = ["crate", "strict", "newline-delimited"];
  * of `parse` a list. */
 export async function answered(call, kind, text, dialect) {
     const faults = {
-        measurement_value_invalid: "MeasurementValueInvalid", field_set_missing: "FieldSetMissing", integer_value_invalid: "IntegerValueInvalid",
-        uinteger_value_invalid: "UIntegerValueInvalid", timestamp_value_invalid: "TimestampValueInvalid", ends_with_backslash: "EndsWithBackslash",
-        cannot_parse_entire_line: "rest", tag_set_malformed: "TagSetMalformed", generic_parsing_error: "TakeWhile1",
+        measurement_value_invalid: "MeasurementValueInvalid",
+        field_set_missing: "FieldSetMissing",
+        integer_value_invalid: "IntegerValueInvalid",
+        uinteger_value_invalid: "UIntegerValueInvalid",
+        timestamp_value_invalid: "TimestampValueInvalid",
+        ends_with_backslash: "EndsWithBackslash",
+        cannot_parse_entire_line: "rest",
+        tag_set_malformed: "TagSetMalformed",
+        generic_parsing_error: "TakeWhile1",
     };
     const value = it => {
         if (typeof it === "bigint") return `${it}i`;

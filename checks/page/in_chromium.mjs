@@ -92,9 +92,15 @@ async function table_() {
     same(await evaluate(source), [], "rows of the table, by the calls of the page");
     console.log(`page: Chromium: ${countsOf(rows)} are as the table has them`);
     const faults = {
-        MeasurementValueInvalid: "measurement_value_invalid", FieldSetMissing: "field_set_missing", IntegerValueInvalid: "integer_value_invalid",
-        UIntegerValueInvalid: "uinteger_value_invalid", TimestampValueInvalid: "timestamp_value_invalid", EndsWithBackslash: "ends_with_backslash",
-        rest: "cannot_parse_entire_line", TagSetMalformed: "tag_set_malformed", TakeWhile1: "generic_parsing_error",
+        MeasurementValueInvalid: "measurement_value_invalid",
+        FieldSetMissing: "field_set_missing",
+        IntegerValueInvalid: "integer_value_invalid",
+        UIntegerValueInvalid: "uinteger_value_invalid",
+        TimestampValueInvalid: "timestamp_value_invalid",
+        EndsWithBackslash: "ends_with_backslash",
+        rest: "cannot_parse_entire_line",
+        TagSetMalformed: "tag_set_malformed",
+        TakeWhile1: "generic_parsing_error",
     };
     let shown = 0;
     for (const { row, kind, text, dialect, wanted } of rows) {

@@ -13,11 +13,16 @@ TABLE = Path(__file__).parents[3] / "checks" / "tables" / "answers.tsv"
 ESCAPES = {"n": "\n", "t": "\t", "r": "\r", "0": "\0", "\\": "\\"}
 
 FAULTS = {
-    FaultKind.MEASUREMENT_VALUE_INVALID: "MeasurementValueInvalid", FaultKind.FIELD_SET_MISSING: "FieldSetMissing",
-    FaultKind.INTEGER_VALUE_INVALID: "IntegerValueInvalid", FaultKind.UINTEGER_VALUE_INVALID: "UIntegerValueInvalid",
-    FaultKind.TIMESTAMP_VALUE_INVALID: "TimestampValueInvalid", FaultKind.ENDS_WITH_BACKSLASH: "EndsWithBackslash",
-    FaultKind.CANNOT_PARSE_ENTIRE_LINE: "rest", FaultKind.TAG_SET_MALFORMED: "TagSetMalformed",
-    FaultKind.GENERIC_PARSING_ERROR: "TakeWhile1"}
+    FaultKind.MEASUREMENT_VALUE_INVALID: "MeasurementValueInvalid",
+    FaultKind.FIELD_SET_MISSING: "FieldSetMissing",
+    FaultKind.INTEGER_VALUE_INVALID: "IntegerValueInvalid",
+    FaultKind.UINTEGER_VALUE_INVALID: "UIntegerValueInvalid",
+    FaultKind.TIMESTAMP_VALUE_INVALID: "TimestampValueInvalid",
+    FaultKind.ENDS_WITH_BACKSLASH: "EndsWithBackslash",
+    FaultKind.CANNOT_PARSE_ENTIRE_LINE: "rest",
+    FaultKind.TAG_SET_MALFORMED: "TagSetMalformed",
+    FaultKind.GENERIC_PARSING_ERROR: "TakeWhile1",
+}
 
 ANEW = {"\\,,k=v f=1i": "B<,,k=v>"}
 """Texts with a name that is one escape alone: its base differs, since a line in Python keeps no spelling."""

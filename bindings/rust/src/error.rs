@@ -14,6 +14,14 @@ pub enum Error {
         /// The key.
         tag_key: String,
     },
+    /// No line has this fault: each literal that is read as a float is one.
+    FloatValueInvalid {
+        /// What the standard library says of it.
+        source: ParseFloatError,
+        /// The literal.
+        value: String,
+    },
+    // The faults of lines.
     /// The line does not begin with a measurement.
     MeasurementValueInvalid,
     /// The line has no field.
@@ -22,28 +30,21 @@ pub enum Error {
     IntegerValueInvalid {
         /// What the standard library says of it.
         source: ParseIntError,
-        /// The integer.
+        /// The number.
         value: String,
     },
     /// An unsigned integer is out of its range.
     UIntegerValueInvalid {
         /// What the standard library says of it.
         source: ParseIntError,
-        /// The integer.
-        value: String,
-    },
-    /// No line has this fault: each literal that is read as a float is one.
-    FloatValueInvalid {
-        /// What the standard library says of it.
-        source: ParseFloatError,
-        /// The literal.
+        /// The number.
         value: String,
     },
     /// A timestamp is out of its range.
     TimestampValueInvalid {
         /// What the standard library says of it.
         source: ParseIntError,
-        /// The timestamp.
+        /// The number.
         value: String,
     },
     /// A name ends in a backslash.
@@ -55,6 +56,7 @@ pub enum Error {
     },
     /// A comma comes after the measurement, and no tag after it.
     TagSetMalformed,
+    // The end of these.
     /// No space comes after the measurement.
     GenericParsingError {
         /// What was looked for.
@@ -73,13 +75,14 @@ impl fmt::Display for Error {
             Self::DuplicateTag { tag_key } => {
                 write!(f, "Must not contain duplicate tags, but \"{tag_key}\" was repeated")
             }
+            Self::FloatValueInvalid { value, .. } => write!(f, "Unable to parse floating-point value '{value}'"),
+            // The faults of lines.
             Self::MeasurementValueInvalid => f.write_str("Invalid measurement was provided"),
             Self::FieldSetMissing => f.write_str("No fields were provided"),
             Self::IntegerValueInvalid { value, .. } => write!(f, "Unable to parse integer value '{value}'"),
             Self::UIntegerValueInvalid { value, .. } => {
                 write!(f, "Unable to parse unsigned integer value '{value}'")
             }
-            Self::FloatValueInvalid { value, .. } => write!(f, "Unable to parse floating-point value '{value}'"),
             Self::TimestampValueInvalid { value, .. } => write!(f, "Unable to parse timestamp value '{value}'"),
             Self::EndsWithBackslash => {
                 f.write_str("Measurements, tag keys and values, and field keys may not end with a backslash")
@@ -88,6 +91,7 @@ impl fmt::Display for Error {
                 write!(f, "Could not parse entire line. Found trailing content: '{trailing_content}'")
             }
             Self::TagSetMalformed => f.write_str("Tag Set Malformed"),
+            // The end of these.
             Self::GenericParsingError { kind, .. } => write!(f, "A generic parsing error occurred: {kind:?}"),
         }
     }

@@ -14,10 +14,10 @@ use Rattle.influxdb_line_protocol.specs.format.Lines as format
 use Rattle.influxdb_line_protocol.specs.format.Lines.{answer}
 use Rattle.influxdb_line_protocol.specs.format.Readings.{Fault}
 use Rattle.lp_c.specs.Blocks.{ReadsBlock, Rows, parts_of, more, none}
-use Rattle.lp_c.specs.Crossing.{AnswersItem, AnswersLine, ReadsItem, ShowsLine, dialect_of, field_shown, is_item, tag_shown}
-use Rattle.lp_c.specs.Numbers.{answer_number}
+use Rattle.lp_c.specs.Crossing.{AnswersItem, AnswersLine, ReadsItem, ShowsLine, field_shown, is_item, tag_shown}
+use Rattle.lp_offsets.specs.Numbers.{answer_number, dialect_of}
 use Rattle.lp_c.specs.declared.blocks.Row.{Row}
-use Rattle.lp_c.specs.declared.views.Answer.{Answer}
+use Rattle.lp_offsets.specs.declared.enums.Answer.{Answer}
 use Rattle.lp_c.specs.declared.views.Line.{Line}
 use Rattle.lp_c.specs.declared.views.Lines.{Lines}
 use Rattle.lp_c.specs.declared.views.Part.{Part}

@@ -6,16 +6,15 @@ use Rattle.std.proofs.lemmas.List.{drop-append-le, length-take-le, take-append-d
 use Rattle.influxdb_line_protocol.specs.format.Dialects.{Dialect}
 use Rattle.lp_format.specs.format.{Strict}
 use Rattle.lp_c.specs.BlockVerdicts.{ReadsVerdicts}
-use Rattle.lp_c.specs.Crossing.{dialect_of}
-use Rattle.lp_c.specs.Numbers.{dialect_number}
-use Rattle.lp_c.specs.OffsetBlocks.{OffsetRows, ReadsOffsets, begins_at, filled_in}
+use Rattle.lp_offsets.specs.Numbers.{dialect_number, dialect_of}
+use Rattle.lp_offsets.specs.OffsetBlocks.{OffsetRows, ReadsOffsets, begins_at, filled_in}
 use Rattle.lp_c.specs.SureRows.{IsShownRow}
 use Rattle.lp_c.specs.Verdicts.{MayTakeMemory, TellsVerdict}
-use Rattle.lp_c.specs.declared.offsets.Block.{Block}
-use Rattle.lp_c.specs.declared.offsets.OffsetRow.{OffsetRow}
-use Rattle.lp_c.specs.declared.placed.OffsetPart.{OffsetPart}
+use Rattle.lp_offsets.specs.declared.offsets.Block.{Block}
+use Rattle.lp_offsets.specs.declared.offsets.OffsetRow.{OffsetRow}
+use Rattle.lp_offsets.specs.declared.placed.OffsetPart.{OffsetPart}
 use Rattle.lp_c.specs.declared.verdicts.Limits.{Limits}
-use Rattle.lp_c.specs.declared.views.Dialect.{Dialect as Rules}
+use Rattle.lp_offsets.specs.declared.enums.Dialect.{Dialect as Rules}
 use Rattle.lp_c.proofs.SureRowLemmas.{rows_shown}
 
 -- what may take memory at the first of rows may do so if more rows follow

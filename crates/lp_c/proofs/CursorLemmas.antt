@@ -5,8 +5,8 @@ use Rattle.std.proofs.lemmas.Bool.{false≢true}
 use Rattle.influxdb_line_protocol.specs.format.Pieces.{Left}
 use Rattle.influxdb_line_protocol.specs.code.ParseSteps.{GivesLine}
 use Rattle.lp_c.specs.Crossing.{ReadsItem, left_of}
-use Rattle.lp_c.specs.Numbers.{answer_number}
-use Rattle.lp_c.specs.declared.views.Answer.{Answer}
+use Rattle.lp_offsets.specs.Numbers.{answer_number}
+use Rattle.lp_offsets.specs.declared.enums.Answer.{Answer}
 use Rattle.lp_c.specs.declared.views.Line.{Line}
 use Rattle.lp_c.specs.declared.views.Lines.{Lines}
 use Rattle.lp_c.specs.declared.views.Part.{Part}

@@ -11,7 +11,7 @@ use Rattle.influxdb_line_protocol.specs.format.Lines as format
 use Rattle.influxdb_line_protocol.specs.format.Readings.{Fault, Text}
 use Rattle.lp_c.specs.Crossing.{AnswersItem, ShowsLine, field_shown, tag_shown, text_shown}
 use Rattle.lp_c.specs.Telling.{Lent, Told, Waits, filled_line, filled_own, filled_parts, filled_view, own_parts, part_len, text_copy, view_len, waits_for}
-use Rattle.lp_c.specs.declared.views.Answer.{Answer}
+use Rattle.lp_offsets.specs.declared.enums.Answer.{Answer}
 use Rattle.lp_c.specs.declared.views.Line.{Line}
 use Rattle.lp_c.specs.declared.views.Part.{Part}
 use Rattle.lp_c.specs.declared.views.View.{View}

@@ -1,17 +1,8 @@
 pub mod BlockLemmas
 pub mod BlockVerdictLemmas
 pub mod CursorLemmas
-pub mod CutLemmas
 pub mod FillLemmas
 pub mod FloatLemmas
-pub mod PlacedLemmas
-pub mod PlacingLemmas
-pub mod PortionLemmas
-pub mod RoomLemmas
-pub mod RowKeyLemmas
-pub mod RowLemmas
-pub mod RowsLemmas
-pub mod RowsTold
 pub mod SureRowLemmas
 pub mod TextLemmas
 pub mod ToldLemmas

@@ -13,19 +13,19 @@ use Rattle.lp_portable.specs.code.Sure.{IsLineNoted, SureField, SureTag, begins_
 use Rattle.lp_portable.specs.format.Portable.{has_repeats}
 use Rattle.lp_events.specs.code.OwnBases.{is_strictly_sorted}
 use Rattle.lp_portable.proofs.{Repeats.risen_once, ShortFloats.short_is_sure}
-use Rattle.lp_c.specs.Numbers.{answer_number, kind_number}
-use Rattle.lp_c.specs.OffsetBlocks.{IsPieceIn, IsPlaced, OffsetRows, ShowsItem, ShowsRow, piece_in, timestamp_in}
-use Rattle.lp_c.specs.OffsetBlocks.{blank, fault, line, more, no_text, none}
-use Rattle.lp_c.specs.Offsets.{bytes_at, field_at, has_stray_number, key_at, tag_at, text_at, value_at, with_key}
+use Rattle.lp_offsets.specs.Numbers.{answer_number, kind_number}
+use Rattle.lp_offsets.specs.OffsetBlocks.{IsPieceIn, IsPlaced, OffsetRows, ShowsItem, ShowsRow, piece_in, timestamp_in}
+use Rattle.lp_offsets.specs.OffsetBlocks.{blank, fault, line, more, no_text, none}
+use Rattle.lp_offsets.specs.Offsets.{bytes_at, field_at, has_stray_number, key_at, tag_at, text_at, value_at, with_key}
 use Rattle.lp_c.specs.SureRows.{AreSureParts, IsShownRow, IsSureRow, ShowsStrictly, SurePart, SureValue, key_in, lies_in}
 use Rattle.lp_c.specs.Verdicts.{HasPiece, IsVerdictBy, piece_there}
-use Rattle.lp_c.specs.declared.offsets.OffsetRow.{OffsetRow}
-use Rattle.lp_c.specs.declared.pieces.Piece.{Piece}
-use Rattle.lp_c.specs.declared.pieces.Spot.{Spot}
-use Rattle.lp_c.specs.declared.placed.OffsetPart.{OffsetPart}
-use Rattle.lp_c.specs.declared.placed.Span.{Span}
-use Rattle.lp_c.specs.declared.views.Answer.TheVariants as Answer
-use Rattle.lp_c.specs.declared.views.Kind.{Kind}
+use Rattle.lp_offsets.specs.declared.offsets.OffsetRow.{OffsetRow}
+use Rattle.lp_offsets.specs.declared.pieces.Piece.{Piece}
+use Rattle.lp_offsets.specs.declared.pieces.Spot.{Spot}
+use Rattle.lp_offsets.specs.declared.placed.OffsetPart.{OffsetPart}
+use Rattle.lp_offsets.specs.declared.placed.Span.{Span}
+use Rattle.lp_offsets.specs.declared.enums.Answer.TheVariants as Answer
+use Rattle.lp_offsets.specs.declared.enums.Kind.{Kind}
 
 -- what lies in the text is no copy
 bytes_lie : (text room : List ℕ) (copied : ℕ) (span : Span) → copied ≡ 0 → bytes_at text room copied span ≡ lies_in text span

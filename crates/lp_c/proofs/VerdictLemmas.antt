@@ -4,7 +4,7 @@ use Rattle.std.proofs.lemmas.{Bool.false_from_ne_true, List.drop_more}
 use Rattle.lp_format.specs.{code.Light.is_light, format.Strict, format.trimmed}
 use Rattle.lp_portable.specs.declared.limits.Limits as portable
 use Rattle.lp_c.specs.Verdicts.{IsVerdictBy, MayTakeMemory, TellsVerdict, limits_of, piece_there}
-use Rattle.lp_c.specs.declared.offsets.OffsetRow.{OffsetRow}
+use Rattle.lp_offsets.specs.declared.offsets.OffsetRow.{OffsetRow}
 use Rattle.lp_c.specs.declared.verdicts.Limits.{Limits}
 
 -- a row that tells this number

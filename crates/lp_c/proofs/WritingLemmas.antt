@@ -3,10 +3,10 @@ use Rattle.std.proofs.Common.{◌≡◌, ◌<◌, ℕ, List, [], ◌∷◌, leng
 use Rattle.std.specs.List.{AllByRecursion}
 use Rattle.influxdb_line_protocol.specs.format.Points.{IsPoint, Point, built_all, is_admitted_in}
 use Rattle.influxdb_line_protocol.specs.laws.AdmittedLines.{AddsPoints, AdmittedLinesAddPoints, AreClosedLines, EmptyTextIsClosed}
-use Rattle.lp_c.specs.Numbers.{answer_number}
+use Rattle.lp_offsets.specs.Numbers.{answer_number}
 use Rattle.lp_c.specs.Writing.{PutsOut, ReadsAs}
 use Rattle.lp_c.specs.WritingRows.{ReadsAsAll}
-use Rattle.lp_c.specs.declared.views.Answer.TheVariants.{Written}
+use Rattle.lp_offsets.specs.declared.enums.Answer.TheVariants.{Written}
 
 -- a text that was put out is at the start of the buffer
 put_front : (text before after : List ℕ) (len answer : ℕ) → PutsOut Written text before after len answer

@@ -2,11 +2,11 @@
 use Rattle.std.specs.Prelude.{◌≡◌, ◌≤◌, ◌<◌, ℕ, Bool, List, take, drop}
 use Rattle.std.specs.List.{AllZip}
 use Rattle.influxdb_line_protocol.specs.format.Dialects.{Dialect}
-use Rattle.lp_c.specs.OffsetBlocks.{ReadsOffsets}
+use Rattle.lp_offsets.specs.OffsetBlocks.{ReadsOffsets}
 use Rattle.lp_c.specs.Verdicts.{MayTakeMemory, TellsVerdict}
-use Rattle.lp_c.specs.declared.offsets.Block.{Block}
-use Rattle.lp_c.specs.declared.offsets.OffsetRow.{OffsetRow}
-use Rattle.lp_c.specs.declared.placed.OffsetPart.{OffsetPart}
+use Rattle.lp_offsets.specs.declared.offsets.Block.{Block}
+use Rattle.lp_offsets.specs.declared.offsets.OffsetRow.{OffsetRow}
+use Rattle.lp_offsets.specs.declared.placed.OffsetPart.{OffsetPart}
 use Rattle.lp_c.specs.declared.verdicts.Limits.{Limits}
 
 -- a block was read into rows, and the first of the filled ones were told their verdicts after that: all, or those before one that may take

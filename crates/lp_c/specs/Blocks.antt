@@ -2,9 +2,9 @@
 use Rattle.std.specs.Prelude.{◌≡◌, ◌≤◌, ◌+◌, ◌==◌, ℕ, false, true, List, [], ◌∷◌, ◌++◌, length, take, drop, if◌then◌else◌}
 use Rattle.std.specs.List.{sum_by}
 use Rattle.lp_c.specs.Crossing.{ReadsItem, is_item}
-use Rattle.lp_c.specs.Numbers.{answer_number}
+use Rattle.lp_offsets.specs.Numbers.{answer_number}
 use Rattle.lp_c.specs.declared.blocks.Row.{Row}
-use Rattle.lp_c.specs.declared.views.Answer.{Answer}
+use Rattle.lp_offsets.specs.declared.enums.Answer.{Answer}
 use Rattle.lp_c.specs.declared.views.Lines.{Lines}
 use Rattle.lp_c.specs.declared.views.Part.{Part}
 

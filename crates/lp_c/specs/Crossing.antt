@@ -5,35 +5,23 @@ use Rattle.std.specs.Borrow.{Bor}
 use Rattle.std.specs.List.{sum_by}
 use Rattle.std.specs.Option.{option_map, is_some}
 use Rattle.std.specs.Ordering.{int_eq}
-use Rattle.influxdb_line_protocol.specs.format.Dialects.{Dialect, Crate, Strict, NewlineDelimited}
 use Rattle.influxdb_line_protocol.specs.format.Lines as format
 use Rattle.influxdb_line_protocol.specs.format.Lines.{some_tags}
 use Rattle.influxdb_line_protocol.specs.format.Pieces.{GivesPiece, Left}
 use Rattle.influxdb_line_protocol.specs.format.Points.{Pair}
-use Rattle.influxdb_line_protocol.specs.format.Readings as reading
-use Rattle.influxdb_line_protocol.specs.format.Readings.{Fault, Text, above, below, integer_value_invalid, uinteger_value_invalid}
-use Rattle.influxdb_line_protocol.specs.format.Readings.{cannot_parse_entire_line, ends_with_backslash, field_set_missing}
-use Rattle.influxdb_line_protocol.specs.format.Readings.{measurement_value_invalid, tag_set_malformed, take_while1, timestamp_value_invalid}
+use Rattle.influxdb_line_protocol.specs.format.Readings.{Fault, Text}
 use Rattle.influxdb_line_protocol.specs.format.Values.{Value, integer, unsigned, float, string, boolean}
 use Rattle.influxdb_line_protocol.specs.code.OwnBases.{is_own_base}
 use Rattle.influxdb_line_protocol.specs.code.ParseSteps.{GivesLine}
-use Rattle.lp_c.specs.Numbers.{answer_number, dialect_number, fault_number, kind_number, side_number}
-use Rattle.lp_c.specs.declared.views.Answer.{Answer}
-use Rattle.lp_c.specs.declared.views.Dialect.TheVariants as dialect
-use Rattle.lp_c.specs.declared.views.FaultKind.{FaultKind}
-use Rattle.lp_c.specs.declared.views.Kind.{Kind}
+use Rattle.lp_offsets.specs.Numbers.{FaultSeen, answer_number, dialect_of, fault_number, fault_seen, is_more, kind_number, side_number}
+use Rattle.lp_offsets.specs.declared.enums.Answer.{Answer}
+use Rattle.lp_offsets.specs.declared.enums.FaultKind.{FaultKind}
+use Rattle.lp_offsets.specs.declared.enums.Kind.{Kind}
 use Rattle.lp_c.specs.declared.views.Line.{Line}
 use Rattle.lp_c.specs.declared.views.Lines.{Lines}
 use Rattle.lp_c.specs.declared.views.Part.{Part}
-use Rattle.lp_c.specs.declared.views.Side.{Side}
-use Rattle.lp_c.specs.declared.views.Side.TheVariants as side
+use Rattle.lp_offsets.specs.declared.enums.Side.{Side}
 use Rattle.lp_c.specs.declared.views.View.{View}
-
--- the dialect that a number names; one that is of none names that of the Rust crate
-abbrev pub dialect_of : ℕ → Dialect
-dialect_of number =
-    if number == dialect_number dialect.Strict then Strict
-    else if number == dialect_number dialect.NewlineDelimited then NewlineDelimited else Crate
 
 -- the text that a cursor has left
 abbrev pub left_text : Bool → List ℕ → Option (List ℕ)
@@ -141,37 +129,6 @@ AnswersLine read room Answer.MoreParts line parts = length parts < line.tags + l
 AnswersLine read room Answer.MoreRoom line parts = room < copied_in read
 AnswersLine read room answer line parts = ⊥
 
--- the side that a fault names
-abbrev pub side_of : reading.Side → Side
-side_of above = side.Above
-side_of below = side.Below
-
--- a fault as a caller sees it: its kind, its side, and its text
-pub record FaultSeen : Type 0 where
-  pub kind : FaultKind
-  pub side : Side
-  pub text : List ℕ
-
--- a fault without a number or a text
-abbrev pub bare_fault : FaultKind → FaultSeen
-bare_fault kind = record { kind = kind; side = side.Neither; text = [] }
-
--- a fault that names a number
-abbrev pub number_fault : FaultKind → reading.Side → List ℕ → FaultSeen
-number_fault kind side text = record { kind = kind; side = side_of side; text = text }
-
--- what a caller sees of a fault
-abbrev pub fault_seen : Fault → FaultSeen
-fault_seen measurement_value_invalid = bare_fault FaultKind.MeasurementValueInvalid
-fault_seen field_set_missing = bare_fault FaultKind.FieldSetMissing
-fault_seen (integer_value_invalid side text) = number_fault FaultKind.IntegerValueInvalid side text
-fault_seen (uinteger_value_invalid side text) = number_fault FaultKind.UIntegerValueInvalid side text
-fault_seen (timestamp_value_invalid side text) = number_fault FaultKind.TimestampValueInvalid side text
-fault_seen ends_with_backslash = bare_fault FaultKind.EndsWithBackslash
-fault_seen (cannot_parse_entire_line rest) = record { kind = FaultKind.CannotParseEntireLine; side = side.Neither; text = rest }
-fault_seen tag_set_malformed = bare_fault FaultKind.TagSetMalformed
-fault_seen take_while1 = bare_fault FaultKind.GenericParsingError
-
 -- the line shows this fault, and how many bytes of room its text takes; it has no tags, no fields and no timestamp, and no
 -- text is its base
 pub record ShowsFault (fault : FaultSeen) (line : Line) : Type 0 where
@@ -197,12 +154,6 @@ abbrev pub AnswersItem : Option (Result format.Line Fault) → ℕ → Answer �
 AnswersItem None room answer line parts = answer ≡ Answer.End
 AnswersItem (Some (Ok read)) room answer line parts = CountsLine read line × AnswersLine read room answer line parts
 AnswersItem (Some (Err fault)) room answer line parts = AnswersFault (fault_seen fault) room answer line
-
--- whether more parts or more room is needed
-abbrev pub is_more : Answer → Bool
-is_more Answer.MoreParts = true
-is_more Answer.MoreRoom = true
-is_more answer = false
 
 -- whether an answer is for an item that was passed: a line or a fault
 abbrev pub is_item : ℕ → Bool

@@ -10,13 +10,13 @@ use Rattle.influxdb_line_protocol.specs.types.Series.{Series}
 use Rattle.influxdb_line_protocol.specs.code.Parsed as code
 use Rattle.influxdb_line_protocol.specs.code.Texts.{read_of}
 use Rattle.std.specs.Option.{option_map}
-use Rattle.lp_c.specs.declared.views.Answer.{Answer}
-use Rattle.lp_c.specs.declared.views.Answer.TheVariants.{NotALine, OutOfMemory}
-use Rattle.lp_c.specs.declared.views.Kind.TheVariants as kind
+use Rattle.lp_offsets.specs.declared.enums.Answer.{Answer}
+use Rattle.lp_offsets.specs.declared.enums.Answer.TheVariants.{NotALine, OutOfMemory}
+use Rattle.lp_offsets.specs.declared.enums.Kind.TheVariants as kind
 use Rattle.lp_c.specs.declared.views.View.{View}
 use Rattle.lp_c.specs.declared.views.Part.{Part}
 use Rattle.lp_c.specs.declared.views.Line.{Line}
-use Rattle.lp_c.specs.Numbers.{kind_number}
+use Rattle.lp_offsets.specs.Numbers.{kind_number}
 
 -- the text of a view; if copies are told apart, a copy is no part of the input
 abbrev pub text_in : Bool → View → Text

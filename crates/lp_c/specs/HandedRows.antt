@@ -3,13 +3,13 @@ use Rattle.std.specs.Prelude.{◌≡◌, ◌+◌, ◌<◌, ◌≤◌, ◌==◌, 
 use Rattle.std.specs.List.{AllByRecursion}
 use Rattle.influxdb_line_protocol.specs.format.Points.{Pair, Point}
 use Rattle.influxdb_line_protocol.specs.format.Values.{IsFloat, Value, boolean}
-use Rattle.lp_c.specs.Numbers.{kind_number}
-use Rattle.lp_c.specs.OffsetBlocks.{timestamp_in}
-use Rattle.lp_c.specs.Offsets.{bytes_at, key_at, text_at, value_at}
-use Rattle.lp_c.specs.declared.offsets.OffsetRow.{OffsetRow}
-use Rattle.lp_c.specs.declared.placed.OffsetPart.{OffsetPart}
-use Rattle.lp_c.specs.declared.placed.Span.{Span}
-use Rattle.lp_c.specs.declared.views.Kind.TheVariants as kind
+use Rattle.lp_offsets.specs.Numbers.{kind_number}
+use Rattle.lp_offsets.specs.OffsetBlocks.{timestamp_in}
+use Rattle.lp_offsets.specs.Offsets.{bytes_at, key_at, text_at, value_at}
+use Rattle.lp_offsets.specs.declared.offsets.OffsetRow.{OffsetRow}
+use Rattle.lp_offsets.specs.declared.placed.OffsetPart.{OffsetPart}
+use Rattle.lp_offsets.specs.declared.placed.Span.{Span}
+use Rattle.lp_offsets.specs.declared.enums.Kind.TheVariants as kind
 
 -- a text lies at this place: of the room, if it was copied, or else of the text
 pub record IsTextAt (text room : List ℕ) (copied : ℕ) (span : Span) : Type 0 where

@@ -7,12 +7,11 @@ use Rattle.influxdb_line_protocol.specs.code.Faults.{fault_text}
 use Rattle.influxdb_line_protocol.specs.code.Outcomes.{fault_of}
 use Rattle.influxdb_line_protocol.specs.types.Error.{Error}
 use Rattle.lp_values.specs.declared.error.Error.TheVariants as error
-use Rattle.lp_c.specs.Crossing.{FaultSeen, fault_seen}
-use Rattle.lp_c.specs.Numbers.{fault_number}
+use Rattle.lp_offsets.specs.Numbers.{FaultSeen, fault_number, fault_seen}
 use Rattle.lp_c.specs.declared.messages.Message.{Message}
-use Rattle.lp_c.specs.declared.views.FaultKind.{FaultKind}
+use Rattle.lp_offsets.specs.declared.enums.FaultKind.{FaultKind}
 use Rattle.lp_c.specs.declared.views.Line.{Line}
-use Rattle.lp_c.specs.declared.views.Side.TheVariants as side
+use Rattle.lp_offsets.specs.declared.enums.Side.TheVariants as side
 
 -- the message of a repeated key of tags
 abbrev pub repeated_key_text : List ℕ → List ℕ

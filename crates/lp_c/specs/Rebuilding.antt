@@ -3,9 +3,9 @@ use Rattle.std.specs.Prelude.{◌≡◌, ◌⊎◌, ℕ, ◌<◌, ◌≤◌, Lis
 use Rattle.influxdb_line_protocol.specs.format.Dialects.{Dialect}
 use Rattle.lp_rebuild.specs.declared.batch.Rebuilt.{Rebuilt}
 use Rattle.lp_rebuild.specs.Rebuilding.{RebuildsIn}
-use Rattle.lp_c.specs.declared.views.Answer.TheVariants.{MoreRoom, Written}
+use Rattle.lp_offsets.specs.declared.enums.Answer.TheVariants.{MoreRoom, Written}
 use Rattle.lp_c.specs.declared.rebuilding.Counts.{Counts}
-use Rattle.lp_c.specs.Numbers.{answer_number}
+use Rattle.lp_offsets.specs.Numbers.{answer_number}
 
 -- both texts of what was rebuilt have room in these buffers
 pub record HaveRoom (r : Rebuilt) (batch faults : List ℕ) : Type 0 where

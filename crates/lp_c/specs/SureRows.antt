@@ -6,14 +6,14 @@ use Rattle.lp_format.specs.format.{Strict, is_one_of, trimmed}
 use Rattle.lp_portable.specs.declared.limits.Limits as portable
 use Rattle.lp_portable.specs.code.Sure.{AreBitsOf, is_sure_key}
 use Rattle.lp_portable.specs.format.Portable.{has_repeats}
-use Rattle.lp_c.specs.Numbers.{answer_number, kind_number}
-use Rattle.lp_c.specs.OffsetBlocks.{ShowsRow}
+use Rattle.lp_offsets.specs.Numbers.{answer_number, kind_number}
+use Rattle.lp_offsets.specs.OffsetBlocks.{ShowsRow}
 use Rattle.lp_c.specs.Verdicts.{HasPiece, piece_there}
-use Rattle.lp_c.specs.declared.offsets.OffsetRow.{OffsetRow}
-use Rattle.lp_c.specs.declared.placed.OffsetPart.{OffsetPart}
-use Rattle.lp_c.specs.declared.placed.Span.{Span}
-use Rattle.lp_c.specs.declared.views.Answer.TheVariants as Answer
-use Rattle.lp_c.specs.declared.views.Kind.{Kind}
+use Rattle.lp_offsets.specs.declared.offsets.OffsetRow.{OffsetRow}
+use Rattle.lp_offsets.specs.declared.placed.OffsetPart.{OffsetPart}
+use Rattle.lp_offsets.specs.declared.placed.Span.{Span}
+use Rattle.lp_offsets.specs.declared.enums.Answer.TheVariants as Answer
+use Rattle.lp_offsets.specs.declared.enums.Kind.{Kind}
 
 -- the bytes at a place of a text
 abbrev pub lies_in : List ℕ → Span → List ℕ

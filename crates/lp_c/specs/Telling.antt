@@ -12,13 +12,13 @@ use Rattle.influxdb_line_protocol.specs.format.Values.{Value, integer, unsigned,
 use Rattle.influxdb_line_protocol.specs.types.SpelledFault.{SpelledFault}
 use Rattle.lp_lines.specs.code.Filling.{KeepsFault}
 use Rattle.lp_c.specs.Crossing.{CountsLine, ShowsLine, copied_in, field_shown, tag_shown, text_shown, timestamp_shown}
-use Rattle.lp_c.specs.Numbers.{fault_number, side_number}
+use Rattle.lp_offsets.specs.Numbers.{fault_number, side_number}
 use Rattle.lp_c.specs.declared.telling.Telling.{Telling}
-use Rattle.lp_c.specs.declared.views.FaultKind.{FaultKind}
+use Rattle.lp_offsets.specs.declared.enums.FaultKind.{FaultKind}
 use Rattle.lp_c.specs.declared.views.Line.{Line}
 use Rattle.lp_c.specs.declared.views.Part.{Part}
 use Rattle.lp_c.specs.declared.views.Room.{Room}
-use Rattle.lp_c.specs.declared.views.Side.{Side}
+use Rattle.lp_offsets.specs.declared.enums.Side.{Side}
 use Rattle.lp_c.specs.declared.views.View.{View}
 
 -- what is lent for a line: the line itself, its parts, and what the room holds

@@ -8,10 +8,10 @@ use Rattle.lp_portable.specs.code.Bits.{bits_of}
 use Rattle.lp_portable.specs.code.Clauses as code
 use Rattle.lp_portable.specs.code.Clauses.{Breaks}
 use Rattle.lp_portable.specs.format
-use Rattle.lp_c.specs.Numbers.{answer_number}
-use Rattle.lp_c.specs.declared.offsets.OffsetRow.{OffsetRow}
+use Rattle.lp_offsets.specs.Numbers.{answer_number}
+use Rattle.lp_offsets.specs.declared.offsets.OffsetRow.{OffsetRow}
 use Rattle.lp_c.specs.declared.verdicts.Limits.{Limits}
-use Rattle.lp_c.specs.declared.views.Answer.TheVariants as Answer
+use Rattle.lp_offsets.specs.declared.enums.Answer.TheVariants as Answer
 
 -- limits as the library takes them
 abbrev pub limits_of : Limits → portable.Limits

@@ -7,13 +7,12 @@ use Rattle.influxdb_line_protocol.specs.code.Bases.{Base, borrowed, owned, dupli
 use Rattle.influxdb_line_protocol.specs.code.Shown.{shown_line}
 use Rattle.influxdb_line_protocol.specs.laws.AdmittedLines.{AreClosedLines}
 use Rattle.lp_lines.specs.code.Keys.{series_key}
-use Rattle.lp_c.specs.declared.views.Answer.{Answer}
-use Rattle.lp_c.specs.declared.views.Answer.TheVariants.{Fault, MoreRoom, NotADialect, NotALine, NotAdmitted, OutOfMemory, Written}
+use Rattle.lp_offsets.specs.declared.enums.Answer.{Answer}
+use Rattle.lp_offsets.specs.declared.enums.Answer.TheVariants.{Fault, MoreRoom, NotADialect, NotALine, NotAdmitted, OutOfMemory, Written}
 use Rattle.lp_c.specs.declared.views.Line.{Line}
 use Rattle.lp_c.specs.declared.views.Part.{Part}
-use Rattle.lp_c.specs.Crossing.{dialect_of}
 use Rattle.lp_c.specs.Handed.{IsLineIn, line_in, tag_set_in, text_in}
-use Rattle.lp_c.specs.Numbers.{IsNoDialect, answer_number}
+use Rattle.lp_offsets.specs.Numbers.{IsNoDialect, answer_number, dialect_of}
 
 -- a text is put out: its length is told; it lies at the start of the buffer, and what is after it is as before; or the
 -- buffer is too short for it, and is as before

@@ -5,11 +5,11 @@ use Rattle.influxdb_line_protocol.specs.format.Dialects.{Dialect}
 use Rattle.influxdb_line_protocol.specs.format.Points.{Point, built, built_all, is_admitted_in}
 use Rattle.influxdb_line_protocol.specs.laws.AdmittedLines.{AreClosedLines}
 use Rattle.lp_c.specs.HandedRows.{IsRowIn, point_there}
-use Rattle.lp_c.specs.Numbers.{answer_number}
-use Rattle.lp_c.specs.declared.offsets.OffsetRow.{OffsetRow}
-use Rattle.lp_c.specs.declared.placed.OffsetPart.{OffsetPart}
-use Rattle.lp_c.specs.declared.views.Answer.{Answer}
-use Rattle.lp_c.specs.declared.views.Answer.TheVariants as answer
+use Rattle.lp_offsets.specs.Numbers.{answer_number}
+use Rattle.lp_offsets.specs.declared.offsets.OffsetRow.{OffsetRow}
+use Rattle.lp_offsets.specs.declared.placed.OffsetPart.{OffsetPart}
+use Rattle.lp_offsets.specs.declared.enums.Answer.{Answer}
+use Rattle.lp_offsets.specs.declared.enums.Answer.TheVariants as answer
 use Rattle.lp_c.specs.declared.writing_rows.RowsWritten.{RowsWritten}
 use Rattle.lp_c.specs.declared.writing_rows.Stop.{Stop}
 

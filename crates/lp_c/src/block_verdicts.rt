@@ -2,14 +2,13 @@
 
 ghost use Rattle.std.specs.Prelude.{◌≡◌, ◌≢◌, ◌↔◌, ◌⊎◌, ◌≤◌, ◌^◌, IfSome, length};
 ghost use Rattle.lp_c.specs.BlockVerdicts.{ReadsVerdicts};
-ghost use Rattle.lp_c.specs.Crossing.{dialect_of};
-ghost use Rattle.lp_c.specs.Numbers.{IsNoDialect, answer_number};
-ghost use Rattle.lp_c.specs.declared.views.Answer.TheVariants as Answer;
+ghost use Rattle.lp_offsets.specs.Numbers.{IsNoDialect, answer_number, dialect_of};
+ghost use Rattle.lp_offsets.specs.declared.enums.Answer.TheVariants as Answer;
 
-use crate::offsets::{Block, OffsetRow, are_in_32, fill_block};
-use crate::placed::OffsetPart;
 use crate::verdicts::{Limits, tell_verdicts};
-use crate::views::{Answer, Dialect};
+use lp_offsets::enums::{Answer, Dialect};
+use lp_offsets::offsets::{Block, OffsetRow, are_in_32, fill_block};
+use lp_offsets::placed::OffsetPart;
 use std::alloc::Global;
 
 // The parts of rows that are filled by these rules, if these are the strict ones.

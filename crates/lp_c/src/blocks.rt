@@ -3,11 +3,12 @@
 ghost use Rattle.std.specs.Prelude.{◌≡◌, ◌≢◌, ◌≤◌, ◌+◌, drop, false, length, take, IsTrue, IsUtf8};
 ghost use Rattle.lp_c.specs.Blocks.{ReadsBlock, parts_of};
 ghost use Rattle.lp_c.specs.Crossing.{ReadsItem, is_item, left_of};
-ghost use Rattle.lp_c.specs.Numbers.{answer_number};
+ghost use Rattle.lp_offsets.specs.Numbers.{answer_number};
 
 use crate::reading::{pieces_of, read_next};
-use crate::views::{Answer, Line, Lines, Part, Room};
+use crate::views::{Line, Lines, Part, Room};
 use influxdb_line_protocol::SplitLines;
+use lp_offsets::enums::Answer;
 
 /// An item, and where its parts begin.
 #[repr(C)]

@@ -6,13 +6,14 @@ ghost use Rattle.influxdb_line_protocol.specs.code.Parsed.{field_of, line_read, 
 ghost use Rattle.influxdb_line_protocol.specs.code.ReadValues.{value_of};
 ghost use Rattle.influxdb_line_protocol.specs.code.Texts.{read_of};
 ghost use Rattle.lp_c.specs.Handed.{IsFieldIn, IsLineIn, IsSeriesIn, IsSeriesRead, IsTagIn, IsValueIn, RefusesFor};
-ghost use Rattle.lp_c.specs.declared.views.Answer.TheVariants.{NotALine};
+ghost use Rattle.lp_offsets.specs.declared.enums.Answer.TheVariants.{NotALine};
 ghost use Rattle.lp_c.specs.Handed.{field_in, line_in, tag_in, text_in, value_in};
 
-use crate::views::{Answer, Kind, Line, Part, View};
+use crate::views::{Line, Part, View};
 use influxdb_line_protocol::{
     EscapedStr, FieldSet, FieldValue, FloatText, ParsedLine, Series, TagSet,
 };
+use lp_offsets::enums::{Answer, Kind};
 use std::alloc::Global;
 
 // The text of a view: a copy of it if the view says that it was copied and `copies` asks for that, and else the bytes that it lends.

@@ -7,14 +7,14 @@ ghost use Rattle.influxdb_line_protocol.specs.code.ReadValues.{value_of};
 ghost use Rattle.influxdb_line_protocol.specs.format.Lines.{logical_field, logical_tag, logical_value, some_tags};
 ghost use Rattle.lp_c.specs.Handed.{RefusesFor};
 ghost use Rattle.lp_c.specs.HandedRows.{IsFieldAt, IsRowIn, IsTagAt, IsTextAt, IsValueAt, field_there, point_there, tag_there, value_there};
-ghost use Rattle.lp_c.specs.Offsets.{bytes_at};
-ghost use Rattle.lp_c.specs.Portions.{IsPortionOf, IsSpanIn};
+ghost use Rattle.lp_offsets.specs.Offsets.{bytes_at};
+ghost use Rattle.lp_offsets.specs.Portions.{IsPortionOf, IsSpanIn};
 
-use crate::offsets::OffsetRow;
-use crate::placed::{OffsetPart, Span};
-use crate::portions::{Portion, no_portion};
-use crate::views::{Answer, Kind};
 use influxdb_line_protocol::{EscapedStr, FieldSet, FieldValue, FloatText, ParsedLine, TagSet};
+use lp_offsets::enums::{Answer, Kind};
+use lp_offsets::offsets::OffsetRow;
+use lp_offsets::placed::{OffsetPart, Span};
+use lp_offsets::portions::{Portion, no_portion};
 use std::alloc::Global;
 
 // The text at a place of bytes, of which a portion was tested.

@@ -4,16 +4,18 @@ ghost use Rattle.std.specs.Prelude.{◌≡◌, ◌≢◌, ◌+◌, ◌≤◌, �
 ghost use Rattle.std.specs.Prelude.{Some};
 ghost use Rattle.std.specs.List.{sum_by};
 ghost use Rattle.influxdb_line_protocol.specs.code.Events.{spelled_field, spelled_tag};
-ghost use Rattle.influxdb_line_protocol.specs.code.Outcomes.{side};
-ghost use Rattle.influxdb_line_protocol.specs.code.SpelledParts.{spelled_fault, spelled_text, spelling_of};
+ghost use Rattle.influxdb_line_protocol.specs.code.SpelledParts.{spelled_fault, spelled_text};
 ghost use Rattle.influxdb_line_protocol.specs.format.Lines as format;
-ghost use Rattle.lp_c.specs.Crossing.{AnswersFault, ShowsLine, fault_seen, field_shown, side_of, tag_shown, taken_by, text_shown};
-ghost use Rattle.lp_c.specs.Numbers.{answer_number, kind_number};
+ghost use Rattle.lp_c.specs.Crossing.{AnswersFault, ShowsLine, field_shown, tag_shown, taken_by, text_shown};
+ghost use Rattle.lp_offsets.specs.Numbers.{answer_number, fault_seen, kind_number};
 ghost use Rattle.lp_c.specs.Telling.{PutsCopy, Waits, field_copies, tag_copies, text_copy};
 ghost use Rattle.lp_c.specs.Telling.{filled_line, filled_own, filled_part, filled_parts, filled_view, part_len, view_len, waits_for};
 
-use crate::views::{Answer, FaultKind, Kind, Line, Part, Room, Side, View};
-use influxdb_line_protocol::{ErrorKind, OutOfRange, Spelled, SpelledFault, SpelledValue};
+use crate::views::{Line, Part, Room, View};
+use influxdb_line_protocol::{Spelled, SpelledFault, SpelledValue};
+use lp_offsets::enums::{Answer, Kind};
+use lp_offsets::faults::fault_seen;
+use lp_offsets::placed::reads_as_spelled;
 use lp_values::spelled::shared;
 use std::mem;
 
@@ -29,14 +31,6 @@ fn put<'a>(room: &mut Room<'a>, text: &[u8]) -> &'a [u8]
     front.copy_from_slice(text);
     room.bytes = rest;
     front
-}
-
-// Whether a text reads as it is spelled: it holds no backslash.
-#[inline(always)]
-pub(crate) fn reads_as_spelled(text: Spelled<'_>) -> bool
-    ensures { result ≡ true → spelled_text text.entry ≡ record { bytes = spelling_of text.entry; is_single = true } }
-{
-    text.is_plain()
 }
 
 // Puts the logical text of a spelling into the room after `len` bytes, if it fits, and says how many bytes there are with it.
@@ -274,55 +268,6 @@ pub fn fill_line<'a>(room: &mut Room<'a>, line: &mut Line<'a>, parts: &mut [Part
 {
     fill_view(room, &mut line.measurement);
     fill_parts(room, &mut parts[..line.tags + line.fields]);
-}
-
-// The side that a fault names.
-fn side_of(source: OutOfRange) -> Side
-    ensures { result ≡ side_of (side source) }
-{
-    match source {
-        OutOfRange::Above => Side::Above,
-        OutOfRange::Below => Side::Below,
-    }
-}
-
-// What a caller sees of a fault.
-pub fn fault_seen<'a>(fault: SpelledFault<'a>) -> (FaultKind, Side, &'a str)
-    ensures { fault_seen (spelled_fault fault.entry) ≡ record { kind = result.0; side = result.1; text = result.2.now } }
-{
-    match fault {
-        SpelledFault::MeasurementValueInvalid => (
-            FaultKind::MeasurementValueInvalid,
-            Side::Neither,
-            "",
-        ),
-        SpelledFault::FieldSetMissing => (FaultKind::FieldSetMissing, Side::Neither, ""),
-        SpelledFault::IntegerValueInvalid { source, value } => (
-            FaultKind::IntegerValueInvalid,
-            side_of(source),
-            value,
-        ),
-        SpelledFault::UIntegerValueInvalid { source, value } => (
-            FaultKind::UIntegerValueInvalid,
-            side_of(source),
-            value,
-        ),
-        SpelledFault::TimestampValueInvalid { source, value } => (
-            FaultKind::TimestampValueInvalid,
-            side_of(source),
-            value,
-        ),
-        SpelledFault::EndsWithBackslash => (FaultKind::EndsWithBackslash, Side::Neither, ""),
-        SpelledFault::CannotParseEntireLine { trailing_content } => (
-            FaultKind::CannotParseEntireLine,
-            Side::Neither,
-            trailing_content,
-        ),
-        SpelledFault::TagSetMalformed => (FaultKind::TagSetMalformed, Side::Neither, ""),
-        SpelledFault::GenericParsingError {
-            kind: ErrorKind::TakeWhile1,
-        } => (FaultKind::GenericParsingError, Side::Neither, ""),
-    }
 }
 
 // Puts a fault out, or says how much more room it takes.

@@ -3,13 +3,14 @@
 ghost use Rattle.std.specs.Prelude.{◌≡◌, ◌≢◌, ◌≤◌, ◌++◌, ◌^◌, ◌<◌, [], drop, length, IfSome, MatchOption};
 ghost use Rattle.influxdb_line_protocol.specs.code.Faults.{error_text};
 ghost use Rattle.influxdb_line_protocol.specs.types.Error.{Error};
-ghost use Rattle.lp_c.specs.declared.views.Answer.TheVariants.{NotALine, OutOfMemory, Written};
+ghost use Rattle.lp_offsets.specs.declared.enums.Answer.TheVariants.{NotALine, OutOfMemory, Written};
 ghost use Rattle.lp_c.specs.Messages.{IsFaultIn, IsFaultNumber, IsShort, ShowsError, message_by, message_bytes, message_in};
-ghost use Rattle.lp_c.specs.Numbers.{answer_number};
+ghost use Rattle.lp_offsets.specs.Numbers.{answer_number};
 ghost use Rattle.lp_c.specs.Writing.{Writes};
 
-use crate::views::{Answer, Line};
+use crate::views::Line;
 use crate::writing::put_front;
+use lp_offsets::enums::Answer;
 
 // A message: the text that a fault names, if it names one, and what comes before and after it.
 #[derive(Clone, Copy)]

@@ -1,14 +1,14 @@
 //! The calls that read.
 
 ghost use Rattle.std.specs.Prelude.{◌≡◌, ◌≢◌, ◌≤◌, ◌+◌, ◌↔◌, [], length, false, IsFalse, IsTrue, IsUtf8, Some, option_map};
-ghost use Rattle.influxdb_line_protocol.specs.code.Rules.{rules_of};
-ghost use Rattle.lp_c.specs.Crossing.{GivesView, ReadsItem, dialect_of, is_item, left_of};
-ghost use Rattle.lp_c.specs.Numbers.{IsNoDialect, answer_number};
+ghost use Rattle.lp_c.specs.Crossing.{GivesView, ReadsItem, is_item, left_of};
+ghost use Rattle.lp_offsets.specs.Numbers.{IsNoDialect, answer_number, dialect_of};
 
 use crate::telling::put_item;
-use crate::views::{Answer, Dialect, Line, Lines, Part, Room, View};
+use crate::views::{Line, Lines, Part, Room, View};
 use influxdb_line_protocol::{SplitLines, split_lines_in};
 use lp_events::lines::next_line;
+use lp_offsets::enums::{Answer, Dialect, dialect_of};
 
 /// The version of the library: 10,000 times its first number, 100 times its second, and its third.
 #[unsafe(no_mangle)]
@@ -35,16 +35,6 @@ pub extern "C" fn lp_lines_begin<'a>(text: &'a [u8], dialect: u32, lines: &mut L
         ended: false,
     };
     true
-}
-
-// The rules of the dialect that a number names.
-pub(crate) fn dialect_of(number: u32) -> influxdb_line_protocol::Dialect
-    ensures { rules_of result ≡ dialect_of number }
-{
-    match Dialect::numbered(number) {
-        Some(dialect) => dialect.rules(),
-        None => influxdb_line_protocol::Dialect::Crate,
-    }
 }
 
 // Leaves this of the text.

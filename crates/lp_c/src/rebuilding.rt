@@ -1,13 +1,12 @@
 //! A text that is rebuilt: its lines are written again into a buffer that the caller lends, and its faults into another.
 
 ghost use Rattle.std.specs.Prelude.{◌≡◌, ◌≢◌, ◌↔◌, IsUtf8};
-ghost use Rattle.lp_c.specs.declared.views.Answer.TheVariants.{MoreRoom, NotADialect, NotUtf8, OutOfMemory, Written};
-ghost use Rattle.lp_c.specs.Numbers.{IsNoDialect, answer_number};
-ghost use Rattle.lp_c.specs.Crossing.{dialect_of};
+ghost use Rattle.lp_offsets.specs.declared.enums.Answer.TheVariants.{MoreRoom, NotADialect, NotUtf8, OutOfMemory, Written};
+ghost use Rattle.lp_offsets.specs.Numbers.{IsNoDialect, answer_number, dialect_of};
 ghost use Rattle.lp_c.specs.Rebuilding.{Counted, PutsBoth, RebuildsInto};
 
-use crate::views::{Answer, Dialect};
 use crate::writing::put_front;
+use lp_offsets::enums::{Answer, Dialect};
 use lp_rebuild::{Rebuilt, rebuild_in};
 use std::alloc::Global;
 

@@ -5,13 +5,13 @@
 
 ghost use Rattle.std.specs.Prelude.{◌≡◌, ◌≤◌, ◌<◌, ◌+◌, IfSome, bytes_eq, drop, false, length, map, take, true};
 ghost use Rattle.std.specs.List.{list_any};
-ghost use Rattle.lp_c.specs.OffsetBlocks.{timestamp_in};
+ghost use Rattle.lp_offsets.specs.OffsetBlocks.{timestamp_in};
 ghost use Rattle.lp_c.specs.SureRows.{AreSureParts, IsShownRow, IsSureRow, SurePart, SureValue, key_in, lies_in};
 ghost use Rattle.lp_c.specs.Verdicts.{IsVerdict};
 
-use crate::offsets::OffsetRow;
-use crate::placed::{OffsetPart, Span};
-use crate::views::{Answer, Kind};
+use lp_offsets::enums::{Answer, Kind};
+use lp_offsets::offsets::OffsetRow;
+use lp_offsets::placed::{OffsetPart, Span};
 use lp_portable::Limits as Most;
 use lp_portable::keys::rises;
 use lp_portable::sure::{begins_own, is_short_literal, is_sure_key, sure_bits};

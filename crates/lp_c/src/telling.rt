@@ -7,13 +7,14 @@ ghost use Rattle.influxdb_line_protocol.specs.code.Events.{spelled_field, spelle
 ghost use Rattle.influxdb_line_protocol.specs.code.Rules.{rules_of};
 ghost use Rattle.influxdb_line_protocol.specs.format.Lines.{answer};
 ghost use Rattle.lp_c.specs.Crossing.{AnswersItem, taken_by};
-ghost use Rattle.lp_c.specs.Numbers.{answer_number};
+ghost use Rattle.lp_offsets.specs.Numbers.{answer_number};
 ghost use Rattle.lp_c.specs.Telling.{TellsField, TellsTag, Told, lent, lent_to};
 
 use crate::lent::{fill_line, put_fault, put_field, put_tag, show_field, show_tag, show_text};
-use crate::views::{Answer, FaultKind, Line, Part, Room, Side};
+use crate::views::{Line, Part, Room};
 use influxdb_line_protocol::{Dialect, Spelled, SpelledFault, SpelledValue};
 use lp_events::{PlacedSink, read_placed_events};
+use lp_offsets::enums::{Answer, FaultKind, Side};
 
 /// A line that is told: its text, where it is put, what was counted of it, and its fault, if it has one.
 ///

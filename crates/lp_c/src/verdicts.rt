@@ -4,17 +4,17 @@ ghost use Rattle.std.specs.Prelude.{◌≡◌, ◌≢◌, ◌↔◌, ◌≤◌, 
 ghost use Rattle.std.specs.List.{AllByRecursion, AllZip};
 ghost use Rattle.lp_format.specs.{code.Light.is_light, format.Strict, format.trimmed};
 ghost use Rattle.lp_portable.specs.format.Portable.{default_limits};
-ghost use Rattle.lp_c.specs.Numbers.{answer_number};
-ghost use Rattle.lp_c.specs.Portions.{IsPortionOf};
+ghost use Rattle.lp_offsets.specs.Numbers.{answer_number};
+ghost use Rattle.lp_offsets.specs.Portions.{IsPortionOf};
 ghost use Rattle.lp_c.specs.SureRows.{IsShownRow};
 ghost use Rattle.lp_c.specs.Verdicts.{IsPieceOf, IsVerdictBy, MayTakeMemory, TellsVerdict, format_limits, limits_of, piece_there};
-ghost use Rattle.lp_c.specs.declared.views.Answer.TheVariants as Answer;
+ghost use Rattle.lp_offsets.specs.declared.enums.Answer.TheVariants as Answer;
 
-use crate::offsets::OffsetRow;
-use crate::placed::OffsetPart;
-use crate::portions::{Portion, no_portion};
 use crate::sure_rows::sure_verdict;
-use crate::views::Answer;
+use lp_offsets::enums::Answer;
+use lp_offsets::offsets::OffsetRow;
+use lp_offsets::placed::OffsetPart;
+use lp_offsets::portions::{Portion, no_portion};
 use lp_portable::{Limits as Most, broken_clauses};
 use std::alloc::{AllocError, Global};
 

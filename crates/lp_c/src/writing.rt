@@ -4,18 +4,18 @@ ghost use Rattle.std.specs.Prelude.{◌≡◌, ◌≢◌, ◌↔◌, ◌≤◌, 
 ghost use Rattle.influxdb_line_protocol.specs.code.Bases.{is_base_safe};
 ghost use Rattle.influxdb_line_protocol.specs.format.Lines.{some_tags};
 ghost use Rattle.influxdb_line_protocol.specs.format.Points.{is_admitted_in};
-ghost use Rattle.lp_c.specs.declared.views.Answer.TheVariants.{MoreRoom, NotADialect, NotALine, OutOfMemory, Written};
-ghost use Rattle.lp_c.specs.Crossing.{dialect_of};
+ghost use Rattle.lp_offsets.specs.declared.enums.Answer.TheVariants.{MoreRoom, NotADialect, NotALine, OutOfMemory, Written};
 ghost use Rattle.lp_c.specs.Handed.{IsLineIn, IsSeriesIn, tag_set_in, text_in};
-ghost use Rattle.lp_c.specs.Numbers.{IsNoDialect, answer_number};
+ghost use Rattle.lp_offsets.specs.Numbers.{IsNoDialect, answer_number, dialect_of};
 ghost use Rattle.lp_c.specs.Writing.{PutsOut, ReadsAs, Writes, WritesAdmittedLine, answer_for_base, base_in, key_in, point_in, shown_in, text_of_base};
 
 use crate::handed::{empty_line, take_line, take_series};
-use crate::views::{Answer, Dialect, Line, Part};
+use crate::views::{Line, Part};
 use influxdb_line_protocol::builder::Unwritten;
 use influxdb_line_protocol::{
     Error, LineProtocolBuilder, is_admitted_in, laws, write_admitted_line_in,
 };
+use lp_offsets::enums::{Answer, Dialect};
 use std::alloc::Global;
 
 /// Puts a text at the start of a buffer that has room for it.

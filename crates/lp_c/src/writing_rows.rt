@@ -4,24 +4,23 @@ ghost use Rattle.std.specs.Prelude.{◌≡◌, ◌≢◌, ◌↔◌, ◌≤◌, 
 ghost use Rattle.std.specs.List.{AllByRecursion};
 ghost use Rattle.influxdb_line_protocol.specs.code.Rules.{rules_of};
 ghost use Rattle.influxdb_line_protocol.specs.format.Points.{IsPoint, built};
-ghost use Rattle.lp_c.specs.Crossing.{dialect_of};
 ghost use Rattle.lp_c.specs.HandedRows.{point_there};
-ghost use Rattle.lp_c.specs.Numbers.{IsNoDialect, answer_number};
-ghost use Rattle.lp_c.specs.Portions.{IsPortionOf};
+ghost use Rattle.lp_offsets.specs.Numbers.{IsNoDialect, answer_number, dialect_of};
+ghost use Rattle.lp_offsets.specs.Portions.{IsPortionOf};
 ghost use Rattle.lp_c.specs.WritingRows.{AreLinesOf, IsWrittenIn, StopsAt, StopsAtRow, WritesRows};
-ghost use Rattle.lp_c.specs.declared.views.Answer.TheVariants as Answer;
+ghost use Rattle.lp_offsets.specs.declared.enums.Answer.TheVariants as Answer;
 
 use crate::handed::empty_line;
 use crate::handed_rows::take_row;
-use crate::offsets::OffsetRow;
-use crate::placed::OffsetPart;
-use crate::portions::{Portion, no_portion};
-use crate::views::{Answer, Dialect};
 use crate::writing::put_front;
 use influxdb_line_protocol::builder::Unwritten;
 use influxdb_line_protocol::{
     Dialect as Rules, LineProtocolBuilder, ParsedLine, laws, write_admitted_line_in,
 };
+use lp_offsets::enums::{Answer, Dialect};
+use lp_offsets::offsets::OffsetRow;
+use lp_offsets::placed::OffsetPart;
+use lp_offsets::portions::{Portion, no_portion};
 use std::alloc::Global;
 use std::mem;
 

@@ -4,14 +4,5 @@
 //! keeps anything, asks for memory, ends the program or calls back: so it is compiled for WebAssembly too, where no heap is.
 #![tactic(auto)]
 
-mod cuts;
-mod lent;
-mod offsets;
-mod pieces;
-mod placed;
-mod placing;
-mod portions;
-mod reading;
-mod row_keys;
-mod views;
+mod exports;
 mod written;

@@ -26,7 +26,7 @@ is_closed_stream device = is_none device.name && is_closed device
 
 -- no device
 abbrev pub no_device : Device
-no_device = record { name = None; error = None }
+no_device = record { name = None; batch = None; error = None }
 
 -- the device of which a fault tells: of the writers that of the faults before that of the refused pieces, if both failed
 abbrev pub failed_device : Devices Device → RunFault → Device

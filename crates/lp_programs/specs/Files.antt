@@ -1,5 +1,5 @@
 -- Files that are written beside their places.
-use Rattle.std.specs.Prelude.{◌≡◌, ◌≢◌, Bool, true, false, List, ℕ, Option, Some, IfSome, MatchOption, option_map}
+use Rattle.std.specs.Prelude.{◌≡◌, ◌≢◌, Bool, true, false, List, ℕ, Option, Some, None, IfSome, MatchOption, option_map}
 use Rattle.std.specs.Borrow.{Bor}
 use Rattle.std.specs.declared.io.Error.{Error}
 use Rattle.lp_rebuild.specs.declared.program.RunFault.TheVariants.{Write}
@@ -80,7 +80,12 @@ ArePutWhole state files =
 -- why a run failed whose file of this name could not be written, of which the system said this
 abbrev pub file_failure : Bor (List ℕ) → Error → Failure
 file_failure name error =
-    record { fault = Write; device = record { name = Some name; error = Some error }; is_pipe_closed = false }
+    record { fault = Write; device = record { name = Some name; batch = None; error = Some error }; is_pipe_closed = false }
+
+-- why a run failed whose batch of this number could not be written, of those whose names a word says
+abbrev pub batch_failure : Bor (List ℕ) → (number : ℕ) → Error → Failure
+batch_failure word number error =
+    record { fault = Write; device = record { name = Some word; batch = Some number; error = Some error }; is_pipe_closed = false }
 
 -- a run failed since a file could not be written, of which the system may say so
 abbrev pub IsTold : (List ℕ → Error → Type 0) → Failure → Type 0

@@ -12,3 +12,4 @@ pub mod Refusals
 pub mod RunErrors
 pub mod Starts
 pub mod Summaries
+pub mod WholeLines

@@ -10,7 +10,7 @@ ghost use Rattle.lp_programs.specs.Files.{IsBeside, IsInPlace};
 use crate::batch_names::BatchNames;
 use crate::beside::{FileBeside, NEW_MODE, make_beside};
 use crate::endings::Failure;
-use crate::files::{Output, failure_of, let_file_go};
+use crate::files::{Output, failure_of_batch, let_file_go};
 use influxdb_line_protocol::{Dialect, laws, split_lines_in};
 use std::io::{self, ErrorKind, Write};
 use std::str;
@@ -138,8 +138,8 @@ pub(crate) struct Batches<'a, 'n> {
     limits: Limits,
     // Whether a batch that cannot come to its place is kept beside it, since the input cannot be read again.
     is_kept: bool,
-    // The number of the next file.
-    next: u64,
+    // The number of the file that was written last.
+    number: u64,
     // The file that is written, and what it has so far.
     file: Option<FileBeside<'a, 'n>>,
     size: Size,
@@ -200,21 +200,25 @@ impl<'a, 'n> Batches<'a, 'n> {
                 dialect,
                 limits,
                 is_kept,
-                next: 2,
+                number: 1,
                 file: Some(file),
                 size: Size::NONE,
             }),
-            Err(error) => Err(failure_of(word, error)),
+            Err(error) => Err(failure_of_batch(word, 1, error)),
         }
+    }
+
+    /// The number of the batch that was written last.
+    pub(crate) fn number(&self) -> u64 {
+        self.number
     }
 
     // The file of the next batch.
     fn next_file(&mut self) -> io::Result<FileBeside<'a, 'n>>
         ensures { self.new.file ≡ self.old.file }
     {
-        let file = file_of(self.rt, self.word, self.names, self.next)?;
-        self.next = self.next.saturating_add(1);
-        Ok(file)
+        self.number = self.number.saturating_add(1);
+        file_of(self.rt, self.word, self.names, self.number)
     }
 
     // Ends the batch that is written: it comes to its place.
@@ -261,7 +265,7 @@ impl<'a, 'n> Batches<'a, 'n> {
             dialect: _dialect,
             limits: _limits,
             is_kept,
-            next: _next,
+            number,
             file,
             size,
         } = self;
@@ -278,7 +282,7 @@ impl<'a, 'n> Batches<'a, 'n> {
         }
         match put_or_leave(file, is_kept) {
             Ok(()) => answer,
-            Err(error) => Err(failure_of(word, error)),
+            Err(error) => Err(failure_of_batch(word, number, error)),
         }
     }
 }

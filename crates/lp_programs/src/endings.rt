@@ -15,6 +15,8 @@ use std::io::{self, ErrorKind};
 pub struct Device<'n> {
     /// The name of the file that it is; none if it is a standard stream.
     pub name: Option<&'n str>,
+    /// The number of the batch that it is, if it is one: the name is then the word that says the names of all batches.
+    pub batch: Option<u64>,
     /// What the system said of it last, if it failed.
     pub error: Option<io::Error>,
 }
@@ -91,6 +93,7 @@ impl<'n> Devices<Device<'n>> {
             RunFault::Write => self.output,
             RunFault::NotUtf8 | RunFault::OutOfMemory => Device {
                 name: None,
+                batch: None,
                 error: None,
             },
         }

@@ -24,7 +24,11 @@ pub fn shorter() -> io::Error {
 
 // A device that has not failed so far, which is the file of this name, if it has one.
 fn device<'n>(name: Option<&'n str>) -> Cell<Device<'n>> {
-    Cell::new(Device { name, error: None })
+    Cell::new(Device {
+        name,
+        batch: None,
+        error: None,
+    })
 }
 
 impl<'n> Devices<Cell<Device<'n>>> {
@@ -70,9 +74,10 @@ impl<'a, 'n, D> Watched<'a, 'n, D> {
             if error.kind() == ErrorKind::Interrupted {
                 return;
             }
-            let name = self.device.get().name;
-            let error = Some(*error);
-            self.device.set(Device { name, error });
+            self.device.set(Device {
+                error: Some(*error),
+                ..self.device.get()
+            });
         }
     }
 }

@@ -3,7 +3,7 @@ ghost use Rattle.std.specs.Prelude.{◌≡◌, ◌≢◌, Bool, List, ℕ, Optio
 ghost use Rattle.std.specs.Borrow.{Bor};
 ghost use Rattle.std.specs.declared.io.Error.{Error};
 ghost use Rattle.lp_programs.specs.declared.files.FileState.{FileState};
-ghost use Rattle.lp_programs.specs.Files.{ArePutWhole, Each, HasNames, IsBeside, IsInPlace, IsRemoved, IsSettled, IsTold, IsWhole, after_keep, after_put, after_remove, after_sync, file_failure, new_file};
+ghost use Rattle.lp_programs.specs.Files.{ArePutWhole, Each, HasNames, IsBeside, IsInPlace, IsRemoved, IsSettled, IsTold, IsWhole, after_keep, after_put, after_remove, after_sync, batch_failure, file_failure, new_file};
 
 use crate::endings::{Device, Failure};
 use lp_rebuild::RunFault;
@@ -126,6 +126,22 @@ pub(crate) fn failure_of<'n>(name: &'n str, error: io::Error) -> Failure<'n>
         fault: RunFault::Write,
         device: Device {
             name: Some(name),
+            batch: None,
+            error: Some(error),
+        },
+        is_pipe_closed: false,
+    }
+}
+
+/// Why a run failed whose batch of this number could not be written, of those whose names a word says.
+pub(crate) fn failure_of_batch<'n>(word: &'n str, number: u64, error: io::Error) -> Failure<'n>
+    ensures { result ≡ batch_failure word.entry number error }
+{
+    Failure {
+        fault: RunFault::Write,
+        device: Device {
+            name: Some(word),
+            batch: Some(number),
             error: Some(error),
         },
         is_pipe_closed: false,

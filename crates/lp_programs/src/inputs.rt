@@ -10,6 +10,7 @@ use crate::opens::open_to_read;
 use crate::options::Range;
 use crate::places::{STDIN, path_of, size_at};
 use crate::starts::{Start, TELLING, keep_first, start_of};
+use crate::whole_lines::{WholeLines, lines_end};
 use std::cell::Cell;
 use std::fs::File;
 use std::io::{self, ErrorKind, Read, Seek, SeekFrom, Stdin, Take};
@@ -190,6 +191,8 @@ impl<'a> Read for Opened<'a> {
 #[derive(Drop)]
 pub struct SystemInput<'a> {
     opened: Opened<'a>,
+    /// What hands on its whole lines, if no other bytes are read.
+    lines: Option<WholeLines>,
     /// Its first bytes, as long as these may tell more of it.
     first: Option<Vec<u8>>,
     /// Where it is put that it begins with a byte order mark.
@@ -222,7 +225,10 @@ impl<'a> SystemInput<'a> {
 
 impl<'a> Read for SystemInput<'a> {
     fn read(&mut self, buf: &mut [u8]) -> io::Result<usize> {
-        let n = self.opened.read(buf)?;
+        let n = match &mut self.lines {
+            Some(lines) => lines.read(&mut self.opened, buf)?,
+            None => self.opened.read(buf)?,
+        };
         self.look(&buf[..n])?;
         Ok(n)
     }
@@ -238,52 +244,75 @@ pub struct SystemOpener<'a, 'n> {
     is_marked: &'a Cell<bool>,
     /// The part of an input that is read, if not all of it is.
     range: Option<Range>,
+    /// Of how many bytes a line can be, if no byte after the last newline of an input is read.
+    whole_lines: Option<usize>,
 }
+
+// All of an input.
+const ALL: Range = Range { from: 0, to: None };
 
 impl<'a, 'n> SystemOpener<'a, 'n> {
     /// It puts the name of each file that it opens into a cell, and into another, at the read that shows it, that an input begins with a
-    /// byte order mark.
+    /// byte order mark. If a number is given for `whole_lines`, no byte after the last newline of an input is read, but a line of more bytes is.
     pub fn new(
         rt: &'a HostRuntime,
         device: &'a Cell<Device<'n>>,
         is_marked: &'a Cell<bool>,
         range: Option<Range>,
+        whole_lines: Option<usize>,
     ) -> Self {
         SystemOpener {
             rt,
             device,
             is_marked,
             range,
+            whole_lines,
         }
+    }
+
+    // The place before which this range of a file is read: the end of its last line that a newline ends, if no byte after that is read and
+    // the file tells how many bytes it has. `None` if the file is read to its end.
+    fn end_of(&self, file: &File, range: Range) -> io::Result<Option<u64>> {
+        let to = range.to.map(|to| to as u64);
+        if self.whole_lines.is_none() {
+            return Ok(to);
+        }
+        let found = file.metadata()?;
+        if !found.is_file() || found.len() == 0 {
+            return Ok(to);
+        }
+        let to = to.unwrap_or(found.len());
+        Ok(Some(lines_end(self.rt.alloc(), file, range.from as u64, to)?))
     }
 
     // Opens a file at the start of a range.
     fn open_range(&self, path: &str, range: Range) -> io::Result<Opened<'a>> {
         let mut file = open_to_read(self.rt, path)?;
-        file.seek(SeekFrom::Start(range.from as u64))?;
-        match range.to {
-            Some(to) => {
-                let len = to.saturating_sub(range.from);
-                Ok(Opened::Part(file.take(len as u64)))
-            }
+        if range.from > 0 {
+            file.seek(SeekFrom::Start(range.from as u64))?;
+        }
+        match self.end_of(&file, range)? {
+            Some(to) => Ok(Opened::Part(file.take(to.saturating_sub(range.from as u64)))),
             None => Ok(Opened::Whole(from_place(file, range.from)?)),
         }
     }
 
     // Opens the input of a name, or the part of it that is read.
     fn open_part(&self, name: &str) -> io::Result<Opened<'a>> {
-        if let Some(range) = self.range {
-            return self.open_range(path_of(name), range);
-        }
-        if name == "-" {
-            Ok(Opened::Standard(Standard {
+        if name == "-" && self.range.is_none() {
+            return Ok(Opened::Standard(Standard {
                 rt: self.rt,
                 stdin: self.rt.stdin(),
                 len: size_at(self.rt, STDIN),
-            }))
-        } else {
-            Ok(Opened::Whole(from_place(open_to_read(self.rt, name)?, 0)?))
+            }));
         }
+        self.open_range(path_of(name), self.range.unwrap_or(ALL))
+    }
+
+    // What hands on the whole lines of an input, if no other bytes are read.
+    fn whole_lines(&self) -> Option<WholeLines> {
+        let limit = self.whole_lines?;
+        Some(WholeLines::new(self.rt.alloc(), limit))
     }
 }
 
@@ -304,6 +333,7 @@ impl<'a, 'n> Opener<'n> for SystemOpener<'a, 'n> {
         let file = if name == "-" { None } else { Some(name) };
         self.device.set(Device {
             name: file,
+            batch: None,
             error: None,
         });
         let opened = self.open_part(name)?;
@@ -314,6 +344,7 @@ impl<'a, 'n> Opener<'n> for SystemOpener<'a, 'n> {
         };
         Ok(SystemInput {
             opened,
+            lines: self.whole_lines(),
             first,
             is_marked: self.is_marked,
         })

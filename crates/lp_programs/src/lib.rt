@@ -30,6 +30,7 @@ mod summary;
 pub mod told;
 pub mod version;
 pub mod watched;
+mod whole_lines;
 pub mod wrong;
 
 pub use counted::{CountedSource, Counts};

@@ -8,9 +8,9 @@ use crate::batches::{Batches, Limits};
 use crate::beside::{Destination, Destinations, FileBeside, System};
 use crate::clock::SystemClock;
 use crate::counted::CountedSource;
-use crate::endings::{Ending, Failure, ending_of_relay};
+use crate::endings::{Device, Devices, Ending, Failure, ending_of_relay};
 use crate::errors::{LastErrors, Watched};
-use crate::files::{Files, failure_of};
+use crate::files::{Files, failure_of, failure_of_batch};
 use crate::inputs::{Inputs, SystemOpener};
 use crate::locks::{names_beside, remove_left};
 use crate::marks::{MarkedSource, Marks};
@@ -51,6 +51,8 @@ pub struct Request<'a> {
     pub batches: Option<Limits>,
     /// The part of the input that is relayed, if it is not all. There is one input then.
     pub range: Option<Range>,
+    /// Whether no byte after the last newline of an input is read. Each newline ends a line then.
+    pub whole_lines: bool,
     /// How many words name inputs: so many of the last. 0: standard input.
     pub inputs: usize,
 }
@@ -122,7 +124,8 @@ fn relay_inputs<'n, W: Watcher + Drop, L: Write + Drop>(
     let meter = meter_of(rt, request, names);
     let shown = meter.as_ref();
     let is_marked = Cell::new(false);
-    let opener = SystemOpener::new(rt, &errors.input, &is_marked, request.range);
+    let whole_lines = request.whole_lines.then_some(request.relay.limit);
+    let opener = SystemOpener::new(rt, &errors.input, &is_marked, request.range, whole_lines);
     let reader = Reading::new(Watched::new(&errors.input, Inputs::new(opener, names)));
     let marks = Marks::new(rt, program, shown, &errors.input, &is_marked);
     let reader = MarkedSource::new(marks, MeteredSource::new(shown, reader));
@@ -191,6 +194,22 @@ fn open_stream<'n>(
     stream_at(rt, request, names, name).map_err(|error| failure_of(name, error))
 }
 
+// The devices of a run with the errors that they have now. The batch that was written last is the output, if lines go to batches.
+fn devices_of<'n>(
+    errors: &LastErrors<'n>,
+    batches: &Option<Batches<'_, 'n>>,
+) -> Devices<Device<'n>> {
+    let devices = errors.now();
+    let batch = batches.as_ref().map(|batches| batches.number());
+    Devices {
+        output: Device {
+            batch,
+            ..devices.output
+        },
+        ..devices
+    }
+}
+
 // Relays the inputs of these names to where its lines and refused pieces go, or to batches.
 fn relay_into<'a, 'n, W: Watcher + Drop>(
     rt: &HostRuntime,
@@ -225,7 +244,7 @@ fn relay_into<'a, 'n, W: Watcher + Drop>(
     };
     match answer {
         Ok(totals) => (Ok(totals), watcher),
-        Err(fault) => (Err(errors.now().failure(fault)), watcher),
+        Err(fault) => (Err(devices_of(&errors, batches).failure(fault)), watcher),
     }
 }
 
@@ -333,12 +352,33 @@ pub fn put_text<'n>(
     answer
 }
 
+// The name of the batch that a device is, if it is one and there is memory for its name.
+fn batch_name(rt: &HostRuntime, device: Device<'_>) -> Option<String> {
+    let names = batch_names_of(device.name?)?;
+    names.name_of(rt.alloc(), device.batch?).ok()?
+}
+
+// Says why a run failed, and names the file of a batch, if the device that failed is one.
+fn say_failure(rt: &HostRuntime, program: Speaker<'_>, failure: Failure<'_>) {
+    let batch = batch_name(rt, failure.device);
+    let name = match &batch {
+        Some(batch) => Some(batch.as_str()),
+        None => failure.device.name,
+    };
+    let device = Device {
+        name,
+        ..failure.device
+    };
+    let failure = Failure { device, ..failure };
+    program.say(rt, fault_name(failure.fault), name, &failure);
+}
+
 /// Says how a run of a program ends, and answers with its exit status.
 pub fn end(rt: &HostRuntime, program: Speaker<'_>, ending: Ending<'_>) -> u8
     ensures { result ≡ ending.entry.status }
 {
     if let Some(failure) = ending.failure {
-        program.say(rt, fault_name(failure.fault), failure.device.name, &failure);
+        say_failure(rt, program, failure);
     }
     let not_told = ending.not_told;
     if not_told > 0 {
@@ -441,8 +481,7 @@ fn refuse_batches(
         Ok(Some(name)) => refuse(rt, program, Some(Refusal::BatchIsThere(name.as_str()))),
         Ok(None) => None,
         Err(error) => {
-            let failure = failure_of(word, error);
-            program.say(rt, fault_name(failure.fault), failure.device.name, &failure);
+            say_failure(rt, program, failure_of_batch(word, 1, error));
             Some(2)
         }
     }

@@ -29,6 +29,7 @@ abbrev pub nothing_given : Given
 nothing_given = record {
   strict = false;
   newline_delimited = false;
+  whole_lines = false;
   crlf = false;
   verbatim = false;
   canonical = false;
@@ -176,18 +177,26 @@ are_at_odds given =
 abbrev pub lacks_types : Given → Bool
 lacks_types given = is_some given.max_fields && not given.types
 
+-- whether only whole lines are read, but a newline may not end a line
+abbrev pub lacks_newlines : Given → Bool
+lacks_newlines given = given.whole_lines && not given.newline_delimited
+
 -- whether there are options of refused pieces without a file for these, or the pieces would go to standard output with the lines
 abbrev pub lacks_refused : Given → Bool
 lacks_refused given =
     option_map_or (λ name. bytes_eq name.now (codes "-") && not given.check && is_none given.output) given.refused
     (given.append || given.replace)
 
+-- whether an option lacks the one that it needs
+abbrev pub lacks_option : Given → Bool
+lacks_option given = lacks_newlines given || lacks_types given || lacks_refused given
+
 -- the relay of the options that were given and of inputs of these names. There is just one if a part of it is asked for, and no more than
 -- one by the time of each read. No options exclude each other, and none lacks the one that it needs
 abbrev pub request_with : Given → List (Bor (List ℕ)) → Option Request
 request_with given names =
     if is_one_if (is_some given.range) names && not (given.now && nat_lt 1 (length names))
-    && not (are_at_odds given || lacks_types given || lacks_refused given)
+    && not (are_at_odds given || lacks_option given)
     then Some (record {
       relay = record (given_settings given) { file = told_file (told_form given) names };
       now = given.now;
@@ -198,6 +207,7 @@ request_with given names =
       old_pieces = given_old_pieces given;
       batches = given_batches given;
       range = given.range;
+      whole_lines = given.whole_lines;
       inputs = length names;
     })
     else None
@@ -215,10 +225,11 @@ with_old_pieces given word =
 -- the same, if it says how lines come or go out
 abbrev pub with_form : Given → List ℕ → Option Given
 with_form given word =
-    if bytes_eq word (codes "--crlf") && not given.crlf then Some (record given { crlf = true })
+    if bytes_eq word (codes "--whole-lines") && not given.whole_lines then Some (record given { whole_lines = true })
+    else (if bytes_eq word (codes "--crlf") && not given.crlf then Some (record given { crlf = true })
     else (if bytes_eq word (codes "--verbatim") && not given.verbatim then Some (record given { verbatim = true })
     else (if bytes_eq word (codes "--canonical") && not given.canonical then Some (record given { canonical = true })
-    else (if bytes_eq word (codes "--now") && not given.now then Some (record given { now = true }) else None)))
+    else (if bytes_eq word (codes "--now") && not given.now then Some (record given { now = true }) else None))))
 
 -- the same, if it takes no word after it and is none of these
 abbrev pub with_switch : Given → List ℕ → Option Given

@@ -34,6 +34,7 @@ fn ends_of_file<'n>(
     let file = open_to_read(rt, name);
     errors.input.set(Device {
         name: Some(name),
+        batch: None,
         error: file.as_ref().err().copied(),
     });
     let Ok(file) = file else {
@@ -57,7 +58,7 @@ fn ends_of<'n>(
         }
     }
     let is_marked = Cell::new(false);
-    let opener = SystemOpener::new(rt, &errors.input, &is_marked, None);
+    let opener = SystemOpener::new(rt, &errors.input, &is_marked, None, None);
     let inputs = Inputs::new(opener, names);
     let mut inputs = lp_relay::Inputs {
         reader: Reading::new(Watched::new(&errors.input, inputs)),
@@ -78,6 +79,7 @@ fn print_ends<'n>(
         if let Err(error) = println!(rt; "{end}") {
             errors.output.set(Device {
                 name: None,
+                batch: None,
                 error: Some(error),
             });
             return Err(RunFault::Write);

@@ -1,7 +1,7 @@
 //! What the words after the program's name ask for.
 ghost use Rattle.std.specs.Prelude.{◌≡◌};
 ghost use Rattle.lp_relay_program.specs.Words.{are_at_odds, are_opposed, asked_alone, asked_cut, asked_dialect, asked_request, asked_task, cut_task};
-ghost use Rattle.lp_relay_program.specs.Words.{first_given, first_named, first_offset, given_batches, given_old_pieces, given_settings, is_json, lacks_refused, lacks_types, names_lines, told_form};
+ghost use Rattle.lp_relay_program.specs.Words.{first_given, first_named, first_offset, given_batches, given_old_pieces, given_settings, is_json, lacks_newlines, lacks_option, lacks_refused, lacks_types, names_lines, told_form};
 ghost use Rattle.lp_relay_program.specs.Words.{nothing_given, portable_form, request_of, servers_named, start_number, times_form, types_form, with_file, with_flag, with_form, with_number, with_old_pieces, with_switch, with_times, with_value, with_word};
 
 use crate::time_words::{TimeRange, time_of, times_of, unit_of};
@@ -18,14 +18,13 @@ use lp_programs::wrong::Manual;
 use lp_relay::{Faults, LineForm, Numbering, Portable, Settings, StrictTypes, TimeUnit, Times};
 
 /// How the program is called: the lines that it prints if its words ask for nothing, without the last newline.
-pub const USAGE: &str =
-    "usage: lp_relay [--strict | --newline-delimited] [--crlf] [--verbatim | --canonical]
-                [--portable influx1|victoria|all] [--types strict] [--max-fields N]
-                [--time-unit s|ms|us|ns] [--default-time NS | --now] [--times FROM..TO]
-                [--faults line|raw|json|json+text|editor] [--max-faults N] [--max-line BYTES]
-                [--first-item N | [--lines] [--first-line N]] [--progress] [--summary]
-                [--check | [--output FILE] [--batch-lines N] [--batch-bytes N]] [--refused FILE]
-                [--append | --replace] [--range FROM..TO] [FILE..]
+pub const USAGE: &str = "usage: lp_relay [--strict | --newline-delimited] [--whole-lines] [--crlf]
+                [--verbatim | --canonical] [--portable influx1|victoria|all] [--types strict]
+                [--max-fields N] [--time-unit s|ms|us|ns] [--default-time NS | --now]
+                [--times FROM..TO] [--faults line|raw|json|json+text|editor] [--max-faults N]
+                [--max-line BYTES] [--first-item N | [--lines] [--first-line N]] [--progress]
+                [--summary] [--check | [--output FILE] [--batch-lines N] [--batch-bytes N]]
+                [--refused FILE] [--append | --replace] [--range FROM..TO] [FILE..]
        lp_relay [--strict | --newline-delimited] --cut PARTS [FILE..]
        lp_relay --help | --version";
 
@@ -43,6 +42,9 @@ FILE that is - is standard input; ./-x names a file -x.
   --newline-delimited
                      reads the newline-delimited dialect: that of --strict, but each newline ends a
                      line, whatever is open, so that no line takes in the next one
+  --whole-lines      leaves the bytes after the last newline of each input unread, because a program
+                     that still writes to FILE may have written half a line; --summary tells how many
+                     bytes were read, so that the next run can go on there by --range
   --crlf             takes a carriage return before the newline that ends a line, or at the end of
                      the input, for no byte of the line
   --verbatim         writes each line that can be read as it came, byte for byte; if it is not
@@ -123,7 +125,8 @@ value may stand after =, as in --max-line=80, and each word after -- names a FIL
 and --newline-delimited, not both --append and --replace, not both --default-time and --now, nor
 --first-item with --lines or --first-line, but with --faults json, which names items and lines.
 --batch-lines and --batch-bytes need --output, --max-fields needs --types, --append and --replace
-need --refused. --cut PARTS comes first, or after --strict or --newline-delimited.
+need --refused, --whole-lines needs --newline-delimited. --cut PARTS comes first, or after --strict
+or --newline-delimited.
 
 Status 0: every item was carried; 1: some item was not; 2: the input could not be read, memory
 ran out, an output could not be written, or is an input too, or the arguments are wrong; 141:
@@ -166,6 +169,7 @@ pub(crate) const ODDS: &[(&str, &str, &str)] = &[
 
 /// Options, each with one that it needs.
 pub(crate) const NEEDS: &[(&str, &str)] = &[
+    ("--whole-lines", "--newline-delimited"),
     ("--max-fields", "--types"),
     ("--batch-lines", "--output"),
     ("--batch-bytes", "--output"),
@@ -199,6 +203,7 @@ pub enum Task<'a> {
 pub(crate) struct Given<'a> {
     strict: bool,
     newline_delimited: bool,
+    whole_lines: bool,
     crlf: bool,
     verbatim: bool,
     canonical: bool,
@@ -234,6 +239,7 @@ impl<'a> Given<'a> {
         Given {
             strict: false,
             newline_delimited: false,
+            whole_lines: false,
             crlf: false,
             verbatim: false,
             canonical: false,
@@ -424,6 +430,7 @@ impl<'a> Given<'a> {
         ensures { result ≡ with_form self.entry word.now }
     {
         match word {
+            "--whole-lines" if !self.whole_lines => self.whole_lines = true,
             "--crlf" if !self.crlf => self.crlf = true,
             "--verbatim" if !self.verbatim => self.verbatim = true,
             "--canonical" if !self.canonical => self.canonical = true,
@@ -591,6 +598,13 @@ impl<'a> Given<'a> {
         self.max_fields.is_some() && !self.types
     }
 
+    // Whether only whole lines are read, but a newline may not end a line.
+    fn lacks_newlines(self) -> bool
+        ensures { result ≡ lacks_newlines self.entry }
+    {
+        self.whole_lines && !self.newline_delimited
+    }
+
     // Whether there are options of refused pieces without a file for these, or the pieces would go to standard output with the lines.
     fn lacks_refused(self) -> bool
         ensures { result ≡ lacks_refused self.entry }
@@ -599,6 +613,13 @@ impl<'a> Given<'a> {
             Some(name) => name == "-" && !self.check && self.output.is_none(),
             None => self.append || self.replace,
         }
+    }
+
+    // Whether an option lacks the one that it needs.
+    fn lacks_option(self) -> bool
+        ensures { result ≡ lacks_option self.entry }
+    {
+        self.lacks_newlines() || self.lacks_types() || self.lacks_refused()
     }
 
     // The request of these options, and of the inputs that words name after the mark. There is just one if a part of it is asked for, and no
@@ -610,7 +631,7 @@ impl<'a> Given<'a> {
         if !is_one_if(self.range.is_some(), names) || self.now && names.len() > 1 {
             return None;
         }
-        if self.are_at_odds() || self.lacks_types() || self.lacks_refused() {
+        if self.are_at_odds() || self.lacks_option() {
             return None;
         }
         Some(Request {
@@ -626,6 +647,7 @@ impl<'a> Given<'a> {
             old_pieces: self.old_pieces(),
             batches: self.batches(),
             range: self.range,
+            whole_lines: self.whole_lines,
             inputs: names.len(),
         })
     }

@@ -82,6 +82,7 @@ given_relay given words = record {
   old_pieces = Refuse;
   batches = None;
   range = None;
+  whole_lines = false;
   inputs = length words;
 }
 

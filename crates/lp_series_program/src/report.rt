@@ -501,6 +501,7 @@ fn failure_of_output<'n>(error: io::Error) -> Failure<'n> {
         fault: RunFault::Write,
         device: Device {
             name: None,
+            batch: None,
             error: Some(error),
         },
         is_pipe_closed: matches!(error.kind(), ErrorKind::BrokenPipe),
@@ -523,6 +524,7 @@ pub(crate) fn tell<'n>(
             fault: RunFault::OutOfMemory,
             device: Device {
                 name: None,
+                batch: None,
                 error: None,
             },
             is_pipe_closed: false,

@@ -252,6 +252,7 @@ impl<'a> Given<'a> {
             old_pieces: OldPieces::Refuse,
             batches: None,
             range: None,
+            whole_lines: false,
             inputs: words.len(),
         }
     }

@@ -1,6 +1,6 @@
 use Rattle.std.proofs.Common.{◌≡◌, ◌∙◌, ap, sym}
 use Rattle.influxdb_line_protocol.specs.code.Rules.{rules_of}
-use Rattle.lp_c.specs.Crossing.{dialect_of}
+use Rattle.lp_offsets.specs.Numbers.{dialect_of}
 use Rattle.lp_c.proofs.BlockVerdictLemmas.{block_if_shown, block_told, strict_if_shown}
 use Rattle.lp_c.proofs.block_verdicts.lp_offsets_block_verdicts.Goals as goal
 

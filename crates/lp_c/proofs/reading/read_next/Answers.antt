@@ -1,6 +1,7 @@
 use Rattle.std.proofs.Common.{rules, ◌≡◌, ◌∙◌, Some, sym}
 use Rattle.lp_c.proofs.CursorLemmas.{gives_in_dialect, reads_end}
-use Rattle.lp_c.specs.Crossing.{dialect_of, left_of}
+use Rattle.lp_c.specs.Crossing.{left_of}
+use Rattle.lp_offsets.specs.Numbers.{dialect_of}
 use Rattle.lp_c.proofs.reading.read_next.Goals as goal
 use Rattle.lp_c.proofs.reading.read_next.Goals.{else-not-is_more, then-not-is_more}
 

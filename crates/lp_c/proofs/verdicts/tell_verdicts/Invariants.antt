@@ -1,6 +1,6 @@
 use Rattle.std.proofs.Common.{◌≡◌, drop, take}
 use Rattle.std.specs.List.{AllZip}
-use Rattle.lp_c.specs.Portions.{IsPortionOf}
+use Rattle.lp_offsets.specs.Portions.{IsPortionOf}
 use Rattle.lp_c.specs.Verdicts.{TellsVerdict}
 use Rattle.lp_c.proofs.verdicts.tell_verdicts.Given as goal
 

@@ -1,6 +1,6 @@
 use Rattle.std.proofs.Common.{◌≡◌, ◌∙◌, ap, arith, drop, length, min, refl, rules, sym}
 use Rattle.influxdb_line_protocol.specs.code.Rules.{rules_of}
-use Rattle.lp_c.specs.Crossing.{dialect_of}
+use Rattle.lp_offsets.specs.Numbers.{dialect_of}
 use Rattle.lp_c.proofs.WritingLemmas.{reads_as_all}
 use Rattle.lp_c.proofs.writing_rows.lp_offsets_write.Goals as goal
 

@@ -3,7 +3,7 @@ use Rattle.std.specs.List.{AllByRecursion}
 use Rattle.influxdb_line_protocol.specs.code.Rules.{rules_of}
 use Rattle.influxdb_line_protocol.specs.format.Points.{IsPoint}
 use Rattle.lp_c.specs.HandedRows.{point_there}
-use Rattle.lp_c.specs.Portions.{IsPortionOf}
+use Rattle.lp_offsets.specs.Portions.{IsPortionOf}
 use Rattle.lp_c.specs.WritingRows.{AreLinesOf}
 use Rattle.lp_c.proofs.writing_rows.write_rows.Given as goal
 

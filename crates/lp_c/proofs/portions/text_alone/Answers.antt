@@ -1,7 +1,0 @@
-use Rattle.std.proofs.Common.{arith, drop, subst, take}
-use Rattle.lp_c.specs.Portions.{IsTextOf}
-use Rattle.lp_c.proofs.portions.text_alone.Goals as goal
-
-pub returns : goal.returns
-returns c =
-    subst (λ n. IsTextOf (take n (drop c.args.at c.args.bytes.now)) c.text_of.result) (omega arith) c.text_of.ensures

@@ -1,0 +1,284 @@
+//! Texts, tags and fields by offsets.
+//!
+//! A slice has no place in the text that it is a part of. So the place of a text is reckoned from how many bytes of its line are left
+//! after it, which a reader tells: a subtraction, and no look at its bytes.
+
+ghost use Rattle.std.specs.Prelude.{◌≡◌, ◌≤◌, ◌+◌, ◌-◌, ◌^◌, ◌<◌, drop, take, length, true, Some, IfNone, IfSome};
+ghost use Rattle.influxdb_line_protocol.specs.code.Events.{spelled_field, spelled_tag};
+ghost use Rattle.influxdb_line_protocol.specs.code.SpelledParts.{spelled_text, spelled_value, spelling_of};
+ghost use Rattle.influxdb_line_protocol.specs.format.Lines.{logical_field, logical_tag};
+ghost use Rattle.lp_offsets.specs.Numbers.{kind_number};
+ghost use Rattle.lp_offsets.specs.Offsets.{IsLineIn, bytes_at, field_at, field_len, part_room, tag_at, tag_len, text_room};
+ghost use Rattle.lp_offsets.specs.Rooms.{Grows, Shows, TakesRoom};
+ghost use Rattle.lp_events.specs.code.Places.{AreBefore, EndsBefore, ValueEndsBefore};
+
+use crate::enums::Kind;
+use influxdb_line_protocol::{Spelled, SpelledValue};
+use lp_values::spelled::shared;
+
+/// So many bytes from a place on.
+#[repr(C)]
+#[derive(Clone, Copy)]
+pub struct Span {
+    /// Where they begin.
+    pub at: u32,
+    /// How many they are.
+    pub len: u32,
+}
+
+/// A tag or a field by offsets, in 32 bytes.
+#[repr(C)]
+#[derive(Clone, Copy)]
+pub struct OffsetPart {
+    /// Where the key lies.
+    pub key: Span,
+    /// Where the value of a tag or of a string lies, or the literal of a float.
+    pub text: Span,
+    /// The value of an integer, in two's complement, or of an unsigned integer, or 1 for `true`; 0 of any other.
+    pub number: u64,
+    /// The number of a [`Kind`].
+    pub kind: u32,
+    /// 1 if the key lies in the room, and 0 if it lies in the text.
+    pub key_copied: u16,
+    /// The same of the text.
+    pub text_copied: u16,
+}
+
+// Where a text lies, and whether it lies in the room.
+#[derive(Clone, Copy)]
+pub(crate) struct Placed {
+    pub(crate) span: Span,
+    pub(crate) copied: u16,
+}
+
+/// Whether a text reads as it is spelled: it holds no backslash.
+#[inline(always)]
+pub fn reads_as_spelled(text: Spelled<'_>) -> bool
+    ensures { result ≡ true → spelled_text text.entry ≡ record { bytes = spelling_of text.entry; is_single = true } }
+{
+    text.is_plain()
+}
+
+// No place.
+pub(crate) const NOWHERE: Placed = Placed {
+    span: Span { at: 0, len: 0 },
+    copied: 0,
+};
+
+// So many bytes from a place on, if 32 bits hold both numbers.
+#[inline(always)]
+fn span_of(at: usize, len: usize) -> Option<Span>
+    ensures some { IfSome result (λ span. (span.at ≡ at) × (span.len ≡ len) × (at + len < 2 ^ 33)) }
+    ensures none { IfNone result (2 ^ 32 ≤ at + len) }
+{
+    let (Ok(at), Ok(len)) = (u32::try_from(at), u32::try_from(len)) else {
+        return None;
+    };
+    Some(Span { at, len })
+}
+
+// A line in a text.
+#[derive(Clone, Copy)]
+pub(crate) struct LineIn<'l, 'a> {
+    pub(crate) text: &'l [u8],
+    pub(crate) line: &'a str,
+    // Where the line ends in the text.
+    pub(crate) end: usize,
+    ghost lies: { IsLineIn text.now line.now end },
+}
+
+// The place of so many bytes of a line, with so many left after them.
+#[inline(always)]
+fn place_before(line: LineIn<'_, '_>, left: usize, len: usize) -> Placed
+    requires { left + len ≤ length line.line.now }
+    ensures copied { result.copied ≡ 0 }
+    ensures at { result.span.at ≡ line.entry.end - (left + len) }
+    ensures len { result.span.len ≡ len }
+{
+    Placed {
+        span: Span {
+            at: (line.end - (left + len)) as u32,
+            len: len as u32,
+        },
+        copied: 0,
+    }
+}
+
+// Puts the logical text of a spelling into the room after the bytes in use, if it fits, and says how many are in use with it.
+pub(crate) fn place_copy(room: &mut [u8], used: usize, spelled: Spelled<'_>) -> (Placed, usize)
+    ensures grows { Grows room.old used room.new result.1 }
+    ensures bound { length room.old < 2 ^ 32 → result.1 ≤ used + length (spelled_text spelled.entry).bytes }
+    ensures shows { Shows (λ r. take result.0.span.len (drop result.0.span.at r)) room.new result.1 (spelled_text spelled.entry).bytes }
+    ensures copied { result.1 ≤ length room.new → result.0.copied ≡ 1 }
+    ensures takes { TakesRoom room.new used result.1 (text_room result.0.copied result.0.span) }
+{
+    let len = spelled.len();
+    let all = used.saturating_add(len);
+    let Some(span) = span_of(used, len) else {
+        return (NOWHERE, all.max(room.len() + 1));
+    };
+    if room.len() < all {
+        return (NOWHERE, all);
+    }
+    spelled.put(&mut room[used..]);
+    (Placed { span, copied: 1 }, all)
+}
+
+// Where a text with a backslash lies, after which so many bytes are left of a line that ends at this place. It lies in the line, if it is one
+// escape, of which the byte after the backslash is the text. Else it lies in the room, into which it is put.
+#[cold]
+#[inline(never)]
+fn place_escaped(
+    text: &[u8],
+    line: &str,
+    end: usize,
+    left: usize,
+    room: &mut [u8],
+    used: usize,
+    spelled: Spelled<'_>,
+) -> (Placed, usize)
+    requires lies { IsLineIn text.now line.now end }
+    requires ends { EndsBefore line.now (spelled_text spelled) left }
+    ensures grows { Grows room.old used room.new result.1 }
+    ensures bound { length room.old < 2 ^ 32 → result.1 ≤ used + length (spelled_text spelled.entry).bytes }
+    ensures takes { TakesRoom room.new used result.1 (text_room result.0.copied result.0.span) }
+    ensures shows { Shows (λ r. bytes_at text.now r result.0.copied result.0.span) room.new result.1 (spelled_text spelled.entry).bytes }
+{
+    let Some(shown) = shared(spelled) else {
+        return place_copy(room, used, spelled);
+    };
+    (
+        place_before(LineIn { text, line, end }, left, shown.len()),
+        used,
+    )
+}
+
+// Where a text lies after which so many bytes of the line are left: in the line, if it is a part of that, or else in the room, into which
+// it is put. If it reads as it is spelled, it begins where as many bytes were left as before it was read, so its place is a subtraction.
+#[inline(always)]
+pub(crate) fn place_text(
+    line: LineIn<'_, '_>,
+    left: usize,
+    room: &mut [u8],
+    used: usize,
+    spelled: Spelled<'_>,
+) -> (Placed, usize)
+    requires { EndsBefore line.line.now (spelled_text spelled) left }
+    ensures grows { Grows room.old used room.new result.1 }
+    ensures bound { length room.old < 2 ^ 32 → result.1 ≤ used + length (spelled_text spelled.entry).bytes }
+    ensures takes { TakesRoom room.new used result.1 (text_room result.0.copied result.0.span) }
+    ensures shows { Shows (λ r. bytes_at line.entry.text.now r result.0.copied result.0.span) room.new result.1 (spelled_text spelled.entry).bytes }
+{
+    if reads_as_spelled(spelled) {
+        return (place_before(line, left, spelled.spelled().len()), used);
+    }
+    // Number by number: what a call fills as a whole would be kept in memory, and each place that is told would go there first.
+    let (escaped, used) = place_escaped(line.text, line.line, line.end, left, room, used, spelled);
+    let span = Span {
+        at: escaped.span.at,
+        len: escaped.span.len,
+    };
+    (
+        Placed {
+            span,
+            copied: escaped.copied,
+        },
+        used,
+    )
+}
+
+// Places the texts of a tag, with so many bytes of the line left after its key and after its value.
+#[inline(always)]
+pub(crate) fn place_tag(
+    line: LineIn<'_, '_>,
+    key_left: usize,
+    left: usize,
+    room: &mut [u8],
+    used: usize,
+    key: Spelled<'_>,
+    value: Spelled<'_>,
+) -> (OffsetPart, usize)
+    requires key { EndsBefore line.line.now (spelled_text key) key_left }
+    requires value { EndsBefore line.line.now (spelled_text value) left }
+    ensures grows { Grows room.old used room.new result.1 }
+    ensures bound { length room.old < 2 ^ 32 → result.1 ≤ used + tag_len (spelled_tag (key.entry, value.entry)) }
+    ensures takes { TakesRoom room.new used result.1 (part_room result.0) }
+    ensures shows { Shows (λ r. tag_at line.entry.text.now r result.0) room.new result.1 (Some (logical_tag (spelled_tag (key.entry, value.entry)))) }
+{
+    let (key, used) = place_text(line, key_left, room, used, key);
+    let (value, used) = place_text(line, left, room, used, value);
+    (part_of(key, value, Kind::Tag, 0), used)
+}
+
+// A part of these texts, of this kind and this number.
+#[inline(always)]
+fn part_of(key: Placed, text: Placed, kind: Kind, number: u64) -> OffsetPart
+    ensures { result ≡ record {
+      key = key.span;
+      text = text.span;
+      number = number;
+      kind = kind_number kind;
+      key_copied = key.copied;
+      text_copied = text.copied;
+    } }
+{
+    OffsetPart {
+        key: key.span,
+        text: text.span,
+        number,
+        kind: kind.number(),
+        key_copied: key.copied,
+        text_copied: text.copied,
+    }
+}
+
+// Places the literal of a float, with so many bytes of the line left after it.
+#[inline(always)]
+fn place_literal(line: LineIn<'_, '_>, left: usize, literal: &str) -> Placed
+    requires { AreBefore line.line.now literal.now left }
+    ensures copied { result.copied ≡ 0 }
+    ensures bytes { take result.span.len (drop result.span.at line.entry.text.now) ≡ literal.now }
+{
+    place_before(line, left, literal.len())
+}
+
+// Places the texts of a field, with so many bytes of the line left after its key and after its value.
+#[inline(always)]
+pub(crate) fn place_field(
+    line: LineIn<'_, '_>,
+    key_left: usize,
+    left: usize,
+    room: &mut [u8],
+    used: usize,
+    key: Spelled<'_>,
+    value: SpelledValue<'_>,
+) -> (OffsetPart, usize)
+    requires key { EndsBefore line.line.now (spelled_text key) key_left }
+    requires value { ValueEndsBefore line.line.now (spelled_value value) left }
+    ensures grows { Grows room.old used room.new result.1 }
+    ensures bound { length room.old < 2 ^ 32 → result.1 ≤ used + field_len (spelled_field (key.entry, value.entry)) }
+    ensures takes { TakesRoom room.new used result.1 (part_room result.0) }
+    ensures shows { Shows (λ r. field_at line.entry.text.now r result.0) room.new result.1 (Some (logical_field (spelled_field (key.entry, value.entry)))) }
+{
+    let (key, used) = place_text(line, key_left, room, used, key);
+    match value {
+        SpelledValue::I64(integer) => (
+            part_of(key, NOWHERE, Kind::Integer, integer.cast_unsigned()),
+            used,
+        ),
+        SpelledValue::U64(unsigned) => (part_of(key, NOWHERE, Kind::Unsigned, unsigned), used),
+        SpelledValue::F64(literal) => {
+            let literal = place_literal(line, left, literal.as_str());
+            (part_of(key, literal, Kind::Float, 0), used)
+        }
+        SpelledValue::String(string) => {
+            // The quote is left too.
+            let (string, used) = place_text(line, left.wrapping_add(1), room, used, string);
+            (part_of(key, string, Kind::String, 0), used)
+        }
+        SpelledValue::Boolean(boolean) => (
+            part_of(key, NOWHERE, Kind::Boolean, boolean as u64),
+            used,
+        ),
+    }
+}

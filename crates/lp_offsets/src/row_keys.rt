@@ -1,0 +1,82 @@
+//! Keys of series that stand in the text of rows by offsets, told in the rows.
+
+ghost use Rattle.std.specs.Prelude.{◌≡◌};
+ghost use Rattle.std.specs.List.{AllByRecursion, AllZip};
+ghost use Rattle.lp_offsets.specs.Portions.{IsPortionOf};
+ghost use Rattle.lp_offsets.specs.RowKeys.{IsKeyLen, IsLineOf, TellsKey, TellsSeries};
+
+use crate::enums::Answer;
+use crate::offsets::OffsetRow;
+use crate::portions::{Portion, no_portion};
+use influxdb_line_protocol::{key_of_text, laws};
+
+// The line of a row, if it has one and the text does at its place. So many rows are asked for, and so many of them were given.
+#[inline(always)]
+fn line_of<'a>(
+    text: &'a [u8],
+    portion: &mut Portion<'a>,
+    row: &OffsetRow,
+    rows: usize,
+    given: usize,
+) -> Option<&'a str>
+    requires { IsPortionOf text.now portion.old }
+    ensures portion { IsPortionOf text.now portion.new }
+    ensures line { IsLineOf text.now row.now result }
+{
+    if row.answer != Answer::Line.number() {
+        return None;
+    }
+    let at = row.line_at as usize;
+    let end = row.stop_at as usize;
+    if end < at || text.len() < end {
+        return None;
+    }
+    portion.next_text(text, at, end - at, rows, given)
+}
+
+// How many bytes at the start of the line of a row are the key of its series, if it begins with that.
+#[inline(always)]
+fn key_len<'a>(
+    text: &'a [u8],
+    portion: &mut Portion<'a>,
+    row: &OffsetRow,
+    rows: usize,
+    given: usize,
+) -> u64
+    requires { IsPortionOf text.now portion.old }
+    ensures portion { IsPortionOf text.now portion.new }
+    ensures len { IsKeyLen text.now row.now result }
+{
+    let Some(line) = line_of(text, portion, row, rows, given) else {
+        return 0;
+    };
+    match key_of_text(line) {
+        Some(key) => key.len() as u64,
+        None => 0,
+    }
+}
+
+/// Tells each row how many bytes at the start of its line are the key of its series, as `lp_line_key` puts it out: `key`. It is 0 if the
+/// line does not begin with its key, so that `lp_line_key` must be asked, and where the row has no line.
+///
+/// A line begins with its key if its tags are in the order of their keys, its names are spelled as the builder writes them, and all
+/// names are admitted. `text` is the one of which `lp_offsets_block` filled the rows. It asks for no memory, and leaves all else in the
+/// rows as it was. A row that was made in another way is safe too: a place that is not in the text, or in a character, gives 0.
+///
+/// ```text
+/// cpu,az=b,host=a usage=1  ->  15
+/// cpu,host=a,az=b usage=1  ->  0: the keys are not in order
+/// ```
+pub fn tell_keys(text: &[u8], rows: &mut [OffsetRow])
+    ensures keys { AllZip (TellsKey text.now) rows.old rows.new }
+    ensures series { AllByRecursion (TellsSeries text.now) rows.new }
+{
+    laws::keys_tell_series();
+    laws::bases_tell_series();
+    let count = rows.len();
+    let mut portion = no_portion(0, 0, 0);
+    for at in 0..count {
+        let len = key_len(text, &mut portion, &rows[at], count, at);
+        rows[at].key = len;
+    }
+}
