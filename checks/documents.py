@@ -16,6 +16,7 @@ Needs Python 3.10, and no package.
 """
 
 import functools
+import importlib
 import os
 import re
 import shutil
@@ -34,7 +35,7 @@ from generate import first_difference
 from records import Fault, Place
 
 MADE = {"out", "target", "dist", "__pycache__", ".git"}  # folders that are not looked into
-DEFINITIONS = "docs/DEFINITIONS.md"  # a page that is made, and that git does not keep
+DEFINITIONS, CALLS = "docs/DEFINITIONS.md", "docs/CALLS.md"  # pages that are made, and that git does not keep
 
 
 class Tree:
@@ -46,7 +47,7 @@ class Tree:
             folders[:] = sorted(name for name in folders if name not in MADE)
             place = "" if Path(folder) == self.top else f"{Path(folder).relative_to(top)}/"
             self.folders.update(f"{place}{name}/" for name in folders)
-            self.paths += [path for name in sorted(files) if (path := place + name) != DEFINITIONS]
+            self.paths += [path for name in sorted(files) if (path := place + name) not in (DEFINITIONS, CALLS)]
 
     @functools.cache
     def text(self, path):
@@ -301,10 +302,10 @@ def anchors(text):
 
 
 def check_links(tree):
-    """Each link of a page leads to a file, and to a heading of the file if the link names one. docs/DEFINITIONS.md is read as it would be made."""
+    """Each link of a page leads to a file, and to a heading of the file if the link names one. A page that is made is read as it would be made."""
     texts = {page: tree.text(page) for page in tree.pages()}
     if "crates/" in tree.folders:
-        texts[DEFINITIONS] = definitions_page(tree)
+        texts |= {DEFINITIONS: definitions_page(tree), CALLS: calls_page(tree)}
     for page, text in texts.items():
         for link in re.findall(r"\]\((?!http)([^)\s]+)\)", text):
             tree.looked_at["links"] += 1
@@ -324,7 +325,7 @@ IDENTIFIERS = re.compile(r"\.?[A-Za-z_]\w*(?:(?:::|\.)[A-Za-z_]\w*)*(?:\(\))?")
 # What the tree does not have, and why a page names it.
 NAMES_OF_OTHERS = {
     r"/.*": "it is of the machine",
-    r"(.*/)?out/.*|crates/lp_c/out|dist/.*|lib\w+\.a|docs/DEFINITIONS\.md": "it is made",
+    r"(.*/)?out/.*|crates/lp_c/out|dist/.*|lib\w+\.a|docs/(DEFINITIONS|CALLS)\.md": "it is made",
     r"again\.lp|a/b-000001\.lp": "it is a file of the reader's",
     r"proofs/m/f/": "it stands for the proofs of each function `m::f`",
     r".*\bTYPE": "it stands for each type",
@@ -825,12 +826,20 @@ def warning_of_style(tree):
     return f"of {len(rows)} texts, so many are unlike the models: {'; '.join(counts)}. `checks/documents.py style` prints which"
 
 
+# Calls
+
+def calls_page(tree):
+    """The text of docs/CALLS.md, by checks/calls.py, which needs this file."""
+    return importlib.import_module("calls").page(tree)
+
+
 # The program
 
 CHECKS = {"versions": check_versions, "definitions": check_definitions, "blocks": check_blocks, "links": check_links, "names": check_names,
           "layers": check_layers, "lemmas": check_lemmas, "header": check_header}
-SCRIPTS = {name: f"checks/{name}.py" for name in ("promises", "bindings", "bugs")} | {"tables": "tables/generate.py"}
-WRITERS = {"blocks": block_texts, "definitions": lambda tree: {DEFINITIONS: definitions_page(tree)}}
+SCRIPTS = {name: f"checks/{name}.py" for name in ("calls", "reading", "bindings", "bugs")} | {"tables": "tables/generate.py"}
+WRITERS = {"blocks": block_texts, "definitions": lambda tree: {DEFINITIONS: definitions_page(tree)},
+           "calls": lambda tree: {CALLS: calls_page(tree)}}
 
 
 def problems_of(tree, name):

@@ -24,7 +24,7 @@ from documents import LIBRARIES, MEMBER, TOP, Definition, Tree, cited, subjects
 
 HEADLINE = {"crates/influxdb_line_protocol/src/laws.rt": "batch_reads_back", "crates/lp_lines/src/line.rt": "Iterator for ParseLines::next_gives",
             "crates/lp_build/src/builder/lines.rt": "write_line"}
-MOST = 10_000
+MOST = 195
 LAWS = ["crates/influxdb_line_protocol/src/laws.rt", "crates/lp_relay/src/laws.rt", "crates/lp_influx/src/laws.rt"]
 WORKED = ["crates/*/proofs/**/Worked*.antt", "crates/*/proofs/**/worked_lines/*.antt"]
 TRUST = "docs/TRUST.md"
@@ -43,6 +43,9 @@ class Place:
 
     def text(self):
         return "\n".join(re.sub(r"^ *--.*|  --.*", "", line) for line in self.definition.lines)
+
+    def length(self):
+        return sum(bool(line.strip()) for line in self.text().splitlines())
 
     def is_relation(self):
         """Whether it says something of values: its type is a type, and it is not built of types alone."""
@@ -132,8 +135,12 @@ def worked_statements(tree):
 
 
 def worked(tree, definitions):
-    """The definitions that worked lines name: those of which an example is covered, and those of which one is not."""
+    """The definitions that worked lines name: those of which an example is covered, and those of which one is not. A worked line also names
+    what the abbreviations of its file name."""
     inside, outside = set(), set()
+    for path in tree.glob(*WORKED):
+        short = "\n".join(re.findall(r"^abbrev (?:pub )?\w+ :.*(?:\n(?!\n).*)*", tree.text(path), re.M))
+        inside |= {*definitions.named_in(re.sub(r"--.*", "", short), path)}
     for path, _, statement in worked_statements(tree):
         outside |= {place for text in re.findall(r"¬ \(?([^\s(]+)", statement) for place in definitions.named_in(text, path)}
         inside |= {*definitions.named_in(re.sub(r"¬ \(?[^\s(]+", "", statement), path)}
@@ -185,8 +192,10 @@ def problems(tree, counts):
 def main(words):
     tree, counts = Tree(TOP), defaultdict(int)
     if words == ["--headline"]:
-        for number, place in enumerate(headline(tree, Definitions(tree)), 1):
-            print(f"{number:4} {place.name()}, {place.path}, {len(place.definition.lines)} lines: {place.definition.comment}")
+        found = headline(tree, Definitions(tree))
+        for number, place in enumerate(found, 1):
+            print(f"{number:4} {place.name()}, {place.path}, {place.length()} lines: {place.definition.comment}")
+        print(f"{len(found)} definitions, {sum(place.length() for place in found)} lines")
         return 0
     if words == ["--unworked"]:
         kept, definitions = cited(tree), Definitions(tree)
