@@ -1,8 +1,8 @@
 #!/usr/bin/env python3
 """The public calls with their contracts: docs/CALLS.md is made of the code, and git does not keep it.
 
-    checks/calls.py            exit status 1 if a new public call has no first sentence that can be read alone, if docs/TRUST.md has not each
-                               condition, or if docs/FORMAT.md has no rule for a setting of a relay
+    checks/calls.py            exit status 1 if a new public call has no first sentence that can be read alone, or if docs/TRUST.md has not each
+                               condition
     checks/calls.py --silent   prints each public call without a first sentence that can be read alone
 
 `checks/documents.py --write calls` writes the page. A call is public if the root or a public module of a crate of ROOTS hands it on, or its
@@ -20,9 +20,6 @@ from reading import Definitions
 
 TRUST = "docs/TRUST.md"
 CONDITIONS = "## Conditions"
-SETTINGS = "crates/lp_relay/src/taking.rt"
-# Settings whose rules are under other words: the limit, what fault lines name, how they are told, the name of the input.
-RULED_BEFORE = "dialect", "limit", "numbering", "faults", "file"
 # The crates that hand names on, the crates whose code these are in, and what each is for.
 ROOTS = {
     "influxdb_line_protocol": (LIBRARIES[:LIBRARIES.index("influxdb_line_protocol") + 1], "The library"),
@@ -247,14 +244,6 @@ def wrong_conditions(tree):
             yield f"{TRUST}: the table of conditions has `{span}`, which has no `requires`"
 
 
-def unruled_settings(tree):
-    """The settings of a relay that docs/FORMAT.md says nothing of before the arguments of the programs."""
-    settings = re.findall(r"^    pub (\w+):", tree.text(SETTINGS).partition("pub struct Settings")[2].partition("\n}\n")[0], re.M)
-    rules = tree.text("docs/FORMAT.md").partition("Its settings say the rest")[2].partition("| arguments of a program")[0]
-    yield from (f"docs/FORMAT.md has no rule for `{name}`, a setting of a relay" for name in settings
-                if name not in RULED_BEFORE and f"`{name}`" not in rules)
-
-
 def problems(tree):
     """What is wrong, in words."""
     silent = list(silent_calls(tree))
@@ -262,7 +251,6 @@ def problems(tree):
         yield (f"{len(silent)} public calls have no first sentence that can be read alone, where {MOST_SILENT} had none before: "
                "`checks/calls.py --silent` prints them")
     yield from wrong_conditions(tree)
-    yield from unruled_settings(tree)
 
 
 def main(words):

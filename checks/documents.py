@@ -293,6 +293,22 @@ def check_definitions(tree):
     tree.looked_at["cited definitions"] += definitions_page(tree).count("- **`")
 
 
+# Settings of a relay
+
+SETTINGS = "crates/lp_relay/src/taking.rt"
+# Settings whose rules are under other words: the limit, what fault lines name, how they are told, the name of the input.
+RULED_BEFORE = "dialect", "limit", "numbering", "faults", "file"
+
+
+def check_settings(tree):
+    """docs/FORMAT.md has a rule for each setting of a relay, before the arguments of the programs."""
+    settings = re.findall(r"^    pub (\w+):", tree.text(SETTINGS).partition("pub struct Settings")[2].partition("\n}\n")[0], re.M)
+    rules = tree.text("docs/FORMAT.md").partition("Its settings say the rest")[2].partition("| arguments of a program")[0]
+    tree.looked_at["settings"] += len(settings)
+    yield from (f"docs/FORMAT.md has no rule for `{name}`, a setting of a relay" for name in settings
+                if name not in RULED_BEFORE and f"`{name}`" not in rules)
+
+
 # Links
 
 def anchors(text):
@@ -664,6 +680,90 @@ def check_header(tree):
     yield from (f"{name} is not in both {HEADER} and {SYMBOLS}" for name in sorted({name for _, name in constants} ^ set(symbols) ^ header[2].keys()))
 
 
+# The packages of other languages
+
+BORDER, ITEMS, CORE = "bindings/rust/src/border.rs", "bindings/python/src/line_protocol/items.py", "bindings/js/core.js"
+SIZES = {"bool": 1, "uint16_t": 2, "uint32_t": 4, "uint64_t": 8, "int64_t": 8, "size_t": 8}  # of 64-bit C, as WebAssembly has it too
+LAID_OUT = {"ROW": "lp_offset_row", "PART": "lp_offset_part", "BLOCK": "lp_block", "CUTS": "lp_cuts"}  # the structs that core.js reads by numbers
+
+
+def rust_type(kind):
+    """The type in C of a type of border.rs."""
+    pointer = re.fullmatch(r"\*(mut|const) (\w+)", kind)
+    return ("" if pointer[1] == "mut" else "const ") + rust_type(pointer[2]) + " *" if pointer else c_name(kind)
+
+
+def interface_of_rust(tree):
+    """The enums, structs and calls that border.rs declares, as C has them."""
+    text = plain(tree.text(BORDER)).replace("pub(crate) ", "")
+    enums = {"lp_" + name: [(enumerator(n), v) for n, v in re.findall(r"const (\w+): u32 = (\d+);", body)]
+             for name, body in re.findall(r"mod (\w+) \{(.*?)\}", text)}
+    structs = {c_name(name): [(rust_type(kind), FIELD_NAMES.get(field, field)) for field, kind in re.findall(r"(\w+): ([^,]+),", body)
+                              if "PhantomData" not in kind] for name, body in re.findall(r"struct (\w+) \{(.*?)\}", text)}
+    calls = {}
+    for name, inner, result in re.findall(r"fn (lp_\w+)\((.*?)\)(?: -> (\w+))?;", text):
+        parts = [[word.strip() for word in part.split(":", 1)] for part in inner.split(",") if ":" in part]
+        calls[name] = SCALARS[result] if result else "void", with_lengths((rust_type(kind), each) for each, kind in parts)
+    return enums, structs, calls
+
+
+def enums_of_python(tree):
+    """The enums that the Python package declares. Faults from 100 on are the package's own."""
+    classes = re.findall(r"class (\w+)\(IntEnum\):(.*?)(?=\n\n\n)", tree.text(ITEMS), flags=re.S)
+    return {c_name(name): [(enumerator(n), v) for n, v in re.findall(r"^    (\w+) = (\d+)$", body, flags=re.M) if int(v) < 100]
+            for name, body in classes}
+
+
+def enums_of_js(tree):
+    """The enums that core.js declares: as lists, in which a name stands at its number, and as constants."""
+    text, enums = tree.text(CORE), {}
+    for name, place, first in (("lp_dialect", "DIALECTS", ""), ("lp_fault_kind", "FAULTS", "none"), ("lp_side", "SIDES", "neither")):
+        names = re.findall(r'"(.*?)"', re.search(rf"const {place} = \[(.*?)\];", text, flags=re.S)[1])
+        enums[name] = [(enumerator((one or first).replace("-", "_")), str(at)) for at, one in enumerate(names)]
+    constants = re.search(r"^const (END = .*);\nconst (INTEGER = .*);$", text, flags=re.M)
+    for name, body in zip(("lp_answer", "lp_kind"), constants.groups()):
+        enums[name] = [(enumerator(one), number) for one, number in re.findall(r"(\w+) = (\d+)", body)]
+    return enums
+
+
+def layout(structs, name):
+    """How many bytes a struct takes in C, how it is aligned, and where its members lie."""
+    size, widest, places = 0, 1, {}
+    for kind, member in structs[name]:
+        width, align = (SIZES[kind],) * 2 if kind in SIZES else layout(structs, kind)[:2]
+        size = -(-size // align) * align
+        places[member] = size, width
+        size, widest = size + width, max(widest, align)
+    return -(-size // widest) * widest, widest, places
+
+
+def layout_problems(tree, structs):
+    """Where core.js has another size of a struct, or another place of a member in words, or in halves of them, than C."""
+    numbers = {name: int(number) for name, number in re.findall(r"\b([A-Z_]+) = (\d+)(?=[,;])", tree.text(CORE))}
+    for name, struct in LAID_OUT.items():
+        size, _, places = layout(structs, struct)
+        if numbers.get(name) != size:
+            yield f"{CORE}: {name} is {numbers.get(name)}, and {struct} takes {size} bytes"
+        for member in (member for member in numbers if member.startswith(name + "_")):
+            at, width = places.get(member.removeprefix(name + "_").lower(), (-1, 4))
+            if numbers[member] != at // min(width, 4):
+                yield f"{CORE}: {member} is {numbers[member]}, which is not where {struct} has it"
+
+
+def check_bindings(tree):
+    """The packages in Rust, Python and JavaScript declare the numbers, structs and calls that they use as the header has them, and core.js has the
+    sizes and places by which C lays its structs out. tables/generate.py writes the faults and the clauses of the packages."""
+    enums, structs, calls = interface_of_header(tree)
+    rust = interface_of_rust(tree)
+    for path, given in ((BORDER, rust[0]), (ITEMS, enums_of_python(tree)), (CORE, enums_of_js(tree))):
+        tree.looked_at["enums of packages"] += len(given)
+        yield from (f"{path}: enum {name}: {one} is not in the header" for name in given for one in given[name] if one not in enums.get(name, []))
+    for own, wanted in ((rust[1], structs), (rust[2], calls)):
+        tree.looked_at["structs and calls of Rust"] += len(own)
+        yield from (f"{BORDER}: {name} has {own[name]}, and the header {wanted.get(name)}" for name in own if own[name] != wanted.get(name))
+    yield from layout_problems(tree, structs)
+
+
 # Blocks of code
 
 EXAMPLES = "crates/lp_examples/"
@@ -835,11 +935,11 @@ def calls_page(tree):
 
 # The program
 
-CHECKS = {"versions": check_versions, "definitions": check_definitions, "blocks": check_blocks, "links": check_links, "names": check_names,
-          "layers": check_layers, "lemmas": check_lemmas, "header": check_header}
-SCRIPTS = {name: f"checks/{name}.py" for name in ("calls", "reading", "bindings", "bugs")} | {"tables": "tables/generate.py"}
-WRITERS = {"blocks": block_texts, "definitions": lambda tree: {DEFINITIONS: definitions_page(tree)},
-           "calls": lambda tree: {CALLS: calls_page(tree)}}
+CHECKS = {"versions": check_versions, "definitions": check_definitions, "settings": check_settings, "blocks": check_blocks,
+          "links": check_links, "names": check_names, "layers": check_layers, "lemmas": check_lemmas, "header": check_header,
+          "bindings": check_bindings}
+SCRIPTS = {name: f"checks/{name}.py" for name in ("calls", "reading", "bugs")} | {"tables": "tables/generate.py"}
+WRITERS = {"blocks": block_texts, "definitions": lambda tree: {DEFINITIONS: definitions_page(tree)}, "calls": lambda tree: {CALLS: calls_page(tree)}}
 
 
 def problems_of(tree, name):

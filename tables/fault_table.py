@@ -281,7 +281,7 @@ def of_checks():
 
 def shown(text):
     """A text with escapes as code of a page."""
-    return "`" + re.sub(r"\\([\\t])", lambda escape: {"\\": "\\", "t": "⇥"}[escape[1]], text) + "`"
+    return "`" + re.sub(r"\\([\\t])", lambda escape: {"\\": "\\", "t": "⇥"}[escape[1]], text).replace("  ", "␣␣") + "`"
 
 
 def of_pages():

@@ -28,7 +28,7 @@ LAST_LINE = "crates/lp_programs/src/relays.rt"
 # What quotes messages: checks whole ones, and these files also parts of so many words at least.
 CHECKS = ("checks/arguments.sh", "checks/series_arguments.sh", "checks/losses.sh", "checks/batch_files.py", "checks/given.sh",
           "checks/ranges.py", "checks/posting.sh")
-PAGES, LEAST = ("tables/bugs.tsv", "docs/OPERATING.md", "docs/INTEROP.md", "docs/SCALING.md", "README.md"), 4
+PAGES, LEAST = ("tables/bugs.tsv", "crates/*/must-fail/*.edit", "docs/OPERATING.md", "docs/INTEROP.md", "docs/SCALING.md", "README.md"), 4
 
 
 class Text(NamedTuple):

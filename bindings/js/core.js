@@ -24,7 +24,7 @@ const MESSAGES = {
     too_long: () => "the line is too long",
 };
 
-// The numbers of the header include/influxdb_line_protocol.h, which checks/bindings.py compares with it: of answers and of kinds of parts;
+// The numbers of the header include/influxdb_line_protocol.h, which checks/documents.py compares with it: of answers and of kinds of parts;
 const END = 0, LINE = 1, MORE_PARTS = 3, MORE_ROOM = 4, NOT_UTF8 = 8, MORE_TEXT = 10, TOO_LONG = 11;
 const INTEGER = 1, UNSIGNED = 2, FLOAT = 3, STRING = 4;
 
