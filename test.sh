@@ -5,12 +5,13 @@
 #   1. The checks of documents and scripts. If one fails, nothing else is run.
 #   2. The archives of lp_c and lp_checks are built; beside that, the checks of bin/take, of the launchers and of completion. Where Node
 #      can run it, the module of lp_page is built for WebAssembly too, over what was proved with the archives.
-#   3. The misuses, which begin with what was proved for the archives. The gate sets that aside, so they come before it.
-#   4. The gate, and beside it the checks that link the archives.
+#   3. The misuses, which begin with what was proved for the archives. The gate sets that aside, so they come before it, and so does a copy
+#      of the crates whose bugs were tried longest ago.
+#   4. The gate, and beside it the checks that link the archives, and for at most ten minutes the bugs of these crates.
 #   5. The checks of the programs that the gate made, and beside them those of Python and JavaScript, which run one of them too.
 #
-# Before the gate's last line, which comes last, it tells how long each part took, what the gate did for each crate, what the checks
-# left out, and which failed. The status is that of the gate, or 1 if a check failed.
+# Before the gate's last line, which comes last, it prints how long each part took, what the checks left out, and which checks failed. The
+# status is the status of the gate, or 1 if a check failed.
 # shellcheck disable=SC2317  # functions that `part` calls
 set -eu
 cd "$(dirname "$0")"
@@ -22,7 +23,7 @@ if ! python3 -c 'import sys; sys.exit(sys.version_info < (3, 10))'; then
 fi
 made=$(mktemp -d)
 export LEFT_OUT=$made/left_out
-touch "$made"/{left_out,times,crates,failed,last}
+touch "$made"/{left_out,times,failed,last}
 # shellcheck disable=SC2046
 trap '{ kill $(jobs -p) || true; } 2>/dev/null; rm -rf "$made"' EXIT
 
@@ -59,6 +60,7 @@ beside_gate() {
     LP_LIB_DIR=$made part bindings/rust bindings/rust/test.sh
     part bindings/go bindings/go/test.sh "$made/liblp_c.a"
     part checks/endpoint.sh checks/endpoint.sh "$made/liblp_c.a"
+    part checks/bugs.py checks/bugs.py --some "$made/bugs"
 }
 beside_programs() {
     LP_RELAY=$made/lp_relay_program part checks/page.sh checks/page.sh "$made/page"
@@ -73,7 +75,7 @@ joined() {
     wait "$!" || echo "checks that were cut off" >>"$made/failed"
 }
 check_programs() {
-    part checks/readme.sh checks/readme.sh "$made/lp_relay_program"
+    part checks/readme.sh checks/readme.sh "$made"/lp_{relay,rebuild,series}_program
     part checks/arguments.sh checks/arguments.sh "$made/lp_rebuild_program" "$made/lp_relay_program"
     part checks/series_arguments.sh checks/series_arguments.sh "$made/lp_series_program"
     part checks/series.sh checks/series.sh "$made/lp_relay_program" "$made/lp_series_program"
@@ -94,13 +96,12 @@ hold_last() {
     [ -z "${last+set}" ] || printf '%s\n' "$last" >"$made/last"
 }
 
-# Prints how long each part took, in seconds of the clock and of processors, and what the gate took for each crate.
+# Prints how long each part took, in seconds of the clock and of processors.
 print_times() {
     local name clock user system
     while IFS='|' read -r name clock user system; do
         printf 'time: %-26s %5s s, %6s s of processors\n' "$name" "$clock" "$((user + system))"
     done <"$made/times"
-    cat "$made/crates"
 }
 
 # Prints what the checks left out.
@@ -113,7 +114,7 @@ print_left_out() {
     done <"$LEFT_OUT"
 }
 
-part checks/documents.sh checks/documents.sh || stop checks/documents.sh
+part checks/documents.py checks/documents.py || stop checks/documents.py
 part checks/lint.sh checks/lint.sh || stop checks/lint.sh
 beside beside_archives
 archives=(lp_checks lp_c)
@@ -127,9 +128,10 @@ if [[ ${archives[*]} == *lp_page* ]]; then
     sources lp_page >crates/lp_page/out/launcher.stamp
     part packaging/page packaging/page/build.sh "$made/page"
 fi
+part "a copy for checks/bugs.py" checks/bugs.py --copy "$made/bugs"
 beside beside_gate
 part misuses/check.sh misuses/check.sh
-part "rt ci" checks/times.py run "$made/crates" rt ci | hold_last
+part "rt ci" rt ci | hold_last
 gate=${PIPESTATUS[0]}
 joined
 if cp crates/lp_{rebuild_program/out/lp_rebuild_program,relay_program/out/lp_relay_program,series_program/out/lp_series_program} "$made"; then

@@ -84,7 +84,7 @@ wanted_of_both "usage: lp_rebuild$(options '\nlp_rebuild:' | sed 's/.*/ [&]/' | 
 
 crate=lp_relay_program
 program=$relay
-# As checks/blocks.py makes it of packaging/options.txt.
+# As tables/generate.py makes it of tables/options.txt.
 usage=$(sed -n '/^usage: lp_relay /,/^```$/p' "$top/docs/OPERATING.md" | sed '$d')$newline
 wanted_of_both "$usage"
 wanted 0 "" "" --check

@@ -11,11 +11,11 @@ the faults of lp_relay name them.
 import re
 import sys
 
-from header import HEADER, SCALARS, TOP, WORDS, c_name, clauses_of_header, enumerator, of_header, plain
+from documents import FIELD_NAMES, HEADER, SCALARS, TOP, Tree, c_name, enumerator, interface_of_header, plain, with_lengths
 
+TREE = Tree(TOP)
 RUST = TOP / "bindings" / "rust" / "src" / "border.rs"
 PYTHON = TOP / "bindings" / "python" / "src" / "line_protocol"
-GO = TOP / "bindings" / "go" / "portable.go"
 JS = TOP / "bindings" / "js"
 SIZES = {"bool": 1, "uint16_t": 2, "uint32_t": 4, "uint64_t": 8, "int64_t": 8, "size_t": 8}  # of 64-bit C, as WebAssembly has it too
 
@@ -24,7 +24,7 @@ def rust_type(kind):
     """The type in C of a type of border.rs."""
     pointer = re.fullmatch(r"\*(mut|const) (\w+)", kind)
     if not pointer:
-        return SCALARS.get(kind) or c_name(kind)
+        return c_name(kind)
     mutable, of = pointer.groups()
     return ("" if mutable == "mut" else "const ") + rust_type(of) + " *"
 
@@ -37,10 +37,10 @@ def of_rust():
         enums["lp_" + name] = [(enumerator(n), v) for n, v in re.findall(r"const (\w+): u32 = (\d+);", body)]
     for name, body in re.findall(r"struct (\w+) \{(.*?)\}", text):
         fields = [field for field in re.findall(r"(\w+): ([^,]+),", body) if "PhantomData" not in field[1]]
-        structs[c_name(name)] = [(rust_type(kind), WORDS.get(field, field)) for field, kind in fields]
+        structs[c_name(name)] = [(rust_type(kind), FIELD_NAMES.get(field, field)) for field, kind in fields]
     for name, inner, result in re.findall(r"fn (lp_\w+)\((.*?)\)(?: -> (\w+))?;", text):
-        kinds = [part.split(":", 1)[1].strip() for part in inner.split(",") if ":" in part]
-        calls[name] = (SCALARS[result] if result else "void", [rust_type(kind) for kind in kinds])
+        parts = [[word.strip() for word in part.split(":", 1)] for part in inner.split(",") if ":" in part]
+        calls[name] = (SCALARS[result] if result else "void", with_lengths((rust_type(kind), each) for each, kind in parts))
     return enums, structs, calls
 
 
@@ -117,95 +117,17 @@ def differences(package, given, header):
                 yield f"{package}: {what} {name}: it has {declared}, the header {wanted.get(name)}"
 
 
-def masks_in(text):
-    """The bits of the clauses of each server, where a package says them."""
-    return {name.lower(): int(mask, 16) for name, mask in re.findall(r"\bOF_(\w+?)(?:: u64)? = (0x\w+)", text.replace("_OF_", " OF_"))}
-
-
-def no_line_in(text):
-    """What is no line, where a package has its bit alone: it has no words."""
-    rows = re.findall(r"^(?:const )?_?([A-Z]\w*_LINE)(?:: u64)? = (\d+);?$", text, flags=re.M)
-    return [(enumerator(name), int(bit).bit_length() - 1, None) for name, bit in rows]
-
-
-def clauses_of_rust():
-    """The clauses of the package, each with its place and its words; and the bits of each server."""
-    text = (RUST.parent / "portable.rs").read_text(encoding="utf-8")
-    rows = re.findall(r'^    (\w+) = (\d+), "(.*)";$', text, flags=re.M)
-    return no_line_in(text) + [(enumerator(name), int(place), words) for name, place, words in rows], masks_in(text)
-
-
-def clauses_of_python():
-    """The same. There a clause has the place that it has in the dictionary, from 1 on."""
-    text = (PYTHON / "portable.py").read_text(encoding="utf-8")
-    rows = re.findall(r'^    "(\w+)": "(.*)",$', text, flags=re.M)
-    return no_line_in(text) + [(enumerator(name), place, words) for place, (name, words) in enumerate(rows, 1)], masks_in(text)
-
-
-def clauses_of_go():
-    """The same, but the bits, which Go takes from the header. There a clause has the place that it has in the list of constants."""
-    text = GO.read_text(encoding="utf-8")
-    words = dict(re.findall(r'^\t(Clause\w+): +"(.*)",$', text, flags=re.M))
-    names = re.findall(r"^\t(Clause\w+)(?: Clause = iota)?$", text, flags=re.M)
-    masks = {name.lower(): clauses_of_header()[1].get(name.lower()) for name in re.findall(r"C\.LP_OF_(\w+)", text)}
-    return [(enumerator(name.removeprefix("Clause")), place, words.get(name)) for place, name in enumerate(names)], masks
-
-
-def clauses_of_js(text):
-    """The same. There a clause has the place that it has in the list, and its servers beside it, of which the bits are made here."""
-    servers = {name: re.findall(r"(\w+): true", body) for name, body in re.findall(r"\b([A-Z0-9]+) = \{ (influx1: .*?) \}", text)}
-    rows = re.findall(r'^    \["(\w+)", (\w+), "(.*)"\],$', text, flags=re.M)
-    masks = {server: sum(1 << place for place, row in enumerate(rows) if server in servers[row[1]]) for server in ("influx1", "victoria")}
-    return [(enumerator(name), place, words) for place, (name, _, words) in enumerate(rows)], masks
-
-
-def clauses_in_words():
-    """The clauses of the header, each with its place and its words."""
-    rows = re.findall(r"#define LP_CLAUSE_(\w+) +\(UINT64_C\(1\) << (\d+)\) +/\* (.*) \*/", HEADER.read_text(encoding="utf-8"))
-    return [(enumerator(name), int(place), words) for name, place, words in rows]
-
-
-def clause_differences():
-    """Where a package has other clauses than the header, in words. Rust and Python have no words for what is no line."""
-    wanted, masks = clauses_in_words(), clauses_of_header()[1]
-    wordless = [(*wanted[0][:2], None), *wanted[1:]]
-    if len(wanted) != len(clauses_of_header()[0]):
-        yield "a clause of the header has no words"
-    packages = {"Rust": (clauses_of_rust(), wordless), "Python": (clauses_of_python(), wordless), "Go": (clauses_of_go(), wanted),
-                "JavaScript": (clauses_of_js(core_js()), wanted)}
-    for package, ((clauses, its_masks), its_wanted) in packages.items():
-        for one in sorted(set(clauses) ^ set(its_wanted), key=str):
-            yield f"{package}: the clause {one} is not in both, the package and the header"
-        if its_masks != masks:
-            yield f"{package}: the bits of servers are {its_masks}, and in the header {masks}"
-
-
-def page_differences():
-    """Where the table of clauses in docs/FORMAT.md has other rows than the header and the code of lp_relay."""
-    code = (TOP / "crates" / "lp_relay" / "src" / "portable.rt").read_text(encoding="utf-8")
-    named = dict(re.findall(r'Clause::(\w+) => (?:\{\s*)?"([^"]*)"', code))
-    page = (TOP / "docs" / "FORMAT.md").read_text(encoding="utf-8")
-    table = page[page.index("| clause | broken if | a fault names it so |"):].split("\n\n")[0]
-    rows = re.findall(r"^\| `(\w+)` \| (.*?) \| `(.*?)` \|", table, flags=re.M)
-    has = [(enumerator(name), place, words) for place, (name, words, _) in enumerate(rows, 1)]
-    for one in sorted(set(has) ^ set(clauses_in_words()[1:]), key=str):
-        yield f"docs/FORMAT.md: the clause {one} is not in both, the page and the header"
-    for one in sorted({(name, text) for name, _, text in rows} ^ set(named.items())):
-        yield f"docs/FORMAT.md: the fault's name {one} is not in both, the page and lp_relay"
-
-
 def main():
-    header, js = of_header(), core_js()
+    header, js = interface_of_header(TREE), core_js()
     packages = {"Rust": of_rust(), "Python": of_python(), "JavaScript": of_js(js)}
     found = [one for package, given in packages.items() for one in differences(package, given, header)]
-    found += [*clause_differences(), *page_differences(), *js_differences(js, header[1])]
+    found += js_differences(js, header[1])
     if found:
         print("\n".join(f"bindings: {one}" for one in found), file=sys.stderr)
         return 1
     counts = "; ".join(
         "{} has {} enums, {} structs and {} calls".format(package, *map(len, given)) for package, given in packages.items())
-    print(f"bindings: {counts}, as the header has them, and JavaScript has its layout; "
-          f"and these, Go and JavaScript have its {len(clauses_in_words())} clauses, docs/FORMAT.md too")
+    print(f"bindings: {counts}, as the header has them, and JavaScript has its layout")
     return 0
 
 

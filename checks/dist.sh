@@ -69,6 +69,7 @@ share/bash-completion/completions/lp_rebuild
 share/bash-completion/completions/lp_relay
 share/bash-completion/completions/lp_series
 $documents/CHANGELOG.md
+$documents/DEFINITIONS.md
 $documents/FORMAT.md
 $documents/INTEROP.md
 $documents/LICENSE-APACHE
@@ -108,7 +109,7 @@ equal() {
 # Copies what bin/install and bin/dist read.
 copy_sources() {
     mkdir -p "$1/bindings" "$1/docs"
-    (cd "$top" && cp -R --parents bin include man packaging examples launch.sh CHANGELOG.md LICENSE-* crates/lp_programs/src/version.rt "$1" && cp docs/*.md "$1/docs")
+    (cd "$top" && cp -R --parents bin include man packaging tables examples checks launch.sh CHANGELOG.md LICENSE-* crates/*/{src,specs} "$1" && cp docs/*.md "$1/docs")
     cp -R "$top"/bindings/{build.sh,c,go,python,rust} "$1/bindings"
 }
 
@@ -663,7 +664,7 @@ run_programs() {
 read_documents() {
     local status=0
     if python3 -c 'import sys; sys.exit(sys.version_info < (3, 10))' 2>/dev/null; then
-        python3 -B "$top/checks/links.py" "$prefix/$documents" >"$work/log" || fail "$(cat "$work/log")"
+        python3 -B "$top/checks/documents.py" --top "$prefix/$documents" links >"$work/log" || fail "$(cat "$work/log")"
     else
         left_out "links of the installed documents" "there is no Python 3.10 or later"
     fi

@@ -16,7 +16,7 @@ import sys
 from fnmatch import fnmatchcase
 from pathlib import Path
 
-from promises import MADE, TOP
+from documents import MADE, TOP
 
 TEXTS = "crates/lp_values/specs/code/Faults.antt", re.compile(r'^fault_text \(?format\.(\w+)[^=]*= codes "(.*?)"', re.M)
 KINDS = "crates/lp_relay/specs/Objects.antt", re.compile(r"^fault_kind \(?fault\.(\w+)[^=]*= (\w+)$", re.M)

@@ -25,7 +25,7 @@ lp_left: lp_low
 lp_right: lp_low
 lp_c staticlib: lp_left
 LINES
-cp -r "$repository"/{launch.sh,lp_relay,lp_rebuild,lp_series,bin} "$copy"
+cp -r "$repository"/{launch.sh,lp_relay,lp_rebuild,lp_series,bin} "$repository"/LICENSE-* "$copy"
 ln -s "$copy/lp_relay" "$made/elsewhere/relay"
 cat >"$copy/several" <<'SCRIPT'
 #!/usr/bin/env bash

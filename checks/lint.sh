@@ -13,11 +13,13 @@ want_nothing() {
 if command -v shellcheck >/dev/null; then
     mapfile -t scripts < <(find . \( -name .git -o -name out -o -path ./dist \) -prune -o -type f -print0 |
         xargs -0 awk 'FNR == 1 && (/^#!.*sh$/ || /^# shellcheck shell=/) { print FILENAME } { nextfile }')
+    blocks=$(mktemp -d) completion=$(mktemp -d)
+    trap 'rm -rf "$blocks" "$completion"' EXIT
+    python3 -B tables/completions.py "$completion"
+    scripts+=("$completion"/bash/*)
     said=$(shellcheck "${scripts[@]}") || true
     want_nothing shellcheck "the scripts" "$said"
     # Each block of `sh` comes to a file that is named after its document and its line.
-    blocks=$(mktemp -d)
-    trap 'rm -rf "$blocks"' EXIT
     find . \( -name .git -o -name out -o -path ./dist \) -prune -o -name '*.md' -printf '%P\0' |
         xargs -0 awk -v folder="$blocks" '
             FNR == 1 || /^ *```$/ { inside = 0 }

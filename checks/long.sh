@@ -6,7 +6,7 @@
 #                               Dask; the tests of the Python package under the address sanitizer; the fuzzer for so many seconds, 600
 #                               if none are given; the Go module beside ParsePoints, by Go's fuzzer for a minute; what ParsePoints
 #                               reads beside its definition, over millions of texts; a million generated texts, compared with the
-#                               Rust crate; and the wrong bodies of checks/bodies/
+#                               Rust crate; and all rows of tables/bugs.tsv
 set -eu
 here=$(cd "$(dirname "$0")" && pwd)
 "$here/dist.sh"
@@ -23,4 +23,4 @@ WATCHED=1 "$here/../bindings/python/test.sh"
 "$here/go_beside.sh" --fuzz 60
 "$here/influx.sh"
 "$here/differential.sh" 1000000
-"$here/bodies.sh"
+"$here/bugs.py" --all

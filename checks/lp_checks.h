@@ -6,7 +6,7 @@
 #include <stddef.h>
 #include <stdint.h>
 
-/* How many kinds of faults there are: checks/blocks.py compares it with crates/lp_relay. */
+/* How many kinds of faults there are: checks/documents.py compares it with crates/lp_relay. */
 enum { LP_KINDS = 19 };
 
 /* How many numbers a run or a relay tells, and the steps of lp_checks_calls that push nothing. */

@@ -5,8 +5,7 @@ code of this library. Its rows are in portable_rows.txt, with what each server d
     checks/portable.py                        of each text of standard input, a line of hexadecimal digits: the clauses that it breaks
     checks/portable.py --random SEED COUNT    COUNT hostile texts, the same for the same SEED, to be put to this and to another program
     checks/portable.py --rows                 the texts of portable_rows.txt
-    checks/portable.py --check                compares portable_rows.txt with what is told here, each clause with its servers, and the clauses with those of
-                                              the code, of the definition and of docs/FORMAT.md
+    checks/portable.py --check                compares portable_rows.txt with what is told here, and each clause with its servers
     checks/portable.py --names                each clause: its number, its name and its servers
 
 Texts come out as lines of hexadecimal digits too. The clauses that a text breaks are told as one number on a line: of each clause the bit of
@@ -19,16 +18,12 @@ import re
 import sys
 from dataclasses import dataclass
 
+TOP = pathlib.Path(__file__).resolve().parent.parent
+sys.path.insert(0, str(TOP / "tables"))
+import clause_table
+
 # The clauses in the order of their bits, each with its servers: i is InfluxDB 1.x, v is VictoriaMetrics.
-CLAUSES = [
-    ("NotALine", "iv"), ("LeadingBlank", "v"), ("TrailingSpace", "v"), ("Newline", "v"), ("MeasurementEquals", "iv"), ("MeasurementEscape", "i"),
-    ("TagEscape", "i"), ("TagKeyComma", "iv"), ("TagValueEquals", "i"), ("RepeatedTag", "iv"), ("FieldKeyEscape", "i"),
-    ("FieldKeyComma", "iv"), ("FieldKeyQuote", "v"), ("LongSeries", "i"), ("Unsigned", "i"), ("InfiniteFloat", "i"), ("RoundedFloat", "v"),
-    ("LeadingNul", "i"), ("TimeOutOfRange", "i"), ("TagCount", "i"),
-    ("TimeName", "i"), ("SystemName", "i"), ("RepeatedField", "iv"), ("KeySeparator", "i"), ("ControlByte", "i"),
-    ("NameLabel", "v"), ("LongTagKey", "v"), ("LongTagValue", "v"), ("LongMetricName", "v"), ("LongLabels", "v"), ("TooManyTags", "v"),
-    ("LongLine", "v"), ("TimeNotKept", "v"),
-]
+CLAUSES = [(clause.name, "".join(server[0] for server in clause.servers)) for clause in clause_table.ALL]
 NAMES = [name for name, _ in CLAUSES]
 BIT = {name: 1 << place for place, name in enumerate(NAMES)}
 MASK = {server: sum(BIT[name] for name, servers in CLAUSES if server in servers) for server in "iv"}
@@ -528,39 +523,13 @@ def faults_of_clause(clause, servers, its):
             yield f"has no row outside that {server} reads otherwise"
 
 
-TOP = pathlib.Path(__file__).resolve().parent.parent
-CODE = TOP / "crates/lp_portable/src/broken.rt"
-DEFINITION = TOP / "crates/lp_portable/specs/format/Portable.antt"
-FORMAT = TOP / "docs/FORMAT.md"
-
-
-def between(path, begin, end):
-    """What a file has between two texts."""
-    return path.read_text(encoding="utf-8").partition(begin)[2].partition(end)[0]
-
-
-def clauses_elsewhere():
-    """What is wrong with the clauses of the code, of the definition and of FORMAT.md, as these list them, by those that are listed here."""
-    wanted = [name for name, _ in CLAUSES[1:]]
-    if re.findall(r"^    (\w+),$", between(CODE, "pub enum Clause {", "\n}"), re.M) != wanted:
-        yield f"{CODE.relative_to(TOP)} has other clauses than CLAUSES"
-    if re.findall(r"^\| `(\w+)` \|", between(FORMAT, "## 22. Portable lines", "\n## "), re.M) != wanted:
-        yield f"{FORMAT.relative_to(TOP)} has other clauses than CLAUSES"
-    snake = {name: re.sub(r"(?<!^)([A-Z])", r"_\1", name).lower() for name in wanted}
-    text = DEFINITION.read_text(encoding="utf-8")
-    for server, word in (("i", "is_of_influx"), ("v", "is_of_victoria")):
-        if set(re.findall(rf"^{word} (\w+) = false$", text, re.M)) != {snake[name] for name, servers in CLAUSES[1:] if server not in servers}:
-            yield f"{DEFINITION.relative_to(TOP)} has other clauses of {word} than CLAUSES"
-
-
 def check():
-    """Refuses rows that are not as is told here, and lists of clauses that are not as this."""
+    """Refuses rows that are not as is told here."""
     told = list(rows())
     found = [f"{row.clause}: {row.cell[:80]}: {fault}" for row in told for fault in faults_of(row)]
     for clause, servers in CLAUSES:
         its = [row for row in told if row.clause == clause]
         found += [f"{clause}: {fault}" for fault in faults_of_clause(clause, servers, its)]
-    found += clauses_elsewhere()
     if found:
         sys.exit("portable: " + "\n".join(found))
     print(f"portable: {len(told)} rows break the clauses that they are told to, and each of {len(CLAUSES)} clauses has rows on both sides")

@@ -11,14 +11,14 @@ import tempfile
 from itertools import combinations, permutations
 from pathlib import Path
 
+TOP = Path(__file__).resolve().parent.parent
+sys.path.append(str(TOP / "tables"))
 import completions
-from completions import TOP
-from options import ALONE, DIALECTS, FIRST
+from options import ALONE, DIALECTS, FIRST, programs
 
-FOLDER = TOP / completions.FOLDER
 BEFORE = "some.file", "some.other"  # files of the folder in which the shells are
 BASH = """
-for program in lp_rebuild lp_relay lp_series; do . "$1/$program"; done
+for program in lp_rebuild lp_relay lp_series; do . "$1/bash/$program"; done
 while IFS= read -r line; do
     IFS=' ' read -ra COMP_WORDS <<<"$line"
     [[ $line != *' ' ]] || COMP_WORDS+=('')
@@ -36,29 +36,29 @@ end
 """
 
 
-def by_bash(text):
-    return subprocess.run(["bash", "--norc", "-c", BASH, "bash", FOLDER], input=text, text=True, check=True, stdout=subprocess.PIPE).stdout
+def by_bash(folder, text):
+    return subprocess.run(["bash", "--norc", "-c", BASH, "bash", folder], input=text, text=True, check=True, stdout=subprocess.PIPE).stdout
 
 
-def by_fish(text):
-    return subprocess.run(["fish", "-N", "-c", FISH, FOLDER], input=text, text=True, check=True, stdout=subprocess.PIPE).stdout
+def by_fish(folder, text):
+    return subprocess.run(["fish", "-N", "-c", FISH, folder], input=text, text=True, check=True, stdout=subprocess.PIPE).stdout
 
 
-def by_zsh(text):
+def by_zsh(folder, text):
     with tempfile.TemporaryDirectory() as made:
         lines, answers = Path(made, "lines"), Path(made, "answers")
         lines.write_text(text, encoding="utf-8")
-        subprocess.run(["zsh", "-f", TOP / "checks" / "completion.zsh", FOLDER / "zsh", lines, answers], check=True)
+        subprocess.run(["zsh", "-f", TOP / "checks" / "completion.zsh", Path(folder, "zsh"), lines, answers], check=True)
         return answers.read_text(encoding="utf-8")
 
 
 SHELLS = {"bash": by_bash, "zsh": by_zsh, "fish": by_fish}
 
 
-def answered(shell, lines):
+def answered(shell, folder, lines):
     """What a shell completes, for each line."""
     found, words = [], set()
-    for line in SHELLS[shell]("".join(line + "\n" for line in lines)).split("\n")[:-1]:
+    for line in SHELLS[shell](folder, "".join(line + "\n" for line in lines)).split("\n")[:-1]:
         if line:
             words.add(line)
         else:
@@ -93,9 +93,9 @@ def are_at_odds(one, other, given):
 def can_come(option, before):
     """Whether an option can come after these."""
     given = [word for other in before for word in as_given(other)]
-    if any(other.get("place") for other in before) or option in before:
+    if any(other.get("place") in (FIRST, ALONE) for other in before) or option in before:
         return False
-    if option.get("place"):
+    if option.get("place") in (FIRST, ALONE):
         return not before or (option.get("place") == FIRST and len(before) == 1 and before[0].word in DIALECTS)
     return not any(are_at_odds(option, other, given) for other in before)
 
@@ -130,15 +130,16 @@ def main(words):
     if not words or set(words) - SHELLS.keys():
         print(__doc__, file=sys.stderr)
         return 2
-    wanted = [case for program, found, _ in completions.programs() for case in cases(program, found)]
-    wanted += [(f"{program} some.", set(BEFORE) if files else set()) for program, _, files in completions.programs()]
+    wanted = [case for program in programs() for case in cases(program.name, program.options)]
+    wanted += [(f"{program.name} some.", set(BEFORE) if program.takes_files else set()) for program in programs()]
     said = []
-    with tempfile.TemporaryDirectory() as made:
+    with tempfile.TemporaryDirectory() as made, tempfile.TemporaryDirectory() as folder:
+        completions.write(folder)
         os.chdir(made)
         for name in BEFORE:
             Path(name).touch()
         for shell in words:
-            given = answered(shell, [line for line, _ in wanted])
+            given = answered(shell, folder, [line for line, _ in wanted])
             if len(given) != len(wanted):
                 said.append(f"{shell} answers {len(given)} of {len(wanted)} lines")
             said += [f"{shell} completes `{line}` by {sorted(came)}, and not by {sorted(must)}"

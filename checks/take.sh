@@ -18,11 +18,12 @@ take() {
     exit 1
 }
 
-# What was taken must be as it is here.
+# What was taken must be as it is here, and each crate must have the licences that stand at the top here.
 compare() {
-    local crate
+    local crate licence
     for crate in "$@"; do
-        diff -r -x out -x must-fail "$top/crates/$crate" "$made/to/crates/$crate"
+        diff -r -x out -x must-fail -x 'LICENSE-*' "$top/crates/$crate" "$made/to/crates/$crate"
+        for licence in LICENSE-APACHE LICENSE-MIT; do cmp "$top/$licence" "$made/to/crates/$crate/$licence"; done
         [ ! -e "$made/to/crates/$crate/must-fail" ]
         [ "$(grep -cE "^$crate( [^:]*)?:" "$made/to/crates.txt")" = 1 ]
     done
@@ -68,7 +69,7 @@ PATH=$made/broken:$PATH take 1 "$made/half"
 [ -z "$(ls -A "$made/half/crates")" ] && [ ! -e "$made/half/crates.txt" ]
 # A crate whose folder changes while tar reads it, as where its out/ is made beside.
 mkdir -p "$made/copy/crates" "$made/changing" "$made/beside"
-cp -r "$top/bin" "$top/launch.sh" "$top/crates.txt" "$made/copy"
+cp -r "$top/bin" "$top/launch.sh" "$top/crates.txt" "$top"/LICENSE-* "$made/copy"
 cp -r "$top/crates/lp_format" "$made/copy/crates"
 printf '#!/usr/bin/env bash\nset -o pipefail\ncase "$*" in *-cf*) %s "$@" | { sleep 0.1; mkdir out.beside; rmdir out.beside; cat; } ;; *) exec %s "$@" ;; esac\n' \
     "$(command -v tar)" "$(command -v tar)" >"$made/changing/tar"

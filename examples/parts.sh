@@ -20,7 +20,7 @@ counts_of() {
 export -f counts_of
 
 # The options of a relay: those of each part, of which some have a word after them; and those that name files or a part, say where
-# numbers begin, or give otherwise in parts than in one run, since they look at what came before. checks/options.py compares these lists.
+# numbers begin, or give otherwise in parts than in one run, since they look at what came before. tables/options.py compares these lists.
 of_parts=' --strict --newline-delimited --crlf --verbatim --canonical --lines --progress --summary --check '
 with_words=' --portable --time-unit --default-time --times --faults --max-line '
 of_files=' --output -o --batch-lines --batch-bytes --refused --append --replace '

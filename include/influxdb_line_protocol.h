@@ -27,7 +27,7 @@ enum lp_answer {
     LP_MORE_PARTS = 3,    /* the line has more tags and fields than parts were lent: nothing was read */
     LP_MORE_ROOM = 4,     /* the texts take more room than was lent: nothing was read, or nothing was written */
     LP_OUT_OF_MEMORY = 5, /* a request for memory was refused */
-    LP_NOT_A_LINE = 6,    /* what was handed in is no line */
+    LP_NOT_A_LINE = 6,    /* what was handed in is no line, no fault or no clause */
     LP_WRITTEN = 7,       /* what was asked for was written */
     LP_NOT_UTF8 = 8,      /* the text is no UTF-8 */
     LP_PIECE = 9,         /* a newline of the text ends the piece */
@@ -424,6 +424,16 @@ uint32_t lp_line_is_admitted(uint32_t dialect, const lp_line *line, const lp_par
  * repeated key, which lp_line_base puts out, is the `fault_text` of LP_DUPLICATE_TAG. It asks for no memory. LP_NOT_A_LINE:
  * `fault` is LP_NONE or no kind, or `fault_text` is no UTF-8. */
 uint32_t lp_fault_message(const lp_line *line, uint8_t *out, size_t room, size_t *len);
+
+/* Writes the message of a clause of what is portable, with no newline, at the start of `out`: what breaks the clause, in words. `clause` is
+ * one bit of a verdict, for example LP_CLAUSE_REPEATED_TAG, whose message is "two tags have one key". It asks for no memory.
+ * LP_WRITTEN: the message was written, and `len` is its length in bytes. LP_MORE_ROOM: `out` is too short, and `len` is how many bytes the
+ * message takes. LP_NOT_A_LINE: `clause` is not the bit of one clause, for example because it is 0 or has two bits; `len` is as it was.
+ * Only LP_WRITTEN changes `out`. To print all that a line breaks:
+ *
+ *     for (uint64_t left = row.verdict; left != 0; left &= left - 1)
+ *         if (lp_clause_message(left & -left, out, sizeof out, &len) == LP_WRITTEN) printf("%.*s\n", (int)len, out); */
+uint32_t lp_clause_message(uint64_t clause, uint8_t *out, size_t room, size_t *len);
 
 /* The number of the literal of a float: the nearest double, and of two that are as near that with an even significand; it is
  * infinite where the literal is too large. It asks for no memory. False: the text is no such literal, and `value` is as it was. */

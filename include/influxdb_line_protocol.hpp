@@ -146,5 +146,8 @@ template <class Out> std::uint32_t append_key(Out &out, const item &of) {
 template <class Out> std::uint32_t append_message(Out &out, const item &of) {
     return append(out, [&](auto at, auto room, auto len) { return lp_fault_message(&of, at, room, len); });
 }
+template <class Out> std::uint32_t append_clause(Out &out, std::uint64_t clause) {
+    return append(out, [&](auto at, auto room, auto len) { return lp_clause_message(clause, at, room, len); });
+}
 } // namespace lp
 #endif

@@ -3,6 +3,7 @@
 
     tables/generate.py            compares each stretch with its table; exit status 1 if a file differs
     tables/generate.py --write    writes each stretch that differs
+    tables/generate.py --examples prints the examples of the options, which checks/readme.sh runs
 
 Each kind of fact has a table and a module: the module's `places()` returns the stretches that are made from the table, and its
 `problems()` returns what is wrong with files that are written by hand, in words.
@@ -10,9 +11,12 @@ Each kind of fact has a table and a module: the module's `places()` returns the 
 
 import sys
 
+import clause_table
+import options
+import pages
 from records import TOP, Fault, read
 
-MODULES = []
+MODULES = [clause_table, options, pages]
 
 
 def first_difference(path, old, new):
@@ -31,6 +35,9 @@ def changed_files():
 
 
 def main(words):
+    if words == ["--examples"]:
+        print("\n".join(line for example in pages.examples() for line in example))
+        return 0
     if words not in ([], ["--write"]):
         print(__doc__, file=sys.stderr)
         return 2

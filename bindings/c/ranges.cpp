@@ -139,6 +139,8 @@ static bool takes_empty() {
     const lp_line line = lp::line({}, 1, 1), of_string = lp::line("m", 0, 1);
     bool is_refused = lp::append_line(out, lp::dialect::strict, line, parts, 2) == LP_NOT_ADMITTED && out == "kept";
     bool is_written = lp::append_line(out, lp::dialect::strict, of_string, parts + 1, 1) == LP_WRITTEN && out == "keptm f=\"\"\n";
+    is_written &= lp::append_clause(out, LP_CLAUSE_REPEATED_TAG) == LP_WRITTEN && out == "keptm f=\"\"\ntwo tags have one key";
+    is_refused &= lp::append_clause(out, 0) == LP_NOT_A_LINE && out.size() == 32;
     return is_refused && is_written && items_of({}, lp::dialect::crate, shown).empty()
         && items_of("m f=\"\xff\"\nm f=1", lp::dialect::crate, shown) == std::vector<std::string>{"not UTF-8"};
 }

@@ -427,6 +427,46 @@ static bool are_no_messages(void) {
            is_no_message(LP_INTEGER_VALUE_INVALID, broken) && is_no_message(LP_FIELD_SET_MISSING, broken);
 }
 
+static uint64_t clause;
+
+static uint32_t clause_message(const lp_line *line, const lp_part *parts, size_t parts_len, uint8_t *out, size_t room, size_t *len) {
+    (void)line, (void)parts, (void)parts_len;
+    return lp_clause_message(clause, out, room, len);
+}
+
+/* What is not the bit of one clause has no message, and then the room and the length are as they were. */
+static bool is_no_clause(uint64_t bits) {
+    uint8_t out[96], before[96];
+    size_t told = 77;
+    memset(out, '~', sizeof out), memcpy(before, out, sizeof out);
+    return lp_clause_message(bits, out, sizeof out, &told) == LP_NOT_A_LINE && told == 77 && memcmp(out, before, sizeof out) == 0;
+}
+
+/* Each clause that a server reads otherwise has a message of its own, without memory. */
+static bool are_clauses(void) {
+    static const struct { uint64_t clause; const char *text; } KNOWN[] = {
+        { LP_CLAUSE_NOT_A_LINE, "what is there is not one line for the strict reader" },
+        { LP_CLAUSE_REPEATED_TAG, "two tags have one key" },
+        { LP_CLAUSE_TIME_NOT_KEPT, "the timestamp is before or after what is kept" },
+    };
+    static char texts[64][96];
+    uint64_t all = LP_OF_INFLUX1 | LP_OF_VICTORIA;
+    bool good = true;
+    lp_requests = 0;
+    for (size_t at = 0; at < 3; at++) {
+        clause = KNOWN[at].clause;
+        good &= writes(clause_message, &LINE, PARTS, LP_WRITTEN, KNOWN[at].text, strlen(KNOWN[at].text));
+    }
+    for (size_t place = 0; place < 64; place++) {
+        size_t len = 0;
+        clause = UINT64_C(1) << place;
+        if (!(all & clause)) good &= is_no_clause(clause);
+        else good &= lp_clause_message(clause, (uint8_t *)texts[place], 95, &len) == LP_WRITTEN && len > 0 && len == strlen(texts[place]);
+        for (size_t other = 0; other < place && len; other++) good &= strcmp(texts[other], texts[place]) != 0;
+    }
+    return good & is_no_clause(0) & is_no_clause(3) & is_no_clause(all) & is_no_clause(UINT64_MAX) & (lp_requests == 0);
+}
+
 /* What is empty is so in each of its two spellings: a difference shows in a field that is no padding. */
 static bool are_empty(void) {
     const lp_line line = LP_EMPTY_LINE;
@@ -469,7 +509,7 @@ int main(void) {
     good &= writes(lp_line_key, &LINE, repeated, LP_WRITTEN, REPEATED_KEY, sizeof REPEATED_KEY - 1);
     good &= is_tested() && are_as_told() && are_logins() && are_no_dialects() && are_bases_told() && are_bases_safe() && is_refused_at_once() && is_nothing_told() && is_rebuilt();
     good &= are_keys() && is_key_of_any_name();
-    good &= are_messages() && are_no_messages() && are_empty();
+    good &= are_messages() && are_no_messages() && are_clauses() && are_empty();
     long requests = refused(write_line, sizeof WRITTEN - 1, &good) + refused(lp_line_show, sizeof SHOWN - 1, &good);
     requests += refused(lp_line_base, sizeof BASE - 1, &good) + refused(lp_line_key, sizeof KEY - 1, &good) + are_sorted(&good);
     printf("lines, bases, keys, messages and rebuilt texts written, each of %ld requests refused in turn\n", requests);

@@ -216,6 +216,16 @@ func message(piece []byte, dialect Dialect) string {
 	return string(told[:n])
 }
 
+// The words of a clause, or none if there is no such clause.
+func clauseMessage(c Clause) string {
+	var told [128]byte
+	var n C.size_t
+	if C.lp_clause_message(C.uint64_t(1)<<c, first(told[:]), C.size_t(len(told)), &n) != C.LP_WRITTEN {
+		return ""
+	}
+	return string(told[:n])
+}
+
 // A search for the end of a piece that is too long.
 type search struct{ cuts C.lp_cuts }
 

@@ -104,47 +104,10 @@ const (
 	ClauseTimeNotKept
 )
 
-// What breaks each clause.
-var clauseWords = [...]string{
-	ClauseNotALine:          "what is there is not one line for the strict reader",
-	ClauseLeadingBlank:      "a space or a tab comes before the line",
-	ClauseTrailingSpace:     "a space ends the line",
-	ClauseNewline:           "the line holds a newline: in a string, or escaped",
-	ClauseMeasurementEquals: "an equals sign is escaped in the measurement",
-	ClauseMeasurementEscape: "a backslash or a quote is escaped in the measurement",
-	ClauseTagEscape:         "a backslash is escaped in a tag key or a tag value",
-	ClauseTagKeyComma:       "a comma is bare in a tag key",
-	ClauseTagValueEquals:    "an equals sign is bare in a tag value",
-	ClauseRepeatedTag:       "two tags have one key",
-	ClauseFieldKeyEscape:    "a backslash or a quote is escaped in a field key",
-	ClauseFieldKeyComma:     "a comma is bare in a field key",
-	ClauseFieldKeyQuote:     "a field key holds a quote",
-	ClauseLongSeries:        "the series, four bytes and a field key are longer than 65,535 bytes",
-	ClauseUnsigned:          "a value is an unsigned integer",
-	ClauseInfiniteFloat:     "a float is too large for a finite number",
-	ClauseRoundedFloat:      "a float has an exponent, or takes over 310 bytes",
-	ClauseLeadingNul:        "the first field key begins with a byte 0",
-	ClauseTimeOutOfRange:    "the timestamp is the greatest of 64 bits, or one of the two least",
-	ClauseTagCount:          "the tags are 100, 200, 400, 800 and so on",
-	ClauseTimeName:          "a tag key or a field key is `time`",
-	ClauseSystemName:        "the measurement or a field key is a name of the server's own",
-	ClauseRepeatedField:     "two fields have one key",
-	ClauseKeySeparator:      "the series holds `#!~`",
-	ClauseControlByte:       "the measurement or a field key holds a byte 0 or a carriage return",
-	ClauseNameLabel:         "a tag key is `__name__`",
-	ClauseLongTagKey:        "a tag key is longer than 256 bytes",
-	ClauseLongTagValue:      "a tag value is longer than 16,384 bytes",
-	ClauseLongMetricName:    "the measurement, a byte and a field key are longer than 16,384 bytes",
-	ClauseLongLabels:        "the series, a byte and a field key are longer than 32,000 bytes",
-	ClauseTooManyTags:       "there are more tags than the limit",
-	ClauseLongLine:          "the line is longer than the limit",
-	ClauseTimeNotKept:       "the timestamp is before or after what is kept",
-}
-
 // String says what breaks the clause.
 func (c Clause) String() string {
-	if int(c) < len(clauseWords) {
-		return clauseWords[c]
+	if words := clauseMessage(c); words != "" {
+		return words
 	}
 	return fmt.Sprintf("Clause(%d)", uint8(c))
 }

@@ -1,5 +1,6 @@
 pub mod BlockVerdicts
 pub mod Blocks
+pub mod ClauseMessages
 pub mod Crossing
 pub mod Handed
 pub mod HandedRows

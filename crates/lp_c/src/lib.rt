@@ -6,6 +6,7 @@
 
 mod block_verdicts;
 mod blocks;
+mod clause_messages;
 mod exports;
 mod handed;
 mod handed_rows;

@@ -27,8 +27,8 @@ pub(crate) fn put_front(text: &[u8], out: &mut [u8])
     front.copy_from_slice(text);
 }
 
-// Puts a text at the start of a buffer, and tells its length.
-fn put_out(done: Answer, text: &[u8], out: &mut [u8], len: &mut usize) -> u32
+/// Puts a text at the start of a buffer, and tells its length.
+pub(crate) fn put_out(done: Answer, text: &[u8], out: &mut [u8], len: &mut usize) -> u32
     ensures { PutsOut done text.now out.old out.new len.new result }
 {
     *len = text.len();
