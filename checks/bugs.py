@@ -23,8 +23,9 @@ import time
 from pathlib import Path
 from typing import NamedTuple
 
+from calls import handed_on_calls, without_types
 from clauses import bare, function, members
-from documents import LIBRARIES, TOP, Tree, all_public_calls, without_types
+from documents import LIBRARIES, TOP, Tree
 
 TABLE, TRIED, PENDING = TOP / "tables" / "bugs.tsv", TOP / "tables" / "bugs_tried.tsv", TOP / "out" / "bugs_tried.tsv"
 NEXT = " ⏎ "  # stands between the texts of a row that changes several places
@@ -35,6 +36,10 @@ ONE_CALL = re.compile(rf"\s*((?:\w+::)*|self\.)(\w+)\({INNER}\)\s*")
 NOT_PROMISED = "fmt::Debug for "  # nothing is promised of what `{:?}` writes
 REFUSED = "refused"
 ANSWER = re.compile(rf"^rt: must-fail \w+/\w+\.edit: ({REFUSED}|NOT REFUSED|BAD EDIT|NOT TRIED)", re.M)
+
+
+def read(path):
+    return path.read_text(encoding="utf-8")
 
 
 class Bug(NamedTuple):
@@ -50,10 +55,6 @@ class Bug(NamedTuple):
     @property
     def path(self):
         return TOP / "crates" / self.crate / self.file
-
-
-def read(path):
-    return path.read_text(encoding="utf-8")
 
 
 def bug_of_row(line):
@@ -159,8 +160,8 @@ def public_calls(bugs):
     """Each public call with a body, and the bugs in it. A body that is one call of a function has the bugs of that function: `by NAME`."""
     paths = [path for crate in LIBRARIES for path in sorted((TOP / "crates" / crate / "src").rglob("*.rt"))]
     functions = [each for path in paths for each in functions_in(path)]
-    public = {(TOP / path, name) for _, name, _, path in all_public_calls(Tree(TOP))
-              if not path.endswith("/laws.rt") and not name.startswith(NOT_PROMISED)}
+    public = {(TOP / call.path, call.name) for call in handed_on_calls(Tree(TOP))
+              if not call.path.endswith("/laws.rt") and not call.name.startswith(NOT_PROMISED)}
     found = bugs_in(functions, bugs)
     for call in functions:
         if (call.path, call.name) in public:
