@@ -245,12 +245,13 @@ class Room:
             raise Late
         return done.stdout
 
-    def proved(self, file):
-        """Whether all functions of a file are proved; None if the prover does not say so. And what it prints."""
+    def is_proved(self, file):
+        """Whether the functions of a file are proved; None if the prover does not know. And what it prints."""
         module = file.removeprefix("src/").removesuffix(".rt").replace("/", "::")
         told = self.rt(self.folder, "check", "--jobs", "1", "--only", module)
-        found = re.search(r"^only=(\d+) proved=(\d+)$", told, re.M)
-        return found and found[1] == found[2], told
+        if re.search(r"^only=(\d+) proved=\1$", told, re.M):
+            return True, told
+        return False if re.search(r"^fn \S+: (not proved|no proof)", told, re.M) else None, told
 
     def answer(self, bug):
         """What the prover says of a bug. If it proves the file of the bug, the bug can still break a function of another file."""
@@ -259,29 +260,30 @@ class Room:
         for old, new in bug.changes:
             text = text.replace(old, new)
         path.write_text(text, encoding="utf-8")
-        proved, told = self.proved(bug.file)
+        is_proved, told = self.is_proved(bug.file)
         path.write_text(code, encoding="utf-8")
-        if proved:
+        if is_proved:
             edit = self.folder / "must-fail" / f"{bug.name}.edit"
             edit.parent.mkdir(exist_ok=True)
             edit.write_text(f"file: {bug.file}\n" + "".join(f"old: {old}\nnew: {new}\n" for old, new in bug.changes), encoding="utf-8")
             told = self.rt(self.top, "must-fail", bug.crate)
             edit.unlink()
-        elif proved is False:
+        elif is_proved is False:
             return REFUSED
+        print("".join(f"{line}\n" for line in told.splitlines() if "error" in line or ANSWER.match(line)), end="")
         found = ANSWER.search(told)
         return found[1] if found else "BAD EDIT" if "error[" in told else "NOT TRIED"
 
     def answers(self, bugs):
         """What the prover says of bugs, one after the other."""
-        file = None
+        proved = None
         for bug in bugs:
-            if bug.file != file:
-                proved, told = self.proved(bug.file)
-                if not proved:
+            if bug.file != proved:
+                is_proved, told = self.is_proved(bug.file)
+                if is_proved is False:
                     raise SystemExit(f"{told}\nbugs: {bug.crate}: {bug.file} is not proved without a bug")
-            file = bug.file
-            yield self.answer(bug)
+                proved = bug.file if is_proved else None
+            yield self.answer(bug) if proved else "NOT TRIED"
 
 
 def left_out(what, why):

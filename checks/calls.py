@@ -16,7 +16,7 @@ from typing import NamedTuple
 
 from clauses import bare, closing, function, members, one_line, surface
 from documents import CALLS, LIBRARIES, PROGRAMS, TOP, Tree, handed_on
-from reading import Definitions
+from reading import Definitions, worked
 
 TRUST = "docs/TRUST.md"
 CONDITIONS = "## Conditions"
@@ -253,6 +253,16 @@ def problems(tree):
     yield from wrong_conditions(tree)
 
 
+def examples(tree):
+    """How many relations the clauses of public calls name, and of how many a worked line has an example that they cover and one that they do
+    not."""
+    definitions = Definitions(tree)
+    named = {place for _, calls in calls_by_root(tree, with_methods=True) for _, call in calls for clause in call.clauses
+             for place in definitions.named_in(clause, call.path) if place.is_relation()}
+    inside, outside = worked(tree, definitions)
+    return len(named), len(named & inside & outside)
+
+
 def main(words):
     tree = Tree(TOP)
     if words == ["--silent"]:
@@ -264,7 +274,7 @@ def main(words):
     found = list(problems(tree))
     calls = [call for call in handed_on_calls(tree) if call.clauses]
     print("\n".join(f"calls: {line}" for line in found) or f"calls: {CALLS} has {len(calls)} public calls, {len(list(silent_calls(tree)))} of which "
-          "have no first sentence that can be read alone")
+          "have no first sentence that can be read alone; their clauses name {} relations, {} with an example just outside".format(*examples(tree)))
     return 1 if found else 0
 
 

@@ -9,3 +9,4 @@ pub mod WorkedStreams
 pub mod WorkedItems
 pub mod WorkedRelays
 pub mod WorkedWords
+pub mod WorkedCalls

@@ -27,7 +27,7 @@ an_open_quote_gives_none h =
     absurd (cc)
 
 -- what a stream by the strict rules holds
-abbrev holding : List ℕ → Held
+abbrev pub holding : List ℕ → Held
 holding bytes = record { dialect = Strict; bytes = bytes; capacity = 64; given = 0 }
 
 -- A call takes `m f=1i` and its newline of what is held.
