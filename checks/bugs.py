@@ -35,7 +35,7 @@ INNER = r"(?:[^()]|\((?:[^()]|\((?:[^()]|\([^()]*\))*\))*\))*"  # what is betwee
 ONE_CALL = re.compile(rf"\s*((?:\w+::)*|self\.)(\w+)\({INNER}\)\s*")
 NOT_PROMISED = "fmt::Debug for "  # nothing is promised of what `{:?}` writes
 REFUSED = "refused"
-ANSWER = re.compile(rf"^rt: must-fail \w+/\w+\.edit: ({REFUSED}|NOT REFUSED|BAD EDIT|NOT TRIED)", re.M)
+ANSWER = re.compile(rf"^rt: must-fail \w+/\w+\.edit: ({REFUSED}|NOT REFUSED|BAD EDIT|NOT TRIED).*$", re.M)
 
 
 def read(path):
@@ -254,25 +254,23 @@ class Room:
         return False if re.search(r"^fn \S+: (not proved|no proof)", told, re.M) else None, told
 
     def answer(self, bug):
-        """What the prover says of a bug. If it proves the file of the bug, the bug can still break a function of another file."""
+        """What the prover says of a bug. If it does not refuse the functions of the file, it can still refuse a function of another file."""
         path = self.folder / bug.file
         code = text = read(path)
         for old, new in bug.changes:
             text = text.replace(old, new)
         path.write_text(text, encoding="utf-8")
-        is_proved, told = self.is_proved(bug.file)
+        is_proved = self.is_proved(bug.file)[0]
         path.write_text(code, encoding="utf-8")
-        if is_proved:
-            edit = self.folder / "must-fail" / f"{bug.name}.edit"
-            edit.parent.mkdir(exist_ok=True)
-            edit.write_text(f"file: {bug.file}\n" + "".join(f"old: {old}\nnew: {new}\n" for old, new in bug.changes), encoding="utf-8")
-            told = self.rt(self.top, "must-fail", bug.crate)
-            edit.unlink()
-        elif is_proved is False:
+        if is_proved is False:
             return REFUSED
-        print("".join(f"{line}\n" for line in told.splitlines() if "error" in line or ANSWER.match(line)), end="")
-        found = ANSWER.search(told)
-        return found[1] if found else "BAD EDIT" if "error[" in told else "NOT TRIED"
+        edit = self.folder / "must-fail" / f"{bug.name}.edit"
+        edit.parent.mkdir(exist_ok=True)
+        edit.write_text(f"file: {bug.file}\n" + "".join(f"old: {old}\nnew: {new}\n" for old, new in bug.changes), encoding="utf-8")
+        found = ANSWER.search(self.rt(self.top, "must-fail", bug.crate))
+        edit.unlink()
+        print(f"{found[0]}\n" if found else "", end="")
+        return found[1] if found else "NOT TRIED"
 
     def answers(self, bugs):
         """What the prover says of bugs, one after the other."""
@@ -297,15 +295,16 @@ def try_bugs(crate, first, bugs, end=float("inf")):
         try:
             for bug, answer in zip(bugs, Room(crate, folder, end).answers(bugs)):
                 print(f"bugs: {crate}: {bug.name}: {answer}", flush=True)
-                answers.append(answer)
                 if answer == "NOT TRIED":
-                    left_out(f"the bug {bug.name}", "its check ended without an answer")
+                    left_out(f"bugs of {crate}", f"a check ended without an answer of {bug.name}")
+                    break
+                answers.append(answer)
                 if first is not None:
                     note(crate, first + len(answers), refused + answers.count(REFUSED))
         except Late:
             if not answers:
                 left_out(f"bugs of {crate}", "the time was over before the first answer")
-    return sum(answer in ("NOT REFUSED", "BAD EDIT") for answer in answers)
+    return len(answers) - answers.count(REFUSED)
 
 
 def due():
