@@ -379,22 +379,32 @@ static void counts_begin(const struct text *text, size_t max_series, const char 
     if (count != 2 || memcmp(out, wanted, strlen(wanted))) fail_growing("lines, tags or fields", "counts of series", "others came");
 }
 
-/* A line of many tags, which come in the other order, and as many fields: its key, and what is counted of it. */
+/* The hash of a key, by FNV-1a of 64 bits. */
+static uint64_t hash_of(const char *key, size_t len) {
+    uint64_t hash = 14695981039346656037u;
+    while (len-- > 0) hash = (hash ^ (uint8_t)*key++) * 1099511628211u;
+    return hash;
+}
+
+/* A line of many tags, which come in the other order, and as many fields: the key of its series, the hash of that, whether the series is
+   itself, and that its text does not begin with the key; and what is counted of the line. */
 static void many_tags(void) {
-    struct text text = {NULL, 0, 0}, key = {NULL, 0, 0};
+    struct text text = {NULL, 0, 0}, wanted = {NULL, 0, 0};
     put_text(&text, "m");
-    put_form(&key, "%d:m", 1 + 10 * MANY);
+    put_form(&wanted, "%d:m", 1 + 10 * MANY);
     for (int at = 1; at <= MANY; at++) {
         put_form(&text, ",t%06d=v", MANY + 1 - at);
-        put_form(&key, ",t%06d=v", at);
+        put_form(&wanted, ",t%06d=v", at);
     }
+    const char *key = memchr(wanted.at, 'm', wanted.len);
+    put_form(&wanted, "%llutrueNone", (unsigned long long)hash_of(key, 1 + 10 * MANY));
     for (int at = 1; at <= MANY; at++) put_form(&text, "%cf%06d=1i", at == 1 ? ' ' : ',', at);
     put_text(&text, "\n");
     call_keys((const uint8_t *)text.at, text.len);
-    if (count != 4 || ends[0] != key.len || memcmp(out, key.at, key.len)) fail_growing("tags", "keys", "another key came");
+    if (count != 4 || ends[3] != wanted.len || memcmp(out, wanted.at, wanted.len)) fail_growing("tags", "keys", "others came");
     counts_begin(&text, SIZE_MAX, "1 1 none none 0 0\nseries m,t000001=v,t000002=v,");
     free(text.at);
-    free(key.at);
+    free(wanted.at);
 }
 
 /* Many lines, each of another measurement, and as many faults: if all series are kept, and if one is. */
