@@ -247,7 +247,7 @@ class Room:
 
     def is_proved(self, file):
         """Whether the functions of a file are proved; None if the prover does not know. And what it prints."""
-        module = file.removeprefix("src/").removesuffix(".rt").replace("/", "::")
+        module = file.replace("src", self.folder.name, 1).removesuffix(".rt").replace("/", "::")
         told = self.rt(self.folder, "check", "--jobs", "1", "--only", module)
         if re.search(r"^only=(\d+) proved=\1$", told, re.M):
             return True, told
