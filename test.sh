@@ -5,10 +5,10 @@
 #   1. The checks of documents and scripts. If one fails, nothing else is run.
 #   2. The archives of lp_c and lp_checks are built; beside that, the checks of bin/take, of the launchers and of completion. Where Node
 #      can run it, the module of lp_page is built for WebAssembly too, over what was proved with the archives.
-#   3. The misuses, which begin with what was proved for the archives. The gate sets that aside, so they come before it, and so does a copy
-#      of the crates whose bugs were tried longest ago.
-#   4. The gate, and beside it the checks that link the archives, and for at most ten minutes the bugs of these crates.
-#   5. The checks of the programs that the gate made, and beside them those of Python and JavaScript, which run one of them too.
+#   3. The misuses, which begin with what was proved for the archives. The gate sets that aside, so they come before it.
+#   4. The gate, and beside it the checks that link the archives.
+#   5. The checks of the programs that the gate made, and beside them the checks of Python and JavaScript, which run a program too, and
+#      for at most ten minutes of one processor the bugs that were tried longest ago.
 #
 # Before the gate's last line, which comes last, it prints how long each part took, what the checks left out, and which checks failed. The
 # status is the status of the gate, or 1 if a check failed.
@@ -60,12 +60,14 @@ beside_gate() {
     LP_LIB_DIR=$made part bindings/rust bindings/rust/test.sh
     part bindings/go bindings/go/test.sh "$made/liblp_c.a"
     part checks/endpoint.sh checks/endpoint.sh "$made/liblp_c.a"
-    part checks/bugs.py checks/bugs.py --some "$made/bugs"
 }
 beside_programs() {
+    part checks/bugs.py checks/bugs.py --some >"$made/bugs" 2>&1 &
     LP_RELAY=$made/lp_relay_program part checks/page.sh checks/page.sh "$made/page"
     LP_RELAY=$made/lp_relay_program part bindings/python bindings/python/test.sh "$made/liblp_c.a"
     part checks/apart.sh checks/apart.sh "$made/lp_relay_program"
+    wait
+    cat "$made/bugs"
 }
 # beside FUNCTION: starts one of them. `joined` waits for it, where `failed` names what failed.
 beside() {
@@ -129,7 +131,6 @@ if [[ ${archives[*]} == *lp_page* ]]; then
     sources lp_page >crates/lp_page/out/launcher.stamp
     part packaging/page packaging/page/build.sh "$made/page"
 fi
-part "a copy for checks/bugs.py" checks/bugs.py --copy "$made/bugs"
 beside beside_gate
 part misuses/check.sh misuses/check.sh
 part "rt ci" rt ci | hold_last

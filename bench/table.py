@@ -1,6 +1,7 @@
 #!/usr/bin/env python3
 """Writes the tables of figures.tsv, figures_avx512.tsv, callers.tsv, python.tsv, streams.tsv, instructions.tsv and parts.tsv into
-README.md, each between its two marks.
+README.md, each between its two marks. bench/run.sh makes these files, and git does not keep them: README.md has the figures. A table whose
+file is not there stays as it is.
 
     bench/table.py
 """
@@ -66,10 +67,10 @@ def with_table(text: str, name: str, lines: list[str]) -> str:
 def main() -> None:
     here = Path(__file__).parent
     text = (here / "README.md").read_text()
-    for name, names in TABLES.items():
-        text = with_table(text, name, table(*read(here / name), names))
-    for name in COUNTED:
-        text = with_table(text, name, counted(here / name))
+    makers = {name: lambda path, calls=calls: table(*read(path), calls) for name, calls in TABLES.items()} | dict.fromkeys(COUNTED, counted)
+    for name, make in makers.items():
+        if (here / name).is_file():
+            text = with_table(text, name, make(here / name))
     (here / "README.md").write_text(text)
 
 

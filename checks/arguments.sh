@@ -749,8 +749,7 @@ want 0 'm a=1i\n' "7$counts"
 (ulimit -v 32000 && "$relay" "${whole[@]}" --summary "$work/huge") >"$work/out" 2>"$work/err" && status=0 || status=$?
 same "a file of which the last line is too long"
 want 1 'm a=1i\n' 'item 2: the line is too long\n'
-# shellcheck disable=SC2002
-cat "$work/huge" | (ulimit -v 32000 && "$relay" "${whole[@]}" --max-line 80) >"$work/out" 2>"$work/err" && status=0 || status=$?
+head -c 40000000 "$work/huge" | (ulimit -v 32000 && "$relay" "${whole[@]}" --max-line 80) >"$work/out" 2>"$work/err" && status=0 || status=$?
 same "a pipe of which the last line is too long"
 rm "$work/huge"
 # A pipe that pauses within lines, and a file that grows. What comes between two runs is in the second one.

@@ -5,16 +5,14 @@
     checks/bugs.py --list               prints each public call with the bugs in its body
     checks/bugs.py --all; CRATE..       tries all rows; those of these crates
     checks/bugs.py --only NAME CRATE    tries one row or one edit
-    checks/bugs.py --copy FOLDER        copies the two crates whose rows are due, with what was proved of them here
-    checks/bugs.py --some FOLDER        tries rows of the crates in this folder, for ten minutes on one processor
+    checks/bugs.py --some               tries the rows that were tried longest ago, of one or two crates, for ten minutes on one processor
     checks/bugs.py --record             writes into tables/bugs_tried.tsv which rows were tried here
 
-A try plants bugs in a copy of their crate, over what `rt check` proved, and asks `rt must-fail` whether the prover refuses each. The
-status is 1 if it does not refuse one, or cannot read one. A slow machine tries fewer rows, and fails no try.
+A try plants a bug in a copy of its crate, and has the prover check the functions of the changed file. If it still proves them, `rt must-fail` tells
+whether it refuses the crate. The status is 1 if it refuses neither, or cannot read the bug. A slow machine tries fewer rows, and fails no try.
 """
 
 import datetime
-import hashlib
 import os
 import re
 import shutil
@@ -23,23 +21,25 @@ import sys
 import tempfile
 import time
 from pathlib import Path
-from resource import RUSAGE_CHILDREN, getrusage
 from typing import NamedTuple
 
+from calls import handed_on_calls, without_types
 from clauses import bare, function, members
-from documents import LIBRARIES, TOP, Tree, all_public_calls, without_types
+from documents import LIBRARIES, TOP, Tree
 
 TABLE, TRIED, PENDING = TOP / "tables" / "bugs.tsv", TOP / "tables" / "bugs_tried.tsv", TOP / "out" / "bugs_tried.tsv"
 NEXT = " ⏎ "  # stands between the texts of a row that changes several places
 MOST_OF_A_CRATE, MOST = 12, 120  # how many edits a folder must-fail/ may have, and all of them together
-BATCH = 32  # how many bugs `rt must-fail` gets at a time, as it answers at its end
-BESIDE = 3  # about how many checks it makes of the crate beside these
-SECONDS = 600  # how long `--some` may take
-USUAL = 20  # about how many seconds of processors a bug takes, if no bug of its crate was tried yet
+SECONDS = 600  # how long `--some` may take, on one processor
 INNER = r"(?:[^()]|\((?:[^()]|\((?:[^()]|\([^()]*\))*\))*\))*"  # what is between two brackets
 ONE_CALL = re.compile(rf"\s*((?:\w+::)*|self\.)(\w+)\({INNER}\)\s*")
 NOT_PROMISED = "fmt::Debug for "  # nothing is promised of what `{:?}` writes
-ANSWER = re.compile(r"^rt: must-fail \w+/(\w+)\.edit: (refused|NOT REFUSED|BAD EDIT|NOT TRIED)", re.M)
+REFUSED = "refused"
+ANSWER = re.compile(rf"^rt: must-fail \w+/\w+\.edit: ({REFUSED}|NOT REFUSED|BAD EDIT|NOT TRIED).*$", re.M)
+
+
+def read(path):
+    return path.read_text(encoding="utf-8")
 
 
 class Bug(NamedTuple):
@@ -55,10 +55,6 @@ class Bug(NamedTuple):
     @property
     def path(self):
         return TOP / "crates" / self.crate / self.file
-
-
-def read(path):
-    return path.read_text(encoding="utf-8")
 
 
 def bug_of_row(line):
@@ -164,8 +160,8 @@ def public_calls(bugs):
     """Each public call with a body, and the bugs in it. A body that is one call of a function has the bugs of that function: `by NAME`."""
     paths = [path for crate in LIBRARIES for path in sorted((TOP / "crates" / crate / "src").rglob("*.rt"))]
     functions = [each for path in paths for each in functions_in(path)]
-    public = {(TOP / path, name) for _, name, _, path in all_public_calls(Tree(TOP))
-              if not path.endswith("/laws.rt") and not name.startswith(NOT_PROMISED)}
+    public = {(TOP / call.path, call.name) for call in handed_on_calls(Tree(TOP))
+              if not call.path.endswith("/laws.rt") and not call.name.startswith(NOT_PROMISED)}
     found = bugs_in(functions, bugs)
     for call in functions:
         if (call.path, call.name) in public:
@@ -178,7 +174,8 @@ def problems():
     table, gate = rows(), edits()
     told = planting_problems(table, gate)
     told += [] if told else [f"no bug changes {call}" for call, names in public_calls(gate + table) if not names]
-    return told + [f"{it.crate}: the prover refused {it.refused} of {it.tried} rows" for it in tried_rows().values() if it.refused < it.tried]
+    return told + [f"{it.crate}: the prover refused {it.refused} of {it.tried} rows" for it in tried_rows(TRIED).values() if it.refused < it.tried]
+
 
 # What was tried, and when?
 
@@ -188,12 +185,11 @@ class Tried(NamedTuple):
     sources: str  # their sum, as launch.sh makes it, with those of the crates below
     tried: int  # how many rows, from the first row of the crate
     refused: int  # how many of these
-    seconds: int  # of processors for each row
 
 
-def tried_rows():
+def tried_rows(*paths):
     """What was tried of each crate: as the list has it, or here since."""
-    lines = [line for path in (TRIED, PENDING) if path.is_file() for line in read(path).splitlines() if not line.startswith("#")]
+    lines = [line for path in paths or (TRIED, PENDING) if path.is_file() for line in read(path).splitlines() if not line.startswith("#")]
     return {words[0]: Tried(*words[:3], *map(int, words[3:])) for words in map(str.split, lines)}
 
 
@@ -201,14 +197,12 @@ def line_of(found):
     return "\t".join(map(str, found)) + "\n"
 
 
-def note(crate, first, answers, seconds):
-    """Keeps what the prover answered of rows of a crate, from this row on, and how many seconds a row took, if it is known."""
-    found, refused = tried_rows(), sum(answer == "refused" for answer in answers.values())
-    last = found.get(crate, Tried(crate, "", "", 0, 0, USUAL))
+def note(crate, tried, refused):
+    """Keeps how many rows of a crate were tried, and how many of these the prover refused."""
+    found = tried_rows()
     date = datetime.datetime.now(datetime.timezone.utc).strftime("%Y-%m-%dT%H:%M")
     sources = subprocess.run(["bash", "-c", '. "$0/launch.sh" && sources "$1"', TOP, crate], capture_output=True, text=True, check=True).stdout
-    found[crate] = Tried(crate, date, sources.split()[0], first + len(answers), refused + (last.refused if first else 0),
-                         round(seconds or last.seconds))
+    found[crate] = Tried(crate, date, sources.split()[0], tried, refused)
     PENDING.parent.mkdir(exist_ok=True)
     PENDING.write_text("".join(map(line_of, found.values())), encoding="utf-8")
 
@@ -224,111 +218,104 @@ def record():
 
 # Trying.
 
-def copy(crates, room):
-    """Copies crates, and what was proved of them and of the crates below."""
-    room.mkdir(exist_ok=True)
-    if not crates:
-        return
-    subprocess.run([TOP / "bin" / "take", room, *crates], stdout=subprocess.DEVNULL, check=True)
-    shutil.copy(TOP / "HANDLES", room)
-    for folder in (room / "crates").iterdir():
-        out = TOP / "crates" / folder.name / "out"
-        for part in ("rlib", "incremental") if folder.name in crates else ("rlib",):
-            if (out / part).is_dir():
-                shutil.copytree(out / part, folder / "out" / part)
+class Late(Exception):
+    """The time is over."""
 
 
-def rt(words, folder, seconds=None):
-    """Runs rt, and returns its status and what it prints; no status if it took too long. If its time is limited, it has one processor."""
-    env = {**os.environ, "PATH": f"{os.environ['PATH']}:/opt/rattle/bin", **({"RT_JOBS": "1"} if seconds else {})}
-    limit = ["timeout", "-k", "5", f"{seconds:.0f}"] if seconds else []
-    done = subprocess.run([*limit, "rt", *words], cwd=folder, env=env, stdin=subprocess.DEVNULL, stdout=subprocess.PIPE,
-                          stderr=subprocess.STDOUT, text=True, errors="replace")
-    return None if limit and done.returncode in (124, 137) else done.returncode, done.stdout
+class Room:
+    """A copy of a crate, with what was proved of it and of the crates below."""
 
+    def __init__(self, crate, folder, end):
+        self.top, self.folder, self.end = Path(folder), Path(folder) / "crates" / crate, end
+        subprocess.run([TOP / "bin" / "take", folder, crate], stdout=subprocess.DEVNULL, check=True)
+        shutil.copy(TOP / "HANDLES", folder)
+        for copy in self.folder.parent.iterdir():
+            out = TOP / "crates" / copy.name / "out"
+            for part in ("rlib", "incremental") if copy == self.folder else ("rlib",):
+                if (out / part).is_dir():
+                    shutil.copytree(out / part, copy / "out" / part)
 
-def processor_seconds():
-    """How many seconds of processors the commands took that have ended."""
-    usage = getrusage(RUSAGE_CHILDREN)
-    return usage.ru_utime + usage.ru_stime
+    def rt(self, folder, *words):
+        """What rt prints."""
+        left = self.end - time.monotonic()
+        env = {**os.environ, "PATH": f"{os.environ['PATH']}:/opt/rattle/bin", "RT_JOBS": "1"}
+        done = subprocess.run(["timeout", "-k", "5", f"{max(left, 1):.0f}", "rt", *words], cwd=folder, env=env, stdin=subprocess.DEVNULL,
+                              stdout=subprocess.PIPE, stderr=subprocess.STDOUT, text=True, errors="replace")
+        if done.returncode in (124, 137) and time.monotonic() >= self.end:
+            raise Late
+        return done.stdout
 
+    def is_proved(self, file):
+        """Whether the functions of a file are proved; None if the prover does not know. And what it prints."""
+        module = file.replace("src", self.folder.name, 1).removesuffix(".rt").replace("/", "::")
+        told = self.rt(self.folder, "check", "--jobs", "1", "--only", module)
+        if re.search(r"^only=(\d+) proved=\1$", told, re.M):
+            return True, told
+        return False if re.search(r"^fn \S+: (not proved|no proof)", told, re.M) else None, told
 
-def prover_answers(bugs, room, seconds=None):
-    """What the prover answers of bugs of one crate, by their names, and how many seconds of processors and of the clock a bug took; 0 if this
-    machine knew all answers. There is no answer if it took too long."""
-    crate, clock, processors = bugs[0].crate, time.monotonic(), processor_seconds()
-    folder = room / "crates" / crate / "must-fail"
-    shutil.rmtree(folder, ignore_errors=True)
-    folder.mkdir()
-    for bug in bugs:
-        texts = "".join(f"old: {old}\nnew: {new}\n" for old, new in bug.changes)
-        (folder / f"{bug.name}.edit").write_text(f"file: {bug.file}\n{texts}", encoding="utf-8")
-    status, told = rt(["must-fail", crate], room, seconds)
-    answers = dict(ANSWER.findall(told))
-    if status is not None and len(answers) < len(bugs):
-        raise SystemExit(f"{told}\nbugs: rt must-fail {crate} did not answer of {len(bugs) - len(answers)} bugs")
-    print("".join(line + "\n" for line in told.splitlines() if ANSWER.match(line)), end="", flush=True)
-    known = sum(map(int, re.findall(r"^rt: .*: (\d+) of its .* were tried by an earlier run", told, re.M)))
-    checks = len(bugs) - known and len(bugs) - known + BESIDE
-    return answers, *(took / checks if checks else 0 for took in (processor_seconds() - processors, time.monotonic() - clock))
+    def answer(self, bug):
+        """What the prover says of a bug. If it does not refuse the functions of the file, it can still refuse a function of another file."""
+        path = self.folder / bug.file
+        code = text = read(path)
+        for old, new in bug.changes:
+            text = text.replace(old, new)
+        path.write_text(text, encoding="utf-8")
+        is_proved = self.is_proved(bug.file)[0]
+        path.write_text(code, encoding="utf-8")
+        if is_proved is False:
+            return REFUSED
+        edit = self.folder / "must-fail" / f"{bug.name}.edit"
+        edit.parent.mkdir(exist_ok=True)
+        edit.write_text(f"file: {bug.file}\n" + "".join(f"old: {old}\nnew: {new}\n" for old, new in bug.changes), encoding="utf-8")
+        found = ANSWER.search(self.rt(self.top, "must-fail", bug.crate))
+        edit.unlink()
+        print(f"{found[0]}\n" if found else "", end="")
+        return found[1] if found else "NOT TRIED"
+
+    def answers(self, bugs):
+        """What the prover says of bugs, one after the other."""
+        proved = None
+        for bug in bugs:
+            if bug.file != proved:
+                is_proved, told = self.is_proved(bug.file)
+                if is_proved is False:
+                    raise SystemExit(f"{told}\nbugs: {bug.crate}: {bug.file} is not proved without a bug")
+                proved = bug.file if is_proved else None
+            yield self.answer(bug) if proved else "NOT TRIED"
 
 
 def left_out(what, why):
     subprocess.run(["bash", "-c", '. "$0" && left_out "$@"', TOP / "checks" / "left_out.sh", what, why], check=True)
 
 
-def failures(answers):
-    """How many bugs the prover does not refuse. It may have no memory for a bug, which fails nothing."""
-    for name in [name for name, answer in answers.items() if answer == "NOT TRIED"]:
-        left_out(f"the bug {name}", "its check ended without an answer")
-    return sum(answer in ("NOT REFUSED", "BAD EDIT") for answer in answers.values())
+def try_bugs(crate, first, bugs, end=float("inf")):
+    """Tries bugs of a crate, which are its rows from the first one, or no rows. Returns how many the prover does not refuse."""
+    answers, refused = [], tried_rows()[crate].refused if first else 0
+    with tempfile.TemporaryDirectory() as folder:
+        try:
+            for bug, answer in zip(bugs, Room(crate, folder, end).answers(bugs)):
+                print(f"bugs: {crate}: {bug.name}: {answer}", flush=True)
+                if answer == "NOT TRIED":
+                    left_out(f"bugs of {crate}", f"a check ended without an answer of {bug.name}")
+                    break
+                answers.append(answer)
+                if first is not None:
+                    note(crate, first + len(answers), refused + answers.count(REFUSED))
+        except Late:
+            if not answers:
+                left_out(f"bugs of {crate}", "the time was over before the first answer")
+    return len(answers) - answers.count(REFUSED)
 
 
-def try_all(bugs, keeps=True):
-    """Tries bugs of one crate, and returns how many the prover does not refuse."""
-    crate, failed = bugs[0].crate, 0
-    with tempfile.TemporaryDirectory() as room:
-        copy([crate], Path(room))
-        status, told = rt(["check"], f"{room}/crates/{crate}")
-        if status:
-            raise SystemExit(f"{told}\nbugs: {crate} is not proved")
-        for first in range(0, len(bugs), BATCH):
-            answers, seconds, _ = prover_answers(bugs[first:first + BATCH], Path(room))
-            failed += failures(answers)
-            if keeps:
-                note(crate, first, answers, seconds)
-    return failed
-
-
-def due(top):
-    """Of each crate of which a folder has kept work its name, the place of the first row that is due, and the rows from there. Crates with rows
-    that were not tried since their first row was tried come first, and then the crate that was tried longest ago."""
+def due():
+    """Of each crate its name, the place of the first row that is due, and the rows from there. Crates with rows that were not tried since their
+    first row was tried come first, and then the crate that was tried longest ago."""
     found, known, table = [], tried_rows(), rows()
     for crate in dict.fromkeys(bug.crate for bug in table):
         bugs, last = [bug for bug in table if bug.crate == crate], known.get(crate)
         first = last.tried % len(bugs) if last else 0
-        if (top / "crates" / crate / "out" / "incremental").is_dir():
-            found.append((bool(last and not first), last.date if last else "", crate, first, bugs[first:]))
+        found.append((bool(last and not first), last.date if last else "", crate, first, bugs[first:]))
     return [it[2:] for it in sorted(found, key=lambda it: it[:2])]
-
-
-def try_some(room):
-    """Tries rows until the time is over, and returns how many the prover does not refuse. The last try of a crate tells how many rows half of
-    the time is enough for, and this half tells how many more."""
-    failed, end, known, crates = 0, time.monotonic() + SECONDS, tried_rows(), due(room)
-    if not crates:
-        left_out("bugs that the prover must refuse", "no crate that has any was proved before the gate")
-    for crate, first, bugs in crates:
-        each, share = known[crate].seconds if crate in known else USUAL, 1 / 2
-        while (left := end - time.monotonic()) > 0 and (count := min(len(bugs), int(left * share / each) - BESIDE)) > 0:
-            answers, seconds, clock = prover_answers(bugs[:count], room, left)
-            if not answers:
-                left_out(f"bugs of {crate}", f"{count} of them take longer than {left:.0f} seconds")
-                return failed
-            failed += failures(answers)
-            note(crate, first, answers, seconds)
-            each, share, first, bugs = clock or each, 3 / 4, first + count, bugs[count:]
-    return failed
 
 
 def named(name, crate):
@@ -352,14 +339,14 @@ def main(words):
             return 0
         case ["--record"]:
             return record()
-        case ["--copy", folder]:
-            return copy([it[0] for it in due(TOP)][:2], Path(folder))
-        case ["--some", folder]:
-            return try_some(Path(folder)) > 0
+        case ["--some"]:
+            end = time.monotonic() + SECONDS
+            return sum(try_bugs(*crate, end) for crate in due()[:2] if time.monotonic() < end) > 0
         case ["--only", name, crate]:
-            return try_all(named(name, crate), keeps=False) > 0
+            return try_bugs(crate, None, named(name, crate)) > 0
         case crates if {*crates} <= {*known, "--all"}:
-            return sum(try_all([bug for bug in table if bug.crate == crate]) for crate in known if {crate, "--all"} & {*crates}) > 0
+            chosen = [crate for crate in known if {crate, "--all"} & {*crates}]
+            return sum(try_bugs(crate, 0, [bug for bug in table if bug.crate == crate]) for crate in chosen) > 0
     print(__doc__, file=sys.stderr)
     return 2
 

@@ -68,6 +68,7 @@ lib/pkgconfig/influxdb_line_protocol.pc
 share/bash-completion/completions/lp_rebuild
 share/bash-completion/completions/lp_relay
 share/bash-completion/completions/lp_series
+$documents/CALLS.md
 $documents/CHANGELOG.md
 $documents/DEFINITIONS.md
 $documents/FORMAT.md
@@ -76,6 +77,7 @@ $documents/LICENSE-APACHE
 $documents/LICENSE-MIT
 ${operating}$documents/SCALING.md
 $documents/SOURCES
+$documents/TRUST.md
 $documents/VERDICTS
 $documents/examples/apart.sh
 $documents/examples/endpoint/README.md

@@ -16,6 +16,7 @@ Needs Python 3.10, and no package.
 """
 
 import functools
+import importlib
 import os
 import re
 import shutil
@@ -26,7 +27,7 @@ from collections import Counter
 from pathlib import Path
 from typing import NamedTuple
 
-from clauses import bare, function, members, surface
+from clauses import surface
 
 TOP = Path(__file__).resolve().parent.parent
 sys.path.append(str(TOP / "tables"))
@@ -34,7 +35,7 @@ from generate import first_difference
 from records import Fault, Place
 
 MADE = {"out", "target", "dist", "__pycache__", ".git"}  # folders that are not looked into
-DEFINITIONS = "docs/DEFINITIONS.md"  # a page that is made, and that git does not keep
+DEFINITIONS, CALLS = "docs/DEFINITIONS.md", "docs/CALLS.md"  # pages that are made, and that git does not keep
 
 
 class Tree:
@@ -46,7 +47,7 @@ class Tree:
             folders[:] = sorted(name for name in folders if name not in MADE)
             place = "" if Path(folder) == self.top else f"{Path(folder).relative_to(top)}/"
             self.folders.update(f"{place}{name}/" for name in folders)
-            self.paths += [path for name in sorted(files) if (path := place + name) != DEFINITIONS]
+            self.paths += [path for name in sorted(files) if (path := place + name) not in (DEFINITIONS, CALLS)]
 
     @functools.cache
     def text(self, path):
@@ -292,105 +293,11 @@ def check_definitions(tree):
     tree.looked_at["cited definitions"] += definitions_page(tree).count("- **`")
 
 
-# Public calls, and docs/TRUST.md
+# Settings of a relay
 
-TRUST, SETTINGS = "docs/TRUST.md", "crates/lp_relay/src/taking.rt"
-CONDITIONS = "## Conditions"
-UNPROMISED = "### Functions of `lp_programs`, `lp_relay_program` and `lp_series_program` without a clause"
+SETTINGS = "crates/lp_relay/src/taking.rt"
 # Settings whose rules are under other words: the limit, what fault lines name, how they are told, the name of the input.
 RULED_BEFORE = "dialect", "limit", "numbering", "faults", "file"
-# The crates that hand names on, and the crates that have the code of these names.
-ROOTS = {root: [root] for root in HANDED_ON} | {"influxdb_line_protocol": LIBRARIES[:LIBRARIES.index("influxdb_line_protocol") + 1]}
-NAMED_CLAUSES = re.compile(r"clauses? ((?:`\w+`(?: \([^)]*\))?(?:, (?=`)| and )?)+)")
-
-
-def code_words(text):
-    """The identifiers in `code` of a text."""
-    return {word for span in re.findall(r"`([^`]+)`", text) for word in re.findall(r"[A-Za-z_]\w*", span)}
-
-
-def without_types(name):
-    """A name of a type or a method without the types in `<>`."""
-    return re.sub(r"<(?:[^<>]|<[^<>]*>)*>", "", name)
-
-
-def calls_of(tree, crates, names, modules):
-    """The functions that have one of these names, or whose type and trait have, or that are in one of these modules: of each the words
-    that name it, its name, its clauses and its file."""
-    paths = tree.glob(*(f"crates/{crate}/src/**/*.rt" for crate in crates))
-    hidden = {word for path in paths for word in re.findall(r"\b(?:struct|enum|trait) (\w+)", tree.text(path))} - names
-    for path, name, entries in ((path, *call) for path in paths for call in tree.functions(path).items()):
-        owner, _, method = name.rpartition("::")
-        owners = set(re.findall(r"\w+", without_types(owner)))
-        is_handed_on = owners & names and not owners & hidden if owner else method in names or Path(path).stem in modules
-        if "fn " in entries[0][0] and (is_handed_on or 'extern "C"' in entries[0][0]):
-            yield owners & names | {method}, name, [line for head, *lines in entries if "fn " in head for line in lines], path
-
-
-@functools.cache
-def all_public_calls(tree):
-    """Every public call, also if it has no clause of its own. A call is public if the root or a public module of the library, `lp_rebuild`,
-    `lp_relay` or `lp_series` hands it on, or its type and trait, or if it is `extern "C"` in `lp_c` or `lp_page`."""
-    found = list(calls_of(tree, ["lp_c", "lp_page"], set(), set()))
-    for root, crates in ROOTS.items():
-        modules = re.findall(r"^pub mod (\w+);", tree.text(f"crates/{root}/src/lib.rt"), re.M)
-        found += [*calls_of(tree, crates, handed_on(tree, root), set()), *calls_of(tree, [root], set(), modules)]
-    return found
-
-
-def call_problems(tree):
-    """The calls with a clause that docs/TRUST.md does not name. A line names a method if it has the names of the method, its type and its trait."""
-    lines = [code_words(line) for line in tree.text(TRUST).splitlines()]
-    for words, name, clauses, _ in all_public_calls(tree):
-        tree.looked_at["public calls with a clause"] += bool(clauses)
-        if clauses and not any(words <= line for line in lines):
-            yield f"{TRUST} does not name {name}, which has a clause"
-
-
-def condition_problems(tree):
-    """Where the table of conditions of docs/TRUST.md and the calls with a `requires` differ."""
-    table = tree.text(TRUST).partition(f"\n{CONDITIONS}\n")[2].partition("\n## ")[0]
-    cells = [line.split("|")[1] for line in table.splitlines() if line.startswith("| `")]
-    told = {span: code_words(f"`{span}`") for cell in cells for span in re.findall(r"`([^`]+)`", cell)}
-    due = {name: words for words, name, clauses, _ in all_public_calls(tree) if any(line.startswith("requires") for line in clauses)}
-    yield from (f"{TRUST}: the table of conditions does not have {name}, which has a `requires`" for name, words in due.items()
-                if not any(words <= span for span in told.values()))
-    yield from (f"{TRUST}: the table of conditions has `{span}`, which has no `requires`" for span, words in told.items()
-                if not any(due_words <= words for due_words in due.values()))
-
-
-def clause_problems(tree):
-    """The rows of docs/TRUST.md that name a clause which no public function of the row has."""
-    clauses = {}
-    for name, lines in tree.surface(LIBRARIES):
-        found = re.findall(r"^(?:requires|ensures)\*? (\w+)", "\n".join(lines), re.M)
-        clauses.setdefault(name.rpartition("::")[2], set()).update(found)
-    for number, line in enumerate(tree.text(TRUST).splitlines(), 1):
-        known = set().union(*(clauses.get(word, set()) for word in code_words(line)))
-        groups = NAMED_CLAUSES.findall(line) if line.startswith("| ") else []
-        named = [clause for group in groups for clause in re.findall(r"`(\w+)`", re.sub(r"\([^)]*\)", "", group))]
-        yield from (f"{TRUST}:{number}: no call of this row has a clause `{clause}`" for clause in named if clause not in known)
-
-
-def function_problems(tree):
-    """Where the table of functions without a clause and the functions of the crates of programs without an `ensures` differ. A function of an
-    impl of a trait has the clauses of the trait."""
-    table = tree.text(TRUST).partition(f"\n{UNPROMISED}\n")[2].partition("\n## ")[0]
-    told = {name for line in table.splitlines() if line.startswith("| `") for name in re.findall(r"`([^`]+)`", line.split("|")[1])}
-    due = set()
-    for text in (bare(tree.text(path)) for crate in PROGRAMS for path in tree.glob(f"crates/{crate}/src/**/*.rt")):
-        for name, _, what, here in members(text):
-            if what == "fn" and " for " not in name and not any(line.startswith("ensures") for line in function(text[here:])[1]):
-                name = without_types(name)
-                due.add(name if name in told else name.rpartition("::")[2])
-    yield from (f"{TRUST}: the table of functions without a clause {'does not have' if name in due else 'has'} {name}" for name in sorted(due ^ told))
-
-
-def check_trust(tree):
-    """docs/TRUST.md names each public call with a clause; its table of conditions has the calls with a `requires`, and its table of functions
-    without a clause the functions of the programs without an `ensures`; each clause that a row names is a clause of a call of the row."""
-    for problems in (call_problems, condition_problems, clause_problems, function_problems):
-        yield from problems(tree)
 
 
 def check_settings(tree):
@@ -411,10 +318,10 @@ def anchors(text):
 
 
 def check_links(tree):
-    """Each link of a page leads to a file, and to a heading of the file if the link names one. docs/DEFINITIONS.md is read as it would be made."""
+    """Each link of a page leads to a file, and to a heading of the file if the link names one. A page that is made is read as it would be made."""
     texts = {page: tree.text(page) for page in tree.pages()}
     if "crates/" in tree.folders:
-        texts[DEFINITIONS] = definitions_page(tree)
+        texts |= {DEFINITIONS: definitions_page(tree), CALLS: calls_page(tree)}
     for page, text in texts.items():
         for link in re.findall(r"\]\((?!http)([^)\s]+)\)", text):
             tree.looked_at["links"] += 1
@@ -434,7 +341,7 @@ IDENTIFIERS = re.compile(r"\.?[A-Za-z_]\w*(?:(?:::|\.)[A-Za-z_]\w*)*(?:\(\))?")
 # What the tree does not have, and why a page names it.
 NAMES_OF_OTHERS = {
     r"/.*": "it is of the machine",
-    r"(.*/)?out/.*|crates/lp_c/out|dist/.*|lib\w+\.a|docs/DEFINITIONS\.md": "it is made",
+    r"(.*/)?out/.*|crates/lp_c/out|dist/.*|lib\w+\.a|docs/(DEFINITIONS|CALLS)\.md": "it is made",
     r"again\.lp|a/b-000001\.lp": "it is a file of the reader's",
     r"proofs/m/f/": "it stands for the proofs of each function `m::f`",
     r".*\bTYPE": "it stands for each type",
@@ -1019,13 +926,20 @@ def warning_of_style(tree):
     return f"of {len(rows)} texts, so many are unlike the models: {'; '.join(counts)}. `checks/documents.py style` prints which"
 
 
+# Calls
+
+def calls_page(tree):
+    """The text of docs/CALLS.md, by checks/calls.py, which needs this file."""
+    return importlib.import_module("calls").page(tree)
+
+
 # The program
 
-CHECKS = {"versions": check_versions, "definitions": check_definitions, "trust": check_trust, "settings": check_settings, "blocks": check_blocks,
+CHECKS = {"versions": check_versions, "definitions": check_definitions, "settings": check_settings, "blocks": check_blocks,
           "links": check_links, "names": check_names, "layers": check_layers, "lemmas": check_lemmas, "header": check_header,
           "bindings": check_bindings}
-SCRIPTS = {"bugs": "checks/bugs.py", "tables": "tables/generate.py"}
-WRITERS = {"blocks": block_texts, "definitions": lambda tree: {DEFINITIONS: definitions_page(tree)}}
+SCRIPTS = {name: f"checks/{name}.py" for name in ("calls", "reading", "bugs")} | {"tables": "tables/generate.py"}
+WRITERS = {"blocks": block_texts, "definitions": lambda tree: {DEFINITIONS: definitions_page(tree)}, "calls": lambda tree: {CALLS: calls_page(tree)}}
 
 
 def problems_of(tree, name):

@@ -10,13 +10,16 @@ want_nothing() {
     [ -z "$3" ] || { printf 'lint: %s says of %s:\n%s\n' "$1" "$2" "$3" && exit 1; }
 }
 
+made=$(mktemp -d) blocks=$made/blocks
+trap 'rm -rf "$made"' EXIT
+mkdir "$blocks"
+python3 -B tables/generate.py --pages "$made/man"
+
 if command -v shellcheck >/dev/null; then
     mapfile -t scripts < <(find . \( -name .git -o -name out -o -path ./dist \) -prune -o -type f -print0 |
         xargs -0 awk 'FNR == 1 && (/^#!.*sh$/ || /^# shellcheck shell=/) { print FILENAME } { nextfile }')
-    blocks=$(mktemp -d) completion=$(mktemp -d)
-    trap 'rm -rf "$blocks" "$completion"' EXIT
-    python3 -B tables/completions.py "$completion"
-    scripts+=("$completion"/bash/*)
+    python3 -B tables/completions.py "$made/completion"
+    scripts+=("$made"/completion/bash/*)
     said=$(shellcheck "${scripts[@]}") || true
     want_nothing shellcheck "the scripts" "$said"
     # Each block of `sh` comes to a file that is named after its document and its line.
@@ -33,9 +36,9 @@ else
     left_out "scripts by shellcheck" "there is no shellcheck"
 fi
 if command -v man >/dev/null && command -v groff >/dev/null; then
-    for page in man/*; do
+    for page in "$made"/man/*; do
         said=$(LC_ALL=C.UTF-8 MANROFFSEQ='' man --warnings -E UTF-8 -l -Tutf8 -Z "$page" 2>&1 >/dev/null)
-        want_nothing man "$page" "$said"
+        want_nothing man "${page#"$made/"}" "$said"
     done
     echo "lint: man has nothing to say of the pages"
 else
@@ -43,9 +46,9 @@ else
 fi
 if command -v mandoc >/dev/null; then
     # It knows the pages of this machine alone.
-    for page in man/*; do
+    for page in "$made"/man/*; do
         said=$(mandoc -Tlint -Wstyle "$page" 2>/dev/null | grep -v 'referenced manual not found') || true
-        want_nothing mandoc "$page" "$said"
+        want_nothing mandoc "${page#"$made/"}" "$said"
     done
     echo "lint: mandoc has nothing to say of the pages"
 else

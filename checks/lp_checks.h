@@ -38,6 +38,8 @@ uint64_t lp_checks_keys(const uint8_t *text, size_t len, uint8_t *out, size_t ro
 uint64_t lp_checks_columns(const uint8_t *text, size_t len, uint8_t *out, size_t room, uint64_t *ends, size_t entries);
 uint64_t lp_checks_shown(const uint8_t *text, size_t len, uint8_t *out, size_t room, uint64_t *ends, size_t entries);
 uint64_t lp_checks_copies(const uint8_t *text, size_t len, uint8_t *out, size_t room, uint64_t *ends, size_t entries);
+uint64_t lp_checks_series(uint32_t dialect, size_t limit, size_t max_series, const uint8_t *text, size_t len, const size_t *lens,
+                          size_t parts, uint8_t *out, size_t room, uint64_t *ends, size_t entries);
 uint64_t lp_checks_influx(const uint8_t *text, size_t len, uint8_t *out, size_t room, uint64_t *ends, size_t entries);
 uint64_t lp_checks_written(const uint8_t *text, size_t len, const uint8_t *start, size_t start_len, bool again,
                            uint64_t *refused_at, uint8_t *out, size_t room, uint64_t *ends, size_t entries);

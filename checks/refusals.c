@@ -300,6 +300,22 @@ static void bases(void) {
          {"owned 11:m,a=2,b,a=1", SOME}, {"owned 9:a b,k,1=v", SOME}, {"FieldSetMissing", 0});
 }
 
+/* The key of a series of 40 tags, which come in the other order, with an escape in each name. The requests of the line come before, and are
+   left alone. */
+static void wide_key(void) {
+    static char text[2048] = "m\\ n", key[1024] = "m\\ n", wanted_key[1100];
+    for (int i = 10; i < 50; i++) {
+        sprintf(text + strlen(text), ",k\\ %d=v\\,%d", 59 - i, 59 - i);
+        sprintf(key + strlen(key), ",k\\ %d=v\\,%d", i, i);
+    }
+    strcat(text, " f=1i");
+    snprintf(wanted_key, sizeof wanted_key, "%zu:%s", strlen(key), key);
+    call(ITEMS, text, 0);
+    const unsigned long of_line = asked;
+    const struct entry wanted[] = {{wanted_key, 2}, {"1494254718823088878", 1}, {"true", 2}, {"None", 0}};
+    each_refused(KEYS, text, wanted, COUNT(wanted), of_line);
+}
+
 /* A key takes one request, and its hash and a comparison none; of more than 8 tags each also takes one for each series. The first request
  * of the last line is its own. */
 static void keys(void) {
@@ -324,6 +340,229 @@ static void no_requests(void) {
     EACH(SHOWN, "m,tag1=val1,tag2=val2 field1=42.1,field2=false 33\nm 5",
          {"m,tag1=val1,tag2=val2 field1=42.1,field2=false 33", 0}, {"m,tag1=val1,tag2=val2", 0}, {"42.1", 0},
          {"false", 0}, {"No fields were provided", 0});
+}
+
+/* ---- what InfluxDB 1.x reads of a line ---- */
+
+/* If a request of the line is refused, neither a point comes nor that there is none: one empty entry. `point` is NULL if it reads none. */
+static void influx_line(const char *text, const char *point, long requests) {
+    subject = text;
+    for (unsigned long n = 1;; n++) {
+        begin(n);
+        count = lp_checks_influx((const uint8_t *)text, strlen(text), out, ROOM, ends, ENTRIES);
+        end();
+        if (asked < n) break;
+        if (count != 1) fail("%lu entries came", (unsigned long)count);
+        must_be(0, "");
+    }
+    refuse = 0;
+    if (count != (point != NULL)) fail("%lu points came", (unsigned long)count);
+    if (point) must_be(0, point);
+    if (requests == SOME ? asked == 0 : asked != (unsigned long)requests) fail("it makes %lu requests", asked);
+}
+
+static void influx(void) {
+    static char text[4096] = "m\\ n", point[4096] = "m3:m n";
+    influx_line("# c", NULL, 0);
+    influx_line("m f=1x", NULL, 0);
+    influx_line("m,t=a\\ b", NULL, SOME);
+    influx_line("m,t=1,t=2 f=1", NULL, SOME);
+    influx_line("m,t=a\\ b f=1i 5", "m1:mt1:tv3:a bk1:fi1:a5:", SOME);
+    for (int i = 10; i < 50; i++) {
+        sprintf(text + strlen(text), ",t\\,%d=v\\ %d", i, i);
+        sprintf(point + strlen(point), "t4:t,%dv4:v %d", i, i);
+    }
+    for (int i = 10; i < 50; i++) {
+        sprintf(text + strlen(text), "%cf%d=%d.5,s\\==\"a\\\"%d\"", i == 10 ? ' ' : ',', i, i, i);
+        sprintf(point + strlen(point), "k3:f%df4:%d.5k2:s=s4:a\"%d", i, i, i);
+    }
+    influx_line(text, point, SOME);
+}
+
+/* ---- counts of series ---- */
+
+enum { SERIES_LINES = 64, SERIES_LINE = 1024, SERIES_ROOM = 1 << 19, SERIES_LIMIT = 600 };
+
+/* Each line is a part of the text. `asks` says whether the counter must ask for memory for it, or must not. The last one has no newline. */
+static struct { char text[SERIES_LINE]; bool asks; } series[SERIES_LINES];
+static size_t series_count;
+
+/* What a counter told: before the first line, after each line, and after the end of the text. */
+struct told_series { uint8_t out[SERIES_ROOM]; uint64_t ends[SERIES_LINES], count; };
+
+static void put_line(bool asks, const char *format, ...) {
+    va_list rest;
+    va_start(rest, format);
+    vsnprintf(series[series_count].text, SERIES_LINE, format, rest);
+    va_end(rest);
+    series[series_count++].asks = asks;
+}
+
+/* A line of 20 tags, which come in the other order, and 10 fields, with an escape in each name and each string. */
+static void put_wide(void) {
+    char line[SERIES_LINE] = "w\\ x";
+    for (int i = 30; i > 10; i--) sprintf(line + strlen(line), ",k\\ %d=v\\,%d", i, i);
+    for (int i = 10; i < 20; i++) sprintf(line + strlen(line), "%cf\\=%d=\"a\\\"%d\"", i == 10 ? ' ' : ',', i, i);
+    put_line(true, "%s 9\n", line);
+}
+
+/* The first line is the longest, so that no later one takes memory for its bytes. It is too long to be counted. A line that begins with the
+   key of a known series takes none; a wide line, and one with an escape in a name, always do. */
+static void put_lines(void) {
+    put_line(true, "m s=\"%0*d\"\n", SERIES_LIMIT, 0);
+    put_wide();
+    put_line(true, "m,t=a f=1i 5\n");
+    put_line(false, "m,t=a f=2i 3\n");
+    put_line(true, "m,t=a g=2i 3\n");
+    put_line(false, "m,t=a f=2.5,g=\"s\"\n");
+    put_line(true, "e\\ e,a\\,b=c\\=d k\\ l=\"x\\\"y\" 7\n");
+    put_line(false, "# c\n");
+    put_line(false, "x\n");
+    put_line(false, "\xff\n");
+    put_wide();
+    for (int i = 10; i < 34; i++) put_line(true, "s%d,t=%d,u=%d f%d=t\n", i % 3, i, i, i % 5);
+    put_line(true, "e\\ e,a\\,b=c\\=d k\\ l=\"x\\\"y\" 8\n");
+    put_line(false, "m,t=a f=1i 5\n");
+    put_line(true, "l f=1i");
+}
+
+/* Counts the lines, without one of them if that is not NOWHERE, where so many series are kept at most. */
+static void tell_series(struct told_series *told, size_t max_series, size_t without, unsigned long n) {
+    static char text[SERIES_LINES * SERIES_LINE];
+    size_t lens[SERIES_LINES] = {0}, parts = 1, len = 0;
+    for (size_t line = 0; line < series_count; line++) {
+        if (line == without) continue;
+        lens[parts] = strlen(series[line].text);
+        memcpy(text + len, series[line].text, lens[parts]);
+        len += lens[parts++];
+    }
+    begin(n);
+    told->count = lp_checks_series(0, SERIES_LIMIT, max_series, (const uint8_t *)text, len, lens, parts, told->out, SERIES_ROOM, told->ends,
+                                   SERIES_LINES);
+    end();
+    if (told->count != parts + 1) fail("%lu entries came", (unsigned long)told->count);
+}
+
+/* A stretch of an entry. */
+struct stretch { const char *at; size_t len; };
+
+static struct stretch entry_of(const struct told_series *told, size_t place) {
+    size_t start = place ? (size_t)told->ends[place - 1] : 0;
+    return (struct stretch){(const char *)told->out + start, (size_t)told->ends[place] - start};
+}
+
+static bool begins_with(struct stretch text, struct stretch front) { return text.len >= front.len && !memcmp(text.at, front.at, front.len); }
+
+/* Takes the next line of a text, with its newline. */
+static struct stretch take_line(struct stretch *text) {
+    const char *newline = text->len ? memchr(text->at, '\n', text->len) : NULL;
+    struct stretch line = {text->at, newline ? (size_t)(newline + 1 - text->at) : text->len};
+    *text = (struct stretch){text->at + line.len, text->len - line.len};
+    return line;
+}
+
+/* Whether a line of the text begins with this. */
+static bool has_line(struct stretch text, struct stretch front) {
+    while (text.len)
+        if (begins_with(take_line(&text), front)) return true;
+    return false;
+}
+
+/* A line without what comes after its last space. */
+static struct stretch name_of(struct stretch line) {
+    while (line.len && line.at[line.len - 1] != ' ') line.len--;
+    return line;
+}
+
+static void must_be_same(struct stretch entry, struct stretch wanted) {
+    if (entry.len != wanted.len || !begins_with(entry, wanted))
+        fail("what is counted is %.*s and should be %.*s", (int)entry.len, entry.at, (int)wanted.len, wanted.at);
+}
+
+/* The totals must be those of `least`. What else the entry has is in `least` or in `most`, and it has all of `least`, but for what has
+   another value in `most`, of which it has one of the two: a part of the lost line may be there. */
+static void must_be_between(struct stretch entry, struct stretch least, struct stretch most) {
+    must_be_same(take_line(&entry), take_line(&least));
+    take_line(&most);
+    for (struct stretch left = entry; left.len;) {
+        const struct stretch line = take_line(&left);
+        if (!has_line(least, line) && !has_line(most, line)) fail("the tables have %.*s", (int)line.len, line.at);
+    }
+    for (struct stretch left = least; left.len;) {
+        const struct stretch line = take_line(&left);
+        if (!has_line(entry, has_line(most, line) ? line : name_of(line))) fail("the tables have not %.*s", (int)line.len, line.at);
+    }
+}
+
+/* Which call was refused, or NOWHERE. */
+static size_t refused_call(const struct told_series *told) {
+    static const struct stretch mark = {"OutOfMemory\n", 12};
+    size_t refused = NOWHERE;
+    for (size_t place = 0; place < told->count; place++) {
+        if (!begins_with(entry_of(told, place), mark)) continue;
+        if (refused != NOWHERE) fail("the calls %zu and %zu are refused", refused, place);
+        refused = place;
+    }
+    return refused;
+}
+
+/* How many series an entry has. */
+static size_t series_in(struct stretch entry) {
+    static const struct stretch word = {"series ", 7};
+    size_t number = 0;
+    while (entry.len) number += begins_with(take_line(&entry), word);
+    return number;
+}
+
+/* A call was refused. Its line is lost, and no other: what was counted before is still there, and the later lines are counted, as `without`
+   has it, which is told of the other lines. If the lost line is the first of its series, the tables may know the series without its tags, so
+   of later calls the totals alone are compared. */
+static void must_have_lost(const struct told_series *got, size_t place, const struct told_series *whole, const struct told_series *without) {
+    const size_t lost = place < series_count ? place : series_count;
+    const bool is_new = series_in(entry_of(whole, lost - 1)) < series_in(entry_of(whole, lost));
+    for (size_t at = 0; at < place; at++) must_be_same(entry_of(got, at), entry_of(whole, at));
+    for (size_t at = place; at < got->count; at++) {
+        struct stretch entry = entry_of(got, at), least = entry_of(without, at - 1);
+        if (at == place) take_line(&entry);
+        if (at == place || !is_new) must_be_between(entry, least, entry_of(whole, at));
+        else must_be_same(take_line(&entry), take_line(&least));
+    }
+}
+
+/* If no series is kept, the lines ask for less, and how many do is not said. */
+static void many_series(size_t max_series) {
+    static struct told_series whole, without, got;
+    unsigned long asks[SERIES_LINES] = {0};
+    subject = max_series ? "counts of many series" : "counts of many series, none of them kept";
+    tell_series(&whole, max_series, NOWHERE, 0);
+    if (refused_call(&whole) != NOWHERE) fail("a call is refused, and no request was");
+    for (unsigned long n = 1;; n++) {
+        tell_series(&got, max_series, NOWHERE, n);
+        if (asked < n) break;
+        const size_t place = refused_call(&got);
+        if (place == 0 || place == NOWHERE) fail("the call of no line is refused");
+        const size_t lost = (place < series_count ? place : series_count) - 1;
+        if (asks[lost]++ == 0) tell_series(&without, max_series, lost, 0);
+        refuse = n;
+        must_have_lost(&got, place, &whole, &without);
+    }
+    refuse = 0;
+    for (size_t at = 0; at < whole.count; at++) must_be_same(entry_of(&got, at), entry_of(&whole, at));
+    for (size_t line = 0; max_series && line < series_count; line++)
+        if ((asks[line] > 0) != series[line].asks) fail("line %zu makes %lu requests", line, asks[line]);
+}
+
+static void few_series(void) {
+    static const char *const text = "m,t=b f=1i 5\nm,t=a f=2 -3\nx\nn,t=a g=\"s\"\nm,t=c f=t\nm,t=a f=3";
+    static const size_t lens[] = {13, 9, 37};
+    subject = "counts of few series";
+    begin(0);
+    count = lp_checks_series(0, SIZE_MAX, 3, (const uint8_t *)text, strlen(text), lens, COUNT(lens), out, ROOM, ends, ENTRIES);
+    end();
+    if (count != 4) fail("%lu entries came", (unsigned long)count);
+    must_be(0, "1 0 5 5 0 0\nseries m,t=b 1\npoints m 1\nkeys m 1\nfield m f false,true,false,false,false\ntag t b\n");
+    must_be(3, "5 3 -3 5 1 1\nseries m,t=a 2\nseries m,t=b 1\nseries n,t=a 1\npoints m 3\nkeys m 2\nfield m f true,true,false,false,false\n"
+               "points n 1\nkeys n 1\nfield n g false,false,false,true,false\ntag t a\ntag t b\n");
 }
 
 /* ---- calls of the builder ---- */
@@ -749,7 +988,13 @@ int main(void) {
     long_name();
     bases();
     keys();
+    wide_key();
     copies();
+    influx();
+    few_series();
+    put_lines();
+    many_series(SERIES_LINES);
+    many_series(0);
     builder();
     written();
     for (uint32_t dialect = 0; dialect < 3; dialect++) {

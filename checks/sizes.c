@@ -298,6 +298,15 @@ static void call_keys(const uint8_t *text, size_t len) { count = lp_checks_keys(
 static void call_shown(const uint8_t *text, size_t len) { count = lp_checks_shown(text, len, out, ROOM, ends, ENTRIES); }
 static void call_rebuild(const uint8_t *text, size_t len) { count = lp_checks_rebuild(false, text, len, out, ROOM, ends, ENTRIES); }
 
+/* The text comes in a hundred parts, and all series are kept. */
+static void call_series(const uint8_t *text, size_t len) {
+    size_t lens[100];
+    for (size_t at = 0; at < COUNT(lens); at++) lens[at] = len / COUNT(lens) + (at == 0 ? len % COUNT(lens) : 0);
+    count = lp_checks_series(false, SIZE_MAX, SIZE_MAX, text, len, lens, COUNT(lens), out, ROOM, ends, ENTRIES);
+}
+
+static void call_influx(const uint8_t *text, size_t len) { count = lp_checks_influx(text, len, out, ROOM, ends, ENTRIES); }
+
 static void call_run(const uint8_t *text, size_t len) {
     uint64_t lens[LP_TOLD];
     count = lp_checks_run(false, text, len, out, ROOM, err, ROOM, lens) == 0;
@@ -313,6 +322,7 @@ static const struct { const char *name; growth_call *call; } CALLS[] = {
     {"pieces", call_pieces}, {"pieces of parts", call_streamed}, {"items", call_items}, {"events", call_events},
     {"pulled events", call_pulled}, {"bases", call_bases}, {"shown lines", call_shown}, {"a rebuild", call_rebuild}, {"a run", call_run},
     {"a relay", call_relay}, {"items by one line", call_reused}, {"keys", call_keys},
+    {"counts of series", call_series}, {"what InfluxDB reads", call_influx},
 };
 
 static const struct { const char *name; struct growth growth; } TEXTS[] = {
@@ -363,8 +373,83 @@ static void growing(void) {
     }
 }
 
+/* What is counted of a text that comes in one part begins with this. */
+static void counts_begin(const struct text *text, size_t max_series, const char *wanted) {
+    count = lp_checks_series(false, SIZE_MAX, max_series, (const uint8_t *)text->at, text->len, &text->len, 1, out, ROOM, ends, ENTRIES);
+    if (count != 2 || memcmp(out, wanted, strlen(wanted))) fail_growing("lines, tags or fields", "counts of series", "others came");
+}
+
+/* The hash of a key, by FNV-1a of 64 bits. */
+static uint64_t hash_of(const char *key, size_t len) {
+    uint64_t hash = 14695981039346656037u;
+    while (len-- > 0) hash = (hash ^ (uint8_t)*key++) * 1099511628211u;
+    return hash;
+}
+
+/* A line of many tags, which come in the other order, and as many fields: the key of its series, the hash of that, whether the series is
+   itself, and that its text does not begin with the key; and what is counted of the line. */
+static void many_tags(void) {
+    struct text text = {NULL, 0, 0}, wanted = {NULL, 0, 0};
+    put_text(&text, "m");
+    put_form(&wanted, "%d:m", 1 + 10 * MANY);
+    for (int at = 1; at <= MANY; at++) {
+        put_form(&text, ",t%06d=v", MANY + 1 - at);
+        put_form(&wanted, ",t%06d=v", at);
+    }
+    const char *key = memchr(wanted.at, 'm', wanted.len);
+    put_form(&wanted, "%llutrueNone", (unsigned long long)hash_of(key, 1 + 10 * MANY));
+    for (int at = 1; at <= MANY; at++) put_form(&text, "%cf%06d=1i", at == 1 ? ' ' : ',', at);
+    put_text(&text, "\n");
+    call_keys((const uint8_t *)text.at, text.len);
+    if (count != 4 || ends[3] != wanted.len || memcmp(out, wanted.at, wanted.len)) fail_growing("tags", "keys", "others came");
+    counts_begin(&text, SIZE_MAX, "1 1 none none 0 0\nseries m,t000001=v,t000002=v,");
+    free(text.at);
+    free(wanted.at);
+}
+
+/* Many lines, each of another measurement, and as many faults: if all series are kept, and if one is. */
+static void many_lines(void) {
+    struct text text = {NULL, 0, 0};
+    char wanted[128];
+    for (int at = 0; at < MANY; at++) put_form(&text, "m%06d f=1i\nx\n", at);
+    snprintf(wanted, sizeof wanted, "%d %d none none 0 %d\nseries m000000 1\nseries m000001 1\n", MANY, MANY, MANY);
+    counts_begin(&text, SIZE_MAX, wanted);
+    snprintf(wanted, sizeof wanted, "%d %d none none %d %d\nseries m000000 1\npoints m000000 1\n", MANY, MANY, MANY - 1, MANY);
+    counts_begin(&text, 1, wanted);
+    free(text.at);
+}
+
+/* What InfluxDB 1.x reads of a line of 3,001 tags, many fields, and a long string. */
+static void influx_parts(void) {
+    struct text text = {NULL, 0, 0}, point = {NULL, 0, 0};
+    char *string = long_text("", 'x', MANY, "");
+    put_text(&text, "m");
+    put_text(&point, "m1:m");
+    for (int at = 0; at < 3001; at++) {
+        put_form(&text, ",t%04d=v", at);
+        put_form(&point, "t5:t%04dv1:v", at);
+    }
+    put_text(&text, " s=\"");
+    put_text(&text, string);
+    put_text(&text, "\"");
+    put_form(&point, "k1:ss%d:", MANY);
+    put_text(&point, string);
+    for (int at = 0; at < MANY; at++) {
+        put_text(&text, ",f=1i");
+        put_text(&point, "k1:fi1:");
+    }
+    count = lp_checks_influx((const uint8_t *)text.at, text.len, out, ROOM, ends, ENTRIES);
+    if (count != 1 || ends[0] != point.len || memcmp(out, point.at, point.len)) fail_growing("fields", "what InfluxDB reads", "another point came");
+    free(string);
+    free(text.at);
+    free(point.at);
+}
+
 int main(void) {
     growing();
+    many_tags();
+    many_lines();
+    influx_parts();
     all_settings();
     many_pieces();
     long_pieces();

@@ -27,7 +27,7 @@ DEFINED = {"Refusal": ("crates/lp_programs/specs/Refusals.antt", "refusal_text")
 LAST_LINE = "crates/lp_programs/src/relays.rt"
 # What quotes messages: checks whole ones, and these files also parts of so many words at least.
 CHECKS = ("checks/arguments.sh", "checks/series_arguments.sh", "checks/losses.sh", "checks/batch_files.py", "checks/given.sh",
-          "checks/ranges.py", "checks/posting.sh")
+          "checks/ranges.py", "checks/posting.sh", "checks/tables/relays.h", "checks/tables/relays.tsv")
 PAGES, LEAST = ("tables/bugs.tsv", "crates/*/must-fail/*.edit", "docs/OPERATING.md", "docs/INTEROP.md", "docs/SCALING.md", "README.md"), 4
 
 
@@ -206,6 +206,11 @@ def requoted(whole, old, new, others):
     return re.sub(quoted(old), changed, whole)
 
 
+def begin_changed(whole, old, new):
+    """The text of a check in which each quotation of the beginning of a message, of two words at least, is as the message is now."""
+    return re.sub(rf"(?<=[\"' ]){re.escape(old)}", lambda _: new, whole) if len(old.split()) > 1 else whole
+
+
 def bring():
     """Brings each text that was changed in the table to the code, the definition, and to what quotes it."""
     changes, known = [], texts()
@@ -220,9 +225,13 @@ def bring():
         whole = path.read_text(encoding="utf-8")
         text = whole
         for old, new in dict(changes).items():
-            text = requoted(text, old, new, [other.text for other in known]) if path.parent.name == "checks" else text
-            for part, other in zip(re.split(NAME, old), re.split(NAME, new)):
-                text = text.replace(part.strip(" :"), other.strip(" :")) if part != other and len(part.split()) >= LEAST else text
+            parts = [part for part in zip(re.split(NAME, old), re.split(NAME, new)) if part[0] != part[1]]
+            if str(path.relative_to(TOP)) in CHECKS:
+                text = requoted(text, old, new, [other.text for other in known])
+                begin = [part for part in parts if part[0] == re.split(NAME, old)[0]]
+                text = begin_changed(text, *begin[0]) if begin else text
+            for part, other in parts:
+                text = text.replace(part.strip(" :"), other.strip(" :")) if len(part.split()) >= LEAST else text
         if text != whole:
             path.write_text(text, encoding="utf-8")
 

@@ -3,7 +3,7 @@
 Made of them here are the usage and the help in the code, with the lists of options that have values, exclude each other or need another
 one; the tables of options in docs/FORMAT.md; the usage in docs/OPERATING.md; and the lists of options in examples/parts.sh. The code and
 the definitions of the words are written by hand, since they are proved: they must know just these options. Each option of lp_relay, and
-each word of a few that comes after one, must be told in docs/TRUST.md, in CHANGELOG.md, and in a check that runs lp_relay.
+each word of a few that comes after one, must be told in CHANGELOG.md, and in a check that runs lp_relay.
 """
 
 import re
@@ -27,8 +27,8 @@ USAGE_WIDTH = {"lp_relay": 96, "lp_rebuild": 96, "lp_series": 104}
 CODE = {"lp_relay": ("crates/lp_relay_program/src/words.rt", "crates/lp_relay_program/specs/Words.antt"),
         "lp_rebuild": ("crates/lp_rebuild/src/program.rt", "crates/lp_rebuild/specs/Running.antt"),
         "lp_series": ("crates/lp_series_program/src/words.rt", "crates/lp_series_program/specs/Words.antt")}
-# Where each option of lp_relay is told by hand: these pages, and one of these checks.
-TOLD = "docs/TRUST.md", "CHANGELOG.md"
+# Where each option of lp_relay is told by hand: this page, and one of these checks.
+TOLD = ("CHANGELOG.md",)
 CHECKS = "arguments.sh", "losses.sh", "inputs.sh", "apart.sh", "objects.py", "settings.py", "batch_files.py", "ranges.py"
 # What relays a file in parts, and the names of its lists of options, by what the field `in parts` has.
 PARTS, LISTS = "examples/parts.sh", {"each": "of_parts", "files": "of_files", "numbers": "of_numbers", "ranges": "of_ranges", "run": "of_runs"}

@@ -7,7 +7,7 @@ import re
 import textwrap
 
 from options import ALONE, DIALECTS, FIRST, forms, programs
-from records import Fault, Place
+from records import Place
 
 WIDTH = 78
 SENTENCE = re.compile(r"(?<=[.!?]) (?=[A-Z`])")
@@ -152,11 +152,22 @@ def examples():
                 yield [f"# {program.name} {option.word}", *example]
 
 
+def unknown_options(found):
+    """The options that texts of the tables name, and that no program has."""
+    known = {option.word for program in found for option in program.options}
+    for option in (option for program in found for option in program.options):
+        told = " ".join(option.get(field) for field in ("does", "default", "man", "errors"))
+        named = {word for span in SPAN.finditer(told) for word in span[1].split() if word.startswith("--")}
+        named |= {word for word in option.get("see also").split() if "(" not in word}
+        yield from (f"the record of {option.word} names {word}, which is no option" for word in sorted(named - known))
+
+
 def problems():
-    """What is wrong with the examples, before they are run: checks/readme.sh runs them."""
+    """What is wrong with texts of the tables, and with the examples before they are run: checks/readme.sh runs them."""
+    yield from unknown_options(programs())
     for head, *lines in examples():
         commands, (_, program, word) = [line for line in lines if line.startswith("$ ")], head.split()
         if lines[0] not in commands or not any(program in line and word in line for line in commands):
             yield f"the example of {head[2:]} does not run it"
         if long := [line for line in lines if len(line) > WIDTH]:
-            raise Fault(f"the example of {head[2:]} has a line of more than {WIDTH} characters: {long[0]}")
+            yield f"the example of {head[2:]} has a line of more than {WIDTH} characters: {long[0]}"

@@ -2,12 +2,12 @@
 
 ghost use Rattle.std.specs.Prelude.{◌≡◌, ◌≢◌, MatchOption};
 ghost use Rattle.lp_c.specs.ClauseMessages.{IsClauseBit, clause_message};
-ghost use Rattle.lp_c.specs.Numbers.{answer_number};
 ghost use Rattle.lp_c.specs.Writing.{Writes};
-ghost use Rattle.lp_c.specs.declared.views.Answer.TheVariants.{OutOfMemory, Written};
+ghost use Rattle.lp_offsets.specs.Numbers.{answer_number};
+ghost use Rattle.lp_offsets.specs.declared.enums.Answer.TheVariants.{OutOfMemory, Written};
 
-use crate::views::Answer;
 use crate::writing::put_out;
+use lp_offsets::enums::Answer;
 
 // The message of the clause with this bit, if there is such a clause.
 fn message_by(bit: u64) -> Option<&'static str>

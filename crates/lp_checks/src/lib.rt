@@ -14,6 +14,7 @@ mod point;
 mod relays;
 mod render;
 mod report;
+mod series;
 mod settings;
 mod steps;
 mod streams;
@@ -33,9 +34,11 @@ use influxdb_line_protocol::{
 use lp_influx::influx_line;
 use lp_rebuild::{Reading, Writing, rebuild_in, run_in, status};
 use lp_relay::{Inputs, KINDS, Nowhere, Outputs, part_ends, relay, relay_inputs, relay_now};
+use lp_series::SeriesCounter;
 use point::{Parts, report_all_written};
 use relays::{Ticks, rooms, tell, told_end};
 use report::Report;
+use series::report_counter;
 use std::alloc::{Allocator, Global};
 use std::fmt::Write;
 use steps::{Stepped, SteppedRoom};
@@ -835,6 +838,35 @@ pub extern "C" fn lp_checks_stepped(
         refused: Nowhere::new(),
     };
     told_end(relay(alloc, settings, &mut reader, &mut outputs).err())
+}
+
+/// What a counter of series holds, as `series` says it, after each part of a text that comes in parts of these lengths, and after its end.
+/// A line may have `limit` bytes, and `max_series` series are kept. No entry if the text has fewer bytes than its parts.
+#[unsafe(no_mangle)]
+pub extern "C" fn lp_checks_series(
+    alloc: Global,
+    dialect: u32,
+    limit: usize,
+    max_series: usize,
+    text: &[u8],
+    lens: &[usize],
+    out: &mut [u8],
+    ends: &mut [u64],
+) -> u64 {
+    let mut report = Report::new(out, ends);
+    let mut counter = SeriesCounter::new(alloc, dialect_of(dialect), limit, max_series);
+    let mut left = text;
+    for len in lens {
+        let Some((part, rest)) = left.split_at_checked(*len) else {
+            return 0;
+        };
+        left = rest;
+        let answer = counter.push(part);
+        report_counter(&mut report, answer, &counter);
+    }
+    let answer = counter.finish();
+    report_counter(&mut report, answer, &counter);
+    report.count()
 }
 
 /// What InfluxDB 1.x reads of a line, as `influx` says it: one entry, or none. Where memory was refused, the entry is empty.

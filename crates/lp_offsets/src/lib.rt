@@ -7,7 +7,7 @@ pub mod cuts;
 pub mod enums;
 pub mod faults;
 pub mod offsets;
-mod pieces;
+pub mod pieces;
 pub mod placed;
 mod placing;
 pub mod portions;

@@ -15,7 +15,7 @@ use lp_split::split::{Mark, first_cut};
 
 /// A piece of a text.
 #[derive(Clone, Copy)]
-pub(crate) struct Piece {
+pub struct Piece {
     /// Where it begins.
     pub(crate) at: usize,
     /// How many bytes it has.
@@ -28,7 +28,7 @@ pub(crate) struct Piece {
 
 /// A place in a text, and the number of the line there.
 #[derive(Clone, Copy)]
-pub(crate) struct Spot {
+pub struct Spot {
     pub(crate) at: usize,
     pub(crate) line: u64,
 }

@@ -1,7 +1,8 @@
 use Rattle.std.proofs.Common.{◌<◌, arith, length}
 use Rattle.std.proofs.lemmas.Bool.{false≢true}
 use Rattle.lp_c.specs.Verdicts.{TellsVerdict}
-use Rattle.lp_c.proofs.{RowsTold.others_stay, RowsTold.tell_more, SureRowLemmas.next_if_shown, VerdictLemmas.takes_memory, VerdictLemmas.tells_bits}
+use Rattle.lp_c.proofs.{SureRowLemmas.next_if_shown, VerdictLemmas.takes_memory, VerdictLemmas.tells_bits}
+use Rattle.lp_offsets.proofs.RowsTold.{others_stay, tell_more}
 use Rattle.lp_c.proofs.verdicts.tell_verdicts.Goals as goal
 
 pub loop-at-preserved : goal.loop-at-preserved

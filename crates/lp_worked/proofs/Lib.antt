@@ -1,0 +1,12 @@
+pub mod WorkedTexts
+pub mod WorkedPieces
+pub mod WorkedAnswers
+pub mod WorkedPoints
+pub mod WorkedParts
+pub mod WorkedSeries
+pub mod WorkedReaders
+pub mod WorkedStreams
+pub mod WorkedItems
+pub mod WorkedRelays
+pub mod WorkedWords
+pub mod WorkedCalls
