@@ -448,7 +448,7 @@ refuse_places() {
 refuse_tools() {
     local tool
     mkdir "$work/tools"
-    for tool in bash dirname readlink sed; do
+    for tool in bash dirname readlink sed uname; do
         ln -s "$(command -v "$tool")" "$work/tools"
     done
     refused "dist: missing Debian packages: python3, dpkg, binutils, python3-dev, gcc, libc6-dev; to install them, run as root: $top/bin/setup" 1 \
