@@ -1,116 +1,45 @@
 //! This library's calls, by the static library of crates/lp_checks.
 
+/// Declares calls that make a report: each takes the words that it is declared with, and then the room of the report.
+macro_rules! reports {
+    ($($name:ident($($word:ident: $kind:ty),*);)*) => {
+        extern "C" {
+            $(fn $name($($word: $kind,)* out: *mut u8, room: usize, ends: *mut u64, entries: usize) -> u64;)*
+        }
+    };
+}
+
+reports! {
+    lp_checks_pieces(dialect: u32, text: *const u8, len: usize);
+    lp_checks_items(dialect: u32, text: *const u8, len: usize);
+    lp_checks_events(dialect: u32, text: *const u8, len: usize);
+    lp_checks_blocks(dialect: u32, text: *const u8, len: usize);
+    lp_checks_rebuild(dialect: u32, text: *const u8, len: usize);
+    lp_checks_bases(text: *const u8, len: usize);
+    lp_checks_shown(text: *const u8, len: usize);
+    lp_checks_written(text: *const u8, len: usize, start: *const u8, start_len: usize, again: bool, refused_at: *mut u64);
+    lp_checks_build(program: *const u8, len: usize, reserved: u64, again: bool, refused_at: *mut u64);
+}
+
+#[rustfmt::skip]
 extern "C" {
-    fn lp_checks_pieces(
-        dialect: u32,
-        text: *const u8,
-        len: usize,
-        out: *mut u8,
-        room: usize,
-        ends: *mut u64,
-        entries: usize,
-    ) -> u64;
-    fn lp_checks_items(
-        dialect: u32,
-        text: *const u8,
-        len: usize,
-        out: *mut u8,
-        room: usize,
-        ends: *mut u64,
-        entries: usize,
-    ) -> u64;
-    fn lp_checks_events(
-        dialect: u32,
-        text: *const u8,
-        len: usize,
-        out: *mut u8,
-        room: usize,
-        ends: *mut u64,
-        entries: usize,
-    ) -> u64;
-    fn lp_checks_blocks(
-        dialect: u32,
-        text: *const u8,
-        len: usize,
-        out: *mut u8,
-        room: usize,
-        ends: *mut u64,
-        entries: usize,
-    ) -> u64;
-    fn lp_checks_bases(
-        text: *const u8,
-        len: usize,
-        out: *mut u8,
-        room: usize,
-        ends: *mut u64,
-        entries: usize,
-    ) -> u64;
-    fn lp_checks_shown(
-        text: *const u8,
-        len: usize,
-        out: *mut u8,
-        room: usize,
-        ends: *mut u64,
-        entries: usize,
-    ) -> u64;
-    fn lp_checks_written(
-        text: *const u8,
-        len: usize,
-        start: *const u8,
-        start_len: usize,
-        again: bool,
-        refused_at: *mut u64,
-        out: *mut u8,
-        room: usize,
-        ends: *mut u64,
-        entries: usize,
-    ) -> u64;
-    fn lp_checks_build(
-        program: *const u8,
-        len: usize,
-        reserved: u64,
-        again: bool,
-        refused_at: *mut u64,
-        out: *mut u8,
-        room: usize,
-        ends: *mut u64,
-        entries: usize,
-    ) -> u64;
-    fn lp_checks_rebuild(
-        dialect: u32,
-        text: *const u8,
-        len: usize,
-        out: *mut u8,
-        room: usize,
-        ends: *mut u64,
-        entries: usize,
-    ) -> u64;
     fn lp_checks_run(
-        dialect: u32,
-        input: *const u8,
-        len: usize,
-        out: *mut u8,
-        room: usize,
-        err: *mut u8,
-        err_room: usize,
-        told: *mut u64,
+        dialect: u32, input: *const u8, len: usize, out: *mut u8, room: usize, err: *mut u8, err_room: usize, told: *mut u64,
     ) -> u8;
     fn lp_checks_relay(
-        letters: *const u8,
-        letters_len: usize,
-        limit: usize,
-        input: *const u8,
-        len: usize,
-        part: usize,
-        out: *mut u8,
-        room: usize,
-        err: *mut u8,
-        err_room: usize,
-        refused: *mut u8,
-        refused_room: usize,
-        told: *mut u64,
-        kinds: *mut u64,
+        letters: *const u8, letters_len: usize, limit: usize, input: *const u8, len: usize, part: usize,
+        out: *mut u8, room: usize, err: *mut u8, err_room: usize, refused: *mut u8, refused_room: usize, told: *mut u64, kinds: *mut u64,
     ) -> u8;
+}
+
+/// Gives methods that fill the report by a call with these words.
+macro_rules! fill_by {
+    ($($(#[$doc:meta])* $name:ident($($word:ident: $kind:ty),*) = $call:ident($($given:expr),*);)*) => {
+        $($(#[$doc])*
+        pub fn $name(&mut self, $($word: $kind),*) -> &Self {
+            self.fill(|out, room, ends, entries| unsafe { $call($($given,)* out, room, ends, entries) })
+        })*
+    };
 }
 
 /// The number of the crate's dialect.
@@ -161,83 +90,19 @@ impl Report {
         self
     }
 
-    pub fn pieces(&mut self, text: &str) -> &Self {
-        self.fill(|out, room, ends, entries| unsafe {
-            lp_checks_pieces(CRATE, text.as_ptr(), text.len(), out, room, ends, entries)
-        })
-    }
-
-    pub fn items(&mut self, text: &str) -> &Self {
-        self.fill(|out, room, ends, entries| unsafe {
-            lp_checks_items(CRATE, text.as_ptr(), text.len(), out, room, ends, entries)
-        })
-    }
-
-    pub fn events(&mut self, text: &str) -> &Self {
-        self.fill(|out, room, ends, entries| unsafe {
-            lp_checks_events(CRATE, text.as_ptr(), text.len(), out, room, ends, entries)
-        })
-    }
-
-    pub fn blocks(&mut self, text: &str) -> &Self {
-        self.fill(|out, room, ends, entries| unsafe {
-            lp_checks_blocks(CRATE, text.as_ptr(), text.len(), out, room, ends, entries)
-        })
-    }
-
-    pub fn bases(&mut self, text: &str) -> &Self {
-        self.fill(|out, room, ends, entries| unsafe {
-            lp_checks_bases(text.as_ptr(), text.len(), out, room, ends, entries)
-        })
-    }
-
-    pub fn shown(&mut self, text: &str) -> &Self {
-        self.fill(|out, room, ends, entries| unsafe {
-            lp_checks_shown(text.as_ptr(), text.len(), out, room, ends, entries)
-        })
-    }
-
-    /// One entry: all lines of the text, as they are written again.
-    pub fn written(&mut self, text: &str) -> &Self {
-        let mut refused_at = u64::MAX;
-        self.fill(|out, room, ends, entries| unsafe {
-            lp_checks_written(
-                text.as_ptr(),
-                text.len(),
-                [].as_ptr(),
-                0,
-                false,
-                &mut refused_at,
-                out,
-                room,
-                ends,
-                entries,
-            )
-        })
-    }
-
-    /// One entry: what the calls write.
-    pub fn build(&mut self, program: &[u8]) -> &Self {
-        let mut refused_at = u64::MAX;
-        self.fill(|out, room, ends, entries| unsafe {
-            lp_checks_build(
-                program.as_ptr(),
-                program.len(),
-                0,
-                false,
-                &mut refused_at,
-                out,
-                room,
-                ends,
-                entries,
-            )
-        })
-    }
-    /// Three entries: the batch, the fault lines, and how many items were carried and refused.
-    pub fn rebuild(&mut self, dialect: u32, text: &str) -> &Self {
-        self.fill(|out, room, ends, entries| unsafe {
-            lp_checks_rebuild(dialect, text.as_ptr(), text.len(), out, room, ends, entries)
-        })
+    fill_by! {
+        pieces(text: &str) = lp_checks_pieces(CRATE, text.as_ptr(), text.len());
+        items(text: &str) = lp_checks_items(CRATE, text.as_ptr(), text.len());
+        events(text: &str) = lp_checks_events(CRATE, text.as_ptr(), text.len());
+        blocks(text: &str) = lp_checks_blocks(CRATE, text.as_ptr(), text.len());
+        bases(text: &str) = lp_checks_bases(text.as_ptr(), text.len());
+        shown(text: &str) = lp_checks_shown(text.as_ptr(), text.len());
+        /// One entry: all lines of the text, as they are written again.
+        written(text: &str) = lp_checks_written(text.as_ptr(), text.len(), [].as_ptr(), 0, false, &mut u64::MAX.clone());
+        /// One entry: what the calls write.
+        build(program: &[u8]) = lp_checks_build(program.as_ptr(), program.len(), 0, false, &mut u64::MAX.clone());
+        /// Three entries: the batch, the fault lines, and how many items were carried and refused.
+        rebuild(dialect: u32, text: &str) = lp_checks_rebuild(dialect, text.as_ptr(), text.len());
     }
 }
 
