@@ -1,7 +1,7 @@
 #!/usr/bin/env bash
-# Each text of this folder is a use of the builder that must not compile: put into a copy of the builder's crate, the
-# compiler must refuse the call that the text's second line names, for the state that the builder is in. All are put there together, as
-# the compiler names what is wrong in each file. The copy begins with what other copies on this machine proved of the crates below.
+# Each row of uses.tsv is a use of the builder that must not compile: put into a copy of the builder's crate, the compiler must refuse its
+# last call for the state that the builder is in. All are put there together, as the compiler names what is wrong in each file. The copy begins
+# with what other copies on this machine proved of the crates below.
 set -eu
 here=$(cd "$(dirname "$0")" && pwd)
 top=$(dirname "$here")
@@ -11,25 +11,31 @@ cp "$top/HANDLES" "$copy/"
 "$top/bin/take" "$copy" lp_build >/dev/null
 git -C "$copy" init -q
 crate=$copy/crates/lp_build
-for text in "$here"/*.txt; do
-    name=misuse_$(basename "$text" .txt)
-    echo "pub mod $name;" >>"$crate/src/lib.rt"
-    cp "$text" "$crate/src/$name.rt"
+mapfile -t uses < <(grep -v '^#' "$here/uses.tsv")
+for at in "${!uses[@]}"; do
+    echo "pub mod misuse_$at;" >>"$crate/src/lib.rt"
+    cat >"$crate/src/misuse_$at.rt" <<END
+use crate::builder::LineProtocolBuilder;
+use std::alloc::Global;
+
+pub fn misuse(alloc: Global) -> Option<()> {
+    let builder = LineProtocolBuilder::new(alloc).measurement("m").ok()?;
+    let _misused = builder${uses[at]#*$'\t'};
+    Some(())
+}
+END
 done
 if (cd "$crate" && timeout 1800 rt check --only misuse) >"$copy/log" 2>&1; then
     echo "misuse: all compile"
     exit 1
 fi
-
-refused=0
-for text in "$here"/*.txt; do
-    call=$(sed -n 's,^// wanted: ,,p' "$text")
-    name=$(basename "$text" .txt)
-    if ! grep -q "^src/misuse_$name.rt:.*error\[unknown-method\]: the method \`$call\` takes \`self\` as" "$copy/log"; then
+for at in "${!uses[@]}"; do
+    call=${uses[at]##*.}
+    call=${call%%(*}
+    if ! grep -q "^src/misuse_$at.rt:.*error\[unknown-method\]: the method \`$call\` takes \`self\` as" "$copy/log"; then
         cat "$copy/log"
-        echo "misuse: $name.txt is not refused at \`$call\`"
+        echo "misuse: not refused at \`$call\`: ${uses[at]}"
         exit 1
     fi
-    refused=$((refused + 1))
 done
-echo "misuses: $refused refused"
+echo "misuses: ${#uses[@]} refused"

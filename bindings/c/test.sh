@@ -51,42 +51,24 @@ if ! answers=$("$built/answers" "$top/checks/tables/answers.tsv"); then
     echo "c: the table of answers is not as the library says: $answers" >&2
     exit 1
 fi
-build lending "${watched[@]}" -DLP_REFUSE
-if ! lent=$("$built/lending"); then
-    echo "c: what should come where little is lent did not come: $lent" >&2
-    exit 1
-fi
-build offsets "${watched[@]}" -DLP_REFUSE
-if ! offsets=$("$built/offsets"); then
-    echo "c: by offsets texts do not give what they should: $offsets" >&2
-    exit 1
-fi
-build verdicts "${watched[@]}" -DLP_REFUSE
-if ! verdicts=$("$built/verdicts"); then
-    echo "c: verdicts on lines are not those that they should be: $verdicts" >&2
-    exit 1
-fi
-build cuts "${watched[@]}" -DLP_REFUSE
-if ! cut=$("$built/cuts"); then
-    echo "c: texts that come in parts are not cut as they should be: $cut" >&2
-    exit 1
-fi
-build writing "${watched[@]}" -DLP_REFUSE
-if ! written=$("$built/writing"); then
-    echo "c: what should be written was not: $written" >&2
-    exit 1
-fi
-build numbers "${watched[@]}" -DLP_REFUSE
-if ! numbers=$("$built/numbers"); then
-    echo "c: literals do not have the numbers that they should: $numbers" >&2
-    exit 1
-fi
-build sizes "${watched[@]}"
-if ! sizes=$("$built/sizes"); then
-    echo "c: what should come of what is large did not come: $sizes" >&2
-    exit 1
-fi
-said="the examples print what they should; $lent; $offsets; $verdicts; $cut; $written; $numbers; $sizes"
+said="the examples print what they should"
+while IFS='|' read -r name flags wrong; do
+    # shellcheck disable=SC2086
+    build "$name" "${watched[@]}" $flags
+    if ! told=$("$built/$name"); then
+        echo "c: $wrong: $told" >&2
+        exit 1
+    fi
+    said="$said; $told"
+done <<'END'
+lending|-DLP_REFUSE|what should come where little is lent did not come
+offsets|-DLP_REFUSE|by offsets texts do not give what they should
+verdicts|-DLP_REFUSE|verdicts on lines are not those that they should be
+cuts|-DLP_REFUSE|texts that come in parts are not cut as they should be
+writing|-DLP_REFUSE|what should be written was not
+numbers|-DLP_REFUSE|literals do not have the numbers that they should
+sizes||what should come of what is large did not come
+END
 
 # Runs threads.c, built with these flags, by this command.
 run_threads() {
