@@ -458,6 +458,8 @@ refuse_tools() {
     refused "dist: there is no no_python, *" 1 env PYTHON=no_python "$top/bin/dist" --built "$work/built" "$work/no"
     refused "dist: the wheel was not made: *" 1 env CFLAGS=-fsanitize=address "$top/bin/dist" --built "$work/built" "$work/no"
     rmdir "$work/no" || fail "there was no wheel, and something is made"
+    refused "install: there is no python3, *" 1 env PATH="$work/tools" "$top/bin/install"
+    ln -s "$(python3 -c 'import sys; print(sys.executable)')" "$work/tools/python3"
     refused "install: there is no no_cc, *" 1 env PATH="$work/tools" CC=no_cc "$top/bin/install"
     refused "install: there is no ar, *" 1 env PATH="$work/tools" CC=bash "$top/bin/install"
     ln -s "$(command -v ar)" "$work/tools"
