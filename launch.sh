@@ -181,7 +181,7 @@ build_all() (
     choose_most
     mkdir -p "$top/out" && rooms=$(mktemp -d "$top/out/rooms.XXXXXX") || exit
     # shellcheck disable=SC2046
-    trap '{ kill $(jobs -p) || true; } 2>/dev/null; wait; rm -rf "$rooms"; rmdir "$top/out" 2>/dev/null' EXIT
+    trap '{ kill $(jobs -p) || true; } 2>/dev/null; wait; rm -rf "$rooms"; rmdir "$top/out" 2>/dev/null || true' EXIT
     for crate in "$@"; do add_below "$crate"; done
     for crate in "${below[@]}"; do
         lows[$crate]=$(named_by "$crate")

@@ -120,6 +120,17 @@ for file in crates/lp_relay_program/src/main.rt crates/lp_low/src/lib.rt crates/
 done
 rm "$copy/crates/lp_relay_program/out/lp_relay_program"
 wanted 7 "lp_relay_program"$'\n'"$given" "$relay" ./relay
+# A file of another script in out/ stays there, and the program is built all the same.
+rm "$copy/crates/lp_relay_program/out/lp_relay_program"
+mkdir "$copy/out"
+touch "$copy/out/of_another_script"
+printf in | ./relay --strict "a  b" "" >"$made/out" || [ $? = 7 ]
+runs=$((runs + 1))
+if [ "$(cat "$made/out")" != "lp_relay_program"$'\n'"$given" ] || [ "$(ls "$copy/out")" != of_another_script ]; then
+    echo "launch: with a file in out/ nothing is built"
+    exit 1
+fi
+rm -r "$copy/out"
 # A build that fails, each time that it is tried; the program that was built before is not run. Then a build that does not.
 echo '// wrong' >>"$copy/crates/lp_low/src/lib.rt"
 for _ in 1 2; do
