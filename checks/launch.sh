@@ -120,14 +120,13 @@ for file in crates/lp_relay_program/src/main.rt crates/lp_low/src/lib.rt crates/
 done
 rm "$copy/crates/lp_relay_program/out/lp_relay_program"
 wanted 7 "lp_relay_program"$'\n'"$given" "$relay" ./relay
-# A file of another script in out/ stays there, and the program is built all the same.
+# A file of another script in out/ stays there, and a script that ends at its first failure builds all the same, as bin/install does.
 rm "$copy/crates/lp_relay_program/out/lp_relay_program"
 mkdir "$copy/out"
 touch "$copy/out/of_another_script"
-printf in | ./relay --strict "a  b" "" >"$made/out" || [ $? = 7 ]
 runs=$((runs + 1))
-if [ "$(cat "$made/out")" != "lp_relay_program"$'\n'"$given" ] || [ "$(ls "$copy/out")" != of_another_script ]; then
-    echo "launch: with a file in out/ nothing is built"
+if ! bash -euc '. "$0/launch.sh"; build_if_changed test lp_relay_program || exit' "$copy" || [ "$(ls "$copy/out")" != of_another_script ]; then
+    echo "launch: with a file in out/ the build fails"
     exit 1
 fi
 rm -r "$copy/out"
