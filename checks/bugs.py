@@ -183,8 +183,8 @@ class Tried(NamedTuple):
     crate: str
     date: str
     sources: str  # their sum, as launch.sh makes it, with those of the crates below
-    tried: int  # how many rows, from the first row of the crate
-    refused: int  # how many of these
+    tried: int  # how many tries of rows there were, from the first row of the crate to the last one, and then from the first one again
+    refused: int  # in how many of these the prover refused the bug
 
 
 def tried_rows(*paths):
@@ -289,7 +289,8 @@ def left_out(what, why):
 
 
 def try_bugs(crate, first, bugs, end=float("inf")):
-    """Tries bugs of a crate, which are its rows from the first one, or no rows. Returns how many the prover does not refuse."""
+    """Tries bugs of a crate, after as many tries of its rows as `first` says; None if they are no rows. Returns how many the prover does not
+    refuse."""
     answers, refused = [], tried_rows()[crate].refused if first else 0
     with tempfile.TemporaryDirectory() as folder:
         try:
@@ -308,14 +309,16 @@ def try_bugs(crate, first, bugs, end=float("inf")):
 
 
 def due():
-    """Of each crate its name, the place of the first row that is due, and the rows from there. Crates with rows that were not tried since their
-    first row was tried come first, and then the crate that was tried longest ago."""
+    """Of each crate all of whose rows were tried its name, how many tries that were, and the rows that are due, the crate that was tried longest
+    ago first. A crate with rows that were never tried is tried by hand first, because such a row may be no bug."""
     found, known, table = [], tried_rows(), rows()
     for crate in dict.fromkeys(bug.crate for bug in table):
         bugs, last = [bug for bug in table if bug.crate == crate], known.get(crate)
-        first = last.tried % len(bugs) if last else 0
-        found.append((bool(last and not first), last.date if last else "", crate, first, bugs[first:]))
-    return [it[2:] for it in sorted(found, key=lambda it: it[:2])]
+        if last and last.tried >= len(bugs):
+            found.append((last.date, crate, last.tried, bugs[last.tried % len(bugs):]))
+        else:
+            left_out(f"bugs of {crate}", "they were not all tried by hand yet")
+    return [it[1:] for it in sorted(found, key=lambda it: it[:1])]
 
 
 def named(name, crate):
