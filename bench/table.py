@@ -1,7 +1,6 @@
 #!/usr/bin/env python3
 """Writes the tables of figures.tsv, figures_avx512.tsv, callers.tsv, python.tsv, streams.tsv, instructions.tsv and parts.tsv into
-README.md, each between its two marks. bench/run.sh makes these files, and git does not keep them: README.md has the figures. A table whose
-file is not there stays as it is.
+README.md, each between its two marks. bench/run.sh makes these files, and git keeps none. A table whose file is missing stays as it is.
 
     bench/table.py
 """

@@ -122,8 +122,7 @@ rm "$copy/crates/lp_relay_program/out/lp_relay_program"
 wanted 7 "lp_relay_program"$'\n'"$given" "$relay" ./relay
 # A file of another script in out/ stays there, and a script that ends at its first failure builds all the same, as bin/install does.
 rm "$copy/crates/lp_relay_program/out/lp_relay_program"
-mkdir "$copy/out"
-touch "$copy/out/of_another_script"
+mkdir "$copy/out" && touch "$copy/out/of_another_script"
 runs=$((runs + 1))
 if ! bash -euc '. "$0/launch.sh"; build_if_changed test lp_relay_program || exit' "$copy" || [ "$(ls "$copy/out")" != of_another_script ]; then
     echo "launch: with a file in out/ the build fails"

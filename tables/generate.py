@@ -4,8 +4,7 @@
     tables/generate.py            compares each stretch with its table; exit status 1 if a file differs
     tables/generate.py --write    writes each stretch that differs
     tables/generate.py --examples prints the examples of the options, which checks/readme.sh runs
-    tables/generate.py --pages FOLDER
-                                  writes the man pages into a folder: in man/ their stretches are empty
+    tables/generate.py --pages FOLDER writes the man pages into a folder: in man/ their stretches are empty
 
 Each kind of fact has a table and a module: the module's `places()` returns the stretches that are made from the table, and its
 `problems()` returns what is wrong with files that are written by hand, in words.
