@@ -196,6 +196,21 @@ build_all() (
     done
 )
 
+# Gives each library that `rt ci` left in out/ the mark by which the other commands of rt take it, so that they do not prove it again. Where the
+# kit's own code has changed, no library gets it.
+take_proofs() {
+    python3 - "$(kit)" "$top" <<'CODE' || echo "test: the libraries of the gate are not taken, and are proved again" >&2
+import os, sys
+kit, top = sys.argv[1:]
+sys.path.insert(0, f"{kit}/bin")
+import rtlib
+for name in [line.split(":")[0].split()[0] for line in open(f"{top}/crates.txt") if line[0] != "#"]:
+    crate = rtlib.Crate(f"{top}/crates/{name}", top, {})
+    if crate.makes_rlib() and os.path.isdir(crate.rlib) and not crate.is_built():
+        open(f"{crate.folder}/out/rlib/stamp", "w").write(crate.stamp())
+CODE
+}
+
 # Proves and builds those of these crates of which the program or the static library was not built from these sources.
 build_if_changed() {
     local name=$1 crate changed=()

@@ -1,14 +1,11 @@
 #!/usr/bin/env bash
-# The test command. It proves twice and no more: what its checks link, side by side, for the archives; and then all, by the gate, which
-# takes nothing that other commands proved.
+# The test command:
 #
 #   1. The checks of documents and scripts. If one fails, nothing else is run.
-#   2. The archives of lp_c and lp_checks are built; beside that, the checks of bin/take, of the launchers and of completion. Where Node
-#      can run it, the module of lp_page is built for WebAssembly too, over what was proved with the archives.
-#   3. The misuses, which begin with what was proved for the archives. The gate sets that aside, so they come before it.
-#   4. The gate, and beside it the checks that link the archives.
-#   5. The checks of the programs that the gate made, and beside them the checks of Python and JavaScript, which run a program too, and
-#      for at most ten minutes of one processor the bugs that were tried longest ago.
+#   2. The gate, which proves all; beside it the checks of bin/take, of the launchers and of completion. If the gate fails, nothing else is run.
+#   3. Side by side: the checks of the programs that the gate made; the misuses, and for at most ten minutes of one processor the bugs that were
+#      tried longest ago; and the archives of lp_c and lp_checks, over the libraries that the gate proved, with the module of lp_page for
+#      WebAssembly where Node can run it. Then come the checks that link the archives, and beside them the checks of Python and JavaScript.
 #
 # Before the gate's last line, which comes last, it prints how long each part took, what the checks left out, and which checks failed. The
 # status is the status of the gate, or 1 if a check failed.
@@ -42,39 +39,11 @@ stop() {
     exit 1
 }
 
-# Each of these runs its parts to the end, whether or not one fails, and then shows what they said.
-beside_archives() {
+# Each of these runs its parts to the end, whether or not one fails.
+beside_gate() {
     part checks/take.sh checks/take.sh
     part checks/launch.sh checks/launch.sh
     part checks/completion.sh checks/completion.sh
-}
-beside_gate() {
-    part checks/tables.sh checks/tables.sh
-    part checks/refusals.sh checks/refusals.sh
-    part checks/events.sh checks/events.sh
-    part checks/sizes.sh checks/sizes.sh
-    part checks/portable.sh checks/portable.sh "$made/liblp_c.a"
-    part checks/influx.sh checks/influx.sh --fast
-    part checks/differential.sh checks/differential.sh
-    part bindings/c bindings/c/test.sh "$made/liblp_c.a"
-    LP_LIB_DIR=$made part bindings/rust bindings/rust/test.sh
-    part bindings/go bindings/go/test.sh "$made/liblp_c.a"
-    part checks/endpoint.sh checks/endpoint.sh "$made/liblp_c.a"
-}
-beside_programs() {
-    part checks/bugs.py checks/bugs.py --some >"$made/bugs" 2>&1 &
-    LP_RELAY=$made/lp_relay_program part checks/page.sh checks/page.sh "$made/page"
-    LP_RELAY=$made/lp_relay_program part bindings/python bindings/python/test.sh "$made/liblp_c.a"
-    part checks/apart.sh checks/apart.sh "$made/lp_relay_program"
-    wait
-    cat "$made/bugs"
-}
-# beside FUNCTION: starts one of them. `joined` waits for it, where `failed` names what failed.
-beside() {
-    { "$1" >"$made/$1" 2>&1 || true; cat "$made/$1"; } &
-}
-joined() {
-    wait "$!" || echo "checks that were cut off" >>"$made/failed"
 }
 check_programs() {
     part checks/readme.sh checks/readme.sh "$made"/lp_{relay,rebuild,series}_program
@@ -87,6 +56,42 @@ check_programs() {
     part checks/posting.sh checks/posting.sh "$made/lp_relay_program"
     part checks/sending.sh checks/sending.sh "$made/lp_relay_program"
     part checks/systemd.sh checks/systemd.sh "$made/lp_relay_program"
+    part checks/apart.sh checks/apart.sh "$made/lp_relay_program"
+}
+check_refusals() {
+    part misuses/check.sh misuses/check.sh
+    part checks/bugs.py checks/bugs.py --some
+}
+check_archives() {
+    part checks/tables.sh checks/tables.sh
+    part checks/refusals.sh checks/refusals.sh
+    part checks/events.sh checks/events.sh
+    part checks/sizes.sh checks/sizes.sh
+    part checks/portable.sh checks/portable.sh "$made/liblp_c.a"
+    part checks/influx.sh checks/influx.sh --fast
+    part checks/differential.sh checks/differential.sh
+    part bindings/c bindings/c/test.sh "$made/liblp_c.a"
+    LP_LIB_DIR=$made part bindings/rust bindings/rust/test.sh
+    part bindings/go bindings/go/test.sh "$made/liblp_c.a"
+    part checks/endpoint.sh checks/endpoint.sh "$made/liblp_c.a"
+}
+beside_archives() {
+    LP_RELAY=$made/lp_relay_program part checks/page.sh checks/page.sh "$made/page"
+    part bindings/python bindings/python/test.sh "$made/liblp_c.a"
+}
+# beside FUNCTION: starts one of them. `joined` waits for all, shows what they said, and takes note of those that did not come to their end.
+beside() {
+    { "$1" >"$made/$1" 2>&1 || true; touch "$made/$1.ended"; } &
+    started+=("$1")
+}
+joined() {
+    local each
+    wait
+    for each in "${started[@]}"; do
+        cat "$made/$each"
+        [ -e "$made/$each.ended" ] || echo "$each, which was cut off" >>"$made/failed"
+    done
+    started=()
 }
 
 # Hands on the lines of the gate but the last, which comes to a file.
@@ -119,33 +124,36 @@ print_left_out() {
 
 part checks/documents.py checks/documents.py || stop checks/documents.py
 part checks/lint.sh checks/lint.sh || stop checks/lint.sh
-beside beside_archives
+started=()
+beside beside_gate
+set +e
+part "rt ci" rt ci | hold_last
+gate=${PIPESTATUS[0]}
+joined
+if [ "$gate" != 0 ]; then
+    sed 's/^/failed: /' "$made/failed"
+    cat "$made/last"
+    exit "$gate"
+fi
+cp crates/lp_{rebuild_program/out/lp_rebuild_program,relay_program/out/lp_relay_program,series_program/out/lp_series_program} "$made" ||
+    stop "the copy of the programs that the gate made"
+beside check_programs
+take_proofs
 archives=(lp_checks lp_c)
 ! checks/page.sh --can-run || archives+=(lp_page)
 part "the archives, proved" build_all test "${archives[@]}" || stop "the build of ${archives[*]}"
-joined
 cp crates/lp_c/out/liblp_c.a crates/lp_checks/out/liblp_checks.a "$made"
 export ARCHIVES=$made
-set +e
+beside check_refusals
 if [[ ${archives[*]} == *lp_page* ]]; then
     sources lp_page >crates/lp_page/out/launcher.stamp
     part packaging/page packaging/page/build.sh "$made/page"
 fi
-beside beside_gate
-part misuses/check.sh misuses/check.sh
-part "rt ci" rt ci | hold_last
-gate=${PIPESTATUS[0]}
+beside beside_archives
+check_archives
 joined
-if cp crates/lp_{rebuild_program/out/lp_rebuild_program,relay_program/out/lp_relay_program,series_program/out/lp_series_program} "$made"; then
-    beside beside_programs
-    check_programs
-    joined
-else
-    echo "the checks of programs, which the gate did not make" >>"$made/failed"
-fi
 print_times
 print_left_out
 sed 's/^/failed: /' "$made/failed"
 cat "$made/last"
-[ "$gate" != 0 ] || [ ! -s "$made/failed" ] || exit 1
-exit "$gate"
+[ ! -s "$made/failed" ] || exit 1

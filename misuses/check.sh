@@ -1,16 +1,17 @@
 #!/usr/bin/env bash
 # Each row of uses.tsv is a use of the builder that must not compile: put into a copy of the builder's crate, the compiler must refuse its
 # last call for the state that the builder is in. All are put there together, as the compiler names what is wrong in each file. The copy begins
-# with what other copies on this machine proved of the crates below.
+# with what was proved here of the crates below.
 set -eu
 here=$(cd "$(dirname "$0")" && pwd)
-top=$(dirname "$here")
+. "$here/../launch.sh"
 copy=$(mktemp -d)
 trap 'rm -rf "$copy"' EXIT
-cp "$top/HANDLES" "$copy/"
-"$top/bin/take" "$copy" lp_build >/dev/null
-git -C "$copy" init -q
-crate=$copy/crates/lp_build
+room=$copy/crates_of
+copy_crates lp_build >/dev/null
+cp "$top/HANDLES" "$room/"
+git -C "$room" init -q
+crate=$room/crates/lp_build
 mapfile -t uses < <(grep -v '^#' "$here/uses.tsv")
 for at in "${!uses[@]}"; do
     echo "pub mod misuse_$at;" >>"$crate/src/lib.rt"
