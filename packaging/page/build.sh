@@ -12,16 +12,28 @@ set -euo pipefail
 here=$top/packaging/page
 target=wasm64-unknown-unknown
 
+# Puts into a folder the toolchain of the kit, whose clang then uses the vectors of WebAssembly: without them each of the 16 lanes of a load of
+# `lp_scan` is worked on by itself. Each engine that has 64-bit memory has vectors.
+take_toolchain() {
+    mkdir -p "$1/bin"
+    ln -s "$kit/toolchain/lib" "$1"
+    ln -s "$kit"/toolchain/bin/* "$1/bin"
+    rm "$1/bin/clang"
+    printf '#!/bin/sh\nexec "%s" "$@" -msimd128\n' "$kit/toolchain/bin/clang" >"$1/bin/clang"
+    chmod +x "$1/bin/clang"
+}
+
 # Proves the crate for WebAssembly, and links the module FILE.
 compile() {
     local low words=() below=()
+    take_toolchain "$made/toolchain"
     for low in std $(line_of lp_page | cut -d : -f 2); do
         words+=(--extern "$low=$(if [ -d "$top/crates/$low" ]; then echo "$top/crates/$low/out/rlib"; else echo "$kit/rlibs"; fi)/$low.rlib")
     done
     add_below lp_page
     for low in "${below[@]}"; do words+=(-L "dependency=$top/crates/$low/out/rlib"); done
     if ! (cd "$top/crates/lp_page" && rattle build --crate-name lp_page src/lib.rt "${words[@]}" -L "dependency=$kit/rlibs" --links lp_page= \
-        --antt-project "$kit/rattle/logic/antt-project.json" --logic-built "$kit/logic_built" --toolchain "$kit/toolchain" --jobs 2 \
+        --antt-project "$kit/rattle/logic/antt-project.json" --logic-built "$kit/logic_built" --toolchain "$made/toolchain" --jobs 2 \
         --incremental out/incremental --crate-type staticlib --target "$target" -o "$made/lp_page.a" &&
         rattle-link --target "$target" --toolchain "$kit/toolchain" -o "$1" "$made/lp_page.a") >"$made/log" 2>&1; then
         cat "$made/log" >&2
