@@ -60,6 +60,7 @@ beside_gate() {
     LP_LIB_DIR=$made part bindings/rust bindings/rust/test.sh
     part bindings/go bindings/go/test.sh "$made/liblp_c.a"
     part checks/endpoint.sh checks/endpoint.sh "$made/liblp_c.a"
+    part checks/instructions.sh checks/instructions.sh "$made/liblp_c.a"
 }
 beside_programs() {
     part checks/bugs.py checks/bugs.py --some >"$made/bugs" 2>&1 &
