@@ -74,6 +74,7 @@ check_archives() {
     LP_LIB_DIR=$made part bindings/rust bindings/rust/test.sh
     part bindings/go bindings/go/test.sh "$made/liblp_c.a"
     part checks/endpoint.sh checks/endpoint.sh "$made/liblp_c.a"
+    part checks/instructions.sh checks/instructions.sh "$made/liblp_c.a"
 }
 beside_archives() {
     LP_RELAY=$made/lp_relay_program part checks/page.sh checks/page.sh "$made/page"

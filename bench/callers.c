@@ -92,21 +92,43 @@ static uint64_t of_row(const lp_offset_row *row, const lp_offset_part *own) {
     return sum;
 }
 
+/* What rows tell beside their items: nothing; their keys; their verdicts, by a call after each block or by the block's own. */
+enum more { NOTHING, KEYS, VERDICTS_AFTER, VERDICTS };
+
+static uint32_t next_block(enum more more, const uint8_t *text, size_t len, lp_block *block) {
+    lp_limits limits;
+    size_t told;
+    uint32_t answer, dialect = more < VERDICTS_AFTER ? LP_CRATE : LP_STRICT;
+    if (more >= VERDICTS_AFTER) lp_limits_default(&limits);
+    if (more == VERDICTS)
+        return lp_offsets_block_verdicts(text, len, dialect, true, block, bytes, bytes_len, offsets.rows, ROWS, offsets.parts,
+                                         offsets.parts_len, &limits, &told);
+    answer = lp_offsets_block(text, len, dialect, true, block, bytes, bytes_len, offsets.rows, ROWS, offsets.parts, offsets.parts_len);
+    if (more == KEYS) lp_offsets_keys(text, len, offsets.rows, block->rows);
+    if (more == VERDICTS_AFTER) lp_offsets_verdicts(text, len, offsets.rows, block->rows, &limits, &told);
+    return answer;
+}
+
 /* As many rows a call as `by_block` has. It tests itself whether the text is UTF-8. */
-static uint64_t by_offsets(const uint8_t *text, size_t len) {
+static uint64_t offsets_with(enum more more, const uint8_t *text, size_t len) {
     lp_block block = { 1, 0, 0, 0, 0 };
     uint64_t sum = 0;
     uint32_t answer = LP_LINE;
     lend(0, 256 * ROWS);
     lend_offsets(ROWS, 16 * ROWS);
     while (answer != LP_END) {
-        answer = lp_offsets_block(text, len, LP_CRATE, true, &block, bytes, bytes_len, offsets.rows, ROWS, offsets.parts, offsets.parts_len);
+        answer = next_block(more, text, len, &block);
         for (size_t at = 0; at < block.rows; at++) sum += of_row(&offsets.rows[at], offsets.parts + offsets.rows[at].parts_at);
         if (block.rows == 0 && answer == LP_MORE_PARTS) lend_offsets(0, offsets.rows[0].tags + offsets.rows[0].fields);
         if (block.rows == 0 && answer == LP_MORE_ROOM) lend(0, offsets.rows[0].room_len);
     }
     return sum;
 }
+
+static uint64_t by_offsets(const uint8_t *text, size_t len) { return offsets_with(NOTHING, text, len); }
+static uint64_t with_keys(const uint8_t *text, size_t len) { return offsets_with(KEYS, text, len); }
+static uint64_t with_verdicts_after(const uint8_t *text, size_t len) { return offsets_with(VERDICTS_AFTER, text, len); }
+static uint64_t with_verdicts(const uint8_t *text, size_t len) { return offsets_with(VERDICTS, text, len); }
 
 /* The room of the call before is lent again, so that only the first call for a text is made twice. */
 static uint64_t rebuilt(const uint8_t *text, size_t len) {
@@ -230,6 +252,9 @@ const struct call calls[] = {
     { "lp_lines_next", by_next },
     { "lp_lines_block", by_block },
     { "lp_offsets_block", by_offsets },
+    { "lp_offsets_keys", with_keys },
+    { "lp_offsets_verdicts", with_verdicts_after },
+    { "lp_offsets_block_verdicts", with_verdicts },
     { "lp_cuts_next", cuts },
     { "lp_rebuild", rebuilt },
     { "lp_line_write", by_write, read_lines },

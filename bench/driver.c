@@ -1,6 +1,6 @@
 /* Times calls over files, or without a file the building of points, in processor time: the median of five runs after a
    first one, in MB/s. Each row has the call, the file, the speed and the answer, with tabs between.
-   `--once CALL FILE` makes one call in the function `counted`, for instructions.py. */
+   `--once CALL FILE..` makes one call over each file in the function `counted`, for instructions.py and checks/instructions.sh. */
 #include "driver.h"
 #include <stdio.h>
 #include <stdlib.h>
@@ -83,21 +83,23 @@ __attribute__((noinline)) uint64_t counted(uint64_t (*call)(const uint8_t *, siz
 static uint64_t utf8_alone(const uint8_t *text, size_t len) { return is_utf8(text, len); }
 
 /* What is lent to a call grows in the first one, so that it is made twice and counted once. */
-static int once(const char *name, const char *path) {
-    size_t len;
-    uint8_t *text = read_file(path, &len);
+static int once(const char *name, char **paths) {
     const struct call utf8 = { "utf8", utf8_alone, NULL }, *call = strcmp(name, utf8.name) ? calls : &utf8;
     while (call->name && strcmp(call->name, name)) call++;
     if (!call->name) { fprintf(stderr, "%s: no such call\n", name); return 2; }
-    if (call->prepare) call->prepare(text, len);
-    call->call(text, len);
-    counted(call->call, text, len);
-    free(text);
+    for (; *paths; paths++) {
+        size_t len;
+        uint8_t *text = read_file(*paths, &len);
+        if (call->prepare) call->prepare(text, len);
+        call->call(text, len);
+        counted(call->call, text, len);
+        free(text);
+    }
     return 0;
 }
 
 int main(int argc, char **argv) {
-    if (argc == 4 && !strcmp(argv[1], "--once")) return once(argv[2], argv[3]);
+    if (argc > 3 && !strcmp(argv[1], "--once")) return once(argv[2], argv + 3);
     if (argc == 1 && build) run_build(POINTS);
     for (int i = 1; i < argc; i++) {
         size_t len;

@@ -72,6 +72,7 @@ type block struct {
 	parts  []C.lp_offset_part
 	room   []byte
 	filled C.lp_block
+	answer C.uint32_t
 	// Which rows tell the keys of their series, and which tell verdicts, by these limits. told is what the library says of the latter.
 	keys, verdicts telling
 	limits         C.lp_limits
@@ -98,10 +99,30 @@ func (t *telling) ahead(rows, most int) int {
 // came says that rows from this one on tell now. Those that the last call might have told too count as asked for.
 func (t *telling) came(at, rows int) { t.upto, t.asked = at+rows, t.run-rows }
 
-// The memory of a new block: a line with more parts, or more to copy, makes it grow.
+// The memory of a new block, which suffices for a few short lines: it grows as more come.
 func newBlock() block {
-	return block{rows: make([]C.lp_offset_row, 512), parts: make([]C.lp_offset_part, 4096), room: make([]byte, 16<<10),
+	return block{rows: make([]C.lp_offset_row, 8), parts: make([]C.lp_offset_part, 32), room: make([]byte, 256),
 		keys: telling{run: 1}, verdicts: telling{run: 1}, limits: defaultLimits()}
+}
+
+// grow gives the next call more of that which ran out in the last one, so that few calls read a large text.
+func (b *block) grow() {
+	switch rows, parts, room := len(b.rows), len(b.parts), len(b.room); {
+	case b.answer == C.LP_LINE && rows < 512:
+		b.rows = make([]C.lp_offset_row, grown(rows, 512))
+	case b.answer == C.LP_MORE_PARTS && parts < 4096:
+		b.parts = make([]C.lp_offset_part, grown(parts, 4096))
+	case b.answer == C.LP_MORE_ROOM && room < 16<<10:
+		b.room = make([]byte, grown(room, 16<<10))
+	}
+}
+
+// grown gives eight times a number, or the most there may be if that is less.
+func grown(number, most int) int {
+	if number > most/8 {
+		return most
+	}
+	return 8 * number
 }
 
 // The limits of servers whose options are as they come.
@@ -119,19 +140,20 @@ var errDialect = errors.New("lineprotocol: no dialect has the number")
 // read fills rows from the start of a text on, of which the first line has this number; last: the text ends there. It gives how many
 // rows were filled, and how many bytes they and blank pieces take. The next piece goes on in the text that comes if both are 0.
 func (b *block) read(text []byte, dialect Dialect, last bool, line uint64) (rows, taken int, err error) {
+	b.grow()
 	for {
 		b.filled, b.keys.upto, b.verdicts.upto = C.lp_block{line: C.uint64_t(line)}, 0, 0
-		answer := b.fill(text, dialect, last)
-		if answer == C.LP_NOT_A_DIALECT || answer == C.LP_TOO_LONG {
+		b.answer = b.fill(text, dialect, last)
+		if b.answer == C.LP_NOT_A_DIALECT || b.answer == C.LP_TOO_LONG {
 			return 0, 0, errDialect
 		}
 		if b.filled.rows > 0 {
 			break
 		}
 		// The row after the filled ones says how much its line takes.
-		if answer == C.LP_MORE_PARTS {
+		if b.answer == C.LP_MORE_PARTS {
 			b.parts = make([]C.lp_offset_part, 2*(int(b.rows[0].tags)+int(b.rows[0].fields)))
-		} else if answer == C.LP_MORE_ROOM {
+		} else if b.answer == C.LP_MORE_ROOM {
 			b.room = make([]byte, 2*int(b.rows[0].room_len))
 		} else {
 			break
@@ -226,19 +248,21 @@ func clauseMessage(c Clause) string {
 	return string(told[:n])
 }
 
-// A search for the end of a piece that is too long.
-type search struct{ cuts C.lp_cuts }
+// A search for the end of a piece that is too long, and the place that it found.
+type search struct {
+	cuts C.lp_cuts
+	cut  C.size_t
+}
 
-func newSearch(dialect Dialect) (s search) {
+// begin begins a search in the piece that comes next.
+func (s *search) begin(dialect Dialect) {
 	C.lp_cuts_begin(C.uint32_t(dialect), C.SIZE_MAX, &s.cuts)
-	return s
 }
 
 // find goes on over the bytes that come next: the place of the newline that ends the piece, if it is one of them.
 func (s *search) find(text []byte) (cut int, found bool) {
-	var at C.size_t
-	found = C.lp_cuts_next(&s.cuts, first(text), C.size_t(len(text)), &at) == C.LP_PIECE
-	return int(at), found
+	found = C.lp_cuts_next(&s.cuts, first(text), C.size_t(len(text)), &s.cut) == C.LP_PIECE
+	return int(s.cut), found
 }
 
 // A string of bytes that stay as they are while it is used.

@@ -105,7 +105,8 @@ type Decoder struct {
 }
 
 // NewDecoder makes a decoder that reads r to its end, in blocks. Lines have MaxLine bytes at most. If r is nil, there is nothing to read until
-// Reset or ResetBytes is called: Next gives false, and Err an error.
+// Reset or ResetBytes is called: Next gives false, and Err an error. A new decoder takes less than 8 KiB for one short line, and more as more
+// lines come; to read many texts, keep it, and call Reset for each.
 func NewDecoder(r io.Reader) *Decoder {
 	d := new(Decoder)
 	d.Reset(r)
@@ -119,12 +120,13 @@ func (d *Decoder) ready() {
 	}
 }
 
-// Reset begins anew with another reader, in the memory that the decoder has, by its dialect, its limits and its greatest length of a line.
+// Reset begins anew with another reader, in the memory that the decoder has, by its dialect, its limits and its greatest length of a line. If r
+// is nil, the decoder keeps no reader, and its memory, as in a sync.Pool.
 func (d *Decoder) Reset(r io.Reader) {
 	d.ready()
 	buf := d.buf
-	if d.reader == nil {
-		buf = make([]byte, 64<<10)
+	if d.reader == nil && d.ended { // they are those of ResetBytes
+		buf = nil
 	}
 	*d = Decoder{reader: r, dialect: d.dialect, most: d.most, line: 1, buf: buf, block: d.block, row: -1, spelled: d.spelled}
 }
@@ -194,7 +196,8 @@ func (d *Decoder) begin(at int) {
 
 // passBlanks goes over the pieces before this place, which hold blanks and comments alone. True: one is too long, which is told.
 func (d *Decoder) passBlanks(end int) bool {
-	search := newSearch(d.dialect)
+	var search search
+	search.begin(d.dialect)
 	for d.next < end {
 		piece := d.text[d.next:end]
 		if cut, found := search.find(piece); found {
@@ -255,7 +258,7 @@ func (d *Decoder) fill() bool {
 // grow reads on until the piece at hand ends. Each byte is searched once, however little comes at a time. True: it is too long, which is
 // told, and it is passed over then.
 func (d *Decoder) grow() bool {
-	d.search = newSearch(d.dialect)
+	d.search.begin(d.dialect)
 	for searched := 0; d.err == nil; {
 		piece := d.buf[d.at:d.end]
 		_, found := d.search.find(piece[searched:])
@@ -299,22 +302,21 @@ func (d *Decoder) take(text []byte) {
 
 var newline = []byte{'\n'}
 
-// more reads more bytes, after those that are not read yet. The buffer grows if they fill it. If the reader fails, the bytes that came with its
-// error are read first: the error is told in the place of more.
+// more reads more bytes, after those that are not read yet. The buffer grows if they fill it, and up to 64 KiB also if reads fill it. If the
+// reader fails, the bytes that came with its error are read first: the error is told in the place of more.
 func (d *Decoder) more() {
 	if d.failed != nil {
 		d.err = d.failed
 		return
 	}
-	if d.at > 0 {
-		d.end = copy(d.buf, d.buf[d.at:d.end])
-		d.at = 0
+	left := d.buf[d.at:d.end]
+	switch size := len(d.buf); {
+	case size == 0:
+		d.buf = make([]byte, 1<<10)
+	case len(left) == size || d.end == size && size < 64<<10:
+		d.buf = make([]byte, 2*size)
 	}
-	if d.end == len(d.buf) {
-		bigger := make([]byte, 2*len(d.buf))
-		copy(bigger, d.buf)
-		d.buf = bigger
-	}
+	d.at, d.end = 0, copy(d.buf, left)
 	for tries := 0; tries < 100; tries++ {
 		n, err := d.reader.Read(d.buf[d.end:])
 		if n < 0 || n > len(d.buf)-d.end {

@@ -7,6 +7,7 @@ import (
 	"io"
 	"math"
 	"reflect"
+	"runtime"
 	"strconv"
 	"strings"
 	"testing"
@@ -473,6 +474,30 @@ func TestAllocations(t *testing.T) {
 	pass()
 	if n := testing.AllocsPerRun(5, pass); n > 4 {
 		t.Errorf("1,000 lines take memory %v times", n)
+	}
+}
+
+// A new decoder that reads one line takes little memory, and one that is used again takes none.
+func TestMemoryOfOneLine(t *testing.T) {
+	for name, decoder := range lineReaders() {
+		const runs, most = 100, 8 << 10
+		var before, after runtime.MemStats
+		lines := 0
+		read := func() {
+			for d := decoder(); d.Next(); lines++ {
+				look(d)
+			}
+		}
+		read()
+		runtime.ReadMemStats(&before)
+		for i := 0; i < runs; i++ {
+			read()
+		}
+		runtime.ReadMemStats(&after)
+		taken := (after.TotalAlloc - before.TotalAlloc) / runs
+		if lines != runs+1 || taken > most || name == "again" && taken > 0 {
+			t.Errorf("%s: %d lines, and a decoder takes %d bytes", name, lines, taken)
+		}
 	}
 }
 

@@ -20,6 +20,20 @@ func value(t *testing.T, x interface{}) Value {
 	return v
 }
 
+// line makes a line without a time. Its parts are keys, each with a string, and so a tag, or with a Value, and so a field.
+func line(e *Encoder, name string, parts ...interface{}) {
+	e.StartLine(name)
+	for at := 0; at < len(parts); at += 2 {
+		switch part := parts[at+1].(type) {
+		case string:
+			e.AddTag(parts[at].(string), part)
+		case Value:
+			e.AddField(parts[at].(string), part)
+		}
+	}
+	e.EndLine(time.Time{})
+}
+
 func TestEncoder(t *testing.T) {
 	var e Encoder
 	e.StartLine("wea,ther")
@@ -31,9 +45,7 @@ func TestEncoder(t *testing.T) {
 	e.AddField("b", value(t, true))
 	e.AddField("s", value(t, "say \"hi\"\nto\\all"))
 	e.EndLine(time.Unix(0, 7))
-	e.StartLine("m")
-	e.AddField("f", value(t, int64(1)))
-	e.EndLine(time.Time{})
+	line(&e, "m", "f", value(t, int64(1)))
 	wanted := "wea\\,ther,a\\ b=c\\=d,host=h1 i=-5i,u=18446744073709551615u,f=1.5e+300,b=true,s=\"say \\\"hi\\\"\nto\\\\all\" 7\nm f=1i\n"
 	if got := string(e.Bytes()); got != wanted || e.Err() != nil {
 		t.Errorf("%s%v", got, e.Err())
@@ -49,53 +61,31 @@ func TestEncoder(t *testing.T) {
 
 // Lines that are not written, each between two that are: what is wrong with it, and how it is made.
 func TestEncoderRefuses(t *testing.T) {
-	one := IntValue(1)
+	one, nan := IntValue(1), Value{kind: Float, number: math.Float64bits(math.NaN())}
 	for _, row := range []struct {
 		err  error
 		make func(e *Encoder)
 	}{
-		{ErrNotAdmitted, func(e *Encoder) { e.StartLine(""); e.AddField("f", one); e.EndLine(time.Time{}) }},
-		{ErrNotAdmitted, func(e *Encoder) { e.StartLine("m\n"); e.AddField("f", one); e.EndLine(time.Time{}) }},
-		{ErrNotAdmitted, func(e *Encoder) { e.StartLine("#m"); e.AddField("f", one); e.EndLine(time.Time{}) }},
-		{ErrNotAdmitted, func(e *Encoder) { e.StartLine("m"); e.AddTag("k", "v\\"); e.AddField("f", one); e.EndLine(time.Time{}) }},
-		{ErrNotAdmitted, func(e *Encoder) { e.StartLine("m"); e.AddField("a\tb", one); e.EndLine(time.Time{}) }},
-		{ErrNotALine, func(e *Encoder) { e.StartLine("m\xff"); e.AddField("f", one); e.EndLine(time.Time{}) }},
-		{ErrNotALine, func(e *Encoder) { e.StartLine("m"); e.AddField("f", Value{}); e.EndLine(time.Time{}) }},
-		{ErrNotALine, func(e *Encoder) {
-			e.StartLine("m")
-			e.AddField("f", Value{kind: Float, number: math.Float64bits(math.NaN())})
-			e.EndLine(time.Time{})
-		}},
-		{ErrNotALine, func(e *Encoder) { e.StartLine("m"); e.EndLine(time.Time{}) }},
+		{ErrNotAdmitted, func(e *Encoder) { line(e, "", "f", one) }},
+		{ErrNotAdmitted, func(e *Encoder) { line(e, "m\n", "f", one) }},
+		{ErrNotAdmitted, func(e *Encoder) { line(e, "#m", "f", one) }},
+		{ErrNotAdmitted, func(e *Encoder) { line(e, "m", "k", "v\\", "f", one) }},
+		{ErrNotAdmitted, func(e *Encoder) { line(e, "m", "a\tb", one) }},
+		{ErrNotALine, func(e *Encoder) { line(e, "m\xff", "f", one) }},
+		{ErrNotALine, func(e *Encoder) { line(e, "m", "f", Value{}) }},
+		{ErrNotALine, func(e *Encoder) { line(e, "m", "f", nan) }},
+		{ErrNotALine, func(e *Encoder) { line(e, "m") }},
 		{ErrNotALine, func(e *Encoder) { e.StartLine("m"); e.AddTag("k", "v"); e.EndLine(time.Unix(0, 1)) }},
 		{ErrOrder, func(e *Encoder) { e.StartLine("m") }},
-		{ErrOrder, func(e *Encoder) { e.StartLine("m"); e.AddField("f", one); e.AddTag("k", "v"); e.EndLine(time.Time{}) }},
+		{ErrOrder, func(e *Encoder) { line(e, "m", "f", one, "k", "v") }},
 		{ErrOrder, func(e *Encoder) { e.StartLine("m"); e.AddField("f", one) }},
-		{ErrTagOrder, func(e *Encoder) {
-			e.StartLine("m")
-			e.AddTag("b", "v")
-			e.AddTag("a", "v")
-			e.AddField("f", one)
-			e.EndLine(time.Time{})
-		}},
-		{ErrTagOrder, func(e *Encoder) {
-			e.StartLine("m")
-			e.AddTag("a", "v")
-			e.AddTag("a", "w")
-			e.AddField("f", one)
-			e.EndLine(time.Time{})
-		}},
+		{ErrTagOrder, func(e *Encoder) { line(e, "m", "b", "v", "a", "v", "f", one) }},
+		{ErrTagOrder, func(e *Encoder) { line(e, "m", "a", "v", "a", "w", "f", one) }},
 	} {
 		var e Encoder
-		good := func(name string) {
-			e.StartLine(name)
-			e.AddTag("k", "v")
-			e.AddField("f", one)
-			e.EndLine(time.Time{})
-		}
-		good("first")
+		line(&e, "first", "k", "v", "f", one)
 		row.make(&e)
-		good("last")
+		line(&e, "last", "k", "v", "f", one)
 		var why *EncodeError
 		if got := string(e.Bytes()); got != "first,k=v f=1i\nlast,k=v f=1i\n" || !errors.As(e.Err(), &why) || why.Line != 2 || !errors.Is(why, row.err) {
 			t.Errorf("%v: %q, %v", row.err, got, e.Err())
@@ -112,25 +102,17 @@ func TestEncoderRefuses(t *testing.T) {
 	}
 	e.ClearErr()
 	e.SetLax(true)
-	e.StartLine("m")
-	e.AddTag("b", "v")
-	e.AddTag("a", "v")
-	e.AddField("f", one)
-	e.EndLine(time.Time{})
+	line(&e, "m", "b", "v", "a", "v", "f", one)
 	if got := string(e.Bytes()); got != "m,b=v,a=v f=1i\n" || e.Err() != nil {
 		t.Errorf("%q, %v", got, e.Err())
 	}
 	e.SetDialect(NewlineDelimited)
-	e.StartLine("m")
-	e.AddField("s", value(t, "a\nb"))
-	e.EndLine(time.Time{})
+	line(&e, "m", "s", value(t, "a\nb"))
 	if got := string(e.Bytes()); got != "m,b=v,a=v f=1i\n" || !errors.Is(e.Err(), ErrNotAdmitted) {
 		t.Errorf("%q, %v", got, e.Err())
 	}
 	e.SetDialect(9)
-	e.StartLine("m")
-	e.AddField("f", one)
-	e.EndLine(time.Time{})
+	line(&e, "m", "f", one)
 	if got := string(e.Bytes()); got != "m,b=v,a=v f=1i\n" {
 		t.Errorf("%q, %v", got, e.Err())
 	}
@@ -163,16 +145,13 @@ func TestNotALineSaysWhy(t *testing.T) {
 		{Value{kind: String, bytes: []byte("\xff")}, "line 1: lineprotocol: no line: a text is not UTF-8"},
 	} {
 		var e Encoder
-		e.StartLine("m")
-		e.AddField("f g", row.value)
-		e.EndLine(time.Time{})
+		line(&e, "m", "f g", row.value)
 		if err := e.Err(); !errors.Is(err, ErrNotALine) || err.Error() != row.words || len(e.Bytes()) != 0 {
 			t.Errorf("%v, and not %s", err, row.words)
 		}
 	}
 	var e Encoder
-	e.StartLine("m")
-	e.EndLine(time.Time{})
+	line(&e, "m")
 	if err := e.Err(); err == nil || err.Error() != "line 1: lineprotocol: no line: it has no field" {
 		t.Error(err)
 	}
@@ -214,9 +193,7 @@ func TestFirstError(t *testing.T) {
 		}
 	}
 	var e Encoder
-	e.StartLine("m\n")
-	e.AddField("f", IntValue(1))
-	e.EndLine(time.Time{})
+	line(&e, "m\n", "f", IntValue(1))
 	e.EndLine(time.Time{}) // out of its order, after the line
 	if !errors.Is(e.Err(), ErrNotAdmitted) {
 		t.Error(e.Err())
@@ -257,9 +234,7 @@ func TestDialectOfLines(t *testing.T) {
 	var e Encoder
 	for _, dialect := range []Dialect{Crate, NewlineDelimited, Strict} {
 		e.SetDialect(dialect)
-		e.StartLine("m")
-		e.AddField("s", value(t, "a\nb"))
-		e.EndLine(time.Time{})
+		line(&e, "m", "s", value(t, "a\nb"))
 	}
 	var why *EncodeError
 	if got := string(e.Bytes()); got != "m s=\"a\nb\"\nm s=\"a\nb\"\n" || !errors.As(e.Err(), &why) || why.Line != 2 || why.Err != ErrNotAdmitted {
@@ -271,12 +246,10 @@ func TestDialectOfLines(t *testing.T) {
 func TestEncoderHoldsLittle(t *testing.T) {
 	var e Encoder
 	long := value(t, strings.Repeat("x", 10000))
-	for line := 0; line < 3000; line++ {
-		e.StartLine("m")
-		e.AddField("s", long)
-		e.EndLine(time.Time{})
+	for i := 0; i < 3000; i++ {
+		line(&e, "m", "s", long)
 		if cap(e.gathered.texts) > 1<<20 || cap(e.gathered.rows) > 4096 {
-			t.Fatalf("line %d: %d bytes and %d rows are held", line, cap(e.gathered.texts), cap(e.gathered.rows))
+			t.Fatalf("line %d: %d bytes and %d rows are held", i, cap(e.gathered.texts), cap(e.gathered.rows))
 		}
 	}
 	if e.Err() != nil || len(e.Bytes()) != 3000*len("m s=\"\"\n")+3000*10000 {
@@ -298,9 +271,7 @@ func TestTooLongTexts(t *testing.T) {
 		e.AddTagRaw(texts[1], texts[2])
 		e.AddFieldRaw(texts[3], Value{kind: String, bytes: texts[4]})
 		e.EndLine(time.Time{})
-		e.StartLine("n")
-		e.AddField("f", one)
-		e.EndLine(time.Time{})
+		line(&e, "n", "f", one)
 		if got := string(e.Bytes()); got != "n f=1i\n" || !errors.Is(e.Err(), ErrNotALine) || !strings.HasSuffix(e.Err().Error(), "2 GiB or more") {
 			t.Errorf("place %d: %q, %v", place, got, e.Err())
 		}
@@ -381,9 +352,7 @@ func FuzzEncoder(f *testing.F) {
 		e.AddField(field, IntValue(number))
 		e.EndLine(time.Unix(0, number))
 		refused := e.Err() != nil
-		e.StartLine("next")
-		e.AddField("f", IntValue(1))
-		e.EndLine(time.Time{})
+		line(&e, "next", "f", IntValue(1))
 		d := NewDecoderWithBytes(append(e.Bytes(), '\n'))
 		d.SetDialect(Dialect(dialect % 3))
 		if !refused {

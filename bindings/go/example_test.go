@@ -4,6 +4,7 @@ import (
 	"fmt"
 	"io"
 	"strings"
+	"sync"
 	"time"
 
 	"yomskafi.example/lineprotocol/v3"
@@ -43,6 +44,34 @@ func Example() {
 	// cpu,host=a usage=0.5 n=2i
 	// line 2, column 8: No fields were provided: "m note=\"open"
 	// disk free=7u
+}
+
+// [go_again]
+
+var decoders = sync.Pool{New: func() any { return lineprotocol.NewDecoder(nil) }}
+
+// Counts the lines of r that can be read. The memory of a decoder is used again by the next call.
+func countLines(r io.Reader) (lines int, err error) {
+	d := decoders.Get().(*lineprotocol.Decoder)
+	defer decoders.Put(d)
+	defer d.Reset(nil) // lets go of r
+	for d.Reset(r); d.Next(); {
+		if d.Fault() == nil {
+			lines++
+		}
+	}
+	return lines, d.Err()
+}
+
+// [end]
+
+func ExampleDecoder_Reset() {
+	for _, body := range []string{"cpu f=1i\nm 5\nmem f=2i", "disk f=3i\n"} {
+		fmt.Println(countLines(strings.NewReader(body)))
+	}
+	// Output:
+	// 2 <nil>
+	// 1 <nil>
 }
 
 func ExampleDecoder() {

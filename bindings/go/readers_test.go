@@ -249,7 +249,7 @@ func TestFaultsAreKept(t *testing.T) {
 	}
 }
 
-// The buffer of a reader stays as it is while no line is longer than it.
+// The buffer of a reader has 64 KiB at most while no line is longer than it.
 func TestBufferStays(t *testing.T) {
 	r := rand.New(rand.NewSource(4))
 	var text bytes.Buffer
@@ -260,12 +260,12 @@ func TestBufferStays(t *testing.T) {
 	lines := 0
 	for d.Next() {
 		lines++
-		if d.Fault() != nil || len(d.buf) != 64<<10 {
+		if d.Fault() != nil || len(d.buf) > 64<<10 {
 			t.Fatalf("line %d: %d bytes are held, %v", lines, len(d.buf), d.Fault())
 		}
 	}
-	if lines < 400 || d.Err() != nil {
-		t.Errorf("%d lines, %v", lines, d.Err())
+	if lines < 400 || len(d.buf) != 64<<10 || d.Err() != nil {
+		t.Errorf("%d lines, %d bytes are held, %v", lines, len(d.buf), d.Err())
 	}
 }
 

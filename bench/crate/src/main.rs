@@ -1,5 +1,6 @@
 //! Times the Rust crate `influxdb-line-protocol` as `../driver.c` times this library: over files, or without a
-//! file the building of points, in processor time, the median of five runs after a first one, in MB/s.
+//! file the building of points, in processor time, the median of five runs after a first one, in MB/s. `--once FILE..` parses
+//! each file once in the function `counted`, for `checks/instructions.sh`.
 
 use influxdb_line_protocol::{
     parse_lines, split_lines, EscapedStr, FieldValue, LineProtocolBuilder, ParsedLine,
@@ -165,8 +166,21 @@ fn build(count: u64) -> u64 {
     lines.build().len() as u64
 }
 
+#[no_mangle]
+#[inline(never)]
+pub fn counted(text: &str) -> u64 {
+    parse(text)
+}
+
 fn main() {
     let paths: Vec<String> = std::env::args().skip(1).collect();
+    if paths.first().map_or(false, |word| word == "--once") {
+        for path in &paths[1..] {
+            let text = std::fs::read_to_string(path).expect("a file of UTF-8");
+            black_box(parse(black_box(&text)) == counted(black_box(&text)));
+        }
+        return;
+    }
     if paths.is_empty() {
         let written = build(POINTS) as usize;
         run("build", "points", written, || build(black_box(POINTS)));
