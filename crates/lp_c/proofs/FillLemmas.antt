@@ -1,31 +1,21 @@
 -- Copies that are at the front of the room go to the views that wait for them.
-use Rattle.std.proofs.Common.{◌≡◌, ◌∙◌, ℕ, ◌+◌, ◌≤◌, List, [], ◌∷◌, ◌++◌, length, map, take, drop, refl, sym, ap, ap₂}
+use Rattle.std.proofs.Common.{◌≡◌, ◌∙◌, ℕ, ◌+◌, ◌-◌, ◌^◌, ◌<◌, ◌≤◌, List, [], ◌∷◌, length, map, take, drop, refl, sym, ap, ap₂}
 use Rattle.std.proofs.Common.{arith, false, true, inl, inr, length-drop}
-use Rattle.std.specs.Prelude.{if◌then◌else◌, None, Some, Result, Ok, Err}
+use Rattle.std.specs.Prelude.{if◌then◌else◌, None, Some, Result, Ok, Err, min}
 use Rattle.std.specs.List.{sum_by}
-use Rattle.std.proofs.Math.Seq.{take-append_seam}
 use Rattle.std.proofs.lemmas.Bool.{cases_Bool}
-use Rattle.std.proofs.lemmas.List.{drop-map, drop-take, length-map, length-take, take-map, take-take, take_all}
+use Rattle.std.proofs.lemmas.List.{drop-drop, drop-map, drop-take, length-map, length-take, take-map, take-take, take_all}
 use Rattle.std.proofs.lemmas.List.Sums.{sum_by-cons}
 use Rattle.influxdb_line_protocol.specs.format.Lines as format
 use Rattle.influxdb_line_protocol.specs.format.Readings.{Fault, Text}
-use Rattle.lp_c.specs.Crossing.{AnswersItem, ShowsLine, field_shown, tag_shown, text_shown}
-use Rattle.lp_c.specs.Telling.{Lent, Told, Waits, filled_line, filled_own, filled_parts, filled_view, own_parts, part_len, text_copy, view_len, waits_for}
+use Rattle.lp_c.specs.Crossing.{AnswersItem, ShowsLine, copied_text, field_shown, tag_shown, text_shown}
+use Rattle.lp_c.specs.Telling.{PutsCopy, Told, filled_line, filled_own, filled_parts, filled_view, own_parts, part_len, view_filled, view_len, waits_for}
+use Rattle.lp_offsets.proofs.RoomLemmas.{grows_on, shows_on}
+use Rattle.lp_offsets.specs.Rooms.{Grows, Shows, TakesRoom}
 use Rattle.lp_offsets.specs.declared.enums.Answer.{Answer}
 use Rattle.lp_c.specs.declared.views.Line.{Line}
 use Rattle.lp_c.specs.declared.views.Part.{Part}
 use Rattle.lp_c.specs.declared.views.View.{View}
-
--- a view with the length of a copy waits for it
-pub waits_for_copy : (text : Text) (view : View) → text.is_single ≡ false → view.copied ≡ true
-    → length view.text.now ≡ length text.bytes → Waits text_shown view_len filled_view (text_copy text) text view
-waits_for_copy text view copy marked len =
-    let copy_of : List ℕ → Text = λ bytes. record { bytes = bytes; is_single = false } in
-    record {
-      len_is = rw (copy, marked) len;
-      shows = λ rest.
-          rw (copy, marked) (ap copy_of (ap (λ n. take n (text.bytes ++ rest)) len ∙ take-append_seam text.bytes rest));
-    }
 
 -- nothing is put into an empty text
 none_put : (text room : List ℕ) → length text ≡ 0 → take (length text) room ≡ text
@@ -99,11 +89,56 @@ shows_plain read line room parts none shows =
     (ap text_shown (sym (empty_view room line.measurement (omega (arith, none))))) (ap (map tag_shown) (sym same)) (ap (map field_shown) (sym same)) shows
 
 -- a line that was told without a copy is answered
-pub plain_answers : (read : Result format.Line Fault) (old new : Lent) (room : ℕ) → Told read None old new
-    → new.line.tags + new.line.fields ≤ length new.parts → new.line.copied_len ≡ 0
-    → AnswersItem (Some read) room Answer.Line new.line new.parts
-plain_answers (Ok read) old new room told fits none =
-    let waits = told.waits fits (omega (arith, told.counts.copied_len, none)) (omega (arith, told.counts.copied_len, none)) in
-    let nothing : waits_for new.line new.parts ≡ 0 = omega (arith, waits.takes, told.counts.copied_len, none) in
-    (told.counts, shows_plain read new.line new.room new.parts nothing waits.shows)
-plain_answers (Err fault) old new room told fits none = absurd told
+pub plain_answers : (read : Result format.Line Fault) (line : Line) (parts : List Part) (room : List ℕ) (lent : ℕ)
+    → Told read None line parts room → line.tags + line.fields ≤ length parts → line.copied_len ≡ 0
+    → AnswersItem (Some read) lent Answer.Line line parts
+plain_answers (Ok read) line parts room lent told fits none =
+    let waits = told.waits fits (omega (arith, none)) in
+    (told.counts, shows_plain read line room parts (waits.takes ∙ none) waits.shows)
+plain_answers (Err fault) line parts room lent told fits none = absurd told
+
+-- a view that is no copy waits for nothing
+pub puts_none : (view : View) (room : List ℕ) (len : ℕ) → view.copied ≡ false → len < 2 ^ 64
+    → PutsCopy view_filled view_len 0 (text_shown view) room len view room len
+puts_none view room len plain small =
+    let nothing : view_len view ≡ 0 = rw plain refl in
+    record {
+      grows = record { size = refl; more = omega arith; kept = refl };
+      counted = omega (arith, small);
+      shows = λ enough r same. ap text_shown (empty_view (drop len r) view nothing);
+      takes = λ enough. omega (arith, nothing);
+    }
+
+-- a view with the length of a copy waits for it
+pub puts_view : (text : Text) (view : View) (old new : List ℕ) (len all : ℕ) → text.is_single ≡ false → view.copied ≡ true
+    → length view.text.now ≡ length text.bytes → Grows old len new all → all ≡ min (len + length text.bytes) (2 ^ 64 - 1)
+    → Shows (λ r. take (length text.bytes) (drop len r)) new all text.bytes → TakesRoom new len all (length text.bytes)
+    → PutsCopy view_filled view_len (copied_text text) text old len view new all
+puts_view text view old new len all copy marked size grows counted shows takes =
+    let copy_of : List ℕ → Text = λ bytes. record { bytes = bytes; is_single = false } in
+    record {
+      grows = grows;
+      counted = rw copy counted;
+      shows = λ enough r same. rw (copy, marked) (ap copy_of (ap (λ n. take n (drop len r)) size ∙ shows enough r same));
+      takes = λ enough. rw marked (omega (arith, takes enough, size));
+    }
+
+-- the copies of a part are those of its key and then of its text
+pub puts_part : {B : Type 0} (filled : List ℕ → ℕ → Part → B) (make : Text → Text → B) (part : Part) (old mid new : List ℕ)
+    (len m all a b : ℕ) (key text : Text)
+    → ((r : List ℕ) → filled r len part ≡ make (text_shown (filled_view (drop len r) part.key))
+    (text_shown (filled_view (drop (view_len part.key) (drop len r)) part.text)))
+    → PutsCopy view_filled view_len a key old len part.key mid m → PutsCopy view_filled view_len b text mid m part.text new all
+    → PutsCopy filled part_len (a + b) (make key text) old len part new all
+puts_part filled make part old mid new len m all a b key text is first next =
+    let then_fits : all ≤ length new → m ≤ length mid = λ enough. omega (arith, enough, next.grows.more, next.grows.size) in
+    record {
+      grows = grows_on _ _ _ _ _ _ first.grows next.grows;
+      counted = omega (arith, first.counted, next.counted);
+      shows = λ enough r same.
+          let after : drop (view_len part.key) (drop len r) ≡ drop m r =
+          drop-drop (view_len part.key) len r ∙ ap (λ n. drop n r) (sym (first.takes (then_fits enough))) in
+          is r ∙ ap₂ make (shows_on (λ r. view_filled r len part.key) _ _ _ _ _ next.grows first.shows enough r same)
+          (ap (λ r. text_shown (filled_view r part.text)) after ∙ next.shows enough r same);
+      takes = λ enough. omega (arith, first.takes (then_fits enough), next.takes enough);
+    }

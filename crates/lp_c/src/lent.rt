@@ -1,15 +1,14 @@
 //! Texts, tags, fields and faults are put into what the caller lends.
 
-ghost use Rattle.std.specs.Prelude.{◌≡◌, ◌≢◌, ◌+◌, ◌≤◌, ◌-◌, ◌^◌, [], drop, false, length, map, true};
-ghost use Rattle.std.specs.Prelude.{Some};
+ghost use Rattle.std.specs.Prelude.{◌≡◌, ◌≢◌, ◌+◌, ◌≤◌, ◌-◌, ◌^◌, [], Some, drop, false, length, map, min, take, true};
 ghost use Rattle.std.specs.List.{sum_by};
 ghost use Rattle.influxdb_line_protocol.specs.code.Events.{spelled_field, spelled_tag};
 ghost use Rattle.influxdb_line_protocol.specs.code.SpelledParts.{spelled_fault, spelled_text};
 ghost use Rattle.influxdb_line_protocol.specs.format.Lines as format;
-ghost use Rattle.lp_c.specs.Crossing.{AnswersFault, ShowsLine, field_shown, tag_shown, taken_by, text_shown};
+ghost use Rattle.lp_c.specs.Crossing.{AnswersFault, ShowsLine, copied_field, copied_tag, copied_text, field_shown, tag_shown, taken_by, text_shown};
+ghost use Rattle.lp_c.specs.Telling.{PutsCopy, field_filled, filled_line, filled_own, filled_part, filled_parts, filled_view, part_len, tag_filled, view_filled, view_len, waits_for};
 ghost use Rattle.lp_offsets.specs.Numbers.{answer_number, fault_seen, kind_number};
-ghost use Rattle.lp_c.specs.Telling.{PutsCopy, Waits, field_copies, tag_copies, text_copy};
-ghost use Rattle.lp_c.specs.Telling.{filled_line, filled_own, filled_part, filled_parts, filled_view, part_len, view_len, waits_for};
+ghost use Rattle.lp_offsets.specs.Rooms.{Grows, Shows, TakesRoom};
 
 use crate::views::{Line, Part, Room, View};
 use influxdb_line_protocol::{Spelled, SpelledFault, SpelledValue};
@@ -33,55 +32,55 @@ fn put<'a>(room: &mut Room<'a>, text: &[u8]) -> &'a [u8]
     front
 }
 
-// Puts the logical text of a spelling into the room after `len` bytes, if it fits, and says how many bytes there are with it.
+// How many bytes of room there are with the copy of a text after so many others. A part of the input takes none.
 #[inline(always)]
-fn put_copy(room: &mut Room<'_>, len: usize, spelled: Spelled<'_>) -> usize
-    ensures { PutsCopy room.old.bytes.now len (spelled_text spelled.entry).bytes room.new.bytes.now result }
-{
-    let all = len.saturating_add(spelled.len());
-    if all <= room.bytes.len() {
-        spelled.put(&mut room.bytes[len..]);
-    }
-    all
-}
-
-// The same of a text that takes no room if it is a part of the input.
-#[inline(always)]
-pub fn put_text(room: &mut Room<'_>, len: usize, text: Spelled<'_>) -> usize
-    ensures { PutsCopy room.old.bytes.now len (text_copy (spelled_text text.entry)) room.new.bytes.now result }
+fn count_text(len: usize, text: Spelled<'_>) -> usize
+    ensures { result ≡ min (len + copied_text (spelled_text text.entry)) (2 ^ 64 - 1) }
 {
     match shared(text) {
         Some(_) => len,
-        None => put_copy(room, len, text),
+        None => len.saturating_add(text.len()),
     }
 }
 
-// The same of the texts of a tag.
+// The same with the copies of a tag, for which there is no place.
 #[cold]
 #[inline(never)]
-pub fn put_tag(room: &mut Room<'_>, len: usize, key: Spelled<'_>, value: Spelled<'_>) -> usize
-    ensures { PutsCopy room.old.bytes.now len (tag_copies (spelled_tag (key.entry, value.entry))) room.new.bytes.now result }
+pub fn count_tag(len: usize, key: Spelled<'_>, value: Spelled<'_>) -> usize
+    ensures { result ≡ min (len + copied_tag (spelled_tag (key.entry, value.entry))) (2 ^ 64 - 1) }
 {
-    let len = put_text(room, len, key);
-    put_text(room, len, value)
+    count_text(count_text(len, key), value)
 }
 
-// The same of the texts of a field.
+// The same with the copies of a field.
 #[cold]
 #[inline(never)]
-pub fn put_field(
-    room: &mut Room<'_>,
-    len: usize,
-    key: Spelled<'_>,
-    value: SpelledValue<'_>,
-) -> usize
-    ensures { PutsCopy room.old.bytes.now len (field_copies (spelled_field (key.entry, value.entry))) room.new.bytes.now result }
+pub fn count_field(len: usize, key: Spelled<'_>, value: SpelledValue<'_>) -> usize
+    ensures { result ≡ min (len + copied_field (spelled_field (key.entry, value.entry))) (2 ^ 64 - 1) }
 {
-    let len = put_text(room, len, key);
+    let len = count_text(len, key);
     match value {
-        SpelledValue::String(text) => put_text(room, len, text),
+        SpelledValue::String(text) => count_text(len, text),
         _ => len,
     }
+}
+
+// Puts the logical text of a spelling into the room after `len` bytes, if it fits, and says how many bytes there are with it.
+#[inline(always)]
+fn put_copy(room: &mut Room<'_>, len: usize, spelled: Spelled<'_>) -> usize
+    ensures grows { Grows room.old.bytes.now len room.new.bytes.now result }
+    ensures counted { result ≡ min (len + length (spelled_text spelled.entry).bytes) (2 ^ 64 - 1) }
+    ensures shows { Shows (λ r. take (length (spelled_text spelled.entry).bytes) (drop len r)) room.new.bytes.now result
+        (spelled_text spelled.entry).bytes }
+    ensures takes { TakesRoom room.new.bytes.now len result (length (spelled_text spelled.entry).bytes) }
+{
+    let more = spelled.len();
+    let all = len.saturating_add(more);
+    if room.bytes.len() < all {
+        return all;
+    }
+    spelled.put(&mut room.bytes[len..]);
+    all
 }
 
 // Shows a text that holds a backslash: a part of the input as it is; of a copy the length, until it is handed out of the room, into
@@ -94,8 +93,8 @@ fn show_escaped<'a>(
     len: usize,
     text: Spelled<'a>,
 ) -> usize
-    ensures waits { Waits text_shown view_len filled_view (text_copy (spelled_text text.entry)) (spelled_text text.entry) view.new }
-    ensures copy { PutsCopy room.old.bytes.now len (text_copy (spelled_text text.entry)) room.new.bytes.now result }
+    ensures { PutsCopy view_filled view_len (copied_text (spelled_text text.entry)) (spelled_text text.entry) room.old.bytes.now len view.new
+        room.new.bytes.now result }
 {
     if let Some(shared) = shared(text) {
         view.text = shared.as_bytes();
@@ -115,8 +114,8 @@ pub fn show_text<'a>(
     len: usize,
     text: Spelled<'a>,
 ) -> usize
-    ensures waits { Waits text_shown view_len filled_view (text_copy (spelled_text text.entry)) (spelled_text text.entry) view.new }
-    ensures copy { PutsCopy room.old.bytes.now len (text_copy (spelled_text text.entry)) room.new.bytes.now result }
+    ensures { PutsCopy view_filled view_len (copied_text (spelled_text text.entry)) (spelled_text text.entry) room.old.bytes.now len view.new
+        room.new.bytes.now result }
 {
     view.text = text.spelled().as_bytes();
     view.copied = false;
@@ -168,9 +167,8 @@ pub fn show_tag<'a>(
     key: Spelled<'a>,
     value: Spelled<'a>,
 ) -> usize
-    ensures waits { Waits tag_shown part_len filled_part (tag_copies (spelled_tag (key.entry, value.entry)))
-        (Some (spelled_tag (key.entry, value.entry))) part.new }
-    ensures copies { PutsCopy room.old.bytes.now len (tag_copies (spelled_tag (key.entry, value.entry))) room.new.bytes.now result }
+    ensures { PutsCopy tag_filled part_len (copied_tag (spelled_tag (key.entry, value.entry))) (Some (spelled_tag (key.entry, value.entry)))
+        room.old.bytes.now len part.new room.new.bytes.now result }
 {
     let len = show_text(&mut part.key, room, len, key);
     show_kind(part, Kind::Tag, 0, 0, false);
@@ -186,9 +184,8 @@ pub fn show_field<'a>(
     key: Spelled<'a>,
     value: SpelledValue<'a>,
 ) -> usize
-    ensures waits { Waits field_shown part_len filled_part (field_copies (spelled_field (key.entry, value.entry)))
-        (Some (spelled_field (key.entry, value.entry))) part.new }
-    ensures copies { PutsCopy room.old.bytes.now len (field_copies (spelled_field (key.entry, value.entry))) room.new.bytes.now result }
+    ensures { PutsCopy field_filled part_len (copied_field (spelled_field (key.entry, value.entry)))
+        (Some (spelled_field (key.entry, value.entry))) room.old.bytes.now len part.new room.new.bytes.now result }
 {
     let len = show_text(&mut part.key, room, len, key);
     match value {

@@ -3,14 +3,13 @@
 //! What does not fit is counted, so that the caller is told how much the whole line takes.
 
 ghost use Rattle.std.specs.Prelude.{◌≡◌, ◌<◌, ◌≤◌, ◌+◌, ◌^◌, None, Some, length};
-ghost use Rattle.influxdb_line_protocol.specs.code.Events.{spelled_field, spelled_tag};
 ghost use Rattle.influxdb_line_protocol.specs.code.Rules.{rules_of};
 ghost use Rattle.influxdb_line_protocol.specs.format.Lines.{answer};
 ghost use Rattle.lp_c.specs.Crossing.{AnswersItem, taken_by};
 ghost use Rattle.lp_offsets.specs.Numbers.{answer_number};
-ghost use Rattle.lp_c.specs.Telling.{TellsField, TellsTag, Told, lent, lent_to};
+ghost use Rattle.lp_c.specs.Telling.{Told, told_line};
 
-use crate::lent::{fill_line, put_fault, put_field, put_tag, show_field, show_tag, show_text};
+use crate::lent::{count_field, count_tag, fill_line, put_fault, show_field, show_tag, show_text};
 use crate::views::{Line, Part, Room};
 use influxdb_line_protocol::{Dialect, Spelled, SpelledFault, SpelledValue};
 use lp_events::{PlacedSink, read_placed_events};
@@ -42,7 +41,7 @@ impl<'l, 'a> PlacedSink<'a> for Telling<'l, 'a> {
     fn measurement(&mut self, name: Spelled<'a>, left: usize) {
         self.tags = 0;
         self.fields = 0;
-        self.copied_len = show_text(&mut self.line.measurement, self.room, 0, name);
+        self.copied_len = show_text(&mut self.line.measurement, self.room, self.copied_len, name);
     }
 
     #[inline(always)]
@@ -52,7 +51,7 @@ impl<'l, 'a> PlacedSink<'a> for Telling<'l, 'a> {
         self.copied_len = if at < self.parts.len() {
             show_tag(&mut self.parts[at], self.room, self.copied_len, key, value)
         } else {
-            put_tag(self.room, self.copied_len, key, value)
+            count_tag(self.copied_len, key, value)
         };
     }
 
@@ -63,7 +62,7 @@ impl<'l, 'a> PlacedSink<'a> for Telling<'l, 'a> {
         self.copied_len = if at < self.parts.len() {
             show_field(&mut self.parts[at], self.room, self.copied_len, key, value)
         } else {
-            put_field(self.room, self.copied_len, key, value)
+            count_field(self.copied_len, key, value)
         };
     }
 
@@ -88,13 +87,14 @@ impl<'l, 'a> PlacedSink<'a> for Telling<'l, 'a> {
 #[inline(always)]
 fn tell_line<'l, 'a>(dialect: Dialect, telling: &mut Telling<'l, 'a>)
     requires short { length telling.old.text.now < 2 ^ 63 }
-    requires no_fault { telling.old.fault ≡ None }
+    requires none { (telling.old.fault ≡ None) × (telling.old.copied_len ≡ 0) }
     ensures line { telling.new.line.ghost_name ≡ telling.old.line.ghost_name }
     ensures parts { telling.new.parts.ghost_name ≡ telling.old.parts.ghost_name }
     ensures room { telling.new.room.ghost_name ≡ telling.old.room.ghost_name }
     ensures size { length telling.new.parts.now ≡ length telling.old.parts.now }
     ensures room_size { length telling.new.room.now.bytes.now ≡ length telling.old.room.now.bytes.now }
-    ensures told { Told (answer (rules_of dialect) telling.old.text.now) telling.new.fault (lent_to telling.old) (lent_to telling.new) }
+    ensures told { Told (answer (rules_of dialect) telling.old.text.now) telling.new.fault (told_line telling.new) telling.new.parts.now
+        telling.new.room.now.bytes.now }
 {
     let _stop = read_placed_events(dialect, telling.text, telling);
 }
@@ -108,7 +108,6 @@ fn give_back(line: &mut Line<'_>, parts: &mut [Part<'_>], room: &mut Room<'_>)
 {}
 
 // Puts out what the trimmed text `text` says, as far as it fits, and gives the fault that was told.
-#[tactic(auto, using(crate::proofs::ToldLemmas::told_in_room))]
 #[inline(always)]
 fn put_told<'a>(
     dialect: Dialect,
@@ -118,7 +117,7 @@ fn put_told<'a>(
     parts: &mut [Part<'a>],
 ) -> Option<SpelledFault<'a>>
     requires { length text.now < 2 ^ 63 }
-    ensures told { Told (answer (rules_of dialect) text.now) result (lent line.old parts.old room.old) (lent line.new parts.new room.new) }
+    ensures told { Told (answer (rules_of dialect) text.now) result line.new parts.new room.new.bytes.now }
     ensures room { length room.new.bytes.now ≡ length room.old.bytes.now }
 {
     let mut telling = Telling {

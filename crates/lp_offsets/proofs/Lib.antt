@@ -7,3 +7,4 @@ pub mod RowKeyLemmas
 pub mod RowLemmas
 pub mod RowsLemmas
 pub mod RowsTold
+pub mod SinkLemmas

@@ -6,3 +6,4 @@ pub mod Placing
 pub mod Portions
 pub mod Rooms
 pub mod RowKeys
+pub mod Sinks

@@ -1,42 +1,49 @@
 -- What the sink of the parts of a line puts down of each, by offsets.
-use Rattle.std.specs.Prelude.{◌≡◌, ◌<◌, ◌≤◌, ◌+◌, ◌^◌, ℕ, List, Option, Some, None, Result, Ok, Err, drop, length, map, slice_set, take}
+use Rattle.std.specs.Prelude.{◌≡◌, ◌<◌, ◌≤◌, ◌+◌, ◌^◌, ℕ, List, Option, Some, Result, drop, length, map, take}
 use Rattle.std.specs.List.{sum_by}
 use Rattle.influxdb_line_protocol.specs.code.Events.{Event, ended, failed, named, tagged, valued}
-use Rattle.influxdb_line_protocol.specs.code.SpelledParts.{spelled_fault}
 use Rattle.influxdb_line_protocol.specs.format.Lines as format
 use Rattle.influxdb_line_protocol.specs.format.Lines.{logical_field, logical_tag, some_tags}
-use Rattle.influxdb_line_protocol.specs.format.Readings.{Fault, Text}
+use Rattle.influxdb_line_protocol.specs.format.Points.{Pair}
+use Rattle.influxdb_line_protocol.specs.format.Readings.{Fault}
+use Rattle.influxdb_line_protocol.specs.format.Values.{Value}
 use Rattle.influxdb_line_protocol.specs.types.SpelledFault.{SpelledFault}
 use Rattle.lp_lines.specs.code.Filling.{KeepsFault}
 use Rattle.lp_offsets.specs.Offsets.{bytes_at, field_at, field_len, part_room, tag_at, tag_len, text_room}
-use Rattle.lp_offsets.specs.Rooms.{Grows, Shows, TakesRoom}
+use Rattle.lp_offsets.specs.Rooms.{Shows, TakesRoom}
+use Rattle.lp_offsets.specs.Sinks.{Keeps, Lent, TellsAnswer, TellsEnd, TellsName, TellsPart}
 use Rattle.lp_offsets.specs.declared.placed.OffsetPart.{OffsetPart}
+use Rattle.lp_offsets.specs.declared.placed.Placed.{Placed}
 use Rattle.lp_offsets.specs.declared.placing.Placing.{Placing}
 use Rattle.lp_offsets.specs.declared.placing.Told.{Told}
 
--- the place of the next part
-abbrev pub next_place : Placing → ℕ
-next_place s = s.tags + s.fields
+-- what is lent to a sink, and what it counted
+abbrev pub lent_of : Placing → Lent Placed OffsetPart
+lent_of s = record {
+  text = s.line.text.now;
+  name = s.name;
+  parts = s.parts.now;
+  room = s.room.now;
+  used = s.used;
+  tags = s.tags;
+  fields = s.fields;
+}
 
--- a part that shows this is at the next place
-pub record PutsPart {A B : Type 0} (shown : List ℕ → List ℕ → OffsetPart → Option B) (logical : A → B) (old : Placing) (x : A)
-    (new : Placing) : Type 0 where
-  pub part : OffsetPart
-  pub put : new.parts.now ≡ slice_set old.parts.now (next_place old) part
-  pub shows : Shows (λ r. shown new.line.text.now r part) new.room.now new.used (Some (logical x))
-  pub takes : TakesRoom new.room.now old.used new.used (part_room part)
+-- the measurement that a place shows
+abbrev pub name_placed : List ℕ → List ℕ → ℕ → Placed → List ℕ
+name_placed text room at name = bytes_at text room name.copied name.span
 
--- a part more is counted; it is put, if there is a place for it
-pub record TellsPart {A B : Type 0} (shown : List ℕ → List ℕ → OffsetPart → Option B) (logical : A → B)
-    (count others : Placing → ℕ) (old : Placing) (x : A) (new : Placing) : Type 0 where
-  pub counted : count old + 1 < 2 ^ 64 → count new ≡ count old + 1
-  pub kept : others new ≡ others old
-  pub name : new.name ≡ old.name
-  pub puts : next_place old < length old.parts.now → PutsPart shown logical old x new
+-- the tag that a part shows, wherever its copies lie
+abbrev pub tag_placed : List ℕ → List ℕ → ℕ → OffsetPart → Option (Pair (List ℕ) (List ℕ))
+tag_placed text room at part = tag_at text room part
 
--- the measurement that a sink shows is this
-abbrev pub ShowsName : Text → Placing → Type 0
-ShowsName name s = Shows (λ r. bytes_at s.line.text.now r s.name.copied s.name.span) s.room.now s.used name.bytes
+-- the field that a part shows, wherever its copies lie
+abbrev pub field_placed : List ℕ → List ℕ → ℕ → OffsetPart → Option (Pair (List ℕ) (Value (List ℕ)))
+field_placed text room at part = field_at text room part
+
+-- how many bytes of the room a measurement takes
+abbrev pub name_room : Placed → ℕ
+name_room name = text_room name.copied name.span
 
 -- how many bytes the texts have that an event tells
 abbrev pub event_len : Event → ℕ
@@ -48,23 +55,19 @@ event_len (failed fault) = 0
 
 -- what the sink does with an event
 abbrev pub Does : Placing → Event → Placing → Type 0
-Does old (named name) new =
-    (new.tags ≡ 0) × (new.fields ≡ 0) × ShowsName name new
-    × TakesRoom new.room.now old.used new.used (text_room new.name.copied new.name.span)
-Does old (tagged tag) new = TellsPart tag_at logical_tag (λ s. s.tags) (λ s. s.fields) old tag new
-Does old (valued field) new = TellsPart field_at logical_field (λ s. s.fields) (λ s. s.tags) old field new
-Does old (ended series timestamp) new =
-    (new.timestamp ≡ timestamp) × (new.tags ≡ old.tags) × (new.fields ≡ old.fields) × (new.name ≡ old.name)
-    × (new.parts.now ≡ old.parts.now) × (new.used ≡ old.used)
+Does old (named name) new = TellsName name_placed name_room name.bytes (lent_of old) (lent_of new)
+Does old (tagged tag) new =
+    TellsPart tag_placed part_room (λ s. s.tags) (λ s. s.fields) (Some (logical_tag tag)) (lent_of old) (lent_of new)
+Does old (valued field) new =
+    TellsPart field_placed part_room (λ s. s.fields) (λ s. s.tags) (Some (logical_field field)) (lent_of old) (lent_of new)
+Does old (ended series timestamp) new = (new.timestamp ≡ timestamp) × TellsEnd (lent_of old) (lent_of new)
 Does old (failed fault) new = Unit {0}
 
 -- the sink takes an event: it puts it into the same memory, and keeps a fault
 pub record Places (old : Placing) (event : Event) (new : Placing) : Type 0 where
-  pub text : new.line.text.now ≡ old.line.text.now
   pub parts : new.parts.ghost_name ≡ old.parts.ghost_name
   pub room : new.room.ghost_name ≡ old.room.ghost_name
-  pub size : length new.parts.now ≡ length old.parts.now
-  pub grows : Grows old.room.now old.used new.room.now new.used
+  pub keeps : Keeps (lent_of old) (lent_of new)
   pub bound : length old.room.now < 2 ^ 32 → new.used ≤ old.used + event_len event
   pub fault : KeepsFault old.fault event new.fault
   pub does : Does old event new
@@ -99,6 +102,4 @@ pub record ToldRead (read : format.Line) (text : List ℕ) (parts : List OffsetP
 
 -- what the format answers for a line was told: the line, or the fault that is kept
 abbrev pub ToldAnswer : Result format.Line Fault → Option SpelledFault → List ℕ → List OffsetPart → List ℕ → ℕ → Told → Type 0
-ToldAnswer (Ok read) None text parts room used told = ToldRead read text parts room used told
-ToldAnswer (Err fault) (Some kept) text parts room used told = spelled_fault kept ≡ fault
-ToldAnswer answer kept text parts room used told = ⊥
+ToldAnswer answer kept text parts room used told = TellsAnswer answer kept (λ read. ToldRead read text parts room used told)

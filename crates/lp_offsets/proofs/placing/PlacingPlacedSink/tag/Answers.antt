@@ -6,11 +6,9 @@ pub returns-then-place-self-clause-takes : goal.returns-then-place-self-clause-t
 returns-then-place-self-clause-takes c =
     let put = c.place_tag-used in
     record {
-      text = refl;
       parts = refl;
       room = refl;
-      size = search rules;
-      grows = put.ensures.grows;
+      keeps = record { text = refl; size = search rules; grows = put.ensures.grows };
       bound = put.ensures.bound;
       fault = refl;
       does = record {
