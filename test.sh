@@ -67,7 +67,7 @@ check_archives() {
     part checks/refusals.sh checks/refusals.sh
     part checks/events.sh checks/events.sh
     part checks/sizes.sh checks/sizes.sh
-    part checks/portable.sh checks/portable.sh "$made/liblp_c.a"
+    part checks/portable.sh checks/portable.sh "$made/liblp_c.a" 100000 1 "$made/page/influxdb-line-protocol-js"
     part checks/influx.sh checks/influx.sh --fast
     part checks/differential.sh checks/differential.sh
     part bindings/c bindings/c/test.sh "$made/liblp_c.a"

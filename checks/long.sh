@@ -6,7 +6,8 @@
 #                               Dask; the tests of the Python package under the address sanitizer; the fuzzer for so many seconds, 600
 #                               if none are given; the Go module beside ParsePoints, by Go's fuzzer for a minute; what ParsePoints
 #                               reads beside its definition, over millions of texts; a million generated texts, compared with the
-#                               Rust crate; and all rows of tables/bugs.tsv
+#                               Rust crate; a million hostile texts, whose verdicts the library and JavaScript tell as the oracle
+#                               does; and all rows of tables/bugs.tsv
 set -eu
 here=$(cd "$(dirname "$0")" && pwd)
 "$here/dist.sh"
@@ -23,4 +24,8 @@ WATCHED=1 "$here/../bindings/python/test.sh"
 "$here/go_beside.sh" --fuzz 60
 "$here/influx.sh"
 "$here/differential.sh" 1000000
+package=$(mktemp -d)
+trap 'rm -rf "$package"' EXIT
+"$here/../packaging/page/build.sh" "$package"
+"$here/portable.sh" "$here/../crates/lp_c/out/liblp_c.a" 1000000 "$(date +%Y%m%d)" "$package/influxdb-line-protocol-js"
 "$here/bugs.py" --all

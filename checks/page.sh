@@ -1,11 +1,12 @@
 #!/usr/bin/env bash
 # Tests the package for JavaScript in Node, and the page in Chromium: the table of answers in both, also as the cards show it; the text of each
 # card of the examples; faults and their places, beside those of lp_relay, if that is built; the items of random texts in parts, with limits,
-# beside a model; each control, by clicks and by the keyboard alone; 10 MB of pasted text; what is portable, beside the rows and the hostile
-# texts of checks/portable.py; and that the console says nothing, and nothing is fetched.
+# beside a model; each control, by clicks and by the keyboard alone; 10 MB of pasted text; and that the console says nothing, and nothing is
+# fetched. What is portable is compared by checks/portable.sh.
 #
 #     checks/page.sh [FOLDER [PICTURES]]
 #     checks/page.sh --can-run              status 0 if Node can run the module, and nothing else
+#     checks/page.sh --node WORDS..         runs Node so that it can run the module
 #
 # FOLDER is one that packaging/page/build.sh made; without it one is made. PICTURES is a folder for pictures of each example at two widths, light
 # and dark; without it they are thrown away. LP_RELAY names a built lp_relay; without it that of this repository is taken.
@@ -18,6 +19,9 @@ if [ "${1-}" = --can-run ]; then
     [ "$node" -ge 20 ]
     exit
 fi
+flag=--experimental-wasm-memory64
+[ "$node" -lt 24 ] || flag=--no-warnings
+[ "${1-}" != --node ] || exec node "$flag" "${@:2}"
 if [ "$node" -lt 20 ]; then
     left_out checks/page.sh "there is no Node 20 or later"
     exit 0
@@ -27,8 +31,6 @@ trap 'rm -rf "$work"' EXIT
 folder=${1-$work/made} pictures=${2-$work/pictures}
 [ $# != 0 ] || "$top/packaging/page/build.sh" "$folder"
 mkdir -p "$pictures"
-flag=--experimental-wasm-memory64
-[ "$node" -lt 24 ] || flag=--no-warnings
 package=$(realpath "$folder")/influxdb-line-protocol-js table=$top/checks/tables/answers.tsv
 size=$(stat -c %s "$package/lp_page.wasm")
 if [ "$size" -gt 150000 ]; then
@@ -54,16 +56,6 @@ corpus=()
 if python3 "$top/bench/corpora.py" --seed page --size 8000000 --out "$work" telegraf >/dev/null 2>&1; then
     corpus=("$work/telegraf.lp")
     echo "page: Node: a worker makes objects of $(node "$flag" "$here/page/speed.mjs" "$package" "${corpus[0]}")"
-fi
-if python3 -c 'import sys; sys.exit(sys.version_info < (3, 10))' 2>/dev/null; then
-    python3 -B "$here/portable.py" --rows >"$work/texts"
-    python3 -B "$here/portable.py" --random 64 3000 >>"$work/texts"
-    python3 -B "$here/portable.py" <"$work/texts" >"$work/wanted"
-    node "$flag" "$here/page/in_node.mjs" "$package" --bits <"$work/texts" >"$work/got"
-    cmp "$work/got" "$work/wanted"
-    echo "page: what is portable of $(wc -l <"$work/texts") texts is told as checks/portable.py tells it"
-else
-    left_out "what is portable, by checks/page.sh" "there is no Python 3.10 or later"
 fi
 chromium=$(command -v chromium || command -v chromium-browser || command -v google-chrome) || chromium=
 if [ -n "$chromium" ]; then

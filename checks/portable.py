@@ -420,11 +420,13 @@ def large(rng):
     """A line near a border of a length or of a count."""
     size, count = rng.choice(SIZES) + rng.randrange(-1, 2), rng.choice(COUNTS)
     many = b"".join(b",t%04d=v" % place for place in range(count))
-    labels = b",a=" + b"v" * 16384 + b",b=" + b"v" * (15607 + rng.randrange(-2, 3))
+    # A field key with escapes is shorter than it is spelled: some clauses count the former, and some the latter.
+    key = b" " + rng.choice([b"f", b"\\ f", b"\\,\\=f"])
+    labels = b",a=" + b"v" * 16384 + b",b=" + b"v" * (15607 + rng.randrange(-6, 3))
     return rng.choice([
-        b"m" * size + b" f=1", b"m,t=" + b"v" * size + b" f=1", b"m," + b"k" * size + b"=v f=1", b"m " + b"f" * size + b"=1",
+        b"m" * size + b" f=1", b"m,t=" + b"v" * size + key + b"=1", b"m," + b"k" * size + b"=v f=1", b"m " + b"f" * size + b"=1",
         b"m s=\"" + b"x" * size + b"\"", b"m," + b"k\\=" * (size // 3) + b"=v f=1", b"m,t=" + b"\\ " * (size // 2) + b" f=1",
-        b"m" + many + b" f=1", b"m" + many + b" f=1,g=2", b"m,a=1" + many + b" f=1", b"m" + labels + b" f=1", b"m" + labels + b" f\1=1,g=2",
+        b"m" + many + b" f=1", b"m" + many + b" f=1,g=2", b"m,a=1" + many + b" f=1", b"m" + labels + key + b"=1", b"m" + labels + b" f\1=1,g=2",
     ])
 
 

@@ -630,7 +630,7 @@ export class LineProtocol {
         return { item, out: this.#again(item, number), key: seriesKey(item), clauses: this.brokenClauses(text) };
     }
 
-    /** The names of the clauses of what is portable that a line breaks. Not proved: it is compared with rows. */
+    /** The names of the clauses of what is portable that a line breaks. Not proved: it is compared with the proved verdicts of the library. */
     brokenClauses(text, limits = {}) {
         return brokenClauses(text, limits, bytes => this.#strictLine(bytes));
     }
@@ -846,10 +846,6 @@ export const CLAUSES = [
     ["TimeNotKept", VICTORIA, "the timestamp is before or after what is kept"],
 ].map(([name, servers, means]) => ({ name, ...servers, means }));
 
-const SYSTEM_MEASUREMENTS = ["_fieldKeys", "_measurements", "_name", "_series", "_tagKey", "_tagKeys", "_tags"];
-const SYSTEM_FIELDS = ["_name", "_tagKey", "_tagValue", "_fieldKey", "_seriesKey"];
-// So many tags make InfluxDB panic. A series with more is too long.
-const PANICS = [100, 200, 400, 800, 1600, 3200, 6400, 12800];
 // In a text of bytes each byte is one character.
 const byteDecoder = new TextDecoder("latin1");
 
@@ -928,9 +924,9 @@ function brokenClauses(source, limits, strictLine) {
         RoundedFloat: literals.some(literal => /e/i.test(literal) || literal.length > 310),
         LeadingNul: fieldKeys[0].startsWith("\0"),
         TimeOutOfRange: isOutside(2n - 2n ** 63n, most - 1n),
-        TagCount: PANICS.includes(keys.length),
+        TagCount: [100, 200, 400, 800, 1600, 3200, 6400, 12800].includes(keys.length),
         TimeName: keys.includes("time") || fields.includes("time"),
-        SystemName: SYSTEM_MEASUREMENTS.includes(logicalMeasurement) || fields.some(name => SYSTEM_FIELDS.includes(name)),
+        SystemName: /^_(fieldKeys|measurements|name|series|tagKeys?|tags)$/.test(logicalMeasurement) || fields.some(name => /^_(name|tagKey|tagValue|fieldKey|seriesKey)$/.test(name)),
         RepeatedField: hasRepeats(fields),
         KeySeparator: series.includes("#!~"),
         ControlByte: holdsControl(logicalMeasurement) || fields.some(holdsControl),

@@ -5,7 +5,7 @@
  *
  * FOLDER has the package, with its module. */
 import { spawnSync } from "node:child_process";
-import { readFileSync } from "node:fs";
+import { readFileSync, writeFileSync } from "node:fs";
 import { pathToFileURL } from "node:url";
 import { inspect } from "node:util";
 import { answered, countsOf, rowsOf } from "./answers.mjs";
@@ -32,10 +32,9 @@ function throws(call, kind, message, of) {
 }
 
 if (what === "--bits") {
-    for (const line of readFileSync(0, "latin1").split("\n").slice(0, -1)) {
-        const names = brokenClauses(Uint8Array.from(Buffer.from(line, "hex")));
-        console.log(String(names.reduce((bits, name) => bits | (1n << BigInt(CLAUSES.findIndex(clause => clause.name === name))), 0n)));
-    }
+    const bits = new Map(CLAUSES.map(({ name }, number) => [name, 1n << BigInt(number)]));
+    const told = line => `${brokenClauses(Buffer.from(line, "hex")).reduce((sum, name) => sum + bits.get(name), 0n)}\n`;
+    writeFileSync(1, readFileSync(0, "latin1").split("\n").slice(0, -1).map(told).join(""));
     process.exit(0);
 }
 

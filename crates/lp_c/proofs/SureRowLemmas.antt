@@ -16,7 +16,7 @@ use Rattle.lp_portable.proofs.{Repeats.risen_once, ShortFloats.short_is_sure}
 use Rattle.lp_offsets.specs.Numbers.{answer_number, kind_number}
 use Rattle.lp_offsets.specs.OffsetBlocks.{IsPieceIn, IsPlaced, OffsetRows, ShowsItem, ShowsRow, piece_in, timestamp_in}
 use Rattle.lp_offsets.specs.OffsetBlocks.{blank, fault, line, more, no_text, none}
-use Rattle.lp_offsets.specs.Offsets.{bytes_at, field_at, has_stray_number, key_at, tag_at, text_at, value_at, with_key}
+use Rattle.lp_offsets.specs.Offsets.{bytes_at, field_at, is_stray, key_at, tag_at, text_at, value_at, with_key}
 use Rattle.lp_c.specs.SureRows.{AreSureParts, IsShownRow, IsSureRow, ShowsStrictly, SurePart, SureValue, key_in, lies_in}
 use Rattle.lp_c.specs.Verdicts.{HasPiece, IsVerdictBy, piece_there}
 use Rattle.lp_offsets.specs.declared.offsets.OffsetRow.{OffsetRow}
@@ -42,7 +42,7 @@ record ShownTag (text room : List ℕ) (part : OffsetPart) (t : Pair Text Text) 
 
 -- so it is, if it shows it
 tag_shown : (text room : List ℕ) (part : OffsetPart) (t : Pair Text Text) → tag_at text room part ≡ Some (logical_tag t) → ShownTag text room part t
-tag_shown text room part t is = elim (cases_Bool (has_stray_number part)) [
+tag_shown text room part t is = elim (cases_Bool (is_stray part)) [
   | inl stray ↦
       let nothing : None ≡ Some (logical_tag t) = rw stray at is in
       absurd (cc)
@@ -70,7 +70,7 @@ record ShownField (text room : List ℕ) (part : OffsetPart) (f : Pair Text (Val
 -- so it is, if it shows it
 field_shown : (text room : List ℕ) (part : OffsetPart) (f : Pair Text (Value Text)) → field_at text room part ≡ Some (logical_field f)
     → ShownField text room part f
-field_shown text room part f is = elim (cases_Bool (has_stray_number part)) [
+field_shown text room part f is = elim (cases_Bool (is_stray part)) [
   | inl stray ↦
       let nothing : None ≡ Some (logical_field f) = rw stray at is in
       absurd (cc)

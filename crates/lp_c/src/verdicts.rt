@@ -63,13 +63,12 @@ pub extern "C" fn lp_limits_default(limits: &mut Limits)
     };
 }
 
-// The piece of a row, if it has a line and the text has the piece at its place. So many rows are asked for, and so many were given.
+// The piece of a row, if it has a line and the text has the piece at its place. With this row, so many are asked for.
 fn piece_of<'a>(
     text: &'a [u8],
     portion: &mut Portion<'a>,
     row: &OffsetRow,
     rows: usize,
-    given: usize,
 ) -> Option<&'a str>
     requires { IsPortionOf text.now portion.old }
     ensures portion { IsPortionOf text.now portion.new }
@@ -83,7 +82,7 @@ fn piece_of<'a>(
     if text.len() < at || text.len() - at < len {
         return None;
     }
-    portion.next_text(text, at, len, rows, given)
+    portion.next_text(text, at, len, rows)
 }
 
 // The bits of the clauses that the piece of a row breaks, or 1 if it is no line, by a look at its text.
@@ -94,14 +93,13 @@ fn verdict_by_text<'a>(
     portion: &mut Portion<'a>,
     row: &OffsetRow,
     rows: usize,
-    given: usize,
 ) -> Result<u64, AllocError>
     requires { IsPortionOf text.now portion.old }
     ensures portion { IsPortionOf text.now portion.new }
     ensures bits { IfOk result (IsVerdictBy limits.now text.now row.now) }
     ensures memory { is_light Strict (trimmed (piece_there text.now row.now)) ≡ true → IsOk result }
 {
-    let Some(piece) = piece_of(text, portion, row, rows, given) else {
+    let Some(piece) = piece_of(text, portion, row, rows) else {
         return Ok(1);
     };
     match broken_clauses(alloc, limits, piece)? {
@@ -120,7 +118,6 @@ fn verdict<'a>(
     parts: Option<&[OffsetPart]>,
     row: &OffsetRow,
     rows: usize,
-    given: usize,
 ) -> Result<u64, AllocError>
     requires portion { IsPortionOf text.now portion.old }
     requires shown { IfSome parts (λ own. IsShownRow text.now own.now row.now) }
@@ -133,7 +130,7 @@ fn verdict<'a>(
             return Ok(bits);
         }
     }
-    verdict_by_text(alloc, limits, text, portion, row, rows, given)
+    verdict_by_text(alloc, limits, text, portion, row, rows)
 }
 
 /// Tells rows their verdicts, and gives how many it told: fewer than all if memory was refused for the next one. The parts are those of the
@@ -163,8 +160,7 @@ pub(crate) fn tell_verdicts(
             &mut portion,
             parts,
             &rows[at],
-            count,
-            at,
+            count - at,
         ) else {
             return at;
         };

@@ -101,17 +101,6 @@ pub record ShowsRow (read : format.Line) (text : List ℕ) (own : List OffsetPar
   pub room_len : row.room_len ≡ text_room row.measurement_copied row.measurement + sum_by part_room own
   pub all : length own ≡ row.tags + row.fields
 
--- what a row tells of a line that takes more parts, or more room, than are left: how many of either, and of room no more bytes than the
--- texts of the line have
-pub record IsTooMuch (read : format.Line) (came : Came) (row : OffsetRow) (parts room used : ℕ) : Type 0 where
-  pub tags : row.tags ≡ in_32 (length (some_tags read.tags))
-  pub fields : row.fields ≡ in_32 (length read.fields)
-  pub needed : ℕ
-  pub room_len : row.room_len ≡ in_32 needed
-  pub bound : needed ≤ texts_len read
-  pub parts_lack : came ≡ Came.MoreParts → parts < length (some_tags read.tags) + length read.fields
-  pub room_lacks : came ≡ Came.MoreRoom → room < used + needed
-
 -- the number of the answer for what came of an item
 abbrev pub came_number : Came → ℕ
 came_number Came.Line = answer_number Answer.Line
@@ -119,6 +108,18 @@ came_number Came.Fault = answer_number Answer.Fault
 came_number Came.NotUtf8 = answer_number Answer.NotUtf8
 came_number Came.MoreParts = answer_number Answer.MoreParts
 came_number Came.MoreRoom = answer_number Answer.MoreRoom
+
+-- what a row tells of a line that takes more parts, or more room, than are left: how many of either, and of room no more bytes than the
+-- texts of the line have
+pub record IsTooMuch (read : format.Line) (came : Came) (row : OffsetRow) (parts room used : ℕ) : Type 0 where
+  pub answer : row.answer ≡ came_number came
+  pub tags : row.tags ≡ in_32 (length (some_tags read.tags))
+  pub fields : row.fields ≡ in_32 (length read.fields)
+  pub needed : ℕ
+  pub room_len : row.room_len ≡ in_32 needed
+  pub bound : needed ≤ texts_len read
+  pub parts_lack : came ≡ Came.MoreParts → parts < length (some_tags read.tags) + length read.fields
+  pub room_lacks : came ≡ Came.MoreRoom → room < used + needed
 
 -- whether an item takes more than is left
 abbrev pub is_too_much : Came → Bool
@@ -138,7 +139,8 @@ HasNoFault row = (row.fault ≡ 0) × (row.side ≡ 0)
 -- a row shows nothing of a line
 abbrev pub HasNoLine : OffsetRow → Type 0
 HasNoLine row =
-    (row.tags ≡ 0) × (row.fields ≡ 0) × HasNoTime row × (row.measurement ≡ record { at = 0; len = 0 }) × (row.room_len ≡ 0)
+    (row.tags ≡ 0) × (row.fields ≡ 0) × HasNoTime row × (row.measurement ≡ record { at = 0; len = 0 }) × (row.measurement_copied ≡ 0)
+    × (row.room_len ≡ 0)
 
 -- a row tells where the line of a piece begins: what is left of the piece when it is trimmed is its end
 abbrev pub BeginsAt : List ℕ → Piece → OffsetRow → Type 0

@@ -31,16 +31,24 @@ key_at text room part = bytes_at text room part.key_copied part.key
 abbrev pub text_at : List ℕ → List ℕ → OffsetPart → List ℕ
 text_at text room part = bytes_at text room part.text_copied part.text
 
--- whether a part has a number beside a text: where its value is a text, its number must be 0
-abbrev pub has_stray_number : OffsetPart → Bool
-has_stray_number part =
-    (part.kind == kind_number Kind.Tag || part.kind == kind_number Kind.Float || part.kind == kind_number Kind.String)
-    && not (part.number == 0)
+-- whether the value of a part is a text
+abbrev pub has_text : OffsetPart → Bool
+has_text part = part.kind == kind_number Kind.Tag || part.kind == kind_number Kind.Float || part.kind == kind_number Kind.String
+
+-- whether a part has no text: its span is empty, at place 0 of the input
+abbrev pub is_textless : OffsetPart → Bool
+is_textless part = part.text.at == 0 && part.text.len == 0 && part.text_copied == 0
+
+-- whether a part holds a value beside its own. The number of a text must be 0, that of a Boolean 0 or 1, and a number has no text
+abbrev pub is_stray : OffsetPart → Bool
+is_stray part =
+    if has_text part then not (part.number == 0)
+    else not (is_textless part) || (part.kind == kind_number Kind.Boolean && not (part.number == 0 || part.number == 1))
 
 -- the tag that a part shows, if it is one
 abbrev pub tag_at : List ℕ → List ℕ → OffsetPart → Option (Pair (List ℕ) (List ℕ))
 tag_at text room part =
-    if has_stray_number part then None else
+    if is_stray part then None else
     if part.kind == kind_number Kind.Tag
     then Some (record { key = key_at text room part; value = text_at text room part }) else None
 
@@ -60,11 +68,12 @@ with_key key (Some value) = Some (record { key = key; value = value })
 
 -- the field that a part shows, if it is one
 abbrev pub field_at : List ℕ → List ℕ → OffsetPart → Option (Pair (List ℕ) (Value (List ℕ)))
-field_at text room part = if has_stray_number part then None else with_key (key_at text room part) (value_at text room part)
+field_at text room part = if is_stray part then None else with_key (key_at text room part) (value_at text room part)
 
--- how many bytes of the room a text takes: its own, if it was copied
+-- how many bytes of the room a text takes: its own, if it was copied. A text whose number `copied` is neither 0 nor 1 would take more than
+-- any room has, so no row shows it
 abbrev pub text_room : ℕ → Span → ℕ
-text_room copied span = if copied == 0 then 0 else span.len
+text_room copied span = if copied == 0 then 0 else if copied == 1 then span.len else 2 ^ 64
 
 -- how many bytes of the room the texts of a part take
 abbrev pub part_room : OffsetPart → ℕ

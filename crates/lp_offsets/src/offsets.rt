@@ -353,7 +353,6 @@ fn read_row<'a>(
     text: &'a [u8],
     seen: &mut Seen<'a>,
     texts: usize,
-    given: usize,
     row: &mut OffsetRow,
     parts: &mut [OffsetPart],
     room: &mut [u8],
@@ -371,7 +370,7 @@ fn read_row<'a>(
     ensures fits { (filled.new.spot.at ≤ length text.now) × (filled.new.parts ≤ length parts.new) × (filled.new.room ≤ length room.new) }
     ensures reads { ReadsRow (rules_of dialect) last text.now filled.old result row.new parts.new room.new filled.new }
 {
-    let (piece, item) = next_item(dialect, last, text, seen, &mut filled.spot, texts, given)?;
+    let (piece, item) = next_item(dialect, last, text, seen, &mut filled.spot, texts)?;
     let own_parts = &mut parts[filled.parts..];
     let (came, own, used) = put_row(
         dialect,
@@ -434,8 +433,7 @@ fn read_rows(
             last,
             text,
             &mut seen,
-            rows.len(),
-            at,
+            rows.len() - at,
             &mut rows[at],
             parts,
             room,

@@ -113,8 +113,7 @@ pub(crate) fn pass(spot: &mut Spot, piece: Piece)
     spot.line = spot.line.saturating_add(piece.newlines as u64);
 }
 
-// The next piece that is not blank, and its line, if it is UTF-8. Those before it are passed. So many are asked for, and so many of
-// them were given.
+// The next piece that is not blank, and its line, if it is UTF-8. Those before it are passed. With this one, so many are asked for.
 #[inline(always)]
 pub(crate) fn next_item<'a>(
     dialect: Dialect,
@@ -123,7 +122,6 @@ pub(crate) fn next_item<'a>(
     seen: &mut Seen<'a>,
     spot: &mut Spot,
     texts: usize,
-    given: usize,
 ) -> Option<(Piece, Option<&'a str>)>
     requires at { spot.old.at ≤ length text.now }
     requires seen { IsSeenOf (rules_of dialect) text.now seen.old }
@@ -138,10 +136,7 @@ pub(crate) fn next_item<'a>(
             pass(spot, piece);
             continue;
         }
-        let Some(piece_text) = seen
-            .portion
-            .next_text(text, piece.at, piece.len, texts, given)
-        else {
+        let Some(piece_text) = seen.portion.next_text(text, piece.at, piece.len, texts) else {
             return Some((piece, None));
         };
         let line = trimmed(piece_text);

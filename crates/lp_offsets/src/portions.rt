@@ -148,7 +148,7 @@ impl<'a> Portion<'a> {
         self.text_at(bytes, at, len)
     }
 
-    /// The same of the next text. So many are asked for, and so many of them were given.
+    /// The same of the next text, with which so many are asked for.
     #[inline(always)]
     pub fn next_text(
         &mut self,
@@ -156,7 +156,6 @@ impl<'a> Portion<'a> {
         at: usize,
         len: usize,
         texts: usize,
-        given: usize,
     ) -> Option<&'a str>
         requires portion { IsPortionOf bytes.now self.old }
         requires within { at + len ≤ length bytes.now }
@@ -165,7 +164,7 @@ impl<'a> Portion<'a> {
     {
         match self.text_in(at, len) {
             Some(text) => Some(text),
-            None => self.text_past(bytes, at, len, texts.saturating_sub(given)),
+            None => self.text_past(bytes, at, len, texts),
         }
     }
 

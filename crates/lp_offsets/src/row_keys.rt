@@ -10,14 +10,13 @@ use crate::offsets::OffsetRow;
 use crate::portions::{Portion, no_portion};
 use influxdb_line_protocol::{key_of_text, laws};
 
-// The line of a row, if it has one and the text does at its place. So many rows are asked for, and so many of them were given.
+// The line of a row, if it has one and the text does at its place. With this row, so many are asked for.
 #[inline(always)]
 fn line_of<'a>(
     text: &'a [u8],
     portion: &mut Portion<'a>,
     row: &OffsetRow,
     rows: usize,
-    given: usize,
 ) -> Option<&'a str>
     requires { IsPortionOf text.now portion.old }
     ensures portion { IsPortionOf text.now portion.new }
@@ -31,23 +30,17 @@ fn line_of<'a>(
     if end < at || text.len() < end {
         return None;
     }
-    portion.next_text(text, at, end - at, rows, given)
+    portion.next_text(text, at, end - at, rows)
 }
 
 // How many bytes at the start of the line of a row are the key of its series, if it begins with that.
 #[inline(always)]
-fn key_len<'a>(
-    text: &'a [u8],
-    portion: &mut Portion<'a>,
-    row: &OffsetRow,
-    rows: usize,
-    given: usize,
-) -> u64
+fn key_len<'a>(text: &'a [u8], portion: &mut Portion<'a>, row: &OffsetRow, rows: usize) -> u64
     requires { IsPortionOf text.now portion.old }
     ensures portion { IsPortionOf text.now portion.new }
     ensures len { IsKeyLen text.now row.now result }
 {
-    let Some(line) = line_of(text, portion, row, rows, given) else {
+    let Some(line) = line_of(text, portion, row, rows) else {
         return 0;
     };
     match key_of_text(line) {
@@ -76,7 +69,7 @@ pub fn tell_keys(text: &[u8], rows: &mut [OffsetRow])
     let count = rows.len();
     let mut portion = no_portion(0, 0, 0);
     for at in 0..count {
-        let len = key_len(text, &mut portion, &rows[at], count, at);
+        let len = key_len(text, &mut portion, &rows[at], count - at);
         rows[at].key = len;
     }
 }
