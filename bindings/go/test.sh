@@ -48,7 +48,7 @@ watched="cgocheck"
 try go test -tags lp_lib_dir,lp_refuse -run TestRefused .
 printf 'package main\n\nfunc main() {}\n' >"$built/nothing.go"
 if go run -race "$built/nothing.go" >"$built/log" 2>&1; then
-    try go test -race .
+    try go test -race -timeout 30m .
     watched+=" and the race detector"
 else
     left_out "race detector of Go" "$(tail -n 1 "$built/log")"
