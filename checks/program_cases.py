@@ -2,9 +2,9 @@
 """Runs the built programs where a row of checks/runs cannot: with pipes that nothing reads or that pause, on a terminal, in little memory, beside
 other processes, under strace, and over texts that are made.
 
-    checks/program_cases.py [--only NAME] REBUILD RELAY SERIES
+    checks/program_cases.py [--only NAME,..] REBUILD RELAY SERIES
 
-Each case is a function, whose first sentence says what must be; --only runs the case of this name. A case has a folder of its own, and four run at
+Each case is a function, whose first sentence says what must be; --only runs the cases of these names. A case has a folder of its own, and four run at
 a time. Status 1: a case saw something else. If EMULATED is set, as where qemu runs the programs, the cases that need the memory or the speed of
 this processor are left out.
 """
@@ -248,7 +248,7 @@ def pauses(room):
     same("whole lines", ended(process), Done(0, b"m a=1i\nm b=2i\n", b"14 bytes, 2 lines, 2 items: 2 carried, 0 refused\n"))
     start = time.time_ns()
     process = room.begin("--verbatim --now")
-    given_in_parts(process, [b"m a=1i\nm b=2i 7\nx\nm c"], 0.3)
+    given_in_parts(process, [b"m a=1i\nm b=2i 7\nx\nm c"], 1)
     done = ended(process, b"=3i\ny\nm d=4i")
     found = re.fullmatch(rb"m a=1i (\d+)\nm b=2i 7\nm c=3i (\d+)\nm d=4i (\d+)\n", done.out)
     same("--now", (done.status, done.err, bool(found)), (1, fault_lines(b"item", [3, 5]), True))
@@ -883,33 +883,32 @@ def metrics_of_series(room):
 
 
 def tried(number, function, programs, top):
-    """What is wrong by a case, and how long it took."""
-    begun = time.monotonic()
+    """What is wrong by a case, if something is."""
     folder = Path(top, str(number), "room")
     folder.mkdir(parents=True)
     os.chmod(folder.parent, 0o755)
     try:
         function(Room(programs, folder))
     except Wrong as wrong:
-        return f"program_cases: {function.__name__}: {function.__doc__.splitlines()[0]}\n  {wrong}", 0
+        return f"{function.__name__}: {function.__doc__.splitlines()[0]}\n  {wrong}"
     finally:
         shutil.rmtree(folder, ignore_errors=True)
-    return None, time.monotonic() - begun
+    return None
 
 
 def main():
     words = sys.argv[1:]
-    only = words[1] if words[:1] == ["--only"] else None
+    only = words[1].split(",") if words[:1] == ["--only"] else None
     programs = [str(Path(word).resolve()) for word in (words[2:] if only else words)]
-    chosen = [function for function in CASES if only in (None, function.__name__)]
+    chosen = [function for function in CASES if only is None or function.__name__ in only]
     os.umask(0o022)
+    count = 0
     with tempfile.TemporaryDirectory(dir="/dev/shm" if os.access("/dev/shm", os.W_OK) else None) as top, ThreadPoolExecutor(4) as pool:
         os.chmod(top, 0o755)
-        told = list(pool.map(lambda pair: tried(*pair, programs, top), enumerate(chosen)))
-    for wrong, _ in told:
-        if wrong:
-            print(wrong)
-    count = sum(1 for wrong, _ in told if wrong)
+        for wrong in pool.map(lambda pair: tried(*pair, programs, top), enumerate(chosen)):
+            if wrong:
+                count += 1
+                print(wrong, flush=True)
     print(f"program_cases: {len(chosen)} cases, of which {count} saw something else than they should")
     sys.exit(bool(count) or not chosen)
 

@@ -18,9 +18,9 @@ A row begins with `$ ` and the words, as a shell takes them apart. A word betwee
 such as `>/dev/full` or `<&-` come last, and after them the status as `[2]`, if it is not 0. Of `{a,b}` each is tried, in a run of its own, and is
 `$1` in the lines below; the second such list is `$2`. Below stand:
 
-    | TEXT            a line of standard output; `|= EXPR` is a part of it
-    ! TEXT            a line of standard error; `!= EXPR` is a part of it, and `!~ REGEX` an expression that all of it must match
-    NAME = EXPR       what a file holds afterwards; `NAME = None` if it is gone
+    | TEXT            a line of standard output; `|= EXPR` is a part of it, and `|~ REGEX` an expression that all of it must match
+    ! TEXT            a line of standard error; `!= EXPR` and `!~ REGEX` are the same
+    NAME = EXPR       what a file holds afterwards, or `NAME ~ REGEX`; `NAME = None` if it is gone
 
 What is not said must not be: output, messages, and a file that changes, comes or goes. A run of status 2 that writes nothing must leave its input
 unread, unless the row has an input of its own. `$ WORDS !! TEXT` is a row of wrong words: `PROGRAM: TEXT` and `try PROGRAM --help` are the message.
@@ -40,26 +40,27 @@ from pathlib import Path
 
 TOP = Path(__file__).resolve().parent.parent
 FOLDER = TOP / "checks" / "runs"
-ENTRY = re.compile(r"(`[^`]+`|[^\s`]+)(?: ([0-7]{3}))? (=|->|=>) (.*)|(\S+)(/)")
+ENTRY = re.compile(r"(`[^`]+`|[^\s`]+)(?: ([0-7]{3}))? (=|->|=>|~) (.*)|(\S+)(/)")
 STREAM = re.compile(r"([<|!])(?:([=~]) ?(.*)| (.*)|)")
-REDIRECTION = re.compile(r"\s(\d?(?:>>?|<)(?:&[-\d]|[^\s&]+))(?=\s|$)")
+REDIRECTION = re.compile(r"(?:^|\s)(\d?(?:>>?|<)(?:&[-\d]|[^\s&]+))(?=\s|$)")
 CHOICE = re.compile(r"\{([^{}]*)\}")
-SECONDS = 300
+SECONDS = 120
 
 
 def read(path):
     return (TOP / path).read_text(encoding="utf-8")
 
 
-def options(path):
-    """The options of a table: those without a value, and those that take one."""
-    found = re.findall(r"^option: (--[a-z-]+)( ?)", read(path), re.M)
-    return [word for word, space in found if not space], [word for word, space in found if space]
+def options(path, valued=()):
+    """The options of a table: those without a value, and those that take one, as the options `valued` do too."""
+    found = [(word, space or word in valued) for word, space in re.findall(r"^option: (--[a-z-]+)( ?)", read(path), re.M)]
+    return [word for word, takes in found if not takes], [word for word, takes in found if takes]
 
 
+FLAGS, VALUED = options("tables/options.txt")
+SERIES_FLAGS, SERIES_VALUED = options("tables/series_options.txt", VALUED)
 # What expressions can name: the options, the version, and the sum of the logic that the programs are proved by.
-NAMES = {"read": read, **dict(zip(("flags", "valued"), options("tables/options.txt"))),
-         **dict(zip(("series_flags", "series_valued"), options("tables/series_options.txt"))),
+NAMES = {"read": read, "flags": FLAGS, "valued": VALUED, "series_flags": SERIES_FLAGS, "series_valued": SERIES_VALUED,
          "version": re.search(r"^## (\d+\.\d+\.\d+)$", read("CHANGELOG.md"), re.M)[1],
          "logic": re.search(r'^pub const LOGIC: &str = "(.*)";$', read("crates/lp_programs/src/version.rt"), re.M)[1]}
 
@@ -101,27 +102,24 @@ class Row:
         self.words = words_of(REDIRECTION.sub("", head))
 
     def stream(self, mark, lines):
-        """What lines of this mark make, and the expressions that it must match."""
-        text, patterns = b"", []
+        """What lines of this mark make, or the expression that it must match."""
+        text = b""
         for line in lines:
             if (found := STREAM.fullmatch(line)) and found[1] == mark:
                 if found[2] == "~":
-                    patterns.append(found[3])
-                else:
-                    text += as_bytes(evaluated(found[3])) if found[2] else (found[4] or "").encode() + b"\n"
-        return text, patterns
+                    return re.compile(found[3].encode(), re.S)
+                text += as_bytes(evaluated(found[3])) if found[2] else (found[4] or "").encode() + b"\n"
+        return text
 
     def input(self):
         """The input, and whether it is the row's own."""
         own = any(line.startswith("<") for line in self.lines)
-        return self.stream("<", self.lines if own else self.scene)[0], own
+        return self.stream("<", self.lines if own else self.scene), own
 
     def wanted(self, name):
         """What standard output and standard error must have."""
-        err, patterns = self.stream("!", self.lines)
-        if self.message:
-            err = f"{name}: {self.message}\ntry {name} --help\n".encode()
-        return self.stream("|", self.lines)[0], err, patterns
+        err = f"{name}: {self.message}\ntry {name} --help\n".encode() if self.message else self.stream("!", self.lines)
+        return self.stream("|", self.lines), err
 
 
 def words_of(text):
@@ -152,7 +150,7 @@ def entries(lines, before):
             found[name] = "link", 0, os.fsencode(entry[4])
         elif entry[3] == "=>":
             found[name] = "hard", 0, os.fsencode(entry[4])
-        elif (text := as_bytes(evaluated(entry[4]))) is None:
+        elif (text := re.compile(entry[4].encode(), re.S) if entry[3] == "~" else as_bytes(evaluated(entry[4]))) is None:
             del found[name]
         else:
             found[name] = "file", int(entry[2], 8) if entry[2] else found.get(name, (0, 0o644))[1], text
@@ -191,27 +189,27 @@ def held(folder):
 def ran(program, row, room):
     """Runs a row, and returns each thing that is other than it should be: what, as it should be, and as it is."""
     name = program_name(program)
-    files, after = entries(row.scene, {}), {}
+    files = entries(row.scene, {})
     make(room / "files", files)
     text, is_own = row.input()
     (room / "in").write_bytes(text)
     shell = ["sh", "-c", f'exec "$0" "$@" {row.redirections}'] if row.redirections else []
     with open(room / "in", "rb") as stdin:
-        done = subprocess.run([*shell, program, *row.words], stdin=stdin, capture_output=True, cwd=room / "files", timeout=SECONDS, check=False)
-        is_unread = stdin.tell() == os.lseek(stdin.fileno(), 0, os.SEEK_CUR) == 0
-    out, err, patterns = row.wanted(name)
-    files = {each: ("file", *files[of.removeprefix(b"./")][1:]) if kind == "hard" else (kind, mode, of) for each, (kind, mode, of) in files.items()}
+        try:
+            done = subprocess.run([*shell, program, *row.words], stdin=stdin, capture_output=True, cwd=room / "files", timeout=SECONDS, check=False)
+        except subprocess.TimeoutExpired:
+            return [("the seconds it takes", SECONDS, "more")]
+        is_unread = os.lseek(stdin.fileno(), 0, os.SEEK_CUR) == 0
+    out, err = row.wanted(name)
+    files = {each: files[text.removeprefix(b"./")] if kind == "hard" else (kind, mode, text) for each, (kind, mode, text) in files.items()}
     files, after = entries(row.lines, files), held(room / "files")
-    yield "the status", row.status, done.returncode
-    yield "standard output", out, done.stdout
-    if patterns:
-        told = done.stderr.decode(errors="backslashreplace")
-        yield from (("standard error", pattern, told) for pattern in patterns if not re.fullmatch(pattern, told, re.S))
-    else:
-        yield "standard error", err, done.stderr
-    yield from ((f"the file {each!r}", files.get(each), after.get(each)) for each in files.keys() | after.keys())
+    told = [("the status", row.status, done.returncode), ("standard output", out, done.stdout), ("standard error", err, done.stderr)]
+    for each in sorted(files.keys() | after.keys()):
+        wanted, has = files.get(each), after.get(each)
+        told += [(f"the file {each!r}", wanted[2], has[2])] if wanted and has and wanted[:2] == has[:2] else [(f"the file {each!r}", wanted, has)]
     if row.status == 2 and not out and not is_own:
-        yield "the input that it left unread", True, is_unread
+        told.append(("whether it left its input unread", True, is_unread))
+    return [(what, wanted, has) for what, wanted, has in told if not (wanted.fullmatch(has) if isinstance(wanted, re.Pattern) else wanted == has)]
 
 
 def rows_of(path):
@@ -254,7 +252,7 @@ def main():
 
         def tried(pair):
             room = rooms.pop()
-            told = [difference for difference in ran(*pair, room) if difference[1] != difference[2]]
+            told = ran(*pair, room)
             rooms.append(room)
             return told
 
