@@ -649,7 +649,7 @@ PIECES = [
     ("\\wea\\ther,t=ü€😀 f=1i".encode(), "\\\\wea\\\\ther,t=ü€😀 f=1i".encode(), None),
     (b"  \tn,t=v f=01.50e3,g=007u  12  ", b"n,t=v f=01.50e3,g=7u 12", None),
     (b"m f=1i x", None, b"Could not parse entire line. Found trailing content: ' x'"), (b"m,t= f=1", None, b"Tag Set Malformed"),
-    (b"weather\\ f=1i", None, b"Measurements, tag keys and values, and field keys may not end with a backslash"),
+    (b"weather\\\\ f=1i", None, b"Measurements, tag keys and values, and field keys may not end with a backslash"),
     (b"w\\\t a=1i", None, b"a name cannot be written again"),
     (b'# a="\nm z=1i"', None, b"Could not parse entire line. Found trailing content: '\"'"),
 ]
