@@ -889,8 +889,8 @@ def tried(number, function, programs, top):
     os.chmod(folder.parent, 0o755)
     try:
         function(Room(programs, folder))
-    except Wrong as wrong:
-        return f"{function.__name__}: {function.__doc__.splitlines()[0]}\n  {wrong}"
+    except Exception as wrong:  # Whatever a case did not expect is wrong.
+        return f"{function.__name__}: {function.__doc__.splitlines()[0]}\n  {type(wrong).__name__}: {wrong}"
     finally:
         shutil.rmtree(folder, ignore_errors=True)
     return None

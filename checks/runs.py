@@ -91,6 +91,7 @@ class Row:
     def __post_init__(self):
         head = self.head
         for number, choice in enumerate(self.chosen, 1):
+            choice = choice.replace("$1", self.chosen[0])
             head = CHOICE.sub(lambda _: choice, head, count=1).replace(f"${number}", choice)
             self.lines = [line.replace(f"${number}", choice) for line in self.lines]
         head, _, message = head.partition(" !! ")
