@@ -24,7 +24,6 @@ import sys
 import tempfile
 import threading
 import time
-from collections import Counter
 from concurrent.futures import ThreadPoolExecutor
 from pathlib import Path
 from typing import NamedTuple
@@ -170,8 +169,6 @@ def fault_lines(word, numbers, text=X):
 
 
 # What each program says of itself.
-
-
 @case
 def helps(room):
     """--help prints the usage of docs/OPERATING.md, a line for each option, and all of its text; -h prints the same."""
@@ -190,8 +187,6 @@ def helps(room):
 
 
 # Pipes.
-
-
 @case
 def unread_outputs(room):
     """If nothing reads the output, lp_relay and lp_series end with status 141 and say nothing; lp_rebuild ends with 2, and says it."""
@@ -270,8 +265,6 @@ def clock_that_steps_back(room):
 
 
 # What a relay reads of files.
-
-
 @case
 def whole_lines(room):
     """With --whole-lines no byte after the last newline of a file or of a pipe is read, wherever the blocks end in which it is read."""
@@ -353,8 +346,6 @@ def files_that_change(room):
 
 
 # Files that a relay writes.
-
-
 @case
 def runs_that_append(room):
     """A second run may not put its rejected lines between those of a run that appends."""
@@ -500,8 +491,6 @@ def mount_points(room):
 
 
 # Under strace.
-
-
 @case
 def interrupted_calls(room):
     """A read or a write that a signal interrupts is made again, and so is a read at a place."""
@@ -542,8 +531,6 @@ def files_on_the_device(room):
 
 
 # On a terminal.
-
-
 CLEAR = b"\r\033[K"
 
 
@@ -637,8 +624,6 @@ def progress_of_files(room):
 
 
 # Large and slow inputs.
-
-
 # Pieces with what docs/FORMAT.md says of each: the line that is written again, or the text of its fault; or nothing, where no item is.
 FIRST = b"cpu,host=A,region=west usage_system=64i,idle=0.5 1590488773254420000"
 SPACED = rb'wea\ ther\,,k\,1=v\=w\ x s="say \"hi\" \\ there",k\ 2=-1i -7'
@@ -796,8 +781,6 @@ def what_a_pipe_gives_at_once(room):
 
 
 # Counts of series.
-
-
 @case
 def reports_while_input_pauses(room):
     """Where input pauses, --every tells what was counted so far, as lines, as objects and as metrics; of an input that ends at once it tells once."""
@@ -848,7 +831,8 @@ def large_series(room):
     done = room.run("--stats", line, room.series)
     same("a count of 30,000 tags", (done.status, b"\n30000 tag keys\n" in done.out, done.out.count(b": 1 values\n")), (0, True, 30000))
     done = room.run("", b"".join(b"k" * size + b" v=1i\n" for size in (16777211, 16777212)), room.series)
-    same("a line that is too long", (done.status, b"\n1 points, " in done.out, done.err[-51:]), (1, True, b" 2 items: 1 carried, 1 refused: 1 too_long\n"[-51:]))
+    same("a line that is too long", (done.status, b"\n1 points, " in done.out, done.err.partition(b" lines, ")[2]),
+         (1, True, b"2 items: 1 carried, 1 refused: 1 too_long\n"))
     done = room.run("--json", b"".join(b"m,t=%d v=1i\n" % number for number in range(1000002)), room.series)
     same("1,000,002 series", (done.status, b'"series":1000000,"points_beyond":2,' in done.out, done.err.partition(b" bytes, ")[2]),
          (0, True, b"1000002 lines, 1000002 items: 1000002 carried, 0 refused\n"))

@@ -44,7 +44,7 @@ ENTRY = re.compile(r"(`[^`]+`|[^\s`]+)(?: ([0-7]{3}))? (=|->|=>|~) (.*)|(\S+)(/)
 STREAM = re.compile(r"([<|!])(?:([=~]) ?(.*)| (.*)|)")
 REDIRECTION = re.compile(r"(?:^|\s)(\d?(?:>>?|<)(?:&[-\d]|[^\s&]+))(?=\s|$)")
 CHOICE = re.compile(r"\{([^{}]*)\}")
-SECONDS = 120
+SECONDS = 300
 
 
 def read(path):
