@@ -46,13 +46,15 @@ beside_gate() {
     part checks/completion.sh checks/completion.sh
 }
 check_programs() {
+    local check
     part checks/readme.sh checks/readme.sh "$made"/lp_{relay,rebuild,series}_program
-    part checks/arguments.sh checks/arguments.sh "$made/lp_rebuild_program" "$made/lp_relay_program"
-    part checks/series_arguments.sh checks/series_arguments.sh "$made/lp_series_program"
+    part checks/runs.py checks/runs.py "$made"/lp_{rebuild,relay,series}_program
+    part checks/program_cases.py checks/program_cases.py "$made"/lp_{rebuild,relay,series}_program
     part checks/series.sh checks/series.sh "$made/lp_relay_program" "$made/lp_series_program"
-    part checks/losses.sh checks/losses.sh "$made/lp_relay_program"
+    for check in objects settings forms batch_files grammar recording; do
+        part "checks/$check.py" "checks/$check.py" "$made/lp_relay_program"
+    done
     part checks/failing_calls.py checks/failing_calls.py "$made"/lp_{relay,series}_program
-    part checks/inputs.sh checks/inputs.sh "$made/lp_rebuild_program" "$made/lp_relay_program"
     part checks/posting.sh checks/posting.sh "$made/lp_relay_program"
     part checks/sending.sh checks/sending.sh "$made/lp_relay_program"
     part checks/systemd.sh checks/systemd.sh "$made/lp_relay_program"

@@ -160,10 +160,12 @@ run_programs() {
 
 # What the programs give with arguments and files.
 run_arguments() {
-    EMULATED=1 "$top/checks/arguments.sh" "$work/bin/lp_rebuild" "$work/bin/lp_relay" >"$work/log" 2>&1 || { cat "$work/log" >&2; fail "arguments are not as they should be"; }
-    told+=("programs with $(tail -n 1 "$work/log" | sed 's/^arguments: //')")
-    EMULATED=1 "$top/checks/series_arguments.sh" "$work/bin/lp_series" >"$work/log" 2>&1 || { cat "$work/log" >&2; fail "arguments of lp_series are not as they should be"; }
-    told+=("lp_series with $(tail -n 1 "$work/log" | sed 's/^series_arguments: //')")
+    local check
+    for check in runs program_cases; do
+        EMULATED=1 "$top/checks/$check.py" "$work"/bin/lp_{rebuild,relay,series} >"$work/log" 2>&1 || { cat "$work/log" >&2; fail "programs are not as checks/$check.py wants them"; }
+        told+=("programs: $(tail -n 1 "$work/log")")
+    done
+    "$top/checks/objects.py" "$work/bin/lp_relay" >"$work/log" 2>&1 || { cat "$work/log" >&2; fail "objects of faults are not as they should be"; }
 }
 
 # Both processors give the same for hostile texts: the library for each alone, in each dialect; and the programs for all of them.

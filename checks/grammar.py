@@ -6,7 +6,7 @@
 The grammar is read off the page. A generator made of it gives lines, each of which must be carried. A mutant differs in up to three
 characters, and is carried exactly if a pattern made of the grammar matches it; else it is refused, or is blank and gives nothing. The
 pieces that are carried must be the output of `lp_relay --newline-delimited --verbatim`, and those that are refused the file of
-`--refused`. Numbers at and past the ends of their ranges are tried apart. checks/losses.sh calls it. Status 1: something else comes.
+`--refused`. Numbers at and past the ends of their ranges are tried apart. Status 1: something else comes.
 """
 
 import random

@@ -5,7 +5,7 @@
     checks/recording.py --write RELAY    writes it
 
 `asciinema play docs/images/relay.cast` shows it, in 20 seconds. The commands are run by sh, and what they print is in it as it comes; how long
-each key and each pause takes is not measured. checks/losses.sh calls it.
+each key and each pause takes is not measured.
 """
 
 import json

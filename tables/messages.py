@@ -26,8 +26,8 @@ DEFINED = {"Refusal": ("crates/lp_programs/specs/Refusals.antt", "refusal_text")
            "RunFault": ("crates/lp_rebuild/specs/Running.antt", "run_fault_text")}
 LAST_LINE = "crates/lp_programs/src/relays.rt"
 # What quotes messages: checks whole ones, and these files also parts of so many words at least.
-CHECKS = ("checks/arguments.sh", "checks/series_arguments.sh", "checks/losses.sh", "checks/batch_files.py", "checks/given.sh",
-          "checks/ranges.py", "checks/posting.sh", "checks/tables/relays.h", "checks/tables/relays.tsv")
+CHECKS = ("checks/runs/*.txt", "checks/program_cases.py", "checks/batch_files.py", "checks/ranges.py", "checks/posting.sh",
+          "checks/tables/relays.h", "checks/tables/relays.tsv")
 PAGES, LEAST = ("tables/bugs.tsv", "crates/*/must-fail/*.edit", "docs/OPERATING.md", "docs/INTEROP.md", "docs/SCALING.md", "README.md"), 4
 
 
@@ -190,7 +190,7 @@ def quoted(text):
     def pattern(piece):
         return r"(-[\w-]+|\$\w+)" if piece in ("{option}", "{other}") else r'([^"\n]*?)' if piece.startswith("{") else re.escape(piece)
 
-    begin = r"(?<=[\"':}])" if text.startswith("{") else ""
+    begin = r"(?:(?<=[\"':}])|(?<=[!:] ))" if text.startswith("{") else ""
     return begin + "".join(map(pattern, re.split(rf"({NAME})", text)))
 
 
@@ -221,12 +221,12 @@ def bring():
             changes.append(("".join(piece + name for piece, name in zip(pieces, [*names, ""])), own_text(message)))
         text = next(again for again in texts() if (again.path, again.source, again.text) == (text.path, text.source, text.text))
         (TOP / text.path).write_text(brought(text, message), encoding="utf-8")
-    for path in (path for pattern in CHECKS + PAGES for path in TOP.glob(pattern)):
+    for is_check, path in ((pattern in CHECKS, path) for pattern in CHECKS + PAGES for path in TOP.glob(pattern)):
         whole = path.read_text(encoding="utf-8")
         text = whole
         for old, new in dict(changes).items():
             parts = [part for part in zip(re.split(NAME, old), re.split(NAME, new)) if part[0] != part[1]]
-            if str(path.relative_to(TOP)) in CHECKS:
+            if is_check:
                 text = requoted(text, old, new, [other.text for other in known])
                 begin = [part for part in parts if part[0] == re.split(NAME, old)[0]]
                 text = begin_changed(text, *begin[0]) if begin else text

@@ -11,7 +11,7 @@ from dataclasses import dataclass
 from typing import NamedTuple
 
 import records
-from records import Fault, Place, read
+from records import TOP, Fault, Place, read
 
 DATA, SERIES = "tables/options.txt", "tables/series_options.txt"
 FIELDS = ("option", "short", "values", "not with", "unless", "needs", "place", "usage after", "in parts", "does", "default", "man", "example",
@@ -29,7 +29,7 @@ CODE = {"lp_relay": ("crates/lp_relay_program/src/words.rt", "crates/lp_relay_pr
         "lp_series": ("crates/lp_series_program/src/words.rt", "crates/lp_series_program/specs/Words.antt")}
 # Where each option of lp_relay is told by hand: this page, and one of these checks.
 TOLD = ("CHANGELOG.md",)
-CHECKS = "arguments.sh", "losses.sh", "inputs.sh", "apart.sh", "objects.py", "settings.py", "batch_files.py", "ranges.py"
+CHECKS = "runs/lp_relay_*.txt", "apart.sh", "objects.py", "settings.py", "batch_files.py", "ranges.py"
 # What relays a file in parts, and the names of its lists of options, by what the field `in parts` has.
 PARTS, LISTS = "examples/parts.sh", {"each": "of_parts", "files": "of_files", "numbers": "of_numbers", "ranges": "of_ranges", "run": "of_runs"}
 OPTION = re.compile(r"(--[a-z][a-z-]*)(?: ([A-Z./]+))?")
@@ -334,7 +334,7 @@ def differences_of_series(found):
 def untold(found):
     """The options, and the words of a few after one, that are told by hand in some page or in no check."""
     texts = {path: read(path) for path in TOLD}
-    texts["checks of lp_relay"] = "".join(read(f"checks/{name}") for name in CHECKS)
+    texts["checks of lp_relay"] = "".join(path.read_text() for name in CHECKS for path in TOP.glob(f"checks/{name}"))
     for option in found:
         for place, text in texts.items():
             for word in (option.word, *option.get("values").split()):
