@@ -580,8 +580,10 @@ if [ -n "$rebuild" ]; then
     stopped "lp_rebuild: the input is not UTF-8" "the input of $rebuild is not UTF-8"
 fi
 rm "$work/large"
-# A summary that cannot be written changes no status.
-"$relay" --summary <"$work/long" 2>/dev/full >"$work/out"
+# If the summary cannot be written, the status tells, and all lines are there.
+"$relay" --summary <"$work/long" 2>/dev/full >"$work/out" && status=0 || status=$?
+: >"$work/err"
+stopped "" "the summary cannot be written"
 cmp "$work/long" "$work/out"
 # A check writes nothing to its output, so it may be full or closed.
 "$relay" --check <"$work/long" >/dev/full
