@@ -43,27 +43,19 @@ STREAMS = {"0": "standard input", "1": "standard output", "2": "standard error"}
 NAMED = re.compile(r"in$|o$|r$|m$|b-\d$")
 BATCH = re.compile(r"b-\d$")
 BESIDE = re.compile(r"\.lp_relay-\d+-\d+$")
-# A run that goes on after an error can print this notice, or not print it.
+# A run that goes on after an error can print this notice, or not print it. A run whose notice cannot be written goes on, since it lost no line
+# and no count.
 NOTICE = re.compile(r".*: (removed .*, which an ended run had left|.*: the new file has another owner or group than the old one: .*)\n")
 
 ERRORS = ("EIO", "ENOSPC", "EAGAIN", "EINTR")
 # A run that gets an error from one of these calls ends with status 2.
 ENDING = {"read", "pread64", "write", "fsync", "link", "rename"}
 # A run makes one of these calls again if a signal interrupts it.
-REPEATED = {"read", "pread64", "write", "openat", "fsync", "flock"}
+REPEATED = {"read", "pread64", "write", "openat", "fsync", "flock", "link", "rename"}
 # A run that gets an error from one of these calls ends with status 2, or does without the call.
 OTHERS = {"openat", "statx", "lseek", "flock", "getdents64", "unlink", "fchmod", "readlink", "getcwd", "ioctl", "getrandom"}
 # These calls are not failed: a program cannot see that close fails, and the others are about memory and processes.
 PASSED = {"close", "mmap", "execve"}
-# Runs that end wrongly today: which runs they are, and what is wrong.
-WRONG_TODAY = [
-    (lambda way, call, error: "batch" in way.words and error == "EINTR" and call.name not in REPEATED,
-     "if a signal interrupts the call that puts a batch in its place, the relay writes the lines again, to the next batch"),
-    (lambda way, call, error: call.file == "link" and "AT_SYMLINK_NOFOLLOW" in call.shown,
-     "if the relay cannot look at the link that --output names, the new file replaces the link"),
-    (lambda way, call, error: call.file == "standard error" and re.search(r', "(lp_\w+: removed|{\\"summary|\d+ bytes, )', call.shown),
-     "if standard error fails, the counts of --summary, and the notice of a removed file, are lost, and the status does not tell"),
-]
 
 
 class Wrong(Exception):
@@ -302,9 +294,14 @@ def is_whole(clean, ended):
     return ended.status == clean.status and said[0] == said[1] and in_places(ended.files) == in_places(clean.files)
 
 
+def writes_notice(call):
+    """Returns whether a call writes a notice."""
+    return call.file == "standard error" and ', "lp_relay: removed' in call.shown
+
+
 def check_run(way, clean, ended, call, error):
     """Checks a run in which a call failed."""
-    is_ending = call.name in ENDING or call.name == "flock" and call.file == "r" and "--append" in way.words
+    is_ending = call.name in ENDING and not writes_notice(call) or call.name == "flock" and call.file == "r" and "--append" in way.words
     if is_whole(clean, ended) and (not is_ending or error == "EINTR" or clean.status == 2):
         # EAGAIN of flock says that another run has locked the file, and that run removes it.
         if left_beside(way, ended) and call.name != "unlink" and (call.name, error) != ("flock", "EAGAIN"):
@@ -332,7 +329,7 @@ def next_of(way, clean, ended):
 
 
 def wrong_in(trial, way, clean, call, error):
-    """Runs a program with a call that fails, and then once more. Returns what is wrong, and why if that is known; or None."""
+    """Runs a program with a call that fails, and then once more. Returns what is wrong, or None."""
     room = trial.room(way)
     try:
         ended, lines = trial.traced(way, room, "-e", f"trace={call.name}", "-e", f"inject={call.name}:error={error}:when={call.number}")
@@ -343,8 +340,7 @@ def wrong_in(trial, way, clean, call, error):
         if (after.status, in_places(after.files)) != wanted:
             raise Wrong(f"the next run ends with status {after.status} for {wanted[0]}, {after.said[-200:]!r}")
     except Wrong as wrong:
-        why = next((why for is_so, why in WRONG_TODAY if is_so(way, call, error)), None)
-        return f"{way.program} {way.words}: {call.name} {call.number} of {call.file} fails by {error}: {wrong}", why
+        return f"{way.program} {way.words}: {call.name} {call.number} of {call.file} fails by {error}: {wrong}"
     finally:
         shutil.rmtree(room)
     return None
@@ -360,11 +356,10 @@ def runs_of(trial, way):
 
 
 def check(trial, chosen):
-    """Checks the chosen ways. Returns the number of runs, what is wrong, and the known reasons that came up."""
+    """Checks the chosen ways. Returns the number of runs, and what is wrong."""
     with ThreadPoolExecutor(os.cpu_count()) as pool:
         runs = [run for runs in pool.map(lambda way: runs_of(trial, way), chosen) for run in runs]
-        found = [wrong for wrong in pool.map(lambda run: wrong_in(*run), runs) if wrong]
-    return len(runs), [text for text, why in found if not why], {why for _, why in found if why}
+        return len(runs), [wrong for wrong in pool.map(lambda run: wrong_in(*run), runs) if wrong]
 
 
 def main(arguments):
@@ -377,14 +372,12 @@ def main(arguments):
     trial = Trial({name: Path(path).resolve() for name, path in zip(("relay", "series"), arguments)})
     try:
         chosen = [way for number, way in enumerate(ways()) if not arguments[2:] or str(number) in arguments[2:]]
-        count, wrong, known = check(trial, chosen)
+        count, wrong = check(trial, chosen)
     except Wrong as why:
         print(f"failing_calls: {why}")
         return 1
     finally:
         shutil.rmtree(trial.top)
-    if not arguments[2:]:
-        wrong += [f"no run is wrong any more, so drop this from WRONG_TODAY: {why}" for _, why in WRONG_TODAY if why not in known]
     for text in wrong[:20]:
         print(f"failing_calls: {text}")
     print(f"failing_calls: {count} runs with a call that fails, in {len(chosen)} ways: {len(wrong)} are wrong")

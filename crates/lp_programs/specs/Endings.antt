@@ -1,5 +1,5 @@
 -- How a run ends.
-use Rattle.std.specs.Prelude.{ℕ, ◌-◌, ◌==◌, Bool, true, false, ◌&&◌, ◌||◌, Option, Some, None, is_none, is_some, Result, Ok, Err, if◌then◌else◌}
+use Rattle.std.specs.Prelude.{◌≡◌, ℕ, ◌-◌, ◌==◌, Bool, true, false, ◌&&◌, ◌||◌, Option, Some, None, is_none, is_some, Result, Ok, Err, if◌then◌else◌}
 use Rattle.std.specs.IoError.{error_kind}
 use Rattle.std.specs.Option.{option_map_or}
 use Rattle.std.specs.declared.io.Error.{Error}
@@ -84,6 +84,23 @@ relay_ending settings (Ok totals) = record {
   status = if totals.counts.refused == 0 then 0 else 1;
 }
 relay_ending settings (Err failure) = failed_ending failure
+
+-- why a run failed whose standard error could not be written, of which the system said this
+abbrev pub untold_failure : Error → Failure
+untold_failure error = record {
+  fault = Write;
+  device = record { name = None; batch = None; error = Some error };
+  is_pipe_closed = is_broken_pipe (error_kind error);
+}
+
+-- how a run ends that would end so, once its counts were told: if they could not be told, it has failed
+abbrev pub ending_once_told : {T : Type 0} → Ending → (told : Result T Error) → Ending
+ending_once_told ending (Ok done) = ending
+ending_once_told ending (Err error) = failed_ending (untold_failure error)
+
+-- the exit status of a run that would end so, whose counts may be told or not
+abbrev pub IsLastStatus : Ending → ℕ → Type 0
+IsLastStatus ending status = (told : Result (Unit {0}) Error) × (status ≡ (ending_once_told ending told).status)
 
 -- how a run ends that has no counts
 abbrev pub plain_ending : {T : Type 0} → Result T Failure → Ending

@@ -1,16 +1,19 @@
 //! Lines that go to batches: files of a few lines each, each of which comes to its place whole or not at all.
-ghost use Rattle.std.specs.Prelude.{◌≡◌, List, ℕ, None, OnOk, true};
+ghost use Rattle.std.specs.Prelude.{◌≡◌, List, ℕ, None, IfErr, OnOk, false, true};
 ghost use Rattle.std.specs.Io.{WritesAtMost};
+ghost use Rattle.std.specs.IoError.{error_kind};
 ghost use Rattle.std.specs.Io.KnownBytes.{Keeps, WriteAppends};
 ghost use Rattle.influxdb_line_protocol.specs.code.Rules.{rules_of};
 ghost use Rattle.influxdb_line_protocol.specs.format.Pieces.{Pieces};
 ghost use Rattle.lp_programs.specs.Batches.{both, fitting, line_size, may_be, no_lines, takes_line};
 ghost use Rattle.lp_programs.specs.Files.{IsBeside, IsInPlace};
+ghost use Rattle.lp_programs.specs.Places.{is_interrupted};
 
 use crate::batch_names::BatchNames;
 use crate::beside::{FileBeside, NEW_MODE, make_beside};
 use crate::endings::Failure;
 use crate::files::{Output, failure_of_batch, let_file_go};
+use crate::opens::is_interrupted;
 use influxdb_line_protocol::{Dialect, laws, split_lines_in};
 use std::io::{self, ErrorKind, Write};
 use std::str;
@@ -287,11 +290,21 @@ impl<'a, 'n> Batches<'a, 'n> {
     }
 }
 
-/// Bytes come as whole lines. Each write takes those that go to one batch.
-impl<'a, 'n> Write for Batches<'a, 'n> {
-    fn write(&mut self, buf: &[u8]) -> io::Result<usize>
-        ensures bound { WritesAtMost result buf.now }
-        ensures bytes { WriteAppends None None result buf.now }
+// An error after which no caller writes the same lines again, as it would after a call that a signal interrupted: their batch may be there.
+fn last_error(error: io::Error) -> io::Error
+    ensures last { is_interrupted (error_kind result) ≡ false }
+    ensures other { is_interrupted (error_kind error) ≡ false → result ≡ error }
+{
+    if is_interrupted(error.kind()) {
+        return io::Error::from(ErrorKind::Other);
+    }
+    error
+}
+
+impl<'a, 'n> Batches<'a, 'n> {
+    // Writes those of these lines that go to one batch, and answers how many bytes they have.
+    fn write_batch(&mut self, buf: &[u8]) -> io::Result<usize>
+        ensures { WritesAtMost result buf.now }
     {
         let text = str::from_utf8(buf).unwrap_or("");
         let mut fit = lines_that_fit(self.dialect, self.limits, self.size, text);
@@ -304,6 +317,21 @@ impl<'a, 'n> Write for Batches<'a, 'n> {
         };
         self.add(lines, fit)?;
         Ok(lines.len())
+    }
+}
+
+/// Bytes come as whole lines. Each write takes those that go to one batch. No error says that a signal interrupted the write, since a
+/// caller would then write the same lines again.
+impl<'a, 'n> Write for Batches<'a, 'n> {
+    fn write(&mut self, buf: &[u8]) -> io::Result<usize>
+        ensures bound { WritesAtMost result buf.now }
+        ensures bytes { WriteAppends None None result buf.now }
+        ensures last { IfErr result (λ error. is_interrupted (error_kind error) ≡ false) }
+    {
+        match self.write_batch(buf) {
+            Ok(n) => Ok(n),
+            Err(error) => Err(last_error(error)),
+        }
     }
 
     fn flush(&mut self) -> io::Result<()>

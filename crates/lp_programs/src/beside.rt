@@ -9,7 +9,7 @@ ghost use Rattle.lp_programs.specs.Places.{has_no_links};
 use crate::endings::Failure;
 use crate::files::{FileState, Files, Maker, Output, Stage, failure_of};
 use crate::locks::{BESIDE, front_of_name, is_written, lock_made};
-use crate::opens::{open_again, open_to_read};
+use crate::opens::{call_again, open_again, open_to_read};
 use crate::places::{folder_and_file, is_mounted, place_of};
 use crate::speaking::{Notice, Speaker};
 use crate::streams::Stream;
@@ -264,8 +264,8 @@ impl<'a, 'n> FileBeside<'a, 'n> {
             self.place.as_str(),
             self.turn.saturating_add(TRIES),
         )?;
-        fs::hard_link(self.rt, self.beside.as_str(), link.as_str()).map_err(unlinked)?;
-        fs::remove_file(self.rt, link.as_str())
+        link_again(self.rt, self.beside.as_str(), link.as_str()).map_err(unlinked)?;
+        unlink_again(self.rt, link.as_str())
     }
 
     /// Whether it holds a byte, or that cannot be told.
@@ -287,10 +287,20 @@ impl<'a, 'n> FileBeside<'a, 'n> {
 // Puts the file beside a place there: one that comes there only if nothing is there by a hard link, which replaces nothing.
 fn put_at(rt: &HostRuntime, beside: &str, place: &str, is_new: bool) -> io::Result<()> {
     if !is_new {
-        return fs::rename(rt, beside, place);
+        return call_again(|| fs::rename(rt, beside, place));
     }
-    fs::hard_link(rt, beside, place)?;
-    fs::remove_file(rt, beside)
+    link_again(rt, beside, place)?;
+    unlink_again(rt, beside)
+}
+
+// Gives a file another name too.
+fn link_again(rt: &HostRuntime, file: &str, other: &str) -> io::Result<()> {
+    call_again(|| fs::hard_link(rt, file, other))
+}
+
+// Takes a name away.
+fn unlink_again(rt: &HostRuntime, name: &str) -> io::Result<()> {
+    call_again(|| fs::remove_file(rt, name))
 }
 
 // Why no hard link can be made, where the system says this.

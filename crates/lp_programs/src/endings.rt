@@ -1,6 +1,6 @@
 //! How a run ends: why it failed, what is said of that, and its exit status.
 ghost use Rattle.std.specs.Prelude.{◌≡◌};
-ghost use Rattle.lp_programs.specs.Endings.{failed_device, failed_ending, fault_status, is_broken_pipe, is_closed, is_closed_stream, not_told, plain_ending, print_status, relay_ending, run_failure};
+ghost use Rattle.lp_programs.specs.Endings.{failed_device, failed_ending, ending_once_told, fault_status, is_broken_pipe, is_closed, is_closed_stream, not_told, plain_ending, print_status, relay_ending, run_failure, untold_failure};
 ghost use Rattle.std.specs.IoError.{error_kind};
 
 use crate::summary::Totals;
@@ -183,6 +183,31 @@ pub fn ending_of_relay<'n>(
             status: if totals.counts.refused == 0 { 0 } else { 1 },
         },
         Err(failure) => ending_of_failure(failure),
+    }
+}
+
+// Why a run failed whose standard error could not be written.
+fn untold_failure<'n>(error: io::Error) -> Failure<'n>
+    ensures { result ≡ untold_failure error }
+{
+    Failure {
+        fault: RunFault::Write,
+        device: Device {
+            name: None,
+            batch: None,
+            error: Some(error),
+        },
+        is_pipe_closed: is_of_closed_pipe(error),
+    }
+}
+
+/// How a run ends that would end so, once its counts were told: if they could not be told, it has failed.
+pub fn ending_once_told<'n>(ending: Ending<'n>, told: io::Result<()>) -> Ending<'n>
+    ensures { result ≡ ending_once_told ending.entry told }
+{
+    match told {
+        Ok(()) => ending,
+        Err(error) => ending_of_failure(untold_failure(error)),
     }
 }
 

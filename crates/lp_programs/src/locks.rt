@@ -9,7 +9,7 @@
 ghost use Rattle.std.specs.Prelude.{◌≡◌};
 ghost use Rattle.lp_programs.specs.Places.{may_fail};
 
-use crate::opens::{open_to_read, read_folder};
+use crate::opens::{call_again, open_to_read, read_folder};
 use crate::places::folder_and_file;
 use std::fs::{self, File, TryLockError};
 use std::io::{self, ErrorKind};
@@ -47,8 +47,8 @@ fn is_beside(name: &str, file: &str) -> bool {
 
 // Whether a path is that of an open file, and no link.
 fn is_at(rt: &HostRuntime, path: &str, file: &File) -> io::Result<bool> {
-    let own = file.metadata()?;
-    match fs::symlink_metadata(rt, path) {
+    let own = call_again(|| file.metadata())?;
+    match call_again(|| fs::symlink_metadata(rt, path)) {
         Ok(found) => Ok(found.dev() == own.dev() && found.ino() == own.ino()),
         Err(error) if error.kind() == ErrorKind::NotFound => Ok(false),
         Err(error) => Err(error),

@@ -1,4 +1,8 @@
-//! Opens files and folders, again as often as a signal interrupts that.
+//! Makes calls to the system again as often as a signal interrupts them.
+ghost use Rattle.std.specs.Prelude.{◌≡◌, false, IfErr};
+ghost use Rattle.std.specs.IoError.{error_kind};
+ghost use Rattle.lp_programs.specs.Places.{is_interrupted};
+
 use std::alloc::Global;
 use std::fs::{self, File, OpenOptions, ReadDir};
 use std::io::{self, ErrorKind};
@@ -6,22 +10,41 @@ use std::io::{self, ErrorKind};
 /// How often a call is tried that a signal interrupts: a process gets no such number of signals.
 pub(crate) const TRIES: u64 = u64::MAX;
 
-/// Opens a file by these options, and again as often as a signal interrupts that.
+// Whether a call that failed so is made again: a signal interrupted it.
+pub(crate) fn is_interrupted(kind: ErrorKind) -> bool
+    ensures { result ≡ is_interrupted kind }
+{
+    matches!(kind, ErrorKind::Interrupted)
+}
+
+/// Makes a call to the system, and again as often as a signal interrupts it.
+///
+/// # Errors
+///
+/// What the system says: never that a signal interrupted the call.
+pub(crate) fn call_again<T, F: FnMut() -> io::Result<T>>(mut call: F) -> io::Result<T>
+    requires { F.IsAlwaysCallable call }
+    ensures { IfErr result (λ error. is_interrupted (error_kind error) ≡ false) }
+{
+    for _ in 0..TRIES {
+        match call() {
+            Err(error) if is_interrupted(error.kind()) => {}
+            answer => return answer,
+        }
+    }
+    Err(io::Error::from(ErrorKind::Other))
+}
+
+/// Opens a file by these options.
 ///
 /// # Errors
 ///
 /// What the system says if it cannot be opened.
 pub(crate) fn open_again(rt: &HostRuntime, options: &OpenOptions, path: &str) -> io::Result<File> {
-    for _ in 0..TRIES {
-        match options.open(rt, path) {
-            Err(error) if error.kind() == ErrorKind::Interrupted => {}
-            answer => return answer,
-        }
-    }
-    Err(io::Error::from(ErrorKind::Interrupted))
+    call_again(|| options.open(rt, path))
 }
 
-/// Opens a file to read it, and again as often as a signal interrupts that.
+/// Opens a file to read it.
 ///
 /// # Errors
 ///
@@ -32,7 +55,7 @@ pub fn open_to_read(rt: &HostRuntime, path: &str) -> io::Result<File> {
     open_again(rt, &options, path)
 }
 
-/// Opens a folder to read the names in it, and again as often as a signal interrupts that.
+/// Opens a folder to read the names in it.
 ///
 /// # Errors
 ///
@@ -41,11 +64,5 @@ pub(crate) fn read_folder<'a>(
     rt: &'a HostRuntime,
     folder: &str,
 ) -> io::Result<ReadDir<&'a HostRuntime, Global>> {
-    for _ in 0..TRIES {
-        match fs::read_dir(&rt, folder) {
-            Err(error) if error.kind() == ErrorKind::Interrupted => {}
-            answer => return answer,
-        }
-    }
-    Err(io::Error::from(ErrorKind::Interrupted))
+    call_again(|| fs::read_dir(&rt, folder))
 }

@@ -1,9 +1,10 @@
 //! What is found in the places of names and of standard streams before anything is opened.
 ghost use Rattle.std.specs.Prelude.{◌≡◌, IfOk, map};
+ghost use Rattle.lp_programs.specs.Places.{is_nothing_there};
 ghost use Rattle.lp_programs.specs.Refusals.{input_path};
 
 use crate::batch_names::BatchNames;
-use crate::opens::{open_again, read_folder};
+use crate::opens::{call_again, open_again, read_folder};
 use crate::options::Range;
 use crate::refusals::{
     FileId, Located, OldPieces, Refusal, refusal_of, refusal_of_faults, refusal_of_old,
@@ -294,16 +295,24 @@ fn led_to(rt: &HostRuntime, link: &str) -> io::Result<String> {
     }
 }
 
+// Whether a look at a name that failed so tells that nothing is there.
+fn is_nothing_there(kind: ErrorKind) -> bool
+    ensures { result ≡ is_nothing_there kind }
+{
+    matches!(kind, ErrorKind::NotFound)
+}
+
 /// The place of a name: if that is a link, what it leads to, also if nothing is there.
 ///
 /// # Errors
 ///
-/// What the system says if a link cannot be read, or that there are too many.
+/// What the system says if it cannot tell whether a link is there, or a link cannot be read, or that there are too many.
 pub(crate) fn place_of(rt: &HostRuntime, name: &str) -> io::Result<String> {
     let mut place = String::from_str(rt.alloc(), name)?;
     for _ in 0..MOST_LINKS {
-        match fs::symlink_metadata(rt, place.as_str()) {
+        match call_again(|| fs::symlink_metadata(rt, place.as_str())) {
             Ok(found) if found.is_symlink() => place = led_to(rt, place.as_str())?,
+            Err(error) if !is_nothing_there(error.kind()) => return Err(error),
             _ => return Ok(place),
         }
     }

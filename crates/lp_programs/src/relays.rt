@@ -1,5 +1,6 @@
 //! Relays what words ask for, and says how that ends.
-ghost use Rattle.std.specs.Prelude.{◌≡◌, IfOk, IfSome};
+ghost use Rattle.std.specs.Prelude.{◌≡◌, None, IfOk, IfSome, IsOk};
+ghost use Rattle.lp_programs.specs.Endings.{IsLastStatus};
 ghost use Rattle.lp_programs.specs.Files.{Each, IsBeside};
 
 use crate::asked::{ReadsOn, relay_by_clock, relay_each};
@@ -8,7 +9,7 @@ use crate::batches::{Batches, Limits};
 use crate::beside::{Destination, Destinations, FileBeside, System};
 use crate::clock::SystemClock;
 use crate::counted::CountedSource;
-use crate::endings::{Device, Devices, Ending, Failure, ending_of_relay};
+use crate::endings::{Device, Devices, Ending, Failure, ending_of_relay, ending_once_told};
 use crate::errors::{LastErrors, Watched};
 use crate::files::{Files, failure_of, failure_of_batch};
 use crate::inputs::{Inputs, SystemOpener};
@@ -373,27 +374,33 @@ fn say_failure(rt: &HostRuntime, program: Speaker<'_>, failure: Failure<'_>) {
     program.say(rt, fault_name(failure.fault), name, &failure);
 }
 
-/// Says how a run of a program ends, and answers with its exit status.
-pub fn end(rt: &HostRuntime, program: Speaker<'_>, ending: Ending<'_>) -> u8
-    ensures { result ≡ ending.entry.status }
+// Tells the counts of a run, if it has any to tell.
+fn tell_counts(rt: &HostRuntime, program: Speaker<'_>, ending: Ending<'_>) -> io::Result<()>
+    ensures { ending.entry.not_told ≡ 0 → ending.entry.summary ≡ None → IsOk result }
 {
-    if let Some(failure) = ending.failure {
-        say_failure(rt, program, failure);
-    }
     let not_told = ending.not_told;
     if not_told > 0 {
-        let _ = if program.as_objects {
-            eprintln!(rt; "{{\"faults_not_told\":{not_told}}}")
+        if program.as_objects {
+            eprintln!(rt; "{{\"faults_not_told\":{not_told}}}")?;
         } else {
-            eprintln!(rt; "{not_told} faults were not told")
-        };
+            eprintln!(rt; "{not_told} faults were not told")?;
+        }
     }
-    if let Some(summary) = ending.summary {
-        let _ = if program.as_objects {
-            eprintln!(rt; "{}", AsObject(summary))
-        } else {
-            eprintln!(rt; "{summary}")
-        };
+    match ending.summary {
+        Some(summary) if program.as_objects => eprintln!(rt; "{}", AsObject(summary)),
+        Some(summary) => eprintln!(rt; "{summary}"),
+        None => Ok(()),
+    }
+}
+
+/// Says how a run of a program ends, and answers with its exit status: that of a run that failed, if its counts cannot be written.
+pub fn end(rt: &HostRuntime, program: Speaker<'_>, ending: Ending<'_>) -> u8
+    ensures status { IsLastStatus ending.entry result }
+    ensures quiet { ending.entry.not_told ≡ 0 → ending.entry.summary ≡ None → result ≡ ending.entry.status }
+{
+    let ending = ending_once_told(ending, tell_counts(rt, program, ending));
+    if let Some(failure) = ending.failure {
+        say_failure(rt, program, failure);
     }
     ending.status
 }

@@ -3,5 +3,6 @@ pub mod KeptLemmas
 pub mod TimeLemmas
 pub mod SeriesLemmas
 pub mod CountLemmas
+pub mod KeptCounts
 pub mod TextLemmas
 pub mod WorkedCounts

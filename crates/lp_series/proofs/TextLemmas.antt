@@ -1,6 +1,6 @@
 -- The points of pieces, and what was counted of them so far.
-use Rattle.std.proofs.Common.{◌≡◌, ℕ, ℤ, ◌+◌, ◌<◌, ◌≤◌, ◌++◌, List, [], ◌∷◌, length, Bool}
-use Rattle.std.proofs.Common.{Result, Ok, Err, Option, Some, refl, sym, ap, subst, ◌∙◌, arith, append-nil, append_assoc, inl, inr, if◌then◌else◌}
+use Rattle.std.proofs.Common.{◌≡◌, ℕ, ◌+◌, ◌<◌, ◌≤◌, ◌++◌, List, [], ◌∷◌, length, Bool}
+use Rattle.std.proofs.Common.{Result, Ok, Err, Some, refl, sym, ap, subst, ◌∙◌, arith, append-nil, append_assoc, inl, inr, if◌then◌else◌}
 use Rattle.std.specs.{Borrow.Bor, Str.IsUtf8, Str.is_utf8}
 use Rattle.std.proofs.lemmas.{Bool.cases_Bool, Bool.Decides.nat_tests, Grind.flat_map-append, Str.IsUtf8-from_is_utf8, Str.is_utf8-from_IsUtf8}
 use Rattle.std.proofs.lemmas.List.{length-append}
@@ -22,8 +22,7 @@ use Rattle.influxdb_line_protocol.specs.types.{ParsedLine.ParsedLine, PieceTooLo
 use Rattle.lp_lines.specs.laws.BaseLaws.{ReadSeriesAreParsed}
 use Rattle.lp_written.specs.{code.WrittenKeys.IsAdmittedKey, laws.WrittenKeyLaws.KeysStandInTexts}
 use Rattle.lp_series.specs.declared.counts.SeriesCounts.{SeriesCounts}
-use Rattle.lp_series.specs.Counting.{Counts, CountsAll, IsGreatest, IsLeast, key_of, times_of}
-use Rattle.lp_series.specs.CountSteps.{KeepsTotals}
+use Rattle.lp_series.specs.Counting.{Counts, key_of}
 use Rattle.lp_series.specs.Texts.{points_of, points_of_piece, points_of_text, refused_of, refused_of_piece, refused_of_text}
 use Rattle.lp_series.specs.TextSteps.{CountsMore, points_given, refused_given}
 
@@ -109,15 +108,6 @@ text_points dialect given bytes text is utf8 same =
     let good = is_utf8-from_IsUtf8 bytes.now utf8 in
     ap (points_given dialect) is
     ∙ ap (λ (b : Bool). if b then points_of_text dialect bytes.now else []) good ∙ ap (points_of_text dialect) (sym same)
-
--- what was counted of all points is as before
-pub some_counted : (old new : SeriesCounts) (ps : List Point) → KeepsTotals old new → CountsAll old ps → CountsAll new ps
-some_counted old new ps same counts = record {
-  points = same.points ∙ counts.points;
-  without_time = same.without_time ∙ counts.without_time;
-  least = subst (λ (t : Option ℤ). IsLeast t (times_of ps)) (sym same.least_time) counts.least;
-  greatest = subst (λ (t : Option ℤ). IsGreatest t (times_of ps)) (sym same.greatest_time) counts.greatest;
-}
 
 -- no text with a newline is empty
 no_newline : (u t : List ℕ) → u ++ newline ∷ t ≡ [] → ⊥

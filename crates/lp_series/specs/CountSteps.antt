@@ -6,7 +6,7 @@ use Rattle.influxdb_line_protocol.specs.format.Points.{Field, Point, Tag}
 use Rattle.influxdb_line_protocol.specs.format.Values.{Value}
 use Rattle.lp_series.specs.declared.{kinds.FieldKinds.FieldKinds, measurements.MeasurementCounts.MeasurementCounts, tables.Found.Found, counts.SeriesCounts.SeriesCounts}
 use Rattle.lp_series.specs.declared.tables.Found.TheVariants.{Known, New, Beyond}
-use Rattle.lp_series.specs.Counting.{HasKinds, has_tag, is_tag, is_boolean, is_float, is_integer, is_string, is_unsigned}
+use Rattle.lp_series.specs.Counting.{CountsKept, HasKinds, has_tag, is_tag, key_of, is_boolean, is_float, is_integer, is_string, is_unsigned}
 
 -- the kinds with that of a value more
 abbrev pub with_value : FieldKinds → Value (List ℕ) → FieldKinds
@@ -83,6 +83,33 @@ abbrev pub with_time : List ℤ → Option ℤ → List ℤ
 with_time times None = times
 with_time times (Some t) = times ++ t ∷ []
 
+-- a measurement has as many points and series as before, or is as unknown
+abbrev pub KeepsNumbers : (old new : Option MeasurementCounts) → Type 0
+KeepsNumbers None new = new ≡ None
+KeepsNumbers (Some old) new =
+    (counts : MeasurementCounts) × (new ≡ Some counts) × (counts.points ≡ old.points) × (counts.series ≡ old.series)
+
+module _ {Y : Type 0} where
+  -- each series has as many points as before, and none is new
+  abbrev pub KeepsSeries : (old new : BTreeMap (String Y) ℕ) → Type 0
+  KeepsSeries old new = ((key : List ℕ) → get_by_text new key ≡ get_by_text old key) × (btree_map_len new ≡ btree_map_len old)
+
+  -- each measurement has as many points and series as before, and none is new
+  abbrev pub KeepsMeasurements : (old new : BTreeMap (String Y) MeasurementCounts) → Type 0
+  KeepsMeasurements old new = (m : List ℕ) → KeepsNumbers (get_by_text old m) (get_by_text new m)
+
+module _ {Y : Type 0} where
+  -- each series has as many points as it had before one was counted of the series with this key, which was found so
+  abbrev pub TakesBack : Found → List ℕ → (counted new : BTreeMap (String Y) ℕ) → Type 0
+  TakesBack found key counted new =
+      (most : ℕ) (before : BTreeMap (String Y) ℕ) → CountsKey most found key before counted → KeepsSeries before new
+
+-- a point more was counted beside its series, which was found so, and counted before
+abbrev pub CountsFound : Found → Point → (old new : SeriesCounts) → Type 0
+CountsFound found p old new =
+    (before : SeriesCounts) (ps : List Point) → CountsKey old.max_series found (key_of p) before.series old.series
+    → CountsKept (record old { series = before.series }) ps → CountsKept new (ps ++ p ∷ [])
+
 -- what was counted of all points is as before
 pub record KeepsTotals (old new : SeriesCounts) : Type 0 where
   pub most : new.max_series ≡ old.max_series
@@ -90,3 +117,10 @@ pub record KeepsTotals (old new : SeriesCounts) : Type 0 where
   pub without_time : new.without_time ≡ old.without_time
   pub least_time : new.least_time ≡ old.least_time
   pub greatest_time : new.greatest_time ≡ old.greatest_time
+
+-- no count has changed; fields of measurements and tags may have come
+pub record KeepsCounts (old new : SeriesCounts) : Type 0 where
+  pub totals : KeepsTotals old new
+  pub beyond : new.beyond ≡ old.beyond
+  pub series : KeepsSeries old.series new.series
+  pub measurements : KeepsMeasurements old.measurements new.measurements

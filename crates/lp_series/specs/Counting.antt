@@ -144,3 +144,15 @@ pub record CountsAll (counts : SeriesCounts) (ps : List Point) : Type 0 where
 pub record Counts (counts : SeriesCounts) (ps : List Point) : Type 0 where
   pub all : CountsAll counts ps
   pub kept : CountsKept counts ps
+
+-- the points and the series of a measurement, if there are any points
+abbrev pub HasNumbers : Option MeasurementCounts → List Point → Type 0
+HasNumbers None points = points ≡ []
+HasNumbers (Some counts) points =
+    (0 < length points) × (counts.points ≡ length points) × (counts.series ≡ different (map key_of points))
+
+-- each count is that of these points; fields of measurements and tags may be of other points too
+pub record CountsNumbers (counts : SeriesCounts) (ps : List Point) : Type 0 where
+  pub all : CountsAll counts ps
+  pub series : CountsSeries counts.max_series counts.series counts.beyond ps
+  pub measurements : (m : List ℕ) → HasNumbers (get_by_text counts.measurements m) (filter (is_of m) (kept_by counts.series ps))

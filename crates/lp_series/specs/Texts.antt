@@ -10,7 +10,7 @@ use Rattle.influxdb_line_protocol.specs.format.Readings.{Fault}
 use Rattle.influxdb_line_protocol.specs.code.{Bounded.Holds, Rules.rules_of}
 use Rattle.influxdb_line_protocol.specs.laws.StreamLaws.{Run}
 use Rattle.lp_series.specs.declared.counter.SeriesCounter.{SeriesCounter}
-use Rattle.lp_series.specs.Counting.{Counts, CountsAll}
+use Rattle.lp_series.specs.Counting.{Counts, CountsNumbers}
 
 -- the point of an answer, if that is a line
 abbrev pub point_in : Result Line Fault → List Point
@@ -63,9 +63,9 @@ abbrev pub HasCounted : SeriesCounter → Dialect → ℕ → List Point → (ot
 HasCounted counter dialect limit before others given =
     (left : List ℕ) × HasCountedTo counter dialect limit before others given left × IsLastPiece dialect left
 
--- after these points, of a text of which so much was given, what was counted of all points is that of some first pieces
+-- after these points, of a text of which so much was given, each count is that of some first pieces
 pub record HasCountedSome (counter : SeriesCounter) (dialect : Dialect) (limit : ℕ) (before : List Point) (given : List ℕ) : Type 0 where
   pub pieces : List (List ℕ)
   pub left : List ℕ
   pub run : Run dialect given pieces left
-  pub counts : CountsAll counter.counts (before ++ points_of dialect limit pieces)
+  pub counts : CountsNumbers counter.counts (before ++ points_of dialect limit pieces)

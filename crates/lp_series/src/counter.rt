@@ -3,7 +3,7 @@
 ghost use Rattle.std.specs.Prelude.{◌≡◌, ◌+◌, ◌++◌, ◌<◌, ℕ, [], List, IfOk, OnErr, OnOk, true};
 ghost use Rattle.influxdb_line_protocol.specs.code.{Bounded.most_given, Rules.rules_of};
 ghost use Rattle.influxdb_line_protocol.specs.format.{Dialects.Dialect as Format, Pieces.Pieces, Points.Point};
-ghost use Rattle.lp_series.specs.CountSteps.{KeepsTotals};
+ghost use Rattle.lp_series.specs.CountSteps.{KeepsCounts};
 ghost use Rattle.lp_series.specs.Texts.{HasCounted, HasCountedSome, points_of, refused_of};
 ghost use Rattle.lp_series.specs.TextSteps.{CountsFirst};
 
@@ -66,11 +66,12 @@ impl SeriesCounter {
     }
 
     // Counts the line of the next piece, and tells whether the stream could give one.
+    #[tactic(auto, using(crate::proofs::KeptCounts::same_counts))]
     fn count_next(&mut self) -> Result<bool, AllocError>
         ensures fewer { IfOk result (λ some. some ≡ true → most_given self.new.stream < most_given self.old.stream) }
         ensures counts { IfOk result (λ some. CountsFirst self.old self.new some) }
         ensures most { self.new.counts.max_series ≡ self.old.counts.max_series }
-        ensures totals { OnErr result (KeepsTotals self.old.counts self.new.counts) }
+        ensures kept { OnErr result (KeepsCounts self.old.counts self.new.counts) }
     {
         let one_more = count_if(self.refused, true)?;
         let Some(given) = self.stream.next() else {
@@ -89,7 +90,7 @@ impl SeriesCounter {
     /// # Errors
     ///
     /// A request for memory was refused, or no `u64` holds a count, or no `usize` how many bytes a piece has that is too long. Then
-    /// lines of the part may be lost, and the tables may have a part of one; what is counted of all lines is that of the first ones.
+    /// lines of the part may be lost. Each count is that of the first lines; only tags and fields may be there of the one after them.
     pub fn push(&mut self, part: &[u8]) -> Result<(), AllocError>
         ensures counts { OnOk result ((dialect : Format) (limit : ℕ) (before : List Point) (others : ℕ) (given : List ℕ)
             → HasCounted self.old dialect limit before others given

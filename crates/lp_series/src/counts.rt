@@ -4,11 +4,11 @@ ghost use Rattle.std.specs.Prelude.{◌≡◌, ◌++◌, ◌∷◌, [], List, If
 ghost use Rattle.influxdb_line_protocol.specs.code.Parsed.{IsReadLine, parsed_point};
 ghost use Rattle.influxdb_line_protocol.specs.format.Points.{Point};
 ghost use Rattle.lp_series.specs.Counting.{Counts, CountsKept, key_of};
-ghost use Rattle.lp_series.specs.CountSteps.{KeepsTotals};
+ghost use Rattle.lp_series.specs.CountSteps.{CountsFound, KeepsCounts, KeepsMeasurements, KeepsTotals};
 
 use crate::measurements::{MeasurementCounts, count_line};
 use crate::sums::count_if;
-use crate::tables::{Found, count_key, count_tags, tags_in};
+use crate::tables::{Found, count_key, count_tags, tags_in, uncount_key};
 use crate::times::{greatest, least};
 use influxdb_line_protocol::{ParsedLine, key_of_text, laws};
 use std::alloc::{AllocError, Global};
@@ -80,6 +80,35 @@ impl SeriesCounts {
         }
     }
 
+    // Counts a line whose series was found so, and was counted in its table, in the other tables.
+    #[tactic(auto, using(crate::proofs::KeptCounts::same_numbers))]
+    fn add_found(
+        &mut self,
+        alloc: Global,
+        found: Found,
+        line: &ParsedLine<'_>,
+    ) -> Result<(), AllocError>
+        ensures counts { OnOk result (CountsFound found (parsed_point line.now) self.old self.new) }
+        ensures series { self.new.series ≡ self.old.series }
+        ensures totals { KeepsTotals self.old self.new }
+        ensures beyond { OnErr result (self.new.beyond ≡ self.old.beyond) }
+        ensures measurements { OnErr result (KeepsMeasurements self.old.measurements self.new.measurements) }
+    {
+        laws::keys_tell_series();
+        match found {
+            Found::Known => count_line(alloc, &mut self.measurements, line, false),
+            // Its tags come first: they are no counts, which an error must not change.
+            Found::New => {
+                count_tags(alloc, &mut self.tags, tags_in(line))?;
+                count_line(alloc, &mut self.measurements, line, true)
+            }
+            Found::Beyond => {
+                self.beyond = self.beyond.checked_add(1).ok_or(AllocError)?;
+                Ok(())
+            }
+        }
+    }
+
     // Counts a line by its key in the tables.
     fn add_by_key(
         &mut self,
@@ -91,23 +120,20 @@ impl SeriesCounts {
         ensures counts { OnOk result
             ((before : List Point) → CountsKept self.old before → CountsKept self.new (before ++ parsed_point line.now ∷ [])) }
         ensures totals { KeepsTotals self.old self.new }
-        ensures beyond { OnErr result (self.new.beyond ≡ self.old.beyond) }
+        ensures kept { OnErr result (KeepsCounts self.old self.new) }
     {
-        laws::keys_tell_series();
-        match count_key(alloc, &mut self.series, self.max_series, key)? {
-            Found::Known => count_line(alloc, &mut self.measurements, line, false),
-            Found::New => {
-                count_line(alloc, &mut self.measurements, line, true)?;
-                count_tags(alloc, &mut self.tags, tags_in(line))
-            }
-            Found::Beyond => {
-                self.beyond = self.beyond.checked_add(1).ok_or(AllocError)?;
-                Ok(())
+        let found = count_key(alloc, &mut self.series, self.max_series, key)?;
+        match self.add_found(alloc, found, line) {
+            Ok(()) => Ok(()),
+            Err(error) => {
+                uncount_key(&mut self.series, found, key);
+                Err(error)
             }
         }
     }
 
     // Counts a line by its key.
+    #[tactic(auto, using(crate::proofs::KeptCounts::same_counts))]
     pub(crate) fn add_keyed(
         &mut self,
         alloc: Global,
@@ -118,8 +144,7 @@ impl SeriesCounts {
         ensures counts { OnOk result
             ((before : List Point) → Counts self.old before → Counts self.new (before ++ parsed_point line.now ∷ [])) }
         ensures most { self.new.max_series ≡ self.old.max_series }
-        ensures totals { OnErr result (KeepsTotals self.old self.new) }
-        ensures beyond { OnErr result (self.new.beyond ≡ self.old.beyond) }
+        ensures kept { OnErr result (KeepsCounts self.old self.new) }
     {
         let points = self.points.checked_add(1).ok_or(AllocError)?;
         let without_time = count_if(self.without_time, line.timestamp.is_none())?;
@@ -141,8 +166,7 @@ impl SeriesCounts {
         ensures counts { OnOk result
             ((before : List Point) → Counts self.old before → Counts self.new (before ++ parsed_point line.now ∷ [])) }
         ensures most { self.new.max_series ≡ self.old.max_series }
-        ensures totals { OnErr result (KeepsTotals self.old self.new) }
-        ensures beyond { OnErr result (self.new.beyond ≡ self.old.beyond) }
+        ensures kept { OnErr result (KeepsCounts self.old self.new) }
     {
         match lent_key(line) {
             Some(key) => self.add_keyed(alloc, key, line),
@@ -158,8 +182,8 @@ impl SeriesCounts {
     ///
     /// # Errors
     ///
-    /// A request for memory was refused, or no `u64` holds a count. Then the tables may have a part of the line, but what is counted
-    /// of all lines, and `beyond`, is as before.
+    /// A request for memory was refused, or no `u64` holds a count. Then no count has changed, and no series and no measurement is new:
+    /// you can add the line again. Only `tags`, and the `fields` of a measurement that was there, may have those of the line.
     ///
     /// ```text
     /// cpu,host=a usage=1 5   ->  points 1, least and greatest time 5; series {cpu,host=a: 1}; tags {host: {a}};
@@ -167,12 +191,12 @@ impl SeriesCounts {
     /// cpu,host=a usage=2i 3  ->  points 2, least time 3; series {cpu,host=a: 2}; fields {usage: float, integer}
     /// cpu,host=b idle=1      ->  with max_series 1: points 3, without_time 1, beyond 1, and nothing else
     /// ```
+    #[tactic(auto, using(crate::proofs::KeptCounts::same_counts))]
     pub fn add(&mut self, alloc: Global, line: &ParsedLine<'_>) -> Result<(), AllocError>
         ensures counts { OnOk result
             ((before : List Point) → Counts self.old before → Counts self.new (before ++ parsed_point line.now ∷ [])) }
         ensures most { self.new.max_series ≡ self.old.max_series }
-        ensures totals { OnErr result (KeepsTotals self.old self.new) }
-        ensures beyond { OnErr result (self.new.beyond ≡ self.old.beyond) }
+        ensures kept { OnErr result (KeepsCounts self.old self.new) }
     {
         let key = line.series.key(alloc)?;
         self.add_keyed(alloc, key.as_str(), line)

@@ -2,7 +2,7 @@
 
 ghost use Rattle.std.specs.Prelude.{◌≡◌, IfOk, OnErr, OnOk};
 ghost use Rattle.influxdb_line_protocol.specs.code.Rules.{rules_of};
-ghost use Rattle.lp_series.specs.CountSteps.{KeepsTotals, one_if};
+ghost use Rattle.lp_series.specs.CountSteps.{KeepsCounts, one_if};
 ghost use Rattle.lp_series.specs.Texts.{points_of_text, refused_of_text};
 ghost use Rattle.lp_series.specs.TextSteps.{CountsGiven, CountsMore, refused_given};
 
@@ -41,6 +41,7 @@ impl<'a> LineRoom<'a> {
 }
 
 // Counts the line of a piece, if it has one, and tells whether it has an item that is none.
+#[tactic(auto, using(crate::proofs::KeptCounts::same_counts))]
 pub(crate) fn count_text<'a>(
     alloc: Global,
     dialect: Dialect,
@@ -51,7 +52,7 @@ pub(crate) fn count_text<'a>(
     ensures refused { IfOk result (λ refused. one_if refused ≡ refused_of_text (rules_of dialect) piece.now) }
     ensures counts { OnOk result (CountsMore counts.old counts.new (points_of_text (rules_of dialect) piece.now)) }
     ensures most { counts.new.max_series ≡ counts.old.max_series }
-    ensures totals { OnErr result (KeepsTotals counts.old counts.new) }
+    ensures kept { OnErr result (KeepsCounts counts.old counts.new) }
 {
     let text = trimmed(piece);
     if text.is_empty() {
@@ -78,7 +79,7 @@ pub(crate) fn count_given(
     ensures refused { IfOk result (λ refused. one_if refused ≡ refused_given (rules_of dialect) given.entry) }
     ensures counts { OnOk result (CountsGiven (rules_of dialect) counts.old counts.new given.entry) }
     ensures most { counts.new.max_series ≡ counts.old.max_series }
-    ensures totals { OnErr result (KeepsTotals counts.old counts.new) }
+    ensures kept { OnErr result (KeepsCounts counts.old counts.new) }
 {
     let Ok(bytes) = given else {
         return Ok(true);

@@ -1,8 +1,8 @@
 //! What the lines of measurements have.
 
-ghost use Rattle.std.specs.Prelude.{OnOk};
+ghost use Rattle.std.specs.Prelude.{◌≡◌, OnErr, OnOk};
 ghost use Rattle.influxdb_line_protocol.specs.code.Parsed.{parsed_point};
-ghost use Rattle.lp_series.specs.CountSteps.{CountsIn, CountsNothing, CountsPoint};
+ghost use Rattle.lp_series.specs.CountSteps.{CountsIn, CountsNothing, CountsPoint, KeepsMeasurements};
 
 use crate::kinds::{FieldKinds, count_fields};
 use crate::sums::count_if;
@@ -37,11 +37,15 @@ impl MeasurementCounts {
 
     // Counts a line, of a new series or of a known one.
     fn add(&mut self, alloc: Global, line: &ParsedLine<'_>, is_new: bool) -> Result<(), AllocError>
-        ensures { OnOk result (CountsPoint is_new (parsed_point line.now) self.old self.new) }
+        ensures counts { OnOk result (CountsPoint is_new (parsed_point line.now) self.old self.new) }
+        ensures kept { OnErr result ((self.new.points ≡ self.old.points) × (self.new.series ≡ self.old.series)) }
     {
-        self.points = self.points.checked_add(1).ok_or(AllocError)?;
-        self.series = count_if(self.series, is_new)?;
-        count_fields(alloc, &mut self.fields, line.field_set.as_slice())
+        let points = self.points.checked_add(1).ok_or(AllocError)?;
+        let series = count_if(self.series, is_new)?;
+        count_fields(alloc, &mut self.fields, line.field_set.as_slice())?;
+        self.points = points;
+        self.series = series;
+        Ok(())
     }
 }
 
@@ -52,7 +56,8 @@ pub(crate) fn count_line(
     line: &ParsedLine<'_>,
     is_new: bool,
 ) -> Result<(), AllocError>
-    ensures { OnOk result (CountsIn is_new (parsed_point line.now) measurements.old measurements.new) }
+    ensures counts { OnOk result (CountsIn is_new (parsed_point line.now) measurements.old measurements.new) }
+    ensures kept { OnErr result (KeepsMeasurements measurements.old measurements.new) }
 {
     let name = line.series.measurement.as_str();
     if let Some(counts) = measurements.get_mut(name) {

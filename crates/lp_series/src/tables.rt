@@ -1,10 +1,10 @@
 //! The tables of series and of tags.
 
-ghost use Rattle.std.specs.Prelude.{◌≡◌, ◌++◌, List, IfOk, OnOk, map};
+ghost use Rattle.std.specs.Prelude.{◌≡◌, ◌++◌, List, IfOk, OnErr, OnOk, map};
 ghost use Rattle.influxdb_line_protocol.specs.code.{Parsed.parsed_point, Parsed.tag_of};
 ghost use Rattle.influxdb_line_protocol.specs.format.{Lines.logical_tag, Points.Tag};
 ghost use Rattle.lp_series.specs.Counting.{HasTags};
-ghost use Rattle.lp_series.specs.CountSteps.{CountsKey, PutsTag, PutsText};
+ghost use Rattle.lp_series.specs.CountSteps.{CountsKey, KeepsSeries, PutsTag, PutsText, TakesBack};
 
 use influxdb_line_protocol::{EscapedStr, ParsedLine};
 use std::alloc::{AllocError, Global};
@@ -28,7 +28,8 @@ pub(crate) fn count_key(
     max_series: usize,
     key: &str,
 ) -> Result<Found, AllocError>
-    ensures { IfOk result (λ found. CountsKey max_series found key.now series.old series.new) }
+    ensures counts { IfOk result (λ found. CountsKey max_series found key.now series.old series.new) }
+    ensures kept { OnErr result (KeepsSeries series.old series.new) }
 {
     if let Some(points) = series.get_mut(key) {
         *points = points.checked_add(1).ok_or(AllocError)?;
@@ -39,6 +40,23 @@ pub(crate) fn count_key(
     }
     series.insert(String::from_str(alloc, key)?, 1)?;
     Ok(Found::New)
+}
+
+// Takes back that a line more of the series with this key was counted, which was found so.
+pub(crate) fn uncount_key(series: &mut BTreeMap<String, u64>, found: Found, key: &str)
+    ensures { TakesBack found key.now series.old series.new }
+{
+    match found {
+        Found::Known => {
+            if let Some(points) = series.get_mut(key) {
+                *points = points.saturating_sub(1);
+            }
+        }
+        Found::New => {
+            series.remove(key);
+        }
+        Found::Beyond => {}
+    }
 }
 
 // The tags of a line.

@@ -6,7 +6,8 @@ use Rattle.lp_series.specs.Counting.{Counts}
 use Rattle.lp_series.specs.Texts.{points_of}
 use Rattle.lp_series.specs.TextSteps.{CountsGiven, refused_given}
 use Rattle.lp_series.specs.CountSteps.{one_if}
-use Rattle.lp_series.proofs.TextLemmas.{points_more, refused_more, some_counted, at_error, none_is_last}
+use Rattle.lp_series.proofs.KeptCounts.{numbers_counted, same_counts}
+use Rattle.lp_series.proofs.TextLemmas.{points_more, refused_more, at_error, none_is_last}
 use Rattle.lp_series.proofs.counter.SeriesCounter.finish.Goals as goal
 
 -- the last piece was counted, and nothing is left
@@ -49,6 +50,16 @@ returns-in_err-refused-clause-some c = at_error _ c.from_residual-in_err-refused
   pieces = h.1.pieces;
   left = h.0;
   run = h.1.run;
-  counts = some_counted c.args.self.now.counts c.count_given.new.counts (before ++ points_of dialect limit h.1.pieces)
-      c.in_err-refused.ensures.totals h.1.counts.all;
+  counts = numbers_counted c.args.self.now.counts c.count_given.new.counts (before ++ points_of dialect limit h.1.pieces)
+      c.in_err-refused.ensures.kept h.1.counts;
+})
+
+-- if no `u64` holds how many items are refused, nothing was counted
+pub returns-in_err-one_more-clause-some : goal.returns-in_err-one_more-clause-some
+returns-in_err-one_more-clause-some c = at_error _ c.from_residual.result c.from_residual.ensures.0 (λ dialect limit before others given h. record {
+  pieces = h.1.pieces;
+  left = h.0;
+  run = h.1.run;
+  counts = numbers_counted c.args.self.now.counts c.args.self.now.counts (before ++ points_of dialect limit h.1.pieces)
+      (same_counts c.args.self.now.counts) h.1.counts;
 })

@@ -1,7 +1,8 @@
 use Rattle.std.proofs.Common.{refl, ◌++◌, ◌∙◌}
 use Rattle.influxdb_line_protocol.specs.laws.StreamLaws.{Run.pushed}
 use Rattle.lp_series.specs.Texts.{points_of}
-use Rattle.lp_series.proofs.TextLemmas.{some_counted, at_error}
+use Rattle.lp_series.proofs.KeptCounts.{numbers_counted, same_counts}
+use Rattle.lp_series.proofs.TextLemmas.{at_error}
 use Rattle.lp_series.proofs.counter.SeriesCounter.push.Goals as goal
 
 -- if the part could not be held, nothing was counted
@@ -10,7 +11,8 @@ returns-in_err-push-clause-some c = at_error _ c.from_residual.result c.from_res
   pieces = h.1.pieces;
   left = h.0 ++ c.args.part.now;
   run = pushed given h.1.pieces h.0 c.args.part.now h.1.run;
-  counts = h.1.counts.all;
+  counts = numbers_counted c.args.self.now.counts c.args.self.now.counts (before ++ points_of dialect limit h.1.pieces)
+      (same_counts c.args.self.now.counts) h.1.counts;
 })
 
 -- the part was given
@@ -41,8 +43,8 @@ returns-in_err-count_next-clause-some c =
       pieces = p.1.pieces;
       left = p.0;
       run = p.1.run;
-      counts = some_counted c.loop.self.counts c.count_next.new.self.counts (before ++ points_of dialect limit p.1.pieces)
-          c.in_err-count_next.ensures.totals p.1.counts.all;
+      counts = numbers_counted c.loop.self.counts c.count_next.new.self.counts (before ++ points_of dialect limit p.1.pieces)
+          c.in_err-count_next.ensures.kept p.1.counts;
     })
 
 -- a piece more was counted
