@@ -24,7 +24,7 @@ SURFACES = {
     "C++": Surface("include/*", r"\b{}\(", r"[ *]{}(?:\(|[,;]| =)"),
     "Rust": Surface("bindings/rust/src/*.rs", r"^ *pub (?:fn|struct|enum) {}\b", r"^    (?:pub (?:fn )?)?{}\b"),
     "Go": Surface("bindings/go/*.go", r"^(?:type |\t){}\b", r"^func \(\w+ \*?\w+\) {}\(|^\t{} "),
-    "Python": Surface("bindings/python/src/line_protocol/*.py", r"^(?:def |class )?{}[(:]", r"^    (?:def )?{}[(:]"),
+    "Python": Surface("bindings/python/src/line_protocol/*.py*", r"^(?:def |class )?{}[(:]", r"^    (?:def )?{}[(:]"),
     "JavaScript": Surface("bindings/js/index.d.ts", r"^export [a-z ]+ {}\b", r"^    {}\??[(:]"),
 }
 # The names of the languages themselves.
@@ -32,11 +32,12 @@ THEIRS = {"Display", "None", "Result", "f64", "float", "str"}
 
 
 def declares(surface, name):
-    """Whether a language declares a public name. What a type has is on the line that names the type, and on the indented lines after it."""
+    """Whether a language declares a public name. What a type has is on the line that names the type, and on the indented lines after it. A
+    type of Python can have members of the extension's type."""
     texts = [re.sub(r"/\*.*?\*/", "", path.read_text(encoding="utf-8"), flags=re.S) for path in sorted(TOP.glob(surface.files))]
     owner, _, member = name.rpartition(".")
     if owner:
-        texts = [block[0] for text in texts for block in re.finditer(rf"^\S.*\b{owner}\b.*(?:\n(?:[ \t].*)?)*", text, re.M)]
+        texts = [block[0] for text in texts for block in re.finditer(rf"^\S.*\b{owner}(?:Members)?\b.*(?:\n(?:[ \t].*|public:)?)*", text, re.M)]
     pattern = (surface.member if owner else surface.alone).replace("{}", member)
     return any(re.search(pattern, text, re.M) for text in texts)
 
