@@ -6,6 +6,7 @@
 #ifndef INFLUXDB_LINE_PROTOCOL_HPP
 #define INFLUXDB_LINE_PROTOCOL_HPP
 #include "influxdb_line_protocol.h"
+#include <algorithm>
 #include <cstddef>
 #include <cstdint>
 #include <iterator>
@@ -81,9 +82,18 @@ struct item : lp_line {
     std::optional<std::int64_t> time() const noexcept { return has_timestamp ? std::optional(timestamp) : std::nullopt; }
 };
 
+/* Where an item lies in the text, in bytes from 0 on, and in which lines, from 1 on. Of a fault `stop` is the byte that could not be read, with
+ * its line and its column, in bytes from 1 on; of a line it is the end. */
+struct place {
+    std::size_t begin = 0, end = 0, stop = 0;
+    std::uint64_t line = 0, last_line = 0, stop_line = 0;
+    std::size_t stop_column = 0;
+};
+
 /* The items of a text, read into the memory that is lent: containers of lp_part and of bytes, which have `data` and `size`. The range ends
  * after an item that takes more, but if more is lent before the next step, that begins with the same line. */
 class items {
+    lp_text text, before = LP_NO_TEXT; // all of it, and what was left before the item that was read last
     lp_lines left = LP_NO_LINES;
     lp_room lent = {nullptr, 0};
     lp_part *parts = nullptr, no_part = LP_EMPTY_PART;
@@ -95,7 +105,7 @@ class items {
 public:
     using value_type = item;
     template <class Parts, class Bytes> items(std::string_view of, dialect rules, Parts &parts_lent, Bytes &bytes_lent) noexcept
-        : is_text(lp_lines_begin(lp::text(of).at, of.size(), static_cast<std::uint32_t>(rules), &left)) {
+        : text(lp::text(of)), is_text(lp_lines_begin(text.at, text.len, static_cast<std::uint32_t>(rules), &left)) {
         lend(parts_lent, bytes_lent);
     }
     items(const items &) = delete;
@@ -111,6 +121,7 @@ public:
     bool next() noexcept {
         if (is_ended) return false;
         lp_room room = lent;
+        before = left.rest;
         read.answer = is_text ? lp_lines_next(&left, &room, &read, parts, parts_len) : std::uint32_t{LP_NOT_UTF8};
         read.parts = parts;
         read.parts_needed = read.answer == LP_MORE_PARTS ? read.tags + read.fields : parts_len;
@@ -119,6 +130,29 @@ public:
         return read.answer != LP_END;
     }
     const item &now() const noexcept { return read; }
+
+    /* Where the line or the fault lies that was read last. It counts the newlines of the text up to there. If there is none, or it takes 4 GiB
+     * with what comes before it from the item before, all is 0. A fault is read again for it, by offsets. */
+    place where() const noexcept {
+        lp_offset_row row;
+        lp_offset_part none;
+        lp_block block = {1, 0, 0, 0, 0};
+        std::uint8_t no_room;
+        place found;
+        const std::size_t from = static_cast<std::size_t>(before.at - text.at), len = left.ended ? before.len : before.len - left.rest.len - 1;
+        if (read.answer == LP_LINE) {
+            found.begin = static_cast<std::size_t>(read.series.at - text.at);
+            found.end = found.stop = from + len;
+        } else if (read.answer == LP_FAULT && len <= UINT32_MAX &&
+                   lp_offsets_block(before.at, len, left.dialect, true, &block, &no_room, 0, &row, 1, &none, 0) == LP_LINE) {
+            found.begin = from + row.line_at, found.end = from + row.piece.at + row.piece.len, found.stop = from + row.stop_at;
+        } else return found;
+        const std::string_view all = view(text);
+        const auto line_of = [&](std::size_t at) { return 1 + static_cast<std::uint64_t>(std::count(all.begin(), all.begin() + at, '\n')); };
+        found.line = line_of(found.begin), found.last_line = line_of(found.end), found.stop_line = line_of(found.stop);
+        found.stop_column = found.stop - (all.substr(0, found.stop).rfind('\n') + 1) + 1;
+        return found;
+    }
     iterator<items> begin() noexcept { return iterator<items>(*this); }
     iterator<items> end() noexcept { return {}; }
 };

@@ -14,13 +14,14 @@ import sys
 from pathlib import Path
 
 import clause_table
+import facts
 import fault_table
 import messages
 import options
 import pages
 from records import TOP, Fault, read
 
-MODULES = [clause_table, fault_table, options, pages, messages]
+MODULES = [clause_table, facts, fault_table, options, pages, messages]
 
 
 def first_difference(path, old, new):

@@ -18,8 +18,9 @@ static bool add_lines(std::string_view text, std::map<std::string, std::int64_t>
         if (item.answer == LP_MORE_PARTS || item.answer == LP_MORE_ROOM) {
             parts.resize(item.parts_needed), bytes.resize(item.room_needed), items.lend(parts, bytes); // the line comes again
         } else if (!item || lp::append_key(series, item) != LP_WRITTEN) {
+            const lp::place place = items.where();
             lp::append_message(message, item); // it is empty where the text is no UTF-8
-            std::printf("%s\n", message.c_str()), is_read = false;
+            std::printf("%" PRIu64 ":%zu: %s\n", place.stop_line, place.stop_column, message.c_str()), is_read = false;
         } else {
             for (const lp_part &field : item.field_set())
                 if (field.kind == LP_INTEGER) sums[series + ' ' + std::string(lp::view(field.key))] += field.integer;

@@ -86,6 +86,31 @@ static bool reads_back(const lp::item &item, lp::dialect dialect) {
     return read.size() == 1 && plain(read[0]) == plain(shown(item));
 }
 
+/* The places of the items of a text, each after its kind: the bytes, the lines, and where reading stopped. */
+static std::string places(std::string_view text, lp::dialect dialect) {
+    std::array<lp_part, 3> parts;
+    std::array<char, 9> bytes;
+    std::string out;
+    lp::items items(text, dialect, parts, bytes);
+    for (const lp::item &item : items) {
+        const lp::place at = items.where();
+        for (std::uint64_t one : {std::uint64_t{item.answer}, std::uint64_t{at.begin}, std::uint64_t{at.end}, at.line, at.last_line, std::uint64_t{at.stop},
+                                  at.stop_line, std::uint64_t{at.stop_column}})
+            out += std::to_string(one) + ' ';
+        out.back() = '|';
+    }
+    return out;
+}
+
+/* Whether items tell their places: lines and faults after comments, of several lines, at the end and not; and one that takes more tells none. */
+static bool tells_places() {
+    const std::string_view text = "# c\n\n m f=1i\nm s=\"a\nb\",g=2x\n#\nm,a\\ =b f=1\nm f=\nm,a=b,c=d f=1,g=2";
+    return items_of(text, lp::dialect::strict, shown).size() == 5
+        && places(text, lp::dialect::strict) == "1 6 12 3 3 12 3 8|2 13 27 4 5 26 5 7|1 30 41 7 7 41 7 12|2 42 46 8 8 46 8 5|3 0 0 0 0 0 0 0|"
+        && places("m", lp::dialect::crate) == "2 0 1 1 1 1 1 2|" && places("m f=\"\n\"\n", lp::dialect::crate) == "1 0 7 1 2 7 2 2|"
+        && places("m f=\xff", lp::dialect::crate) == "8 0 0 0 0 0 0 0|" && places("", lp::dialect::crate).empty();
+}
+
 static std::string key(const lp::item &item) {
     std::string out = "key: ";
     return lp::append_key(out, item) == LP_WRITTEN ? out.substr(5) : "no key";
@@ -164,5 +189,5 @@ int main(int argc, char **argv) {
     std::ifstream table(argc == 2 ? argv[1] : "");
     std::size_t compared = compare(table);
     std::printf("%zu rows of answers by ranges of C++, and no request for memory", compared);
-    return compared == 0 || !takes_empty() || !takes_no_memory();
+    return compared == 0 || !takes_empty() || !tells_places() || !takes_no_memory();
 }

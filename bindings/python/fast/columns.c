@@ -129,15 +129,15 @@ static Table *table_of(Tables *tables, PyObject *measurement) {
 }
 
 /* The column of a part, which is perhaps new: at first the column at this place is looked at. NULL after an error. */
-static Column *column_of(Reader *reader, Table *table, const lp_part *part, size_t place) {
-    const lp_text name = part->key.text;
+static Column *column_of(Reader *reader, Table *table, const lp_offset_part *part, size_t place) {
+    const lp_text name = text_at(reader, part->key, part->key_copied);
     const bool is_tag = part->kind == LP_TAG;
     if (place < table->columns_len) {
         Column *column = &table->columns[place];
         const bool is_alike = (column->kind == LP_TAG) == is_tag && column->name_len == name.len;
         if (is_alike && memcmp(column->name, name.at, name.len) == 0) return column;
     }
-    PyObject *key = name_of(reader, part->key);
+    PyObject *key = name_of(reader, name);
     Py_ssize_t found = key ? number_in(table->places[is_tag], key) : -1;
     if (key && found < 0 && !PyErr_Occurred() && add_column(table, key, name, part->kind)) found = (Py_ssize_t)table->columns_len - 1;
     Py_XDECREF(key);
@@ -146,16 +146,13 @@ static Column *column_of(Reader *reader, Table *table, const lp_part *part, size
 
 /* The cell of a column of numbers as an object. */
 static PyObject *cell_of(const Column *column, size_t row) {
-    lp_part part = { LP_NO_VIEW, LP_NO_VIEW, 0, 0, column->kind, false };
+    lp_offset_part part = { .kind = column->kind, .number = column->numbers[row] };
     double value;
     bool is_plain;
     if (column->missing[row]) Py_RETURN_NONE;
     memcpy(&value, &column->numbers[row], sizeof value);
     if (column->kind == LP_FLOAT) return PyFloat_FromDouble(value);
-    part.integer = (int64_t)column->numbers[row];
-    part.unsigned_integer = column->numbers[row];
-    part.boolean = column->numbers[row] != 0;
-    return value_of(&part, &is_plain);
+    return value_of(NULL, &part, &is_plain); /* which has no text */
 }
 
 /* Makes a column one of mixed values, which are objects. */
@@ -190,16 +187,17 @@ static bool put_missing(Column *column) {
 }
 
 /* A value as an object: a float is no FloatText, as it is none among numbers. */
-static PyObject *object_of(Reader *reader, const lp_part *part) {
+static PyObject *object_of(Reader *reader, const lp_offset_part *part) {
     bool is_plain;
-    if (part->kind == LP_TAG) return name_of(reader, part->text);
-    if (part->kind != LP_FLOAT) return value_of(part, &is_plain);
-    const double value = double_of(part->text.text, &is_plain);
+    const lp_text text = text_at(reader, part->text, part->text_copied);
+    if (part->kind == LP_TAG) return name_of(reader, text);
+    if (part->kind != LP_FLOAT) return value_of(reader, part, &is_plain);
+    const double value = double_of(text, &is_plain);
     return value == -1.0 && PyErr_Occurred() ? NULL : PyFloat_FromDouble(value);
 }
 
 /* Puts the value of a part into the cell of a row, which is there. */
-static bool put_cell(Reader *reader, Column *column, size_t row, const lp_part *part) {
+static bool put_cell(Reader *reader, Column *column, size_t row, const lp_offset_part *part) {
     bool is_plain;
     if (column->kind != part->kind && column->kind != MIXED && !mix(column)) return false;
     if (column->missing[row]) column->missing_count--;
@@ -209,13 +207,11 @@ static bool put_cell(Reader *reader, Column *column, size_t row, const lp_part *
         return object && PyList_SetItem(column->objects, (Py_ssize_t)row, object) == 0;
     }
     if (part->kind == LP_FLOAT) {
-        const double value = double_of(part->text.text, &is_plain);
+        const double value = double_of(text_at(reader, part->text, part->text_copied), &is_plain);
         if (value == -1.0 && PyErr_Occurred()) return false;
         memcpy(&column->numbers[row], &value, sizeof value);
     } else {
-        column->numbers[row] = part->kind == LP_INTEGER    ? (uint64_t)part->integer
-                               : part->kind == LP_UNSIGNED ? part->unsigned_integer
-                                                           : part->boolean;
+        column->numbers[row] = part->number;
     }
     return true;
 }
@@ -228,12 +224,11 @@ static bool fill_up(Column *column, size_t len) {
 }
 
 /* Puts a line into its table. Of a key that comes twice the last value counts. */
-static bool put_row(Reader *reader, Table *table, const lp_line *line, const lp_part *parts) {
+static bool put_row(Reader *reader, Table *table, const lp_offset_row *line) {
     const size_t row = table->rows++;
-    lp_part time = { LP_NO_VIEW, LP_NO_VIEW, 0, 0, LP_INTEGER, false };
-    time.integer = line->timestamp;
+    const lp_offset_part time = { .kind = LP_INTEGER, .number = (uint64_t)line->timestamp }, *parts = reader->parts + line->parts_at;
     if (!fill_up(table->columns, row + 1) || (line->has_timestamp && !put_cell(reader, table->columns, row, &time))) return false;
-    for (size_t i = 0; i < line->tags + line->fields; i++) {
+    for (size_t i = 0; i < (size_t)line->tags + line->fields; i++) {
         Column *column = column_of(reader, table, &parts[i], i + 1);
         if (!column || !fill_up(column, row + 1) || !put_cell(reader, column, row, &parts[i])) return false;
     }
@@ -247,11 +242,19 @@ static Py_ssize_t number_of_key(Tables *tables, PyObject *key) {
     return PyList_Append(tables->keys, key) == 0 && put_number(tables->by_key, key, (size_t)fresh) ? fresh : -1;
 }
 
+/* The measurement and the tags of a line that was read, as they came: up to the first bare space, which each line has. */
+static lp_text series_of(const Reader *reader, const lp_offset_row *line) {
+    const uint8_t *start = reader->window.at + line->line_at, *at = start;
+    while (*at != ' ') at += *at == '\\' ? 2 : 1;
+    const lp_text series = { start, (size_t)(at - start) };
+    return series;
+}
+
 /* The number of a line's series: lines have one number exactly if their series have one key. -1 after an error. */
-static Py_ssize_t number_of_series(Tables *tables, const lp_line *line, const lp_part *parts) {
-    PyObject *text = bytes_of(line->series), *key = NULL;
+static Py_ssize_t number_of_series(const Reader *reader, Tables *tables, const lp_offset_row *line) {
+    PyObject *text = bytes_of(series_of(reader, line)), *key = NULL;
     Py_ssize_t number = text ? number_in(tables->by_text, text) : -1;
-    if (text && number < 0 && !PyErr_Occurred() && (key = key_of_row(line, parts))) {
+    if (text && number < 0 && !PyErr_Occurred() && (key = key_of_row(reader, line))) {
         number = number_of_key(tables, key);
         if (number >= 0 && !put_number(tables->by_text, text, (size_t)number)) number = -1;
     }
@@ -261,29 +264,25 @@ static Py_ssize_t number_of_series(Tables *tables, const lp_line *line, const lp
 }
 
 /* Puts the number of a line's series into its table. */
-static bool put_series(Reader *reader, Tables *tables, Table *table, const lp_line *line, const lp_part *parts) {
-    lp_part number = { LP_NO_VIEW, LP_NO_VIEW, 0, 0, LP_INTEGER, false };
-    number.integer = number_of_series(tables, line, parts);
-    return number.integer >= 0 && fill_up(&table->series, table->rows) && put_cell(reader, &table->series, table->rows - 1, &number);
+static bool put_series(Reader *reader, Tables *tables, Table *table, const lp_offset_row *line) {
+    const Py_ssize_t found = number_of_series(reader, tables, line);
+    const lp_offset_part number = { .kind = LP_INTEGER, .number = (uint64_t)found };
+    return found >= 0 && fill_up(&table->series, table->rows) && put_cell(reader, &table->series, table->rows - 1, &number);
 }
 
 /* Reads all items that are left. */
 static bool read_all(Reader *reader, Tables *tables) {
-    const lp_row *row;
+    const lp_offset_row *row;
     for (;;) {
         PyObject *fault = next_row(reader, &row);
-        if (row && row->answer == LP_FAULT) fault = fault_of(reader);
+        if (row && row->answer != LP_LINE) fault = fault_of(reader, row);
         if (fault) {
-            const int failed = PyList_Append(tables->faults, fault);
-            Py_DECREF(fault);
-            if (failed) return false;
+            if (!append(tables->faults, fault)) return false;
         } else if (row && row->answer == LP_LINE) {
-            PyObject *measurement = name_of(reader, row->line.measurement);
+            PyObject *measurement = name_of(reader, text_at(reader, row->measurement, row->measurement_copied));
             Table *table = measurement ? table_of(tables, measurement) : NULL;
             Py_XDECREF(measurement);
-            const lp_part *parts = reader->parts + row->parts_at;
-            if (!table || !put_row(reader, table, &row->line, parts)) return false;
-            if (tables->keys && !put_series(reader, tables, table, &row->line, parts)) return false;
+            if (!table || !put_row(reader, table, row) || (tables->keys && !put_series(reader, tables, table, row))) return false;
         } else {
             return !PyErr_Occurred();
         }

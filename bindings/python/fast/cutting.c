@@ -4,56 +4,42 @@
  * no longer needed. The pieces of a text are parts of it. */
 #include "fast.h"
 
-/* whole(text, dialect): how many bytes the pieces take that a newline ends, or None if the text is no UTF-8. */
-PyObject *fast_whole(PyObject *module, PyObject *args) {
-    PyObject *bytes;
-    unsigned int dialect;
-    size_t last_len = 0;
-    (void)module;
-    if (!PyArg_ParseTuple(args, "SI", &bytes, &dialect)) return NULL;
-    const lp_text text = text_of(bytes);
-    lp_lines lines = LP_NO_LINES;
-    lp_view piece = LP_NO_VIEW;
-    PyThreadState *state = let_go(text.len);
-    const bool is_utf8 = lp_lines_begin(text.at, text.len, dialect, &lines);
-    while (is_utf8 && lp_lines_piece(&lines, &piece)) last_len = piece.text.len;
+/* Passes the pieces of a text up to one of more bytes than the limit, or to the last one. False: no newline ends that. */
+static bool pass_pieces(lp_cuts *cuts, lp_text *left, lp_text *piece, size_t limit) {
+    bool is_ended;
+    PyThreadState *state = let_go(left->len);
+    do {
+        size_t cut = 0;
+        is_ended = lp_cuts_next(cuts, left->at, left->len, &cut) == LP_PIECE;
+        *piece = *left;
+        piece->len = cut;
+        left->at += cut + is_ended;
+        left->len -= cut + is_ended;
+    } while (is_ended && piece->len <= limit);
     take_back(state);
-    if (is_utf8) return PyLong_FromSize_t(text.len - last_len);
-    Py_RETURN_NONE;
+    return is_ended;
 }
 
-/* Whether bytes are UTF-8. */
-static bool is_utf8(const uint8_t *at, size_t len) {
-    lp_lines lines = LP_NO_LINES;
-    return lp_lines_begin(at, len, LP_CRATE, &lines);
-}
-
-/* outliers(bytes, text, dialect, limit): start, end and whether it is too long of each piece that has more bytes than the limit, or that
- * is no UTF-8. `text` has the pieces of `bytes`, and is UTF-8. */
-PyObject *fast_outliers(PyObject *module, PyObject *args) {
-    PyObject *bytes, *text;
+/* cut(text, dialect, limit): how many bytes the pieces take that a newline ends, and start and end of each of these that has more bytes than
+ * the limit. */
+PyObject *fast_cut(PyObject *module, PyObject *args) {
+    PyObject *bytes, *found = PyList_New(0);
     unsigned int dialect;
     Py_ssize_t limit;
     (void)module;
-    if (!PyArg_ParseTuple(args, "SSIn", &bytes, &text, &dialect, &limit)) return NULL;
-    const lp_text given_bytes = text_of(bytes), pieces = text_of(text);
-    lp_lines lines = LP_NO_LINES;
-    lp_view piece = LP_NO_VIEW;
-    PyObject *found = PyList_New(0);
-    if (!found || given_bytes.len != pieces.len || !lp_lines_begin(pieces.at, pieces.len, dialect, &lines)) return found;
-    while (lp_lines_piece(&lines, &piece)) {
-        const size_t start = (size_t)(piece.text.at - pieces.at), len = piece.text.len;
-        const bool is_long = len > (size_t)limit;
-        if (!is_long && (bytes == text || is_utf8(given_bytes.at + start, len))) continue;
-        PyObject *told = Py_BuildValue("nnO", (Py_ssize_t)start, (Py_ssize_t)(start + len), is_long ? Py_True : Py_False);
-        const int failed = told ? PyList_Append(found, told) : -1;
-        Py_XDECREF(told);
-        if (failed) {
-            Py_DECREF(found);
-            return NULL;
-        }
+    if (!found || !PyArg_ParseTuple(args, "SIn", &bytes, &dialect, &limit)) {
+        Py_XDECREF(found);
+        return NULL;
     }
-    return found;
+    lp_text left = text_of(bytes), piece;
+    const uint8_t *start = left.at;
+    lp_cuts cuts = LP_NO_CUTS;
+    lp_cuts_begin(dialect, SIZE_MAX, &cuts);
+    bool goes_on = true;
+    while (goes_on && pass_pieces(&cuts, &left, &piece, (size_t)limit))
+        goes_on = append(found, Py_BuildValue("nn", (Py_ssize_t)(piece.at - start), (Py_ssize_t)(piece.at + piece.len - start)));
+    if (!goes_on) Py_CLEAR(found);
+    return found ? Py_BuildValue("nN", (Py_ssize_t)(piece.at - start), found) : NULL;
 }
 
 /* skip(bytes, state, dialect): goes on with a piece, of which the state says what came before. Gives where the newline is that ends it,

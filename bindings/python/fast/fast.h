@@ -26,9 +26,15 @@ struct given {
 };
 extern struct given given;
 
-/* A line. `spelled` is NULL, or the literals of its floats as they were read, each before a newline. */
-typedef struct { PyObject_HEAD PyObject *measurement, *tags, *fields, *timestamp, *spelled; } Line;
-typedef struct { PyObject_HEAD PyObject *kind, *text, *side, *item, *line, *offset, *refused, *piece_line, *piece_offset; } Fault;
+/* A line. `spelled` is NULL, or the literals of its floats as they were read, each before a newline. The numbers are 0 if it was not read. */
+typedef struct {
+    PyObject_HEAD PyObject *measurement, *tags, *fields, *timestamp, *spelled;
+    unsigned long long line, offset, last_line;
+} Line;
+typedef struct {
+    PyObject_HEAD PyObject *kind, *text, *side, *refused;
+    unsigned long long item, line, offset, piece_line, piece_offset, stop_line, stop_column, last_line;
+} Fault;
 extern PyTypeObject *line_base, *reader_type;
 extern PyObject *no_bytes; /* b"" */
 
@@ -48,19 +54,25 @@ typedef struct {
     PyObject_HEAD
     PyObject *text;     /* the segment that is read, as bytes */
     PyObject *segments; /* an iterator of what comes after it: segments, and pieces that are refused; or NULL */
-    lp_lines lines;     /* what is left of the segment */
-    lp_lines walk;      /* what is left of it after the item number `walked` of the rows */
-    lp_text piece;      /* the piece of that item */
-    lp_row *rows;
-    lp_part *parts;
+    lp_lines lines;     /* what is left of a text that is cut, and not read */
+    lp_text window;     /* the end of the segment, in which rows and parts have their places */
+    lp_block block;     /* where the next rows begin in it, and how many there are of the last ones */
+    lp_offset_row *rows;
+    lp_offset_part *parts;
     uint8_t *room;
     Name *names; /* NULL where the segment is short */
-    size_t rows_len, parts_len, room_len, filled, at, walked;
-    const uint8_t *counted;              /* up to here the newlines of the segment are counted */
-    unsigned long long items, line, offset; /* how many items came; the line number at `counted`; and the bytes before the segment */
+    size_t rows_len, parts_len, room_len, at;
+    unsigned long long items, offset; /* how many items came; and the bytes before the window */
+    const lp_limits *limits;          /* rows tell their verdicts by these limits; or NULL */
     uint32_t answer, dialect;
     bool by_pieces, is_busy;
 } Reader;
+
+/* A text of a row or a part. */
+static inline lp_text text_at(const Reader *reader, lp_span place, uint16_t is_copied) {
+    const lp_text text = { (is_copied ? reader->room : reader->window.at) + place.at, place.len };
+    return text;
+}
 
 /* Memory of so many elements of this size, which is all 0: PyMem_Calloc, which the headers of Python 3.8 do not show. */
 static inline void *zeroed(size_t count, size_t size) {
@@ -88,6 +100,9 @@ PyObject *str_of(lp_text text);
 PyObject *bytes_of(lp_text text);
 lp_text text_of(PyObject *bytes);
 
+/* Appends an object to a list, which it takes. */
+bool append(PyObject *list, PyObject *object);
+
 /* Sets the UnicodeDecodeError that says where bytes are no UTF-8. */
 void set_decode_error(lp_text text);
 
@@ -108,16 +123,19 @@ size_t spell_own(double value, char *out);
 /* reading.c */
 
 /* The object for a name that was read: that which was made of the same bytes, if it is kept. */
-PyObject *name_of(Reader *reader, lp_view view);
+PyObject *name_of(Reader *reader, lp_text name);
 
 /* The value of a field. `is_plain` becomes false where it is a float whose literal has to be kept. */
-PyObject *value_of(const lp_part *part, bool *is_plain);
+PyObject *value_of(const Reader *reader, const lp_offset_part *part, bool *is_plain);
+
+/* A reader of bytes, which need not be UTF-8. */
+Reader *new_reader(PyObject *bytes, uint32_t dialect);
 
 /* The next row, or a fault that came before it was read. `row` is NULL at the end, after a fault, and after an error. */
-PyObject *next_row(Reader *reader, const lp_row **row);
+PyObject *next_row(Reader *reader, const lp_offset_row **row);
 
-/* The fault of the row that came last. */
-PyObject *fault_of(Reader *reader);
+/* The fault of a row that has no line. */
+PyObject *fault_of(const Reader *reader, const lp_offset_row *row);
 
 /* Begins and ends a call that reads: false, and an error, where another call reads. */
 bool begin_call(Reader *reader);
@@ -165,7 +183,7 @@ uint32_t put_out(PutsOut *call, uint32_t dialect, const Handed *handed, Out *out
 PyObject *str_of_out(Out *out, bool is_written);
 
 /* The key of the series of a line that was read. */
-PyObject *key_of_row(const lp_line *line, const lp_part *parts);
+PyObject *key_of_row(const Reader *reader, const lp_offset_row *row);
 
 /* An element of a list or a tuple, as a new reference. NULL without an error: there is none. */
 PyObject *element_of(PyObject *elements, Py_ssize_t at);
@@ -173,8 +191,7 @@ PyObject *element_of(PyObject *elements, Py_ssize_t at);
 /* The functions and the slots of the type that Python calls. */
 extern PyType_Spec reader_spec;
 PyObject *fast_read(PyObject *module, PyObject *args);
-PyObject *fast_whole(PyObject *module, PyObject *args);
-PyObject *fast_outliers(PyObject *module, PyObject *args);
+PyObject *fast_cut(PyObject *module, PyObject *args);
 PyObject *fast_skip(PyObject *module, PyObject *args);
 PyObject *fast_part_ends(PyObject *module, PyObject *args);
 PyObject *fast_columns(PyObject *module, PyObject *args);

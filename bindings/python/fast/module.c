@@ -30,6 +30,12 @@ lp_text text_of(PyObject *bytes) {
     return text;
 }
 
+bool append(PyObject *list, PyObject *object) {
+    const bool is_there = object && PyList_Append(list, object) == 0;
+    Py_XDECREF(object);
+    return is_there;
+}
+
 /* Sets the UnicodeDecodeError that says where bytes are no UTF-8. */
 void set_decode_error(lp_text text) {
     PyObject *decoded = PyUnicode_DecodeUTF8((const char *)text.at, (Py_ssize_t)text.len, NULL);
@@ -50,7 +56,7 @@ PyObject *encoded(PyObject *text) {
     return bytes;
 }
 
-enum { LINE_MEMBERS = 5, FAULT_MEMBERS = 9 };
+enum { LINE_MEMBERS = 5, FAULT_MEMBERS = 4 };
 
 static int members_visit(PyObject *self, size_t count, visitproc visit, void *arg) {
     PyObject **members = &((Line *)self)->measurement;
@@ -78,12 +84,15 @@ static void fault_dealloc(PyObject *self) {
 }
 
 #define MEMBER(type, name) { #name, T_OBJECT_EX, offsetof(type, name), 0, NULL }
+#define NUMBER(type, name) { #name, T_ULONGLONG, offsetof(type, name), 0, NULL }
 static PyMemberDef line_members[] = {
     MEMBER(Line, measurement), MEMBER(Line, tags), MEMBER(Line, fields), MEMBER(Line, timestamp),
-    { "_spelled", T_OBJECT, offsetof(Line, spelled), 0, NULL }, { NULL, 0, 0, 0, NULL } };
+    NUMBER(Line, line), NUMBER(Line, offset), NUMBER(Line, last_line), { "_spelled", T_OBJECT, offsetof(Line, spelled), 0, NULL },
+    { NULL, 0, 0, 0, NULL } };
 static PyMemberDef fault_members[] = {
-    MEMBER(Fault, kind), MEMBER(Fault, text), MEMBER(Fault, side), MEMBER(Fault, item), MEMBER(Fault, line), MEMBER(Fault, offset),
-    MEMBER(Fault, refused), MEMBER(Fault, piece_line), MEMBER(Fault, piece_offset), { NULL, 0, 0, 0, NULL } };
+    MEMBER(Fault, kind), MEMBER(Fault, text), MEMBER(Fault, side), MEMBER(Fault, refused), NUMBER(Fault, item), NUMBER(Fault, line),
+    NUMBER(Fault, offset), NUMBER(Fault, piece_line), NUMBER(Fault, piece_offset), NUMBER(Fault, stop_line), NUMBER(Fault, stop_column),
+    NUMBER(Fault, last_line), { NULL, 0, 0, 0, NULL } };
 
 static PyType_Slot line_slots[] = {
     { Py_tp_doc, "The members of a Line." }, { Py_tp_members, line_members }, { Py_tp_traverse, line_traverse },
@@ -125,8 +134,8 @@ static PyObject *fast_setup(PyObject *module, PyObject *args) {
 }
 
 static PyMethodDef functions[] = {
-    { "read", fast_read, METH_VARARGS, NULL }, { "whole", fast_whole, METH_VARARGS, NULL },
-    { "outliers", fast_outliers, METH_VARARGS, NULL }, { "skip", fast_skip, METH_VARARGS, NULL },
+    { "read", fast_read, METH_VARARGS, NULL }, { "cut", fast_cut, METH_VARARGS, NULL },
+    { "skip", fast_skip, METH_VARARGS, NULL },
     { "columns", fast_columns, METH_VARARGS, NULL }, { "write_columns", fast_write_columns, METH_VARARGS, NULL },
     { "part_ends", fast_part_ends, METH_VARARGS, NULL },
     { "write", fast_write, METH_VARARGS, NULL }, { "write_many", fast_write_many, METH_VARARGS, NULL }, { "show", fast_show, METH_O, NULL },

@@ -1,10 +1,9 @@
 /* Items are read, block by block.
  *
- * Pointers: a reader owns its rows, parts, room and names, which are there until it is freed; `lend_for` and `lend` alone move them, before
- * a block is read, when no row of the block before is needed. What a row shows is in the segment, a `bytes` object that the reader holds in
- * `text`, or in the room: it is there until the next block or segment is read, that is, until `next_row` is called again. `piece`,
- * `counted`, `lines` and `walk` point into the segment alone. What Python runs in between cannot change this, since one call at a time
- * reads: `begin_call`. */
+ * Pointers: a reader owns its rows, parts, room and names, which are there until it is freed; `lend` alone moves them, before a block is read,
+ * when no row of the block before is needed. What a row shows is in the segment, a `bytes` object that the reader holds in `text`, or in the
+ * room: it is there until the next block or segment is read, that is, until `next_row` is called again. `window` and `lines` point into the
+ * segment alone. What Python runs in between cannot change this, since one call at a time reads: `begin_call`. */
 #include "fast.h"
 
 /* At most so many rows are read at once; so many parts and bytes of room are lent for them. */
@@ -59,16 +58,15 @@ static PyObject *kept_name(Reader *reader, const uint8_t *bytes, size_t len, siz
     return object;
 }
 
-PyObject *name_of(Reader *reader, lp_view view) {
-    return kept_name(reader, view.text.at, view.text.len, 0);
+PyObject *name_of(Reader *reader, lp_text name) {
+    return kept_name(reader, name.at, name.len, 0);
 }
 
 /* A tag. Where its value begins directly after `key=`, the bytes of both are kept as one. (A name that is one escape alone is no copy,
  * but begins after its backslash.) */
-static PyObject *tag_of(Reader *reader, const lp_part *part) {
-    const lp_text key = part->key.text, value = part->text.text;
-    if (part->key.copied || part->text.copied || value.at != key.at + key.len + 1)
-        return pair_of(name_of(reader, part->key), name_of(reader, part->text));
+static PyObject *tag_of(Reader *reader, const lp_offset_part *part) {
+    const lp_text key = text_at(reader, part->key, part->key_copied), value = text_at(reader, part->text, part->text_copied);
+    if (part->key_copied || part->text_copied || value.at != key.at + key.len + 1) return pair_of(name_of(reader, key), name_of(reader, value));
     return kept_name(reader, key.at, key.len + 1 + value.len, key.len + 1);
 }
 
@@ -87,26 +85,26 @@ static PyObject *unsigned_of(uint64_t number) {
     return object;
 }
 
-PyObject *value_of(const lp_part *part, bool *is_plain) {
+PyObject *value_of(const Reader *reader, const lp_offset_part *part, bool *is_plain) {
     *is_plain = true;
     switch (part->kind) {
-    case LP_INTEGER: return PyLong_FromLongLong(part->integer);
-    case LP_UNSIGNED: return unsigned_of(part->unsigned_integer);
-    case LP_FLOAT: return float_of(part->text.text, is_plain);
-    case LP_BOOLEAN: return PyBool_FromLong(part->boolean);
-    default: return str_of(part->text.text);
+    case LP_INTEGER: return PyLong_FromLongLong((int64_t)part->number);
+    case LP_UNSIGNED: return unsigned_of(part->number);
+    case LP_FLOAT: return float_of(text_at(reader, part->text, part->text_copied), is_plain);
+    case LP_BOOLEAN: return PyBool_FromLong((long)part->number);
+    default: return str_of(text_at(reader, part->text, part->text_copied));
     }
 }
 
 /* The literals of the floats among fields, each before a newline. */
-static PyObject *spelled_of(const lp_part *fields, size_t count) {
+static PyObject *spelled_of(const Reader *reader, const lp_offset_part *fields, size_t count) {
     size_t len = 0;
-    for (size_t i = 0; i < count; i++) len += fields[i].kind == LP_FLOAT ? fields[i].text.text.len + 1 : 0;
+    for (size_t i = 0; i < count; i++) len += fields[i].kind == LP_FLOAT ? fields[i].text.len + 1 : 0;
     PyObject *spelled = PyBytes_FromStringAndSize(NULL, (Py_ssize_t)len);
     if (!spelled) return NULL;
     char *at = PyBytes_AsString(spelled);
     for (size_t i = 0; i < count; i++) {
-        const lp_text literal = fields[i].text.text;
+        const lp_text literal = text_at(reader, fields[i].text, fields[i].text_copied);
         if (fields[i].kind != LP_FLOAT) continue;
         memcpy(at, literal.at, literal.len);
         at[literal.len] = '\n';
@@ -116,7 +114,7 @@ static PyObject *spelled_of(const lp_part *fields, size_t count) {
 }
 
 /* Puts the tags and the fields of a line into its lists. */
-static bool fill_lists(Reader *reader, Line *line, const lp_part *parts, size_t tags, size_t fields) {
+static bool fill_lists(Reader *reader, Line *line, const lp_offset_part *parts, size_t tags, size_t fields) {
     bool are_plain = true;
     for (size_t i = 0; i < tags; i++) {
         PyObject *tag = tag_of(reader, &parts[i]);
@@ -125,36 +123,20 @@ static bool fill_lists(Reader *reader, Line *line, const lp_part *parts, size_t 
     }
     for (size_t i = 0; i < fields; i++) {
         bool is_plain;
-        PyObject *value = value_of(&parts[tags + i], &is_plain), *key = value ? name_of(reader, parts[tags + i].key) : NULL;
+        const lp_offset_part *part = &parts[tags + i];
+        PyObject *value = value_of(reader, part, &is_plain), *key = value ? name_of(reader, text_at(reader, part->key, part->key_copied)) : NULL;
         PyObject *field = pair_of(key, value);
         if (!field) return false;
         PyList_SetItem(line->fields, (Py_ssize_t)i, field);
         are_plain = are_plain && is_plain;
     }
-    return are_plain || (line->spelled = spelled_of(parts + tags, fields)) != NULL;
+    return are_plain || (line->spelled = spelled_of(reader, parts + tags, fields)) != NULL;
 }
 
-static PyObject *line_of(Reader *reader, const lp_line *read, const lp_part *parts) {
-    Line *line = (Line *)new_object(given.line);
-    if (!line) return NULL;
-    line->measurement = name_of(reader, read->measurement);
-    line->tags = PyList_New((Py_ssize_t)read->tags);
-    line->fields = PyList_New((Py_ssize_t)read->fields);
-    if (read->has_timestamp) {
-        line->timestamp = PyLong_FromLongLong(read->timestamp);
-    } else {
-        Py_INCREF(Py_None);
-        line->timestamp = Py_None;
-    }
-    if (line->measurement && line->tags && line->fields && line->timestamp &&
-        fill_lists(reader, line, parts, read->tags, read->fields)) return (PyObject *)line;
-    Py_DECREF(line);
-    return NULL;
-}
-
-/* How many newlines there are. */
-static size_t newlines_in(const uint8_t *at, const uint8_t *end) {
-    size_t count = 0;
+/* How many newlines come before a place of the window, from the start of a piece on. */
+static unsigned long long newlines_before(const Reader *reader, const lp_offset_row *row, size_t place) {
+    const uint8_t *at = reader->window.at + row->piece.at, *end = reader->window.at + place;
+    unsigned long long count = 0;
     while (at < end && (at = memchr(at, '\n', (size_t)(end - at))) != NULL) {
         at++;
         count++;
@@ -162,183 +144,190 @@ static size_t newlines_in(const uint8_t *at, const uint8_t *end) {
     return count;
 }
 
-/* What is left of a piece, of either dialect, if blanks and comments are dropped at its start: docs/FORMAT.md, section 4. */
-static lp_text trimmed(lp_text piece) {
-    const uint8_t *at = piece.at, *end = at + piece.len;
-    while (at < end && (*at == '#' || *at == ' ' || *at == '\t' || *at == '\n')) {
-        const uint8_t *last = *at == '#' ? memchr(at, '\n', (size_t)(end - at)) : at;
-        at = last ? last + 1 : end;
-    }
-    const lp_text left = { at, (size_t)(end - at) };
-    return left;
+/* The number of the line in which a piece ends. If the next row is of the next line, it is that in which the piece begins. */
+static unsigned long long last_line_of(const Reader *reader, const lp_offset_row *row) {
+    if (row + 1 < reader->rows + reader->block.rows && row[1].line == row->line + 1) return row->line;
+    return row->line + newlines_before(reader, row, (size_t)row->piece.at + row->piece.len);
 }
 
-/* The piece of the item of a row, which is that of the row before or comes after it. A piece of which nothing is left gives no item. */
-static lp_text piece_of(Reader *reader, size_t row) {
-    lp_view piece = LP_NO_VIEW;
-    while (reader->walked <= row && lp_lines_piece(&reader->walk, &piece)) {
-        reader->walked += trimmed(piece.text).len > 0;
-        reader->piece = piece.text;
+static PyObject *line_of(Reader *reader, const lp_offset_row *row) {
+    Line *line = (Line *)new_object(given.line);
+    if (!line) return NULL;
+    line->measurement = name_of(reader, text_at(reader, row->measurement, row->measurement_copied));
+    line->tags = PyList_New((Py_ssize_t)row->tags);
+    line->fields = PyList_New((Py_ssize_t)row->fields);
+    line->line = row->line + newlines_before(reader, row, row->line_at);
+    line->offset = reader->offset + row->line_at;
+    line->last_line = last_line_of(reader, row);
+    if (row->has_timestamp) {
+        line->timestamp = PyLong_FromLongLong(row->timestamp);
+    } else {
+        Py_INCREF(Py_None);
+        line->timestamp = Py_None;
     }
-    return reader->piece;
+    if (line->measurement && line->tags && line->fields && line->timestamp &&
+        fill_lists(reader, line, reader->parts + row->parts_at, row->tags, row->fields)) return (PyObject *)line;
+    Py_DECREF(line);
+    return NULL;
 }
 
-/* A place in the source: the number of its line, and how many bytes come before it. */
-typedef struct { unsigned long long line, offset; } Place;
-
-/* A fault at a place, in the piece at another. The texts are taken, also if it fails. */
-static PyObject *new_fault(
-    Reader *reader, PyObject *kind, PyObject *side, PyObject *text, PyObject *refused, Place place, Place of_piece) {
-    Fault *fault = kind && side && text && refused ? (Fault *)new_object(given.fault) : NULL;
+/* A fault of this kind at the next item, whose other numbers are not told yet. The texts are taken, also if it fails. */
+static Fault *new_fault(const Reader *reader, PyObject *kind, uint32_t side, PyObject *text, PyObject *refused) {
+    PyObject *side_object = PyTuple_GetItem(given.sides, (Py_ssize_t)side);
+    Fault *fault = kind && side_object && text && refused ? (Fault *)new_object(given.fault) : NULL;
     if (!fault) {
         Py_XDECREF(text);
         Py_XDECREF(refused);
         return NULL;
     }
     Py_INCREF(kind);
-    Py_INCREF(side);
+    Py_INCREF(side_object);
     fault->kind = kind;
-    fault->side = side;
+    fault->side = side_object;
     fault->text = text;
     fault->refused = refused;
-    fault->item = PyLong_FromUnsignedLongLong(reader->items);
-    fault->line = PyLong_FromUnsignedLongLong(place.line);
-    fault->offset = PyLong_FromUnsignedLongLong(place.offset);
-    fault->piece_line = PyLong_FromUnsignedLongLong(of_piece.line);
-    fault->piece_offset = PyLong_FromUnsignedLongLong(of_piece.offset);
-    if (fault->item && fault->line && fault->offset && fault->piece_line && fault->piece_offset) return (PyObject *)fault;
-    Py_DECREF(fault);
-    return NULL;
+    fault->item = reader->items;
+    return fault;
 }
 
-PyObject *fault_of(Reader *reader) {
-    const size_t row = reader->at - 1;
-    const lp_line *read = &reader->rows[row].line;
-    const lp_text piece = piece_of(reader, row), text = trimmed(piece);
-    reader->line += newlines_in(reader->counted, piece.at);
-    reader->counted = piece.at;
-    const Place of_piece = { reader->line, reader->offset + (unsigned long long)(piece.at - text_of(reader->text).at) };
-    const Place place = { of_piece.line + newlines_in(piece.at, text.at), of_piece.offset + (unsigned long long)(text.at - piece.at) };
-    PyObject *kind = PyTuple_GetItem(given.kinds, (Py_ssize_t)read->fault), *side = PyTuple_GetItem(given.sides, (Py_ssize_t)read->side);
-    return new_fault(reader, kind, side, str_of(read->fault_text), bytes_of(piece), place, of_piece);
+/* What a fault names: the number at which reading stopped, or all that is left there. */
+static lp_text named_by(const Reader *reader, const lp_offset_row *row) {
+    const uint8_t *text = reader->window.at, *end = text + row->piece.at + row->piece.len, *stop = text + row->stop_at, *at = stop;
+    if (row->side != LP_NEITHER)
+        for (at += *at == '-'; at < end && (uint8_t)(*at - '0') <= 9;) at++;
+    const lp_text named = { stop, (size_t)((row->fault == LP_CANNOT_PARSE_ENTIRE_LINE ? end : at) - stop) };
+    return named;
 }
 
-/* Empties the rows, which show texts of what was read before. */
-static void empty_rows(Reader *reader) {
-    static const lp_row empty = LP_EMPTY_ROW;
-    for (size_t i = 0; i < reader->rows_len; i++) reader->rows[i] = empty;
+PyObject *fault_of(const Reader *reader, const lp_offset_row *row) {
+    PyObject *kind = PyTuple_GetItem(given.kinds, (Py_ssize_t)row->fault);
+    Fault *fault = new_fault(reader, kind, row->side, str_of(named_by(reader, row)), bytes_of(text_at(reader, row->piece, 0)));
+    if (!fault) return NULL;
+    const uint8_t *stop = reader->window.at + row->stop_at, *start = stop;
+    while (start > reader->window.at + row->piece.at && start[-1] != '\n') start--;
+    fault->piece_line = row->line;
+    fault->piece_offset = reader->offset + row->piece.at;
+    fault->line = row->line + newlines_before(reader, row, row->line_at);
+    fault->offset = reader->offset + row->line_at;
+    fault->stop_line = row->line + newlines_before(reader, row, row->stop_at);
+    fault->stop_column = (unsigned long long)(stop - start) + 1;
+    fault->last_line = last_line_of(reader, row);
+    return (PyObject *)fault;
 }
 
-/* Lends so many parts, and so many bytes of room; all is empty. */
-static bool lend(Reader *reader, size_t parts, size_t room) {
-    empty_rows(reader);
-    if (parts > reader->parts_len) {
-        lp_part *more = parts > PY_SSIZE_T_MAX / sizeof *more ? NULL : PyMem_Realloc(reader->parts, parts * sizeof *more);
-        if (!more) return false;
-        reader->parts = more;
-        reader->parts_len = parts;
-    }
-    lp_empty_parts(reader->parts, reader->parts_len);
-    if (room > reader->room_len) {
-        uint8_t *more = PyMem_Realloc(reader->room, room);
-        if (!more) return false;
-        reader->room = more;
-        reader->room_len = room;
-    }
-    return true;
-}
-
-/* Lends what a segment of so many bytes is likely to take. */
-static bool lend_for(Reader *reader, size_t len) {
-    const size_t rows = len / 8 + 1 < ROWS ? len / 8 + 1 : ROWS;
-    if (rows > reader->rows_len) {
-        lp_row *more = PyMem_Realloc(reader->rows, rows * sizeof *more);
-        if (!more) return false;
-        reader->rows = more;
-        reader->rows_len = rows;
-        empty_rows(reader);
-    }
-    if (len > 4096 && !reader->names && !(reader->names = zeroed(NAMES, sizeof *reader->names))) return false;
-    return lend(reader, 2 * len / 8 + 2 < PARTS ? 2 * len / 8 + 2 : PARTS, len < ROOM ? len + 1 : ROOM);
-}
-
-/* Begins to read a segment, which must be UTF-8. */
-static bool begin(Reader *reader, PyObject *segment) {
-    const lp_text text = text_of(segment);
-    lp_lines lines = LP_NO_LINES;
-    PyThreadState *state = let_go(text.len);
-    const bool is_utf8 = lp_lines_begin(text.at, text.len, reader->dialect, &lines);
-    take_back(state);
-    if (!is_utf8) {
-        set_decode_error(text);
-        return false;
-    }
-    if (!reader->by_pieces && !lend_for(reader, text.len)) {
+/* Lends so many elements of this size. What the memory held is lost. */
+static bool lend(void *elements, size_t *len, size_t wanted, size_t size) {
+    void **memory = elements;
+    if (wanted <= *len) return true;
+    void *more = wanted > PY_SSIZE_T_MAX / size ? NULL : PyMem_Malloc(wanted * size);
+    if (!more) {
         PyErr_NoMemory();
         return false;
     }
+    PyMem_Free(*memory);
+    *memory = more;
+    *len = wanted;
+    return true;
+}
+static bool lend_parts(Reader *reader, size_t wanted) { return lend(&reader->parts, &reader->parts_len, wanted, sizeof *reader->parts); }
+static bool lend_room(Reader *reader, size_t wanted) { return lend(&reader->room, &reader->room_len, wanted, 1); }
+
+/* Lends what a segment of so many bytes is likely to take. */
+static bool lend_for(Reader *reader, size_t len) {
+    if (len > 4096 && !reader->names && !(reader->names = zeroed(NAMES, sizeof *reader->names))) {
+        PyErr_NoMemory();
+        return false;
+    }
+    return lend(&reader->rows, &reader->rows_len, len / 8 + 1 < ROWS ? len / 8 + 1 : ROWS, sizeof *reader->rows) &&
+           lend_parts(reader, 2 * len / 8 + 2 < PARTS ? 2 * len / 8 + 2 : PARTS) && lend_room(reader, len < ROOM ? len + 1 : ROOM);
+}
+
+/* Begins to read a segment. */
+static bool begin(Reader *reader, PyObject *segment) {
     PyObject *before = reader->text;
+    if (!lend_for(reader, (size_t)PyBytes_Size(segment))) return false;
     Py_INCREF(segment);
     reader->text = segment;
-    reader->lines = lines;
-    reader->counted = text.at;
-    reader->at = reader->filled = 0;
+    reader->window = text_of(segment);
+    reader->at = reader->block.at = reader->block.rows = 0;
     reader->answer = LP_LINE;
     Py_XDECREF(before);
     return true;
 }
 
+/* Passes so many bytes of the window. */
+static void pass(Reader *reader, size_t len) {
+    reader->window.at += len;
+    reader->window.len -= len;
+    reader->offset += len;
+    reader->block.at = 0;
+}
+
+/* Reads rows, of at most 4 GiB, which offsets can tell. False: memory for a verdict was refused. */
+static bool read_rows(Reader *reader) {
+    const lp_text text = reader->window;
+    const bool is_last = text.len <= UINT32_MAX;
+    const size_t len = is_last ? text.len : UINT32_MAX;
+    size_t told = 0;
+    PyThreadState *state = let_go(text.len - reader->block.at);
+    if (reader->limits)
+        reader->answer = lp_offsets_block_verdicts(text.at, len, reader->dialect, is_last, &reader->block, reader->room, reader->room_len, reader->rows,
+                                                   reader->rows_len, reader->parts, reader->parts_len, reader->limits, &told);
+    else
+        reader->answer = lp_offsets_block(text.at, len, reader->dialect, is_last, &reader->block, reader->room, reader->room_len, reader->rows,
+                                          reader->rows_len, reader->parts, reader->parts_len);
+    take_back(state);
+    return !reader->limits || told == reader->block.rows;
+}
+
 /* Reads items as long as there is room. More is lent where the first does not fit. */
 static bool read_block(Reader *reader) {
-    lp_room room = { reader->room, reader->room_len };
-    reader->walk = reader->lines;
-    reader->piece.at = reader->counted;
-    reader->piece.len = 0;
-    reader->walked = reader->at = reader->filled = 0;
-    PyThreadState *state = let_go(reader->lines.rest.len);
-    reader->answer = lp_lines_block(&reader->lines, &room, reader->rows, reader->rows_len, reader->parts, reader->parts_len,
-                                    &reader->filled);
-    take_back(state);
-    if (reader->filled > 0 || (reader->answer != LP_MORE_PARTS && reader->answer != LP_MORE_ROOM)) return true;
-    const lp_line *next = &reader->rows[0].line;
-    const size_t parts = reader->answer == LP_MORE_PARTS ? next->tags + next->fields : 0;
-    if (lend(reader, parts, reader->answer == LP_MORE_ROOM ? next->copied_len : 0)) return true;
-    PyErr_NoMemory();
+    if (reader->answer == LP_MORE_TEXT) pass(reader, reader->block.at);
+    reader->at = 0;
+    if (!read_rows(reader)) {
+        PyErr_NoMemory();
+        return false;
+    }
+    const lp_offset_row *next = reader->rows;
+    if (reader->block.rows > 0 || reader->answer == LP_END) return true;
+    if (reader->answer == LP_MORE_PARTS) return lend_parts(reader, (size_t)next->tags + next->fields);
+    if (reader->answer == LP_MORE_ROOM) return lend_room(reader, next->room_len);
+    if (reader->answer == LP_MORE_TEXT && reader->block.at > 0) return true;
+    PyErr_SetString(PyExc_OverflowError, "a line has 4 GiB or more");
     return false;
 }
 
-/* A piece that was refused before it was read: its kind, the bytes that are shown, and how many newlines and bytes it takes. */
+/* A piece that was refused before it was read: its kind, the bytes that are shown, how many newlines and bytes it takes, and whether the last
+ * of these is the newline that ends it. */
 static PyObject *refused_of(Reader *reader, PyObject *told) {
     PyObject *kind, *refused;
     unsigned long long newlines, len;
-    if (!PyArg_ParseTuple(told, "OSKK", &kind, &refused, &newlines, &len)) return NULL;
+    int is_ended;
+    if (!PyArg_ParseTuple(told, "OSKKp", &kind, &refused, &newlines, &len, &is_ended)) return NULL;
     reader->items++;
     Py_INCREF(refused);
-    const Place place = { reader->line, reader->offset };
-    PyObject *fault = new_fault(reader, kind, PyTuple_GetItem(given.sides, 0), PyUnicode_FromStringAndSize("", 0), refused, place, place);
-    reader->line += newlines;
+    Fault *fault = new_fault(reader, kind, LP_NEITHER, PyUnicode_FromStringAndSize("", 0), refused);
+    if (fault) {
+        fault->line = fault->piece_line = fault->stop_line = reader->block.line;
+        fault->offset = fault->piece_offset = reader->offset;
+        fault->stop_column = 1;
+        fault->last_line = fault->line + newlines - (is_ended != 0);
+    }
+    reader->block.line += newlines;
     reader->offset += len;
-    return fault;
-}
-
-/* Leaves the segment that was read. */
-static void leave_segment(Reader *reader) {
-    const lp_text text = text_of(reader->text);
-    PyObject *before = reader->text;
-    reader->line += newlines_in(reader->counted, text.at + text.len);
-    reader->offset += text.len;
-    Py_INCREF(no_bytes);
-    reader->text = no_bytes;
-    reader->counted = text_of(no_bytes).at;
-    Py_DECREF(before);
+    return (PyObject *)fault;
 }
 
 /* Leaves the segment that was read, and begins the next one. NULL without an error: it has begun, or none is left. */
 static PyObject *next_segment(Reader *reader, bool *has_ended) {
-    PyObject *segments = reader->segments, *fault = NULL;
+    PyObject *segments = reader->segments, *fault = NULL, *before = reader->text;
     *has_ended = true;
     if (!segments) return NULL;
-    leave_segment(reader);
+    pass(reader, reader->window.len);
+    Py_INCREF(no_bytes);
+    reader->text = no_bytes;
+    reader->window = text_of(no_bytes);
+    Py_DECREF(before);
     Py_INCREF(segments);
     PyObject *segment = PyIter_Next(segments);
     if (segment && PyBytes_Check(segment)) *has_ended = !begin(reader, segment);
@@ -349,10 +338,10 @@ static PyObject *next_segment(Reader *reader, bool *has_ended) {
     return fault;
 }
 
-PyObject *next_row(Reader *reader, const lp_row **row) {
+PyObject *next_row(Reader *reader, const lp_offset_row **row) {
     bool has_ended = false;
     *row = NULL;
-    while (reader->at == reader->filled) {
+    while (reader->at == reader->block.rows) {
         if (reader->answer != LP_END) {
             if (!read_block(reader)) return NULL;
         } else {
@@ -367,11 +356,10 @@ PyObject *next_row(Reader *reader, const lp_row **row) {
 
 /* The next item, or NULL without an error if none is left. If memory for it is refused, it is the next one again. */
 static PyObject *next_item(Reader *reader) {
-    const lp_row *row;
+    const lp_offset_row *row;
     PyObject *item = next_row(reader, &row);
     if (!row) return item;
-    if (row->answer == LP_FAULT) item = fault_of(reader);
-    else item = line_of(reader, &row->line, reader->parts + row->parts_at);
+    item = row->answer == LP_LINE ? line_of(reader, row) : fault_of(reader, row);
     if (!item) {
         reader->at--;
         reader->items--;
@@ -436,7 +424,27 @@ static PyType_Slot reader_slots[] = {
 PyType_Spec reader_spec = {
     "line_protocol._fast.Reader", sizeof(Reader), 0, Py_TPFLAGS_DEFAULT | Py_TPFLAGS_HAVE_GC, reader_slots };
 
-/* read(text, segments, dialect, by_pieces): what is left of a text, and of the segments after it, where these are not None. */
+Reader *new_reader(PyObject *bytes, uint32_t dialect) {
+    Reader *reader = (Reader *)PyType_GenericAlloc(reader_type, 0);
+    if (!reader) return NULL;
+    reader->dialect = dialect;
+    reader->block.line = 1;
+    if (begin(reader, bytes)) return reader;
+    Py_DECREF(reader);
+    return NULL;
+}
+
+/* Tests whether a text is UTF-8, and begins to cut it. */
+static bool begin_cuts(Reader *reader) {
+    PyThreadState *state = let_go(reader->window.len);
+    const bool is_begun = lp_lines_begin(reader->window.at, reader->window.len, reader->dialect, &reader->lines);
+    take_back(state);
+    if (!is_begun) set_decode_error(reader->window);
+    return is_begun;
+}
+
+/* read(text, segments, dialect, by_pieces): what is left of a text, and of the segments after it, where these are not None. The text must be
+ * UTF-8. */
 PyObject *fast_read(PyObject *module, PyObject *args) {
     PyObject *text, *segments;
     unsigned int dialect;
@@ -448,23 +456,14 @@ PyObject *fast_read(PyObject *module, PyObject *args) {
         return NULL;
     }
     PyObject *bytes = encoded(text);
-    Reader *reader = bytes ? (Reader *)PyType_GenericAlloc(reader_type, 0) : NULL;
-    bool is_begun = false;
-    if (reader) {
-        reader->dialect = dialect;
-        reader->by_pieces = by_pieces;
-        reader->line = 1;
-        is_begun = begin(reader, bytes);
-    }
+    Reader *reader = bytes ? new_reader(bytes, dialect) : NULL;
     Py_XDECREF(bytes);
-    if (!is_begun) {
-        Py_XDECREF(reader);
-        return NULL;
-    }
+    if (reader && (by_pieces || !PyUnicode_Check(text)) && !begin_cuts(reader)) Py_CLEAR(reader);
+    if (!reader) return NULL;
+    reader->by_pieces = by_pieces;
     if (segments != Py_None) {
         Py_INCREF(segments);
         reader->segments = segments;
     }
     return (PyObject *)reader;
 }
-

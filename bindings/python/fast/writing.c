@@ -263,23 +263,15 @@ static bool set_answer_error(uint32_t answer) {
     return false;
 }
 
-/* Appends a text to a list. */
-static bool add_text(PyObject *texts, lp_text text) {
-    PyObject *str = str_of(text);
-    const bool is_added = str && PyList_Append(texts, str) == 0;
-    Py_XDECREF(str);
-    return is_added;
-}
-
 /* Raises NotAdmitted: a function of checking.py finds which text of the line it is. */
 static bool refuse_texts(uint32_t dialect, const Handed *handed) {
     static const lp_text no_text = LP_NO_TEXT;
     PyObject *texts = PyList_New(0), *nothing = NULL;
-    bool are_added = texts && add_text(texts, handed->line.measurement.text);
+    bool are_added = texts && append(texts, str_of(handed->line.measurement.text));
     for (size_t i = 0; are_added && i < handed->parts_len; i++) {
         const lp_part *part = &handed->parts[i];
         const bool has_text = part->kind == LP_TAG || part->kind == LP_STRING;
-        are_added = add_text(texts, part->key.text) && add_text(texts, has_text ? part->text.text : no_text);
+        are_added = append(texts, str_of(part->key.text)) && append(texts, str_of(has_text ? part->text.text : no_text));
     }
     if (are_added) nothing = PyObject_CallFunction(given.refuse_texts, "OnI", texts, (Py_ssize_t)handed->line.tags, dialect);
     if (nothing) PyErr_SetString(PyExc_ValueError, "the line is not admitted");
@@ -338,13 +330,22 @@ static uint32_t put_key(uint32_t dialect, const lp_line *line, const lp_part *pa
     return lp_line_key(line, parts, parts_len, out, room, len);
 }
 
-PyObject *key_of_row(const lp_line *line, const lp_part *parts) {
-    Handed handed = { 0 };
+PyObject *key_of_row(const Reader *reader, const lp_offset_row *row) {
+    Handed handed = { .line = LP_EMPTY_LINE, .parts = zeroed(row->tags + 1, sizeof *handed.parts) };
     Out out = { NULL, 0, 0 };
-    handed.line = *line;
-    handed.parts = (lp_part *)parts;
-    handed.parts_len = line->tags + line->fields;
-    return str_of_out(&out, put_out(put_key, LP_CRATE, &handed, &out) != 0);
+    if (!handed.parts) return PyErr_NoMemory();
+    handed.line.measurement.text = text_at(reader, row->measurement, row->measurement_copied);
+    handed.line.measurement.copied = true; /* so that no text of the series is looked for */
+    handed.line.tags = row->tags;
+    handed.line.has_tag_set = row->tags > 0;
+    for (; handed.parts_len < row->tags; handed.parts_len++) {
+        const lp_offset_part *tag = &reader->parts[row->parts_at + handed.parts_len];
+        handed.parts[handed.parts_len].key.text = text_at(reader, tag->key, tag->key_copied);
+        handed.parts[handed.parts_len].text.text = text_at(reader, tag->text, tag->text_copied);
+    }
+    PyObject *key = str_of_out(&out, put_out(put_key, LP_CRATE, &handed, &out) != 0);
+    free_handed(&handed);
+    return key;
 }
 
 /* What a call puts out for one line. */

@@ -39,10 +39,10 @@ TEXT = 'cpu,host=a\\ b usage=64i,load=1.50 5\n# a comment\n\nm s="a\nb",u=7u\nm 
 
 
 def located(items):
-    """Items with all that a fault says."""
+    """Items with all that they say."""
     return [
-        (item.kind, item.text, item.side, item.item, item.line, item.offset, item.piece_line, item.piece_offset, item.refused)
-        if isinstance(item, Fault) else typed(item) for item in items]
+        (typed(item), *(getattr(item, name, None) for name in (
+            "item", "line", "offset", "last_line", "piece_line", "piece_offset", "refused", "stop_line", "stop_column"))) for item in items]
 
 
 def in_parts(data, size):
@@ -210,12 +210,18 @@ DROPPED = re.compile(rb"(?:[ \t\n]|#[^\n]*)*")
 """What is dropped at the start of a piece: docs/FORMAT.md, section 4."""
 
 
-def is_utf8(data):
+def bad_byte_of(data):
+    """The place of the first byte that makes bytes no UTF-8, or None."""
     try:
         data.decode()
-    except UnicodeDecodeError:
-        return False
-    return True
+    except UnicodeDecodeError as raised:
+        return raised.start
+    return None
+
+
+def unread(kind, refused, stop, piece):
+    """The fault of a piece that is not read. Reading stopped at this byte of it."""
+    return Fault(kind, refused=refused, stop_line=1 + piece.count(b"\n", 0, stop), stop_column=stop - piece.rfind(b"\n", 0, stop))
 
 
 def wanted_of(data, dialect, limit):
@@ -223,20 +229,22 @@ def wanted_of(data, dialect, limit):
     items, number = [], 0
     for start, end in pieces_of(data, dialect):
         piece = data[start:end]
-        text = start + DROPPED.match(piece).end()
+        bad, text, line = bad_byte_of(piece), start + DROPPED.match(piece).end(), 1 + data.count(b"\n", 0, start)
         if limit is not None and len(piece) > limit:
-            found = [Fault(FaultKind.TOO_LONG, refused=piece[:limit])]
-        elif not is_utf8(piece):
-            found = [Fault(FaultKind.NOT_UTF8, refused=piece)]
+            found = [unread(FaultKind.TOO_LONG, piece[:limit], 0, piece)]
+        elif bad is not None:
+            found = [unread(FaultKind.NOT_UTF8, piece, bad, piece)]
         else:
             found = list(parse(piece, dialect=dialect))
             assert len(found) < 2
         for item in found:
             number += 1
+            is_read = isinstance(item, Line) or item.kind < 100
+            item.offset, item.last_line = text if is_read else start, line + piece.count(b"\n")
+            item.line = 1 + data.count(b"\n", 0, item.offset)
             if isinstance(item, Fault):
-                item.item, item.piece_offset, item.offset = number, start, start if item.kind > 100 else text
-                item.piece_line, item.line = (1 + data.count(b"\n", 0, at) for at in (item.piece_offset, item.offset))
-                item.refused = item.refused if item.kind > 100 else piece
+                item.item, item.piece_line, item.piece_offset, item.stop_line = number, line, start, item.stop_line + line - 1
+                item.refused = piece if is_read else item.refused
             items.append(item)
     return located(items)
 
@@ -273,22 +281,23 @@ class Places(unittest.TestCase):
                         told = columns(in_parts(data, size), dialect=dialect, max_line=limit, use_numpy=False)
                         self.assertEqual(located(told.faults), located(faults))
 
-    def test_every_newline_ends_a_newline_delimited_line(self):
-        data = b'm s="a\nb" 1\n#\\\n x\nm f=1i\\\n\ny'
-        for size in (1, 2, 7, len(data)):
-            found = parse(in_parts(data, size), dialect="newline-delimited")
-            self.assertEqual(
-                [(fault.line, fault.offset, fault.piece_line, fault.piece_offset) for fault in found],
-                [(1, 0, 1, 0), (2, 7, 2, 7), (4, 16, 4, 15), (5, 18, 5, 18), (7, 27, 7, 27)])
+    def test_where_reading_stops(self):
+        """The rows of docs/FORMAT.md, section 9, each after a comment and before a line."""
+        for text, line, column in (
+                ("x\\\\", 2, 1), (",x", 2, 1), ("m,t=v,u=w\\\\ a=1i", 2, 9), ("m,t a=1i", 2, 4), ("m,t=v,u a=1i", 2, 6), ('m s="a\nb",v=1i9', 3, 8),
+                ("m,t=v a=", 2, 9), (" m a=1i,b=\"\n\n\",c=99999999999999999999u", 4, 5), ("m a=1i 99999999999999999999", 2, 8), ("m a=1i,b", 2, 8)):
+            with self.subTest(text=text):
+                [fault, _] = parse(f"# c\n{text}\nm f=1i")
+                self.assertEqual((fault.stop_line, fault.stop_column), (line, column))
 
-    def test_where_each_fault_is(self):
-        items = list(parse(TEXT + "\nm f=99999999999999999999i\n\n\nx\n"))
-        faults = [item for item in items if isinstance(item, Fault)]
-        self.assertEqual([fault.refused for fault in faults], [b"m f", b"m f=99999999999999999999i", b"x"])
-        for fault in faults:
-            before = (TEXT + "\nm f=99999999999999999999i\n\n\nx\n").encode()[: fault.offset]
-            self.assertEqual(fault.line, 1 + before.count(b"\n"))
-            self.assertIs(items[fault.item - 1], fault)
+    def test_places_are_copied_and_do_not_count(self):
+        for item in parse('\n m s="a\nb"\nm f'):
+            for same in (copy.copy(item), copy.deepcopy(item), pickle.loads(pickle.dumps(item))):
+                self.assertEqual(located([same]), located([item]))
+                same.line = same.last_line = same.offset = 0
+                self.assertEqual(same, item)
+        made = Line("m", [], [("f", 1)])
+        self.assertEqual((made.line, made.offset, made.last_line), (0, 0, 0))
 
     def test_messages_are_those_of_rebuild(self):
         text = "\n".join([
@@ -330,7 +339,8 @@ class BesideTheProgram(Folder):
             path, dialect, limit = self.file(data), chosen.choice(DIALECTS), chosen.choice([None, None, 1, 3, 8])
             objects = self.objects(path, dialect, limit)
             count += len(objects)
-            keys = ["item", "line", "offset", "piece_line", "piece_offset"]
+            keys = ["item", "line", "offset", "piece_line", "piece_offset", "stop_line", "stop_column"]
+            objects = [{"stop_line": one["line"], "stop_column": 1, **one} for one in objects]  # of a line that is too long it says none
             with self.subTest(data=data, dialect=dialect, limit=limit):
                 for source in (path, in_parts(data, 7)):
                     faults = [item for item in parse(source, dialect=dialect, max_line=limit) if isinstance(item, Fault)]
@@ -393,7 +403,7 @@ class Bytes(unittest.TestCase):
             parts = [data[start:end] for start, end in zip([0, *cuts], [*cuts, len(data)])]
             with self.subTest(parts=parts, dialect=dialect, limit=limit):
                 self.assertEqual(located(parse(iter(parts), dialect=dialect, max_line=limit)), wanted_of(data, dialect, limit))
-            if is_utf8(data):
+            if bad_byte_of(data) is None:
                 with self.subTest(data=data, dialect=dialect, limit=limit):
                     self.assertEqual(located(parse(data, dialect=dialect, max_line=limit)), wanted_of(data, dialect, limit))
 
@@ -510,8 +520,8 @@ class Threads(unittest.TestCase):
 
         long = 'm s="' + "x" * 16_000_000 + '"'
         calls = [
-            (lambda: None, lambda _: parse(long)), (lambda: parse(long), next), (lambda: None, lambda _: line_protocol.rebuild(long)),
-            (lambda: long.encode(), lambda data: line_protocol._fast.whole(data, False)),
+            (lambda: long.encode(), parse), (lambda: parse(long), next), (lambda: None, lambda _: line_protocol.rebuild(long)),
+            (lambda: long.encode(), lambda data: line_protocol._fast.cut(data, 0, 9)),
             (lambda: long.encode(), lambda data: line_protocol._fast.part_ends(iter([data]), len(data), 2, False))]
         interval = sys.getswitchinterval()
         self.addCleanup(sys.setswitchinterval, interval)

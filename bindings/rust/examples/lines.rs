@@ -1,21 +1,7 @@
-//! Writes lines, and prints each line of a text, and each fault.
+//! Builds a line, and prints each line of a text, and each fault.
 
 fn main() {
-    // [writer_in_rust]
-    use influxdb_line_protocol::{Dialect, FieldValue, LineWriter};
-
-    let mut lines = LineWriter::new(Dialect::Crate);
-    for host in ["a", "b\nforged"] {
-        let point = lines.write_point("disk usage", &[("host", host)], &[("free", FieldValue::F64(42.5))], Some(7));
-        if let Err(refused) = point {
-            println!("{refused}");
-        }
-    }
-    assert_eq!(lines.into_bytes(), b"disk\\ usage,host=a free=42.5 7\n");
-    // [end]
     print_lines();
-    print_sums();
-    rebuild_text();
     print_pieces().expect("a slice can be read");
 }
 
@@ -25,37 +11,12 @@ fn print_lines() {
 
     let lines = LineProtocolBuilder::new().measurement("disk usage").tag("host", "a").field("free", 42.5).close_line();
     let text = String::from_utf8(lines.build()).expect("lines are UTF-8") + "m 5\n";
-    for item in parse_lines(&text) {
+    for (place, item) in parse_lines(&text).with_places() {
         match item {
             Ok(line) => println!("{} at {:?}", line.series.measurement, line.timestamp),
-            Err(fault) => println!("a fault: {fault}"),
+            Err(fault) => println!("line {}, column {}: {fault}", place.stop_line, place.stop_column),
         }
     }
-    // [end]
-}
-
-fn print_sums() {
-    // [sums_in_rust]
-    use influxdb_line_protocol::{parse_lines, FieldValue};
-    use std::collections::BTreeMap;
-
-    let mut sums: BTreeMap<String, i64> = BTreeMap::new();
-    for line in parse_lines("cpu,host=a,az=b n=1i\ncpu,az=b,host=a n=2i\ncpu n=4i\n").flatten() {
-        if let Some(FieldValue::I64(n)) = line.field_value("n") {
-            *sums.entry(line.series.key()).or_default() += n;
-        }
-    }
-    assert_eq!(sums, BTreeMap::from([("cpu".to_owned(), 4), ("cpu,az=b,host=a".to_owned(), 3)]));
-    // [end]
-}
-
-fn rebuild_text() {
-    // [rebuilt_in_rust]
-    use influxdb_line_protocol::{rebuild, Dialect};
-
-    let rebuilt = rebuild(Dialect::Strict, "m  f=t,g=1.50\nm f");
-    assert_eq!((rebuilt.carried, rebuilt.batch.as_str()), (1, "m f=true,g=1.50\n"));
-    assert_eq!((rebuilt.refused, rebuilt.faults.as_str()), (1, "item 2: No fields were provided\n"));
     // [end]
 }
 

@@ -1,6 +1,6 @@
 //! The calls and the layouts of `include/influxdb_line_protocol.h`.
 use std::sync::atomic::{AtomicBool, Ordering};
-use std::{alloc, marker::PhantomData};
+use std::{alloc, marker::PhantomData, ops::Range};
 
 /// What a call answers.
 pub(crate) mod answer {
@@ -10,6 +10,7 @@ pub(crate) mod answer {
     pub(crate) const MORE_ROOM: u32 = 4;
     pub(crate) const OUT_OF_MEMORY: u32 = 5;
     pub(crate) const WRITTEN: u32 = 7;
+    pub(crate) const MORE_TEXT: u32 = 10;
     pub(crate) const TOO_LONG: u32 = 11;
     pub(crate) const NOT_ADMITTED: u32 = 12;
 }
@@ -173,7 +174,7 @@ impl Row<'_> {
 #[derive(Clone, Copy)]
 pub(crate) struct Lines<'a> {
     rest: Text<'a>,
-    dialect: u32,
+    pub(crate) dialect: u32,
     ended: bool,
 }
 
@@ -225,54 +226,82 @@ impl Cuts {
 
 /// So many bytes from a place on.
 #[repr(C)]
-struct Span {
-    at: u32,
-    len: u32,
+#[derive(Clone, Copy, Default)]
+pub(crate) struct Span {
+    pub(crate) at: u32,
+    pub(crate) len: u32,
+}
+
+impl Span {
+    /// The places of the bytes.
+    #[inline(always)]
+    pub(crate) fn range(self) -> Range<usize> {
+        self.at as usize..self.at as usize + self.len as usize
+    }
+}
+
+/// A tag or a field by offsets.
+#[repr(C)]
+#[derive(Clone, Copy, Default)]
+pub(crate) struct OffsetPart {
+    pub(crate) key: Span,
+    pub(crate) text: Span,
+    pub(crate) number: u64,
+    pub(crate) kind: u32,
+    pub(crate) key_copied: u16,
+    pub(crate) text_copied: u16,
 }
 
 /// An item by offsets.
 #[repr(C)]
-struct OffsetRow {
-    line: u64,
-    timestamp: i64,
+#[derive(Clone, Copy, Default)]
+pub(crate) struct OffsetRow {
+    pub(crate) line: u64,
+    pub(crate) timestamp: i64,
     key: u64,
     verdict: u64,
-    piece: Span,
-    measurement: Span,
-    line_at: u32,
-    stop_at: u32,
-    parts_at: u32,
-    tags: u32,
-    fields: u32,
-    room_len: u32,
-    answer: u32,
-    fault: u32,
+    pub(crate) piece: Span,
+    pub(crate) measurement: Span,
+    pub(crate) line_at: u32,
+    pub(crate) stop_at: u32,
+    pub(crate) parts_at: u32,
+    pub(crate) tags: u32,
+    pub(crate) fields: u32,
+    pub(crate) room_len: u32,
+    pub(crate) answer: u32,
+    pub(crate) fault: u32,
     side: u32,
-    measurement_copied: u16,
-    has_timestamp: u16,
+    pub(crate) measurement_copied: u16,
+    pub(crate) has_timestamp: u16,
 }
 
-impl OffsetRow {
-    /// A row whose piece has so many bytes, and which says that there is a line.
-    fn of_line(len: u32) -> Self {
-        OffsetRow {
-            line: 1,
-            timestamp: 0,
-            key: 0,
-            verdict: 0,
-            piece: Span { at: 0, len },
-            measurement: Span { at: 0, len: 0 },
-            line_at: 0,
-            stop_at: 0,
-            parts_at: 0,
-            tags: 0,
-            fields: 0,
-            room_len: 0,
-            answer: answer::LINE,
-            fault: 0,
-            side: 0,
-            measurement_copied: 0,
-            has_timestamp: 0,
+/// Where a block begins, and then where to go on and how much was filled.
+#[repr(C)]
+#[derive(Clone, Copy, Default)]
+pub(crate) struct Block {
+    pub(crate) line: u64,
+    pub(crate) at: u32,
+    pub(crate) rows: u32,
+    parts: u32,
+    room: u32,
+}
+
+impl Block {
+    /// The block at the start of a text.
+    pub(crate) fn begin() -> Self {
+        require_version();
+        Block { line: 1, ..Block::default() }
+    }
+
+    /// Fills rows, parts and room from the block's place in the text on, and gives the answer. Of a text of more than 32 bits the first bytes
+    /// are read, and then what is left of these is [`answer::MORE_TEXT`].
+    pub(crate) fn read(&mut self, text: &str, dialect: u32, room: &mut [u8], rows: &mut [OffsetRow], parts: &mut [OffsetPart]) -> u32 {
+        let len = text.len().min(u32::MAX as usize);
+        let (room_at, rows_at, parts_at) = (room.as_mut_ptr(), rows.as_mut_ptr(), parts.as_mut_ptr());
+        // SAFETY: `text` has `len` bytes, and its pointer is not null, also if it is empty; so have the room, the rows and the parts their
+        // lengths, which are borrowed alone, as is the block. So what is written is apart from `text` and from each other.
+        unsafe {
+            lp_offsets_block(text.as_ptr(), len, dialect, len == text.len(), self, room_at, room.len(), rows_at, rows.len(), parts_at, parts.len())
         }
     }
 }
@@ -333,6 +362,19 @@ extern "C" {
         parts: *mut Part<'a>,
         parts_len: usize,
         filled: *mut usize,
+    ) -> u32;
+    fn lp_offsets_block(
+        text: *const u8,
+        len: usize,
+        dialect: u32,
+        last: bool,
+        block: *mut Block,
+        room: *mut u8,
+        room_len: usize,
+        rows: *mut OffsetRow,
+        rows_len: usize,
+        parts: *mut OffsetPart,
+        parts_len: usize,
     ) -> u32;
     pub(crate) fn lp_lines_piece<'a>(lines: *mut Lines<'a>, piece: *mut View<'a>) -> bool;
     fn lp_cuts_begin(dialect: u32, limit: usize, cuts: *mut Cuts) -> bool;
@@ -438,7 +480,8 @@ pub(crate) fn rebuild(dialect: u32, text: &str, batch: &mut [u8], faults: &mut [
 /// The bits of the clauses that this text breaks. `None`: it has more bytes than a row may say.
 pub(crate) fn verdict(limits: &Limits, text: &str) -> Option<u64> {
     require_version();
-    let (mut row, mut told) = (OffsetRow::of_line(text.len().try_into().ok()?), 0);
+    let piece = Span { at: 0, len: text.len().try_into().ok()? };
+    let (mut row, mut told) = (OffsetRow { answer: answer::LINE, piece, ..OffsetRow::default() }, 0);
     // SAFETY: `text` has `len` bytes, and its pointer is not null, also if it is empty. `limits` is a borrow. What is written is two
     // locals, the one row among them, so they are apart from these and from each other.
     granted(unsafe { lp_offsets_verdicts(text.as_ptr(), text.len(), &mut row, 1, limits, &mut told) });

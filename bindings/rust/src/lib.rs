@@ -35,7 +35,7 @@ pub use escaped::EscapedStr;
 pub use line::{FieldSet, FieldValue, Measurement, ParsedLine, Series, TagSet};
 pub use portable::{broken_clauses, is_portable, Broken, Clause, Servers};
 pub use reader::{LineError, LineReader, Piece, MAX_LINE};
-pub use reading::{parse_lines, parse_lines_in, split_lines, split_lines_in, ParseLines, SplitLines};
+pub use reading::{parse_lines, parse_lines_in, split_lines, split_lines_in, ParseLines, Place, SplitLines};
 pub use rebuilt::{rebuild, Rebuilt};
 pub use writer::{LineWriter, NotAdmitted};
 

@@ -1,8 +1,9 @@
 //! The readers: what is read of a text, item by item.
-use crate::border::{self, answer, fault_kind, kind, Line, Lines, Part, Room, Row, View};
+use crate::border::{self, answer, fault_kind, kind, Block, Line, Lines, OffsetPart, OffsetRow, Part, Room, Row, View};
 use crate::{Dialect, Error, EscapedStr, FieldSet, FieldValue, ParsedLine, Result, Series, TagSet};
 use nom::error::ErrorKind;
-use std::{fmt, iter::FusedIterator};
+use std::ops::{Range, RangeInclusive};
+use std::{fmt, iter::FusedIterator, mem};
 
 /// Reads each line of a text, by the rules of the original crate. Blank lines and comments are passed over; a line with a fault is an
 /// error, and the lines after it are read.
@@ -34,6 +35,8 @@ pub fn parse_lines(input: &str) -> ParseLines<'_> {
 /// ```
 pub fn parse_lines_in(dialect: Dialect, input: &str) -> ParseLines<'_> {
     ParseLines {
+        input,
+        given: 0,
         lines: Lines::of(dialect.number(), input),
         rows: vec![],
         parts: vec![Part::EMPTY; 16],
@@ -90,10 +93,14 @@ impl fmt::Debug for SplitLines<'_> {
     }
 }
 
-/// The lines of a text and its faults, as [`parse_lines`] and [`parse_lines_in`] give them.
+/// The lines of a text and its faults, as [`parse_lines`] and [`parse_lines_in`] give them. [`ParseLines::with_places`] tells where they
+/// are too.
 ///
 /// It holds what is left of the text, and memory for up to 16 items, which it reads ahead.
 pub struct ParseLines<'a> {
+    // The text, of which so many items were given out.
+    input: &'a str,
+    given: usize,
     lines: Lines<'a>,
     rows: Vec<Row<'a>>,
     parts: Vec<Part<'a>>,
@@ -105,7 +112,44 @@ pub struct ParseLines<'a> {
     answer: u32,
 }
 
+/// Where an item lies in the text that is read. Lines and columns count from 1, places of bytes from 0.
+#[derive(Clone, Debug, PartialEq, Eq)]
+#[non_exhaustive]
+pub struct Place {
+    /// The bytes of the item, without the blanks and comments before it.
+    pub span: Range<usize>,
+    /// The bytes of its piece, which is what [`split_lines`] gives.
+    pub piece: Range<usize>,
+    /// The line in which the item begins.
+    pub line: u64,
+    /// The lines that its piece spans: several if a string or an escape holds a newline, or if comments come before the item.
+    pub lines: RangeInclusive<u64>,
+    /// The byte at which reading stopped: of a line its end, of a fault the byte that could not be read.
+    pub stop: usize,
+    /// The line of this byte.
+    pub stop_line: u64,
+    /// Its column in this line, in bytes.
+    pub stop_column: usize,
+}
+
 impl<'a> ParseLines<'a> {
+    /// The same items, each after its [`Place`]: where it lies, and of a fault the line and the column at which reading stopped.
+    ///
+    /// It reads each item once more for that, by offsets. It panics at a line of 4 GiB or more.
+    ///
+    /// ```
+    /// let text = "m f=1i\n# a comment\nm f=\"a\nb\",g=2x";
+    /// let [line, fault] = &influxdb_line_protocol::parse_lines(text).with_places().collect::<Vec<_>>()[..] else { panic!() };
+    /// assert_eq!((line.0.line, line.0.span.clone(), line.1.is_ok()), (1, 0..6, true));
+    /// let (place, item) = fault;
+    /// assert_eq!((place.line, place.lines.clone(), place.span.clone(), item.is_err()), (3, 3..=4, 19..33, true));
+    /// assert_eq!((place.stop_line, place.stop_column, place.stop), (4, 7, 32)); // the x
+    /// ```
+    pub fn with_places(self) -> impl Iterator<Item = (Place, Result<ParsedLine<'a>>)> + 'a {
+        let places = Places { text: self.input, before: 0, dialect: self.lines.dialect, block: Block::begin(), parts: vec![], room: vec![] };
+        places.skip(self.given).zip(self)
+    }
+
     // Reads the next block, once each item of the last one was given out. False: no item is left.
     #[inline(never)]
     fn read_block(&mut self) -> bool {
@@ -180,6 +224,7 @@ impl<'a> Iterator for ParseLines<'a> {
         }
         let row = &self.rows[self.taken];
         self.taken += 1;
+        self.given += 1;
         if row.answer == answer::LINE {
             self.item(row)
         } else {
@@ -191,6 +236,58 @@ impl<'a> Iterator for ParseLines<'a> {
 }
 
 impl FusedIterator for ParseLines<'_> {}
+
+// The places of the items of a text, which are read by offsets, one by one.
+struct Places<'a> {
+    // What is left of the text from the place on from which rows count, and how many bytes come before it.
+    text: &'a str,
+    before: usize,
+    dialect: u32,
+    block: Block,
+    parts: Vec<OffsetPart>,
+    room: Vec<u8>,
+}
+
+impl Places<'_> {
+    // Where the item of a row lies.
+    fn place(&self, row: &OffsetRow) -> Place {
+        let (Range { start, end }, line_at, stop) = (row.piece.range(), row.line_at as usize, row.stop_at as usize);
+        let line_of = |place: usize| row.line + self.text[start..place].matches('\n').count() as u64;
+        Place {
+            span: self.before + line_at..self.before + end,
+            piece: self.before + start..self.before + end,
+            line: line_of(line_at),
+            lines: row.line..=line_of(end),
+            stop: self.before + stop,
+            stop_line: line_of(stop),
+            stop_column: stop + 1 - self.text[start..stop].rfind('\n').map_or(start, |at| start + at + 1),
+        }
+    }
+}
+
+impl Iterator for Places<'_> {
+    type Item = Place;
+
+    fn next(&mut self) -> Option<Place> {
+        let mut rows = [OffsetRow::default()];
+        loop {
+            let answer = self.block.read(self.text, self.dialect, &mut self.room, &mut rows, &mut self.parts);
+            let [row] = &rows;
+            match answer {
+                _ if self.block.rows > 0 => return Some(self.place(row)),
+                answer::MORE_PARTS => self.parts.resize((row.tags + row.fields) as usize, OffsetPart::default()),
+                answer::MORE_ROOM => self.room.resize(row.room_len as usize, 0),
+                answer::MORE_TEXT => {
+                    let passed = mem::take(&mut self.block.at) as usize;
+                    assert!(passed > 0, "a line has 4 GiB or more");
+                    self.text = &self.text[passed..];
+                    self.before += passed;
+                }
+                _ => return None,
+            }
+        }
+    }
+}
 
 impl fmt::Debug for ParseLines<'_> {
     fn fmt(&self, f: &mut fmt::Formatter<'_>) -> fmt::Result {

@@ -51,6 +51,8 @@ fn more_parts_and_more_room_than_are_lent_at_first() {
     assert_eq!(lines[1].tag_value("k299 ").unwrap(), &"v299 ");
     assert_eq!(lines[1].field_value("f299"), Some(&FieldValue::String(EscapedStr::CopiedValue("\"299".into()))));
     assert_eq!((lines[1].timestamp, lines[2].timestamp), (Some(7), None));
+    let places: Vec<_> = parse_lines(&text).with_places().map(|(place, _)| place.span).collect();
+    assert_eq!(places, [0..6, 7..text.len() - 7, text.len() - 6..text.len()]);
 }
 
 #[test]
@@ -89,6 +91,30 @@ fn faults_say_what_they_name() {
     let below = fault("m f=1i -9223372036854775809");
     assert_eq!(below.source().unwrap().to_string(), "number too small to fit in target type");
     assert!(matches!(fault("m f=1i x"), Error::CannotParseEntireLine { trailing_content } if trailing_content == " x"));
+}
+
+#[test]
+fn items_tell_their_places() {
+    let rows = [
+        ("m f=1i", (0..6, 0..6, 1, 1..=1, 6, 1, 7)),
+        ("# c\n\n m s=\"a\nb\",g=2x", (6..20, 5..20, 3, 3..=4, 19, 4, 7)),
+        ("#\\\n x f=1i", (4..10, 0..10, 2, 1..=2, 10, 2, 8)),
+        ("m,t=v a=\n", (0..8, 0..8, 1, 1..=1, 8, 1, 9)),
+        (",x", (0..2, 0..2, 1, 1..=1, 0, 1, 1)),
+        ("m f=1i \u{e9}", (0..9, 0..9, 1, 1..=1, 6, 1, 7)),
+    ];
+    for (text, (span, piece, line, spanned, stop, stop_line, stop_column)) in rows {
+        let (before, trailing) = ("m f=\"\n\"\n".repeat(40), "\nm f=2i".repeat(40));
+        let whole = format!("{before}{text}{trailing}");
+        let (place, _) = parse_lines(&whole).with_places().nth(40).unwrap();
+        let mut items = parse_lines(&whole);
+        assert!(items.nth(3).is_some() && items.with_places().nth(36).unwrap().0 == place, "{text}");
+        let (bytes, lines) = (before.len(), 80);
+        assert_eq!(&whole[place.span], &text[span], "{text}");
+        assert_eq!(place.piece, piece.start + bytes..piece.end + bytes, "{text}");
+        assert_eq!((place.line, place.lines), (line + lines, spanned.start() + lines..=spanned.end() + lines), "{text}");
+        assert_eq!((place.stop, place.stop_line, place.stop_column), (stop + bytes, stop_line + lines, stop_column), "{text}");
+    }
 }
 
 #[test]

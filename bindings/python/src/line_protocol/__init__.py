@@ -40,5 +40,5 @@ __version__ = "{}.{}.{}".format(_fast.version() // 10_000, _fast.version() // 10
 """The version of the library, the newest that CHANGELOG.md names."""
 
 _fast.setup(
-    Line, Fault, Unsigned, FloatText, int.__new__, tuple(FaultKind(number) if number else None for number in range(11)), tuple(Side),
+    Line, Fault, Unsigned, FloatText, int.__new__, tuple(FaultKind(number or FaultKind.NOT_UTF8) for number in range(11)), tuple(Side),
     DuplicateTag, _plain_value, _plain_timestamp, _refuse, _refuse_texts)

@@ -164,11 +164,17 @@ class Line(_fast.LineMembers):
 
     A line that was read keeps the literals of its floats: `write` spells a float so as long as it stands where it was read.
 
+    It also has its place in the source: `line` and `offset`, where its text begins, as a Fault has them, and `last_line`, the number of the
+    line in which it ends. All three are 0 if the line was not read. They do not count where lines are compared.
+
     >>> Line("cpu", [("host", "a")], [("usage", 64)], 5)
     Line(measurement='cpu', tags=[('host', 'a')], fields=[('usage', 64)], timestamp=5)
     >>> from datetime import datetime, timezone
     >>> Line("cpu", {"host": "a"}, {"usage": 64}, datetime(2026, 1, 1, tzinfo=timezone.utc))
     Line(measurement='cpu', tags=[('host', 'a')], fields=[('usage', 64)], timestamp=1767225600000000000)
+    >>> [line] = parse('# a comment\\nm note="two\\nlines"')
+    >>> line.line, line.offset, line.last_line
+    (2, 12, 3)
     """
 
     __slots__ = ("__weakref__",)
@@ -188,14 +194,17 @@ class Line(_fast.LineMembers):
 
     def __reduce__(self) -> Tuple[Any, ...]:
         members = (self.measurement, self.tags, self.fields, self.timestamp)
-        return _restored, (type(self), members, self._spelled), vars(self) if hasattr(self, "__dict__") else None
+        place = self.line, self.offset, self.last_line
+        return _restored, (type(self), members, self._spelled, place), vars(self) if hasattr(self, "__dict__") else None
 
 
-def _restored(kind: Any, members: Tuple[str, Any, Any, Optional[int]], spelled: Optional[bytes]) -> Line:
+def _restored(
+        kind: Any, members: Tuple[str, Any, Any, Optional[int]], spelled: Optional[bytes], place: Tuple[int, int, int] = (0, 0, 0)) -> Line:
     """A line that was pickled or copied."""
     line: Line = kind.__new__(kind)
     line.measurement, line.tags, line.fields, line.timestamp = members
     line._spelled = spelled
+    line.line, line.offset, line.last_line = place
     return line
 
 
@@ -207,8 +216,11 @@ class Fault(_fast.FaultMembers):
     number among the items, from 1 on. `refused` are the bytes of its piece, of one that is too long the first ones.
 
     `line` and `offset` are its place in the source: 1 more than there are newlines before it, and how many bytes, as UTF-8. It begins
-    after the blanks and comments of its piece; `piece_line` and `piece_offset` are the place of the piece. The two are one if the piece
-    is too long or no UTF-8.
+    after the blanks and comments of its piece; `piece_line` and `piece_offset` are the place of the piece, and `last_line` is the line in
+    which that ends. The two places are one if the piece is too long or no UTF-8.
+
+    `stop_line` and `stop_column` are the byte at which reading stopped: its line, and its column in bytes, from 1 on. Of a piece that is no
+    UTF-8 that is the first byte that makes it none, and of one that is too long its first byte.
 
     Two faults are equal if kind, text and side are.
 
@@ -217,6 +229,8 @@ class Fault(_fast.FaultMembers):
     ('INTEGER_VALUE_INVALID', "Unable to parse integer value '9223372036854775808'")
     >>> fault.item, fault.line, fault.offset, fault.piece_offset, fault.refused
     (2, 2, 9, 7, b'  m f=9223372036854775808i')
+    >>> fault.stop_line, fault.stop_column, fault.last_line
+    (2, 7, 2)
     """
 
     __slots__ = ("__weakref__",)
@@ -230,6 +244,9 @@ class Fault(_fast.FaultMembers):
     refused: bytes = field(default=b"", compare=False, repr=False)
     piece_line: int = field(default=0, compare=False)
     piece_offset: int = field(default=0, compare=False)
+    stop_line: int = field(default=0, compare=False)
+    stop_column: int = field(default=0, compare=False)
+    last_line: int = field(default=0, compare=False)
 
     @property
     def message(self) -> str:
@@ -238,12 +255,14 @@ class Fault(_fast.FaultMembers):
 
     def __reduce__(self) -> Tuple[Any, ...]:
         members = (
-            self.kind, self.text, self.side, self.item, self.line, self.offset, self.refused, self.piece_line, self.piece_offset)
+            self.kind, self.text, self.side, self.item, self.line, self.offset, self.refused, self.piece_line, self.piece_offset, self.stop_line,
+            self.stop_column, self.last_line)
         return type(self), members, vars(self) if hasattr(self, "__dict__") else None
 
 
 # The defaults of a dataclass are members of its class, which would hide those of the objects.
 for _kind, _names in (
-        (Line, ("timestamp",)), (Fault, ("text", "side", "item", "line", "offset", "refused", "piece_line", "piece_offset"))):
+        (Line, ("timestamp",)), (Fault, ("text", "side", "item", "line", "offset", "refused", "piece_line", "piece_offset", "stop_line",
+                                         "stop_column", "last_line"))):
     for _name in _names:
         delattr(_kind, _name)

@@ -176,7 +176,8 @@ def _faults_at(place: Place, faults: List[Fault]) -> List[Fault]:
     return [
         replace(
             fault, item=fault.item + items, line=fault.line + newlines, offset=fault.offset + size,
-            piece_line=fault.piece_line + newlines, piece_offset=fault.piece_offset + size)
+            piece_line=fault.piece_line + newlines, piece_offset=fault.piece_offset + size, stop_line=fault.stop_line + newlines,
+            last_line=fault.last_line + newlines)
         for fault in faults]
 
 

@@ -154,7 +154,7 @@ def verdicts(
 
     A `str` gives `str`, and bytes give bytes, which need not be UTF-8. A line comes with the blanks before it and without its newline; blank
     lines and comments are left out, and what is no line, as a fault, has None. The dialect says where lines end; each is then read by the
-    strict rules. OverflowError if a line has 2 GiB or more.
+    strict rules. OverflowError if a line has 4 GiB or more.
 
     >>> body = "m f=1\\nm f=1u\\n# a comment\\nm f=\\n"
     >>> verdicts(body)

@@ -3,9 +3,8 @@
 from __future__ import annotations
 
 import os
-import re
 import sys
-from typing import IO, Any, Callable, Iterator, Optional, Tuple, Union
+from typing import IO, Any, Callable, Iterator, List, Optional, Tuple, Union
 
 from . import _fast
 from .items import FaultKind, short
@@ -27,8 +26,8 @@ _OF_GZIP = b"\x1f\x8b"
 
 _LONGEST_PATH = 4096
 
-Refused = Tuple[FaultKind, bytes, int, int]
-"""A line that is refused before it is read: why, its bytes, and how many newlines and bytes it takes."""
+Refused = Tuple[FaultKind, bytes, int, int, bool]
+"""A line that is refused before it is read: why, its first bytes, how many newlines and bytes it takes, and whether the last byte ends it."""
 
 
 def hint_on_text(text: Any) -> Optional[str]:
@@ -97,23 +96,14 @@ def parts_of(source: Any) -> Iterator[bytes]:
         f"not {type(source).__name__}: {short(source)}")
 
 
-def _scrubbed(block: bytes) -> bytes:
-    """Bytes with a letter in the place of each that makes them no UTF-8. Its lines end where theirs do."""
-    return re.sub("[\udc80-\udcff]", "x", block.decode("utf-8", "surrogateescape")).encode()
-
-
-def _told(segment: bytes, text: bytes, dialect: int, limit: Optional[int]) -> Iterator[Union[bytes, Refused]]:
-    """A segment, whose lines end where those of `text` do, in runs of lines that can be read, and each other line."""
-    if text is segment and (limit is None or len(segment) <= limit):
-        yield segment
-        return
+def _told(segment: bytes, long_ones: List[Tuple[int, int]], limit: int) -> Iterator[Union[bytes, Refused]]:
+    """A segment in runs of lines that can be read, and each line that is too long."""
     at = 0
-    for start, end, is_long in _fast.outliers(segment, text, dialect, sys.maxsize if limit is None else limit):
+    for start, end in long_ones:
         if start > at:
             yield segment[at:start]
         at = min(end + 1, len(segment))
-        shown = segment[start : min(end, start + (limit or 0)) if is_long else end]
-        yield FaultKind.TOO_LONG if is_long else FaultKind.NOT_UTF8, shown, segment.count(b"\n", start, at), at - start
+        yield FaultKind.TOO_LONG, segment[start : start + limit], segment.count(b"\n", start, at), at - start, at > end
     if at < len(segment):
         yield segment[at:]
 
@@ -128,30 +118,24 @@ def _skipped(data: bytes, parts: Iterator[bytes], dialect: int, limit: int) -> T
         size += taken
         more = next(parts, None) if end < 0 else None
         if more is None:
-            return (FaultKind.TOO_LONG, shown, newlines, size), data[taken:]
+            return (FaultKind.TOO_LONG, shown, newlines, size, end >= 0), data[taken:]
         data = more
 
 
-def segments(parts: Iterator[bytes], dialect: int, limit: Optional[int]) -> Iterator[Union[bytes, Refused]]:
-    """Segments of whole lines, which are UTF-8, and each line that is not or is longer than the limit."""
-    held, looked_at = bytearray(), 0
+def segments(parts: Iterator[bytes], dialect: int, most: Optional[int]) -> Iterator[Union[bytes, Refused]]:
+    """Segments of whole lines, and each line that is longer than the limit."""
+    held, looked_at, limit = bytearray(), 0, sys.maxsize if most is None else most
     for part in parts:
         held += part
-        is_over = limit is not None and len(held) > limit
-        if not is_over and (b"\n" not in part or looked_at > _PATIENCE and len(held) < 2 * looked_at):
+        if len(held) <= limit and (b"\n" not in part or looked_at > _PATIENCE and len(held) < 2 * looked_at):
             continue
         while True:
             with memoryview(held) as view:
                 block = bytes(view[: held.rfind(b"\n") + 1])
-            whole = _fast.whole(block, dialect)
-            text = block if whole is not None else _scrubbed(block)
-            if whole is None:
-                whole = _fast.whole(text, dialect) or 0
-            if whole > 0:
-                segment = block[:whole]
-                yield from _told(segment, segment if text is block else text[:whole], dialect, limit)
+            whole, long_ones = _fast.cut(block, dialect, limit)
+            yield from _told(block[:whole], long_ones, limit)
             del held[:whole]
-            if limit is None or len(held) <= limit:
+            if len(held) <= limit:
                 break
             refused, rest = _skipped(bytes(held), parts, dialect, limit)
             yield refused
@@ -159,4 +143,5 @@ def segments(parts: Iterator[bytes], dialect: int, limit: Optional[int]) -> Iter
         looked_at = len(held)
     if held:
         block = bytes(held)
-        yield from _told(block, block if _fast.whole(block, dialect) is not None else _scrubbed(block), dialect, limit)
+        whole, long_ones = _fast.cut(block, dialect, limit)
+        yield from _told(block, long_ones + ([(whole, len(block))] if len(block) - whole > limit else []), limit)
