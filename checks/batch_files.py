@@ -14,10 +14,12 @@ import resource
 import shutil
 import signal
 import subprocess
-import sys
 import tempfile
 import time
 from pathlib import Path
+
+import relay_runs
+from relay_runs import Wrong, same
 
 NAME = "b-%03d.lp"
 FAULT = "A generic parsing error occurred: TakeWhile1"
@@ -27,18 +29,13 @@ STRING = 'm s="a\nb"'  # One line, where strings may hold newlines.
 LONG = 'm s="' + "x" * 2000 + '"'
 
 
-class Wrong(Exception):
-    """What differs, in words."""
-
-
 class Relay:
     """Runs of the program in a folder of their own."""
 
-    def __init__(self, program):
-        self.program = program
-        self.top = Path(tempfile.mkdtemp())
+    def __init__(self, relay, top):
+        self.relay, self.program = relay, relay.command[0]
+        self.top = Path(top)
         self.room = self.top / "room"
-        self.runs = 0
 
     def clear(self):
         """An empty folder."""
@@ -47,9 +44,8 @@ class Relay:
 
     def run(self, words, text=b"", **more):
         """The status, the output and the faults of a run with these words."""
-        self.runs += 1
-        done = subprocess.run([self.program, *words], input=text, capture_output=True, cwd=self.room, check=False, **more)
-        return done.returncode, done.stdout, done.stderr.decode()
+        given = self.relay.run(words, text, None, cwd=self.room, **more)
+        return given.status, given.out, given.err.decode()
 
     def held(self):
         """What each file of the folder holds, by its name."""
@@ -59,12 +55,6 @@ class Relay:
         """The same of the files in their places, and what the files beside these hold."""
         held = self.held()
         return ({name: text for name, text in held.items() if ".lp_relay-" not in name}, [text for name, text in held.items() if ".lp_relay-" in name])
-
-
-def same(what, has, wanted):
-    """Ends the check if these differ."""
-    if has != wanted:
-        raise Wrong(f"{what}: {str(has)[:1500]} where {str(wanted)[:1500]} is wanted")
 
 
 def batches(lines, most_lines, most_bytes):
@@ -316,24 +306,15 @@ def synced(relay):
     same("what the system is asked for", calls, ["link", "unlink"] + ["fsync", "link", "unlink", "fsync"] * 2)
 
 
-def main(arguments):
-    if len(arguments) not in (1, 2):
-        print(__doc__, file=sys.stderr)
-        return 2
-    relay = Relay(Path(arguments[0]).resolve())
-    try:
+def compare(program, seed=1):
+    with tempfile.TemporaryDirectory() as top:
+        relay = Relay(program, top)
         sizes(relay)
-        random_ones(relay, int(arguments[1]) if arguments[1:] else 1)
+        random_ones(relay, int(seed))
         for check in (several, there, words, examples, failures, pauses, synced):
             check(relay)
-    except Wrong as wrong:
-        print(f"batch_files: {wrong}")
-        return 1
-    finally:
-        shutil.rmtree(relay.top, ignore_errors=True)
-    print(f"batch_files: lp_relay puts lines into batches as it should, in {relay.runs} runs")
-    return 0
+    return f"lp_relay puts lines into batches as it should, in {program.runs} runs"
 
 
 if __name__ == "__main__":
-    sys.exit(main(sys.argv[1:]))
+    relay_runs.end_by(compare, __doc__, 1)

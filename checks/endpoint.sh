@@ -1,7 +1,7 @@
 #!/usr/bin/env bash
 # Builds examples/endpoint, and tries what its page promises before a server of InfluxDB 1.x, with influxdb-python as a client: what it
 # answers; what it refuses, and keeps; lines while it is killed, or ended, or while the server is; full disks, and syncs that fail; and lines
-# that the server cannot take. What was answered by 204 must be in the server in the end. endpoint.py has the trials.
+# that the server cannot take. What was answered by 204 must be in the server in the end. servers/endpoint.py has the trials.
 #
 #   checks/endpoint.sh ARCHIVE
 #
@@ -39,4 +39,4 @@ strace -o /dev/null true 2>/dev/null ||
 cp "$1" "$work/liblp_c.a"
 cd "$here/../examples/endpoint"
 GOCACHE=$work/cache GOPATH=$work/path GOFLAGS=-tags=lp_lib_dir GOPROXY=off CGO_ENABLED=1 CGO_LDFLAGS="-L$work" go build -o "$work/endpoint" .
-"$python" -B "$here/endpoint.py" "$work/endpoint" "$work"
+"$python" -B "$here/servers/endpoint.py" "$work/endpoint" "$work"

@@ -11,10 +11,9 @@ pieces that are carried must be the output of `lp_relay --newline-delimited --ve
 
 import random
 import re
-import subprocess
-import sys
-import tempfile
 from pathlib import Path
+
+import relay_runs
 
 PAGE = Path(__file__).resolve().parent.parent / "docs" / "FORMAT.md"
 WORD = re.compile(r"\s*(\"[^\"]*\"|'[^']*'|[\w-]+(?<!-)|[-{}\[\]()|])")
@@ -118,14 +117,11 @@ def mutant(line, rng):
 
 def relayed(relay, pieces):
     """The lines that go out of these pieces, and those that are refused."""
-    with tempfile.TemporaryDirectory() as folder:
+    with relay_runs.folder() as folder:
         path = Path(folder, "in")
         path.write_bytes("".join(f"{piece}\n" for piece in pieces).encode())
-        words = [relay, "--newline-delimited", "--verbatim", "--faults", "raw", "--refused", f"{folder}/refused", path]
-        run = subprocess.run(words, stdout=subprocess.PIPE, stderr=subprocess.DEVNULL, check=False)
-        if run.returncode not in (0, 1):
-            raise SystemExit(f"grammar: lp_relay ends with status {run.returncode}")
-        return [text.decode().split("\n")[:-1] for text in (run.stdout, Path(folder, "refused").read_bytes())]
+        out = relay.run(["--newline-delimited", "--verbatim", "--faults", "raw", "--refused", f"{folder}/refused", path]).out
+        return [text.decode().split("\n")[:-1] for text in (out, Path(folder, "refused").read_bytes())]
 
 
 def borders():
@@ -135,12 +131,8 @@ def borders():
     return inside, outside
 
 
-def main(words):
-    if not 1 <= len(words) <= 3:
-        print(__doc__, file=sys.stderr)
-        return 2
-    relay, count, seed = words[0], int(words[1]) if words[1:] else 5000, words[2] if words[2:] else "grammar"
-    rng = random.Random(seed)
+def compare(relay, count="5000", seed="grammar"):
+    rng, count = random.Random(seed), int(count)
     grammar = Grammar(PAGE.read_text(encoding="utf-8").partition("```ebnf\n")[2].partition("```")[0])
     line, blank = (re.compile(grammar.pattern(grammar.rules[name])) for name in ("line", "blank"))
     lines = []
@@ -162,11 +154,12 @@ def main(words):
             if found != asked:
                 pair = next(((a, b) for a, b in zip(found, asked) if a != b), (found[len(asked):], asked[len(found):]))
                 wrong.append(f"{what} is {str(pair[0])!r}, where the grammar has {str(pair[1])!r}")
+    if wrong:
+        raise relay_runs.Wrong("\n".join(wrong))
     read = sum(map(bool, map(line.fullmatch, mutants)))
-    print("\n".join(f"grammar: {text}" for text in wrong) or f"grammar: {len(lines)} lines are read, and of {len(mutants)} mutants the {read} "
-          f"that are lines; {len(inside)} numbers at the ends of their ranges are, and {len(outside)} past them are not")
-    return 1 if wrong else 0
+    return (f"{len(lines)} lines are read, and of {len(mutants)} mutants the {read} that are lines; {len(inside)} numbers at the ends of their "
+            f"ranges are, and {len(outside)} past them are not")
 
 
 if __name__ == "__main__":
-    sys.exit(main(sys.argv[1:]))
+    relay_runs.end_by(compare, __doc__, 2)

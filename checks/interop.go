@@ -1,4 +1,4 @@
-// For checks/interop.py: reads a text with the parser of InfluxDB 1.x, as its server does, and prints its points and its fault as
+// For checks/servers/interop.py: reads a text with the parser of InfluxDB 1.x, as its server does, and prints its points and its fault as
 // JSON. A point without a timestamp has the time 1234567890.
 package main
 

@@ -15,9 +15,10 @@ import collections
 import json
 import random
 import re
-import subprocess
 import sys
 from pathlib import Path
+
+import relay_runs
 
 sys.path.insert(0, str(Path(__file__).resolve().parent.parent / "tables"))
 import fault_table
@@ -113,11 +114,8 @@ def is_utf8(piece):
     return True
 
 
-def faults_of(command, text, *words):
-    done = subprocess.run([*command, *words], input=text, capture_output=True, check=False)
-    if done.returncode not in (0, 1):
-        sys.exit(f"objects: the status is {done.returncode}: {done.stderr!r}")
-    return b"".join(line for line in done.stderr.splitlines(True) if not line.startswith((b"checked: ", b"run=")))
+def faults_of(relay, text, *words):
+    return b"".join(line for line in relay.run(words, text).err.splitlines(True) if not line.startswith((b"checked: ", b"run=")))
 
 
 def place_of(told, text):
@@ -178,11 +176,11 @@ def piece_of(told):
     return (base64.b64decode(told[name], validate=True) if name.endswith("_base64") else told[name].encode()), name
 
 
-def compare_pieces(command, text, words, objects, items, limit):
+def compare_pieces(relay, text, words, objects, items, limit):
     """The objects with pieces are the same, and have the bytes of their pieces."""
-    lines = faults_of(command, text, "--faults", "json+text", *words).split(b"\n")[:-1]
+    lines = faults_of(relay, text, "--faults", "json+text", *words).split(b"\n")[:-1]
     if len(lines) != len(objects):
-        sys.exit(f"objects: there are {len(lines)} objects with pieces, not {len(objects)}, over {text!r}")
+        raise relay_runs.Wrong(f"there are {len(lines)} objects with pieces, not {len(objects)}, over {text!r}")
     for line, told in zip(lines, objects):
         both = json.loads(line.decode())
         piece, name = piece_of(both)
@@ -191,12 +189,12 @@ def compare_pieces(command, text, words, objects, items, limit):
         if is_long:
             wanted = wanted[:limit]
         if name != ("piece_start" if is_long else "piece") + ("" if is_utf8(wanted) else "_base64") or piece != wanted:
-            sys.exit(f"objects: {line!r} has not the piece {wanted!r}")
+            raise relay_runs.Wrong(f"{line!r} has not the piece {wanted!r}")
         if not name.endswith("_base64") and spelled(both[name]) not in line:
-            sys.exit(f"objects: {line!r} has not its piece as it is to be spelled")
+            raise relay_runs.Wrong(f"{line!r} has not its piece as it is to be spelled")
         del both[name]
         if both != told:
-            sys.exit(f"objects: {line!r} is another object with its piece")
+            raise relay_runs.Wrong(f"{line!r} is another object with its piece")
 
 
 def spelled(text):
@@ -204,67 +202,65 @@ def spelled(text):
     return ('"' + ESCAPED.sub(lambda found: "\\" + found[0] if found[0] in '"\\' else f"\\u{ord(found[0]):04x}", text) + '"').encode()
 
 
-def compare(command, text, words):
+def compare(relay, text, words):
     """How many objects there are, if they say what the fault lines say."""
     objects, items = [], items_of(text, words)
     limit = int(words[words.index("--max-line") + 1]) if "--max-line" in words else 1 << 24
     texts = []
-    for line in faults_of(command, text, "--faults", "json", *words).split(b"\n")[:-1]:
+    for line in faults_of(relay, text, "--faults", "json", *words).split(b"\n")[:-1]:
         told = json.loads(line.decode())
         names, length = members(told, items[told["item"] - 1][2], limit)
         if list(told) != names or b'"text":' + spelled(told["text"]) not in line:
-            sys.exit(f"objects: {line!r} is no object of a fault as it is to be spelled")
+            raise relay_runs.Wrong(f"{line!r} is no object of a fault as it is to be spelled")
         if not told["text"].startswith(KINDS[told["kind"]]):
-            sys.exit(f"objects: {line!r} has a kind that is not its own")
+            raise relay_runs.Wrong(f"{line!r} has a kind that is not its own")
         places = [text[:at].count(b"\n") + 1 for at in items[told["item"] - 1][:2]]
         if (told["piece_offset"], told["offset"]) != items[told["item"] - 1][:2] or [told["piece_line"], told["line"]] != places:
-            sys.exit(f"objects: {line!r} has a piece or a text that does not begin there, over {text!r}")
+            raise relay_runs.Wrong(f"{line!r} has a piece or a text that does not begin there, over {text!r}")
         if told[names[5]] != length:
-            sys.exit(f"objects: {line!r} has a piece that is not so long, over {text!r}")
+            raise relay_runs.Wrong(f"{line!r} has a piece that is not so long, over {text!r}")
         if "stop_line" in names and not stops_rightly(told, text):
-            sys.exit(f"objects: {line!r} tells a stop that is none, over {text!r}")
+            raise relay_runs.Wrong(f"{line!r} tells a stop that is none, over {text!r}")
         whole, is_right = whole_text(told, text)
         if not is_right:
-            sys.exit(f"objects: {line!r} has a text that is not cut as it is to be")
+            raise relay_runs.Wrong(f"{line!r} has a text that is not cut as it is to be")
         objects.append(told)
         texts.append(whole)
     raw = "".join(f"item {told['item']}: {whole}\n" for told, whole in zip(objects, texts)).encode()
-    if raw != faults_of(command, text, "--faults", "raw", *words):
-        sys.exit(f"objects: the texts are not those of the fault lines, over {text!r}")
-    compare_pieces(command, text, words, objects, items, limit)
+    if raw != faults_of(relay, text, "--faults", "raw", *words):
+        raise relay_runs.Wrong(f"the texts are not those of the fault lines, over {text!r}")
+    compare_pieces(relay, text, words, objects, items, limit)
     kinds = collections.Counter(told["kind"] for told in objects)
     counted = ", ".join(f"{kinds[kind]} {kind}" for kind in sorted(kinds))
-    summary = faults_of(command, text, "--summary", "--check", *words).splitlines()[-1].decode()
+    summary = faults_of(relay, text, "--summary", "--check", *words).splitlines()[-1].decode()
     if not summary.endswith(f" carried, {len(objects)} refused" + (f": {counted}" if counted else "")):
-        sys.exit(f"objects: the summary {summary!r} does not count {counted}")
-    told = json.loads(faults_of(command, text, "--summary", "--check", "--faults", "json", *words).splitlines()[-1])["summary"]
+        raise relay_runs.Wrong(f"the summary {summary!r} does not count {counted}")
+    told = json.loads(faults_of(relay, text, "--summary", "--check", "--faults", "json", *words).splitlines()[-1])["summary"]
     shown = ", ".join(f"{told['kinds'][kind]} {kind}" for kind in sorted(told["kinds"]))
     if list(told) != ["bytes", "lines", "items", "carried", "refused", "kinds"] or list(told["kinds"]) != sorted(told["kinds"]) or (
             f"{told['bytes']} bytes, {told['lines']} lines, {told['items']} items: {told['carried']} carried, {told['refused']} refused"
             + (f": {shown}" if shown else "")) != summary:
-        sys.exit(f"objects: the summary {told} is not {summary!r}")
+        raise relay_runs.Wrong(f"the summary {told} is not {summary!r}")
     lines = "".join(f"line {told['piece_line']}: {whole}\n" for told, whole in zip(objects, texts)).encode()
-    if lines != faults_of(command, text, "--faults", "raw", "--lines", *words):
-        sys.exit(f"objects: the pieces are not on the lines that the fault lines name, over {text!r}")
+    if lines != faults_of(relay, text, "--faults", "raw", "--lines", *words):
+        raise relay_runs.Wrong(f"the pieces are not on the lines that the fault lines name, over {text!r}")
     return len(objects)
 
 
-def give_kinds(command):
+def give_kinds(relay):
     """Each example of tables/faults.txt gives its fault."""
     for fault in fault_table.KINDS:
         for example, _ in fault.examples:
             text = example.encode().decode("unicode_escape").encode("latin-1")
-            lines = faults_of(command, text, "--faults", "json", *fault.words.split()).splitlines()
+            lines = faults_of(relay, text, "--faults", "json", *fault.words.split()).splitlines()
             if [json.loads(line)["kind"] for line in lines] != [fault.kind]:
-                sys.exit(f"objects: {example} with {fault.words} gives {lines}, and not {fault.kind}")
+                raise relay_runs.Wrong(f"{example} with {fault.words} gives {lines}, and not {fault.kind}")
 
 
-def main():
-    count = 0
-    give_kinds(sys.argv[1:])
-    for number in range(TEXTS):
-        count += compare(sys.argv[1:], text_of(random.Random(number)), WORDS[number % len(WORDS)])
-    print(f"objects: {count} objects of faults, over {TEXTS} texts, are JSON and say what the fault lines say")
+def check(relay):
+    give_kinds(relay)
+    count = sum(compare(relay, text_of(random.Random(number)), WORDS[number % len(WORDS)]) for number in range(TEXTS))
+    return f"{count} objects of faults, over {TEXTS} texts, are JSON and say what the fault lines say"
 
 
-main()
+relay_runs.end_by(check, __doc__, None)

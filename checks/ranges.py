@@ -12,19 +12,16 @@ file becomes shorter while it is relayed. SEED: the number of the texts, which i
 import os
 import random
 import re
-import subprocess
-import sys
 import tempfile
 from concurrent.futures import ThreadPoolExecutor
+
+import relay_runs
+from relay_runs import Wrong
 
 PARTS = 1, 2, 3, 5, 8, 64
 DIALECTS = [], ["--strict"], ["--newline-delimited"]
 MEANT = ["m a=1i\n", "m,k=v f=2 5\n", "x\n", 'm s="a\nb"\n', 'm s="open\n', "# it's a=\"\n", "a\\\n b f=1i\n", "\xe9 f=1i\n", "\n", " ", '"', "\\", ",", "=", "y"]
 NUMBERS = re.compile(rb'"item":\d+,"line":(\d+)|,"piece_line":\d+|"stop_line":\d+')
-
-
-class Fault(Exception):
-    """What differs, in words."""
 
 
 def text_of(chance, length):
@@ -35,13 +32,6 @@ def text_of(chance, length):
     return text[:length]
 
 
-def run(relay, words, given=b""):
-    ended = subprocess.run([relay, *words], input=given, capture_output=True, check=False)
-    if ended.returncode not in (0, 1):
-        raise Fault(f"({' '.join(words)}) ends with status {ended.returncode}, and says {ended.stderr!r}")
-    return ended
-
-
 def without_numbers(objects):
     """The objects without the numbers of items and of lines, which begin anew in each range."""
     return NUMBERS.sub(b"", objects)
@@ -50,9 +40,9 @@ def without_numbers(objects):
 def relayed(relay, dialect, folder, words):
     """The lines, the refused pieces and the objects of a relay of these words."""
     refused = os.path.join(folder, "refused")
-    ended = run(relay, [*dialect, "--faults", "json", "--max-line", "40", "--refused", refused, "--replace", *words])
+    ended = relay.run([*dialect, "--faults", "json", "--max-line", "40", "--refused", refused, "--replace", *words])
     with open(refused, "rb") as file:
-        return ended.stdout, file.read(), without_numbers(ended.stderr)
+        return ended.out, file.read(), without_numbers(ended.err)
 
 
 def even_cut(text, place):
@@ -73,22 +63,22 @@ def walk(relay, number, seed):
         whole = relayed(relay, dialect, folder, [file])
         for parts in PARTS:
             cut = [*dialect, "--cut", str(parts)]
-            told = run(relay, [*cut, file]).stdout
-            if told != run(relay, cut, text).stdout:
-                raise Fault(f"{cut} gives other ends of a file than through a pipe: {text!r}")
+            told = relay.run([*cut, file]).out
+            if told != relay.run(cut, text).out:
+                raise Wrong(f"{cut} gives other ends of a file than through a pipe: {text!r}")
             ends = [int(end) for end in told.split()]
             if len(ends) != parts or ends[-1] != number:
-                raise Fault(f"{cut} gives {ends} of {text!r}")
+                raise Wrong(f"{cut} gives {ends} of {text!r}")
             if dialect == DIALECTS[2] and ends[:-1] != [even_cut(text, k * number // parts) for k in range(1, parts)]:
-                raise Fault(f"{cut} gives {ends} of {text!r}")
+                raise Wrong(f"{cut} gives {ends} of {text!r}")
             given = [relayed(relay, dialect, folder, ["--range", f"{start}..{end}", file]) for start, end in zip([0, *ends], ends)]
             for what, one, all_of_it in zip(("lines", "refused pieces", "objects"), zip(*given), whole):
                 if b"".join(one) != all_of_it:
-                    raise Fault(f"the {what} of the ranges of {cut} are not those of {text!r}")
+                    raise Wrong(f"the {what} of the ranges of {cut} are not those of {text!r}")
             ranges += parts
         half = relayed(relay, dialect, folder, ["--range", f"{ends[31]}..", file])
         if tuple(b"".join(one) for one in zip(*given[:32], half)) != whole:
-            raise Fault(f"what begins at {ends[31]} does not go on to the end of {text!r}")
+            raise Wrong(f"what begins at {ends[31]} does not go on to the end of {text!r}")
     return ranges + 1
 
 
@@ -99,9 +89,9 @@ def worked(relay, folder):
         with open(file, "wb") as made:
             made.write(text)
         at = text.index(b"\n") + 1
-        parts = b"".join(run(relay, [*dialect, "--range", part, file]).stdout for part in (f"0..{at}", f"{at}.."))
-        if (parts == run(relay, [*dialect, file]).stdout) != is_same:
-            raise Fault(f"{dialect}: of {text!r}, cut at {at}, the parts give {parts!r}")
+        parts = b"".join(relay.run([*dialect, "--range", part, file]).out for part in (f"0..{at}", f"{at}.."))
+        if (parts == relay.run([*dialect, file]).out) != is_same:
+            raise Wrong(f"{dialect}: of {text!r}, cut at {at}, the parts give {parts!r}")
 
 
 def becomes_shorter(relay, folder):
@@ -109,29 +99,27 @@ def becomes_shorter(relay, folder):
     file = os.path.join(folder, "long")
     with open(file, "wb") as made:
         made.write(b"m a=1i\n" * 4_000_000)
-    with subprocess.Popen([relay, "--range", "7..28000000", file], stdout=subprocess.PIPE, stderr=subprocess.PIPE, bufsize=0) as process:
+    with relay.start(["--range", "7..28000000", file], bufsize=0) as process:
         first = process.stdout.read(7)
         os.truncate(file, 14_000_000)
         rest, told = process.communicate()
     wanted = f"lp_relay: cannot read the input: {file}: unexpected end of file\n".encode()
     if process.returncode != 2 or told != wanted or first + rest != b"m a=1i\n" * 1_999_999:
-        raise Fault(f"of a file that becomes shorter: status {process.returncode}, {len(first + rest)} bytes, {told!r}")
+        raise Wrong(f"of a file that becomes shorter: status {process.returncode}, {len(first + rest)} bytes, {told!r}")
 
 
-def main():
-    if len(sys.argv) not in (2, 3):
-        sys.exit("usage: checks/ranges.py RELAY [SEED]")
-    relay, seed = os.path.abspath(sys.argv[1]), sys.argv[2] if len(sys.argv) > 2 else str(random.randrange(10**6))
+def check(relay, seed=None):
+    seed = seed or str(random.randrange(10**6))
     try:
         with ThreadPoolExecutor(os.cpu_count()) as pool:
             ranges = sum(pool.map(lambda number: walk(relay, number, seed), range(301)))
         with tempfile.TemporaryDirectory() as folder:
             worked(relay, folder)
             becomes_shorter(relay, folder)
-    except Fault as fault:
-        sys.exit(f"ranges: {fault}; SEED={seed}")
-    print(f"ranges: {ranges} ranges of 301 files, by cuts of three dialects, give what the files give; SEED={seed}")
+    except Wrong as wrong:
+        raise Wrong(f"{wrong}; SEED={seed}") from None
+    return f"{ranges} ranges of 301 files, by cuts of three dialects, give what the files give; SEED={seed}"
 
 
 if __name__ == "__main__":
-    main()
+    relay_runs.end_by(check, __doc__, 1)

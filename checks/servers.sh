@@ -7,7 +7,7 @@
 #
 # The parsers of both, built by go, read the random texts, and ten templates with each word of at most six of ten letters; what they read is
 # compared with what the strict reader reads, and so is a sound line that comes after each (checks/golang/portable_test.go). This takes 7
-# minutes of processors. Then lines that are portable to a server are posted to it, one by one and in batches of 1,000 (servers.py). Each
+# minutes of processors. Then lines that are portable to a server are posted to it, one by one and in batches of 1,000 (servers/lines.py). Each
 # must be answered with 204, and be found by its names as the strict reader reads it: then, after a kill -9, and after a clean restart. Where
 # a series has another portable spelling, a line of it follows. InfluxDB waits for the device at each request, so with TMPDIR=/dev/shm it is
 # faster: 5 minutes for both.
@@ -65,33 +65,17 @@ beside() {
 beside TestPortable
 ! "$parsers" || exit 0
 
-. "$here/serving.sh"
-trap 'stop; chmod -R u+w "$work"; rm -rf "$work"' EXIT
 mkdir "$work/lines"
 LP_LINES=$lines LP_FOLDER=$work/lines beside TestLines
-
-# search READER: posts lines to a server, asks for them, and asks again after each restart. VictoriaMetrics writes what it took to its files
-# some seconds later, which is waited for before it is killed.
-search() {
-    local reader=$1 place status=0
-    listen "$reader"
-    place=$reader=http://127.0.0.1:${ports[$reader]}
-    python3 -B "$here/servers.py" --post "$place" "$work/lines/$reader" || status=1
-    python3 -B "$here/servers.py" --ask "$place" "$work/lines/$reader" "$reader" || status=1
-    [ "$reader" = influx ] || sleep 15
-    listen_again "$reader" KILL
-    python3 -B "$here/servers.py" --ask "$place" "$work/lines/$reader" "$reader, killed and started again" || status=1
-    listen_again "$reader"
-    python3 -B "$here/servers.py" --ask "$place" "$work/lines/$reader" "$reader, ended and started again" || status=1
-    return "$status"
-}
-failed=0
+readers=()
 for reader in influx victoria; do
-    [ -f "$work/lines/$reader" ] || continue
-    if ! command -v "${programs[$reader]}" >/dev/null; then
-        left_out "$reader of checks/servers.sh" "there is no ${programs[$reader]}"
+    program=$([ "$reader" = influx ] && echo influxd || echo victoria-metrics)
+    if [ ! -f "$work/lines/$reader" ]; then
         continue
+    elif command -v "$program" >/dev/null; then
+        readers+=("$reader")
+    else
+        left_out "$reader of checks/servers.sh" "there is no $program"
     fi
-    search "$reader" || failed=1
 done
-exit "$failed"
+[ ${#readers[@]} = 0 ] || python3 -B "$here/servers/lines.py" "$work/lines" "${readers[@]}"

@@ -5,24 +5,23 @@ docs/FORMAT.md, what comes of it.
 
     checks/settings.py RELAY
 
-RELAY: a built lp_relay. The 288 settings are: lines rebuilt, verbatim or canonical; each dialect; faults as lines, raw, or as objects
-without or with their pieces, by items or by lines; with and without --summary and --refused. Each reads standard input and two files, and writes its lines to
-standard output, to a file, and nowhere: 1728 runs.
+RELAY: a built lp_relay. The 384 settings are: lines rebuilt, verbatim or canonical; each dialect, and the newline-delimited one with
+--whole-lines; faults as lines, raw, or as objects without or with their pieces, by items or by lines; with and without --summary and
+--refused. Each reads standard input and two files, and writes its lines to standard output, to a file, and nowhere: 2304 runs.
 """
 
 import base64
 import collections
 import itertools
 import json
-import os
-import subprocess
-import sys
-import tempfile
 from dataclasses import dataclass
 from pathlib import Path
 
+import relay_runs
+
 LINES = {"rebuilt": [], "verbatim": ["--verbatim"], "canonical": ["--canonical"]}
-DIALECTS = {"crate": [], "strict": ["--strict"], "newline-delimited": ["--newline-delimited"]}
+DIALECTS = {"crate": [], "strict": ["--strict"], "newline-delimited": ["--newline-delimited"],
+            "whole lines": ["--newline-delimited", "--whole-lines"]}
 FAULTS = {"line": [], "raw": ["--faults", "raw"], "json": ["--faults", "json"], "json+text": ["--faults", "json+text"]}
 NUMBERS = {"item": [], "line": ["--lines"]}
 SUMMARY = {False: [], True: ["--summary"]}
@@ -133,6 +132,9 @@ PIECES = {
     "newline-delimited": BEGIN + OF_ONE_LINE + STRICT_END,
 }
 TEXT = b"\n".join(piece.came for piece in PIECES["crate"])
+# The bytes after the last newline are not read.
+PIECES["whole lines"] = PIECES["newline-delimited"][:-1]
+WHOLE_LINES = TEXT[:TEXT.rindex(b"\n") + 1]
 
 
 @dataclass(frozen=True)
@@ -201,12 +203,14 @@ class Wanted:
     def counts(self, inputs):
         """The last line, of so many inputs."""
         refused_items = self.kinds.total()
+        is_whole = self.settings.dialect == "whole lines"
+        size, lines = (len(WHOLE_LINES), WHOLE_LINES.count(10)) if is_whole else (len(TEXT), TEXT.count(10) + 1)
         if self.settings.faults.startswith("json"):
-            told = {"bytes": inputs * len(TEXT), "lines": inputs * (TEXT.count(10) + 1), "items": self.items}
+            told = {"bytes": inputs * size, "lines": inputs * lines, "items": self.items}
             told |= {"carried": self.items - refused_items, "refused": refused_items, "kinds": dict(sorted(self.kinds.items()))}
             return json.dumps({"summary": told}, separators=(",", ":")).encode()
         kinds = ", ".join(f"{self.kinds[kind]} {kind}" for kind in sorted(self.kinds))
-        return (f"{inputs * len(TEXT)} bytes, {inputs * (TEXT.count(10) + 1)} lines, {self.items} items: "
+        return (f"{inputs * size} bytes, {inputs * lines} lines, {self.items} items: "
                 f"{self.items - refused_items} carried, {refused_items} refused: {kinds}").encode()
 
 
@@ -247,7 +251,7 @@ def on_one_line(told):
 
 def lost(settings, what, wanted, got):
     """Ends the check."""
-    sys.exit(f"settings: with the words {' '.join(settings.words())} {what} should be\n{wanted!r}\nand here is\n{got!r}")
+    raise relay_runs.Wrong(f"with the words {' '.join(settings.words())} {what} should be\n{wanted!r}\nand here is\n{got!r}")
 
 
 def compare_faults(settings, wanted, err):
@@ -268,36 +272,31 @@ def compare(relay, folder, settings):
     """Runs the relay by some settings, and compares all that it gives."""
     for name in ("lines", "refused"):
         (folder / name).unlink(missing_ok=True)
-    done = subprocess.run([relay, *settings.words()], input=TEXT, cwd=folder, capture_output=True, check=False)
-    if done.returncode != 1:
-        lost(settings, "the status", 1, (done.returncode, done.stderr[-300:]))
+    done = relay.run(settings.words(), TEXT, [1], cwd=folder)
     wanted = Wanted(settings)
     places = {"standard output": (wanted.lines, None), "file": (b"", wanted.lines), "nowhere": (b"", None)}
     out, lines = places[settings.place]
     written = {path.name: path.read_bytes() for path in folder.iterdir() if path.name not in INPUTS["two files"]}
     files = {"lines": lines, "refused": wanted.refused if settings.refused else None}
     files = {name: text for name, text in files.items() if text is not None}
-    if done.stdout != out:
-        lost(settings, "standard output", out, done.stdout)
+    if done.out != out:
+        lost(settings, "standard output", out, done.out)
     if written != files:
         lost(settings, "the files", files, written)
-    compare_faults(settings, wanted, done.stderr)
+    compare_faults(settings, wanted, done.err)
 
 
-def main():
-    relay = str(Path(sys.argv[1]).resolve())
-    if any(TEXT != b"\n".join(piece.came for piece in pieces) for pieces in PIECES.values()):
-        sys.exit("settings: the pieces of the dialects are not those of one text")
-    count = 0
-    # In memory, if that can be: each file to write waits for its device.
-    with tempfile.TemporaryDirectory(dir="/dev/shm" if os.access("/dev/shm", os.W_OK) else None) as name:
+def check(relay):
+    texts = {name: b"\n".join(piece.came for piece in pieces) for name, pieces in PIECES.items()}
+    if texts.pop("whole lines") + b"\n" != WHOLE_LINES or set(texts.values()) != {TEXT}:
+        raise relay_runs.Wrong("the pieces of the dialects are not those of one text")
+    with relay_runs.folder() as name:
         folder = Path(name)
         for file in INPUTS["two files"]:
             (folder / file).write_bytes(TEXT)
         for words in itertools.product(LINES, DIALECTS, FAULTS, NUMBERS, SUMMARY, REFUSED, PLACES, INPUTS):
             compare(relay, folder, Settings(*words))
-            count += 1
-    print(f"settings: one text is relayed as its table says, with each combination of options, in {count} runs")
+    return f"one text is relayed as its table says, with each combination of options, in {relay.runs} runs"
 
 
-main()
+relay_runs.end_by(check, __doc__)

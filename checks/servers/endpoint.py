@@ -1,7 +1,7 @@
 #!/usr/bin/env python3
 """Tries the program of examples/endpoint before influxd, which this starts and ends. checks/endpoint.sh calls it.
 
-    checks/endpoint.py ENDPOINT FOLDER [TRIAL..]
+    checks/servers/endpoint.py ENDPOINT FOLDER [TRIAL..]
 
 ENDPOINT: the program, built. FOLDER: an empty folder for what it writes, and for the data of influxd. TRIAL: a name of TRIALS, if not all are
 wanted. It needs influxdb-python. Status 1: something is not as the page of the example says.
@@ -11,46 +11,28 @@ import base64
 import gzip
 import json
 import os
-import resource
 import shutil
 import signal
-import socket
 import subprocess
 import sys
 import threading
 import time
-import urllib.error
 import urllib.parse
-import urllib.request
 from pathlib import Path
 
 import influxdb
 from influxdb.exceptions import InfluxDBClientError
 
-HERE = Path(__file__).resolve().parent
+import client
+from client import Fault, Program, call, free_ports, until
+
+sys.path.insert(0, str(Path(__file__).resolve().parents[1]))
+import portable as oracle
+
 USER, PASSWORD = "writer", "its password"
 MISSING = "No fields were provided"
 PANIC = "m" + "".join(f",t{n}=v" for n in range(100)) + " n=0i 1"
 DISK = Path(sys.argv[2]) / "disk"  # a small one, if it is mounted there
-CONFIGURATION = """reporting-disabled = true
-bind-address = "127.0.0.1:{backup}"
-[meta]
-  dir = "{folder}/meta"
-[data]
-  dir = "{folder}/data"
-  wal-dir = "{folder}/wal"
-  query-log-enabled = false
-[http]
-  bind-address = "127.0.0.1:{port}"
-  log-enabled = false
-  auth-enabled = true
-[monitor]
-  store-enabled = false
-"""
-
-
-class Fault(Exception):
-    """What is not as it should be, in words."""
 
 
 def want(what, got, wanted):
@@ -59,96 +41,27 @@ def want(what, got, wanted):
         raise Fault(f"{what}: {got!r}, where {wanted!r} is wanted")
 
 
-def free_ports(count):
-    """Ports that nothing listens on."""
-    sockets = [socket.create_server(("127.0.0.1", 0)) for _ in range(count)]
-    ports = [each.getsockname()[1] for each in sockets]
-    for each in sockets:
-        each.close()
-    return ports
-
-
-def call(method, url, body=None, headers=None):
-    """The status of an answer, its text and its headers; None if there is none."""
-    request = urllib.request.Request(url, body, headers or {}, method=method)
-    try:
-        with urllib.request.urlopen(request, timeout=30) as answer:
-            return answer.status, answer.read().decode(), answer.headers
-    except urllib.error.HTTPError as refused:
-        with refused:
-            return refused.code, refused.read().decode(), refused.headers
-    except (OSError, urllib.error.URLError):
-        return None, "", {}
-
-
-def until(what, condition, seconds=20):
-    """Waits until a condition holds."""
-    end = time.monotonic() + seconds
-    while not condition():
-        if time.monotonic() > end:
-            raise Fault(f"not in {seconds} seconds: {what}")
-        time.sleep(0.02)
-
-
-class Process:
-    """A program that listens on a port."""
-
-    def __init__(self, port, words, log, most_file=None):
-        self.port, self.words, self.log, self.most_file = port, words, log, most_file
-        self.url = f"http://127.0.0.1:{port}"
-        self.start()
-
-    def limit(self):
-        if self.most_file is not None:
-            resource.setrlimit(resource.RLIMIT_FSIZE, (self.most_file, self.most_file))
-
-    def start(self):
-        with open(self.log, "ab") as log:
-            self.process = subprocess.Popen(self.words, stdout=log, stderr=log, preexec_fn=self.limit)
-        until(f"{self.words[0]} listens", lambda: self.process.poll() is not None or call("GET", self.url + "/ping")[0] == 204)
-        want(f"the status of {self.words[0]}, whose log is {Path(self.log).read_text()[-500:]}", self.process.poll(), None)
-
-    def end(self, how=signal.SIGTERM):
-        """Ends it, and gives its status."""
-        if self.process.poll() is None:
-            self.process.send_signal(how)
-        return self.process.wait(60)
-
-    def peak(self):
-        """The most memory that it took, in kB."""
-        status = Path(f"/proc/{self.process.pid}/status").read_text()
-        return int(status.split("VmHWM:")[1].split()[0])
-
-
-class Influx(Process):
+class Influx(client.Influx):
     """The server, and what it has."""
 
     def __init__(self, folder):
-        port, backup = free_ports(2)
-        (folder / "influxd").mkdir()
-        configuration = folder / "influxd.conf"
-        configuration.write_text(CONFIGURATION.format(port=port, backup=backup, folder=folder / "influxd"))
-        super().__init__(port, ["influxd", "-config", str(configuration)], folder / "influxd.log")
-        self.query(f"CREATE USER {USER} WITH PASSWORD '{PASSWORD}' WITH ALL PRIVILEGES")
+        super().__init__(folder, u=USER, p=PASSWORD)
+        self.rows(f"CREATE USER {USER} WITH PASSWORD '{PASSWORD}' WITH ALL PRIVILEGES")
 
-    def query(self, text, db=""):
+    def rows(self, text, db=""):
         """The rows that a query gives."""
-        words = urllib.parse.urlencode({"q": text, "db": db, "epoch": "ns", "u": USER, "p": PASSWORD})
-        status, answer, _ = call("POST", f"{self.url}/query?{words}")
-        want(f"the status of {text}, which gives {answer}", status, 200)
-        result = json.loads(answer)["results"][0]
+        (result,) = self.results(text, db)
         if "error" in result:
             raise Fault(f"{text}: {result['error']}")
         return [row for series in result.get("series", []) for row in series["values"]]
 
     def values(self, db, field="n", measurement="m"):
         """The values of a field, in the order of their times."""
-        return [value for _, value in self.query(f'SELECT "{field}" FROM "{measurement}"', db)]
+        return [value for _, value in self.rows(f'SELECT "{field}" FROM "{measurement}"', db)]
 
     def failures(self):
         """How many requests it answered by a status from 500 on, panics among them."""
-        words = urllib.parse.urlencode({"q": "SHOW STATS FOR 'httpd'", "u": USER, "p": PASSWORD})
-        (series,) = json.loads(call("GET", f"{self.url}/query?{words}")[1])["results"][0]["series"]
+        (series,) = self.query("SHOW STATS FOR 'httpd'")
         told = dict(zip(series["columns"], series["values"][0]))
         return told["serverError"] + told["recoveredPanics"]
 
@@ -159,11 +72,11 @@ class Trial:
     def __init__(self, influx, folder, program, name, *options, most_file=None):
         self.influx, self.db, self.folder = influx, name, folder / name
         self.folder.mkdir()
-        influx.query(f"CREATE DATABASE {name}")
+        influx.rows(f"CREATE DATABASE {name}")
         self.refused_path = self.folder / "refused.jsonl"
         (port,) = free_ports(1)
         words = [program, "-listen", f"127.0.0.1:{port}", "-server", influx.url, "-refused", str(self.refused_path), *options]
-        self.endpoint = Process(port, words, self.folder / "log", most_file)
+        self.endpoint = Program(port, words, self.folder / "log", most_file)
 
     def __enter__(self):
         return self
@@ -232,11 +145,11 @@ class Load:
 def answers(make):
     """What is answered, kept and stored of bodies that come one by one."""
     with make("answers") as trial:
-        client = influxdb.InfluxDBClient("127.0.0.1", trial.endpoint.port, USER, PASSWORD, trial.db)
-        want("ping", client.ping(), "endpoint")
-        want("write_points", client.write_points([{"measurement": "m", "tags": {"t": "a b"}, "fields": {"n": 1}, "time": 1}]), True)
+        writer = influxdb.InfluxDBClient("127.0.0.1", trial.endpoint.port, USER, PASSWORD, trial.db)
+        want("ping", writer.ping(), "endpoint")
+        want("write_points", writer.write_points([{"measurement": "m", "tags": {"t": "a b"}, "fields": {"n": 1}, "time": 1}]), True)
         try:
-            client.write(["m n=2i 2", "m n=", "m n=3i 3"], {"db": trial.db}, 204, "line")
+            writer.write(["m n=2i 2", "m n=", "m n=3i 3"], {"db": trial.db}, 204, "line")
             raise Fault("influxdb-python says nothing of a refused line")
         except InfluxDBClientError as error:
             said = json.loads(error.content)["error"]
@@ -283,7 +196,7 @@ def bodies(make):
         units = {"n": 1, "ns": 1, "u": 10**3, "us": 10**3, "ms": 10**6, "s": 10**9, "m": 60 * 10**9, "h": 3600 * 10**9}
         for name, unit in units.items():
             want(f"precision {name}", trial.write(f"p,u={name} n={unit}i 400000", precision=name), (204, ""))
-        for at, value in trial.influx.query('SELECT n FROM p', trial.db):
+        for at, value in trial.influx.rows('SELECT n FROM p', trial.db):
             want(f"a time in {value} nanoseconds", at, 400000 * value)
         want("another precision", trial.write("m n=1", precision="d"), (400, 'invalid precision "d" (use n, u, ms, s, m or h)'))
         header = {"Authorization": "Basic " + base64.b64encode(f"{USER}:{PASSWORD}".encode()).decode()}
@@ -351,7 +264,7 @@ def away(make):
         trial.influx.start()
         trial.drained()
         want("the last value of one time", trial.influx.values(trial.db), [99, 101])
-        times = [at for at, _ in trial.influx.query("SELECT n FROM t", trial.db)]
+        times = [at for at, _ in trial.influx.rows("SELECT n FROM t", trial.db)]
         want("times of arrival", (len(times) > 1, all(came - 10**10 < at < came and at % 10**6 == 0 for at in times)), (True, True))
 
 
@@ -378,7 +291,7 @@ def poisoned(make):
 
 def portable(make):
     """No line that is let out as portable makes the server fail."""
-    texts = [*hexadecimal("--rows"), *hexadecimal("--random", "1", "1500")]
+    texts = [*(row.text() for row in oracle.rows()), *oracle.random_texts(1, 1500)]
     with make("portable", "-spool", "spool", "-portable", "influx1") as trial:
         before = trial.influx.failures()
         said = f"partial write: line 2: unable to parse '{PANIC[:200]}': not portable: the tags are 100, 200, 400, 800 and so on dropped=1"
@@ -392,12 +305,6 @@ def portable(make):
         want("bodies in the spool", trial.metric("spooled_bodies_total"), 0)
         want("what the server answered by 500 and more", trial.influx.failures(), before)
         return counts
-
-
-def hexadecimal(*words):
-    """Texts of checks/portable.py."""
-    told = subprocess.run([sys.executable, "-B", str(HERE / "portable.py"), *words], stdout=subprocess.PIPE, check=True).stdout
-    return [bytes.fromhex(line.decode()) for line in told.splitlines()]
 
 
 def fill(trial, body_of):
@@ -457,7 +364,7 @@ def synced(make):
         spool = trial.folder / "spool"
         want("a refused line", failing(trial, trial.refused_path, lambda: trial.write("m n=1i 1\nm"))[0], 503)
         want("the name of the file of refused lines", failing(trial, trial.folder, lambda: trial.write("m n=2i 2\nm"))[0], 503)
-        want("what is stored of them", trial.influx.query("SELECT n FROM m", trial.db), [])
+        want("what is stored of them", trial.influx.rows("SELECT n FROM m", trial.db), [])
         trial.influx.end()
         want("a file of the spool", failing(trial, spool / f"{1:020}.part", lambda: trial.write("m n=3i 3"))[0], 503)
         want("what the spool has", list(spool.glob("*")), [])

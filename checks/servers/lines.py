@@ -1,23 +1,24 @@
 #!/usr/bin/env python3
-"""Posts lines that are portable to a running server, and asks whether it has each as the strict reader reads it. checks/servers.sh calls it.
+"""Posts lines that are portable to a server, and asks whether it has each as the strict reader reads it: then, after a kill -9, and after a
+clean restart. checks/servers.sh calls it.
 
-    checks/servers.py --post READER=ADDRESS LINES           each line in a request of its own, over one connection; then in batches of 1,000
-    checks/servers.py --ask READER=ADDRESS LINES WHEN       asks for the points of each line, by its names
+    checks/servers/lines.py FOLDER READER..
 
-READER: `influx` or `victoria`. LINES: a file that checks/golang/lines_test.go wrote. A line that comes right after another one may be of the same
-series, in another spelling. WHEN: what was done to the server, in words.
+FOLDER: has for each READER, `influx` or `victoria`, a file of this name that checks/golang/lines_test.go wrote, and is the place for the data of
+the servers. A line that comes right after another one may be of the same series, in another spelling. Each line is posted in a request of its
+own, over one connection, and then in batches of 1,000; and its points are asked for by its names.
 """
 
-import http.client
 import json
-import re
+import signal
 import sys
-import urllib.parse
+import time
 from collections import Counter
-from dataclasses import dataclass
 from itertools import islice
+from pathlib import Path
 
-from batches import Sample, identifier, is_near, samples_of
+import client
+from client import Point, identifier, in_order, is_near, points_of, samples_of
 
 # The lines have times before this one, so a later time is that of their arrival.
 LATEST = 1700000000000000000
@@ -26,16 +27,6 @@ BATCH = 1000
 ASKED = 50
 # Both ways of posting. Each batch, or so many lines of one request each, have a database of InfluxDB.
 WAYS = ("one", "batch")
-
-
-@dataclass(frozen=True)
-class Point:
-    """A point: tags are sorted pairs, fields are pairs of a key and a value, whose type is that of the field. A time of arrival is none."""
-
-    name: str
-    tags: tuple
-    fields: tuple
-    at: int | None
 
 
 def value_of(shown):
@@ -69,46 +60,32 @@ def read(path):
         for line in file:
             each = json.loads(line)
             fields = tuple((key, value_of(shown)) for key, shown in each["Fields"])
-            made.append((each["Text"], Point(each["Name"], tuple(sorted(map(tuple, each["Tags"]))), fields, each["At"])))
+            made.append((each["Text"], Point(each["Name"], tuple(sorted(map(tuple, each["Tags"]))), in_order(fields), each["At"])))
     return made
 
 
-class Server:
-    """A server, over one connection that is kept."""
+class Asked:
+    """A server, and how often it answered by each status."""
 
-    def __init__(self, address):
-        self.connection = http.client.HTTPConnection(urllib.parse.urlsplit(address).netloc, timeout=600)
+    def __init__(self, server):
+        self.server = server
         self.answers = Counter()
 
-    def ask(self, path, body=None, headers=None):
-        """The status and the text of an answer."""
-        self.connection.request("POST" if body is not None else "GET", path, body, headers or {})
-        answer = self.connection.getresponse()
-        return answer.status, answer.read().decode()
-
-    def write(self, name, text):
+    def write(self, name, texts):
         """Posts lines, and counts the status. What is said of lines that are refused is told."""
-        status, told = self.ask(f"/write?db={name}&precision=ns", text.encode())
+        text = "\n".join(texts) + "\n"
+        status, told = self.server.write(name, text.encode())
         self.answers[status] += 1
         if status != 204:
             print(f"servers: {status} for {text[:200]!r}: {told[:300]}", file=sys.stderr)
 
 
-class Influx(Server):
+class Influx(Asked):
     """InfluxDB 1.x: each thousand lines have a database."""
-
-    def query(self, name, text):
-        """The results of statements."""
-        body = urllib.parse.urlencode({"q": text, "db": name, "epoch": "ns"})
-        answer = self.ask("/query", body, {"Content-Type": "application/x-www-form-urlencoded"})[1]
-        return [each.get("series", []) for each in json.loads(answer)["results"]]
-
-    def post(self, name, texts):
-        self.write(name, "\n".join(texts) + "\n")
 
     def create(self, way, count):
         for place in range(0, count, BATCH):
-            self.query("", f'CREATE DATABASE "{way}{place // BATCH}"')
+            self.server.query(f'CREATE DATABASE "{way}{place // BATCH}"')
 
     def name(self, way, place):
         return f"{way}{place // BATCH}"
@@ -117,7 +94,7 @@ class Influx(Server):
         """Of each line that is not there as it is read: its text, and what is there."""
         for place, part in enumerate(in_tens(f"asked for, {way}", split(lines, BATCH), -(-len(lines) // BATCH))):
             name = f"{way}{place}"
-            types = {(series["name"], key): kind for series in self.query(name, "SHOW FIELD KEYS")[0] for key, kind in series["values"]}
+            types = self.server.types(name)
             yield from unasked({one for one, _ in types} - {point.name for _, point in part})
             for some in split(part, ASKED):
                 yield from self.missing_of(name, types, some)
@@ -127,7 +104,7 @@ class Influx(Server):
         points = dict.fromkeys(point.name for _, point in lines)
         asked = [f"SELECT * FROM {identifier(one)} GROUP BY *" for one in points]
         asked += [f"SELECT {fields_of(one, lines)} FROM {identifier(one)} GROUP BY *" for one in points]
-        found = [[point for series in each for point in points_of(series)] for each in self.query(name, ";".join(asked))]
+        found = [list(points_of(each.get("series", []))) for each in self.server.results(";".join(asked), name)]
         by_name = {one: (whole, named) for one, whole, named in zip(points, found, found[len(points):])}
         for text, point in lines:
             whole, named = by_name[point.name]
@@ -150,13 +127,6 @@ def fields_of(name, lines):
     return ", ".join(f"{identifier(key)}::field" for key in keys)
 
 
-def points_of(series):
-    """The points of a series that InfluxDB's answer has."""
-    tags = tuple(sorted((key, value) for key, value in series.get("tags", {}).items() if value))
-    for at, *values in series["values"]:
-        yield Point(series["name"], tags, tuple(pair for pair in zip(series["columns"][1:], values) if pair[1] is not None), at)
-
-
 def is_value(wanted, found):
     """Whether a value of InfluxDB's answer is this one. A float may be told as digits of no end, or as an integer."""
     if isinstance(wanted, float):
@@ -175,15 +145,8 @@ def has_once(wanted, points):
     return sum(is_point(wanted, point) for point in points) == 1
 
 
-class Victoria(Server):
+class Victoria(Asked):
     """VictoriaMetrics: a way is a label of each series, if a line has no tag `db`. Of a string some number is there, or none."""
-
-    def __init__(self, address):
-        super().__init__(address)
-        self.stored = {}
-
-    def post(self, name, texts):
-        self.write(name.rstrip("0123456789"), "\n".join(texts) + "\n")
 
     def create(self, way, count):
         pass
@@ -191,16 +154,12 @@ class Victoria(Server):
     def name(self, way, place):
         return way
 
-    def series(self, label):
+    def series(self, match):
         """The samples of all series of such a label, by the name and the tags, of which the label is none if it is a way."""
-        self.ask("/internal/force_flush")
-        words = urllib.parse.urlencode({"match[]": f"{{db{label}}}", "start": "0", "end": str(2**33)})
         made = {}
-        for line in filter(None, self.ask(f"/api/v1/export?{words}")[1].split("\n")):
-            series = json.loads(re.sub(r"\+?Inf\b(?=[],])", "Infinity", line))
-            labels = {key: value for key, value in series["metric"].items() if key != "db" or value not in WAYS}
-            key = labels.pop("__name__", ""), tuple(sorted(labels.items()))
-            made.setdefault(key, []).extend(zip(series["values"], series["timestamps"]))
+        for line in self.server.lines(match):
+            for sample in self.server.samples(line, WAYS.__contains__, LATEST.__lt__):
+                made.setdefault((sample.name, sample.tags), []).append(sample)
         return made
 
     def missing(self, way, lines):
@@ -208,58 +167,68 @@ class Victoria(Server):
         stored, own, known = self.series(f'="{way}"'), self.series('!~"one|batch"'), set()
         for text, point in lines:
             has_label = "db" in dict(point.tags)
-            for wanted, (_, value) in zip(samples_of((point.name, point.tags, point.fields, point.at)), point.fields):
+            for wanted, (_, value) in zip(samples_of(point), point.fields):
                 known.add((wanted.name, wanted.tags))
-                found = (own if has_label else stored).get((wanted.name, wanted.tags), [])
-                samples = [Sample(wanted.name, wanted.tags, *arrived(*each)) for each in found]
-                is_there = [is_near(wanted, each) for each in samples if not isinstance(value, str)] or [True]
+                samples = (own if has_label else stored).get((wanted.name, wanted.tags), [])
+                is_there = [True] if isinstance(value, str) else [is_near(wanted, each) for each in samples]
                 if sum(is_there) not in ((1, 2) if has_label else (1,)):
                     yield text, samples
                     break
         yield from unasked((stored | own).keys() - known)
 
 
-def arrived(value, at):
-    """A sample, whose time is none if it is that of its arrival."""
-    return value, None if at * 1000000 > LATEST else at
-
-
-SERVERS = {"influx": Influx, "victoria": Victoria}
-
-
-def post(server, lines):
+def post(asked, lines):
     """Posts the lines in both ways."""
     for way in WAYS:
-        server.create(way, len(lines))
+        asked.create(way, len(lines))
     for place, (text, _) in enumerate(in_tens("posted one by one", lines, len(lines))):
-        server.post(server.name("one", place), [text])
+        asked.write(asked.name("one", place), [text])
     for place, part in enumerate(split(lines, BATCH)):
-        server.post(server.name("batch", place * BATCH), [text for text, _ in part])
-    told = ", ".join(f"{count} of {status}" for status, count in sorted(server.answers.items()))
-    print(f"servers: {len(lines)} lines, one by one and in batches of {BATCH}: answers: {told}")
-    return set(server.answers) == {204}
+        asked.write(asked.name("batch", place * BATCH), [text for text, _ in part])
+    told = ", ".join(f"{count} of {status}" for status, count in sorted(asked.answers.items()))
+    print(f"servers: {len(lines)} lines, one by one and in batches of {BATCH}: answers: {told}", flush=True)
+    return set(asked.answers) == {204}
 
 
-def ask(server, lines, when):
+def ask(asked, lines, when):
     """Asks for the lines of both ways."""
-    found = [(way, *each) for way in WAYS for each in server.missing(way, lines)]
+    found = [(way, *each) for way in WAYS for each in asked.missing(way, lines)]
     for way, text, stored in found[:10]:
         print(f"servers: {way}: {text[:300]!r} is not there: {str(stored)[:600]}", file=sys.stderr)
-    print(f"servers: {when}: of {len(lines)} lines, in each way, {len(found)} are not there as the strict reader reads them")
+    print(f"servers: {when}: of {len(lines)} lines, in each way, {len(found)} are not there as the strict reader reads them", flush=True)
     return not found
 
 
+READERS = {"influx": Influx, "victoria": Victoria}
+
+
+def search(folder, reader):
+    """Posts lines to a server, asks for them, and asks again after each restart. VictoriaMetrics writes what it took to its files some seconds
+    later, which is waited for before it is killed."""
+    lines = read(folder / reader)
+    data = folder / f"{reader}_data"
+    data.mkdir()
+    with client.SERVERS[reader](data) as server:
+        asked = READERS[reader](server)
+        is_right = [post(asked, lines), ask(asked, lines, reader)]
+        if reader == "victoria":
+            time.sleep(15)
+        server.start_again(signal.SIGKILL)
+        is_right.append(ask(asked, lines, f"{reader}, killed and started again"))
+        server.start_again()
+        is_right.append(ask(asked, lines, f"{reader}, ended and started again"))
+    return all(is_right)
+
+
 def main(words):
-    match words:
-        case ["--post", place, path]:
-            do, rest = post, ()
-        case ["--ask", place, path, when]:
-            do, rest = ask, (when,)
-        case _:
-            print(__doc__, file=sys.stderr)
-            return 2
-    reader, address = place.split("=", 1)
-    return 0 if do(SERVERS[reader](address), read(path), *rest) else 1
+    if len(words) < 2:
+        print(__doc__, file=sys.stderr)
+        return 2
+    try:
+        return 0 if all([search(Path(words[0]), reader) for reader in words[1:]]) else 1
+    except client.Fault as fault:
+        print(f"servers: {fault}", file=sys.stderr)
+        return 1
 
 
 if __name__ == "__main__":

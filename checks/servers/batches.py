@@ -1,28 +1,20 @@
-#!/usr/bin/env python3
 """What servers store of a text and of the lines around it in one call, and what they have after a restart: the last tables of
-docs/INTEROP.md, and the rows of portable_rows.txt. checks/interop.sh calls it before and after it starts the servers again.
-
-    checks/batches.py --post STATE RELAY READER=PLACE..
-    checks/batches.py [--write | --print] STATE READER=PLACE..
-
-READER: `influx` or `victoria`, with the address of an empty server, or `parser`, with the program that checks/interop.go is built to.
-`--post` writes each text to the servers, and to STATE what they answered and stored. Without it the servers are asked what they have now;
-this and STATE are compared with the page and with portable_rows.txt, or with `--write` put into the page, or with `--print` printed. Of a
-reader that is not named nothing is compared. No parser of VictoriaMetrics is asked.
-"""
+docs/INTEROP.md, and the rows of portable_rows.txt. measure.py asks for what is measured before and after it starts the servers again, and
+compares it with the page. No parser of VictoriaMetrics is asked."""
 
 import json
 import re
 import subprocess
 import sys
 import time
-import urllib.parse
 from dataclasses import dataclass
-from pathlib import Path
 
 import interop
+from client import Fault, Point, identifier, in_order, is_near, is_now, samples_of
+from interop import spelled
+
+sys.path.insert(0, str(interop.PAGE.parents[1] / "checks"))
 import portable
-from interop import Fault, spelled
 
 BEGIN, END = "<!-- what checks/interop.sh measured of batches -->", "<!-- the end of the batches -->"
 # The lines before and after each text of the page, and the line after each of portable_rows.txt, whose time is that of most rows: points
@@ -128,15 +120,10 @@ def typed(kind, value):
     return value == "true" if kind == "boolean" else value if kind == "string" else int(value)
 
 
-def in_order(fields):
-    """Fields in the order of their keys."""
-    return tuple(sorted(fields, key=lambda field: (field[0], str(field[1]))))
-
-
 def written(lines):
     """The points of lines that lp_relay wrote."""
     found = interop.written_points(lines.decode())
-    return [(name, tags, in_order((key, typed(kind, value)) for key, kind, value in fields), at) for name, tags, fields, at in found]
+    return [Point(name, tags, in_order((key, typed(kind, value)) for key, kind, value in fields), at) for name, tags, fields, at in found]
 
 
 def typed_field(name, kind, value):
@@ -153,7 +140,7 @@ def wanted_of(text):
     line = found[1]
     tags = [(portable.key_of(key).decode(), portable.key_of(value).decode()) for key, value in line.tags]
     fields = [typed_field(*each) for each in line.fields]
-    return portable.logical(line.measurement, b", \\").decode(), tuple(sorted(tags)), in_order(fields), line.time
+    return Point(portable.logical(line.measurement, b", \\").decode(), tuple(sorted(tags)), in_order(fields), line.time)
 
 
 def is_value(wanted, found):
@@ -162,15 +149,11 @@ def is_value(wanted, found):
     return wanted == found and all(isinstance(wanted, one) == isinstance(found, one) for one in types)
 
 
-def is_now(nanoseconds):
-    return abs(nanoseconds - time.time_ns()) < 600e9
-
-
 def is_point(wanted, found):
     """Whether a point of InfluxDB is this one."""
-    at = is_now(found[3]) if wanted[3] is None else wanted[3] == found[3]
-    pairs = [one[0] == other[0] and is_value(one[1], other[1]) for one, other in zip(wanted[2], found[2])]
-    return wanted[:2] == found[:2] and at and len(wanted[2]) == len(found[2]) and all(pairs)
+    at = is_now(found.at) if wanted.at is None else wanted.at == found.at
+    pairs = [one[0] == other[0] and is_value(one[1], other[1]) for one, other in zip(wanted.fields, found.fields)]
+    return wanted[:2] == found[:2] and at and len(wanted.fields) == len(found.fields) and all(pairs)
 
 
 def shown_series(name, tags):
@@ -206,9 +189,9 @@ class Stored:
         return {AROUND: "both", ("before",): "the first", ("after",): "the second", (): "none"}[tuple(self.around)]
 
 
-def answer_of(address, *chunks):
+def answer_of(server, name, *chunks):
     """The status and the text of an answer, as curl tells it. After each chunk that another one follows, the call waits."""
-    words = ["curl", "-sS", "-m", "300", "-w", "\\n%{http_code}", address]
+    words = ["curl", "-sS", "-m", "300", "-w", "\\n%{http_code}", server.url + server.write_path(name)]
     words += ["--data-binary", "@-"] if len(chunks) == 1 else ["-X", "POST", "-T", "-"]
     with subprocess.Popen(words, stdin=subprocess.PIPE, stdout=subprocess.PIPE, stderr=subprocess.DEVNULL) as curl:
         for chunk in chunks[:-1]:
@@ -220,62 +203,39 @@ def answer_of(address, *chunks):
     return int(status), text
 
 
-def identifier(name):
-    """A name as a query spells it."""
-    return '"' + name.replace("\\", "\\\\").replace('"', '\\"').replace("\n", "\\n") + '"'
-
-
-def points_of(series):
-    """The points of a series that a query gave."""
-    tags = tuple(sorted((key, value) for key, value in series.get("tags", {}).items() if value))
-    for at, *values in series["values"]:
-        fields = [(key, value) for key, value in zip(series["columns"][1:], values) if value is not None]
-        yield series["name"], tags, in_order(fields), at
-
-
 EVERYTHING = "SELECT * FROM /.*/ GROUP BY *"
 
 
 class Influx:
     """A server of InfluxDB 1.x. Each text has a database."""
 
-    def __init__(self, address):
-        self.address = address
-
-    def query(self, name, text):
-        """The series that a query gives."""
-        words = urllib.parse.urlencode({"q": text, "epoch": "ns", "db": name})
-        answer = json.loads(interop.ask(f"{self.address}/query", words.encode()))
-        return answer.get("results", [{}])[0].get("series", [])
-
-    def points(self, name, query):
-        """The points that a query gives."""
-        return [point for series in self.query(name, query) for point in points_of(series)]
+    def __init__(self, server):
+        self.server = server
 
     def count(self, name):
         """How many points a text has, if its measurement is `m`."""
-        return sum(max(series["values"][0][1:]) for series in self.query(name, "SELECT count(*) FROM m"))
+        return sum(max(series["values"][0][1:]) for series in self.server.query("SELECT count(*) FROM m", name))
 
     def is_named(self, name, point):
         """Whether queries that name the measurement and the fields find a point."""
-        whole = self.points(name, f"SELECT * FROM {identifier(point[0])} GROUP BY *")
-        keys = ", ".join(f"{identifier(key)}::field" for key, _ in point[2])
-        named = self.points(name, f"SELECT {keys} FROM {identifier(point[0])}")
-        return len(whole) == 1 and [fields for _, _, fields, _ in named] == [point[2]]
+        whole = self.server.points(f"SELECT * FROM {identifier(point.name)} GROUP BY *", name)
+        keys = ", ".join(f"{identifier(key)}::field" for key, _ in point.fields)
+        named = self.server.points(f"SELECT {keys} FROM {identifier(point.name)}", name)
+        return len(whole) == 1 and [each.fields for each in named] == [point.fields]
 
     def stored(self, name, is_large):
         """What is stored of a text, without the answer."""
-        found = self.points(name, "SELECT z FROM before, after" if is_large else EVERYTHING)
-        around = sorted({each[0] for each in found if each[0] in AROUND and each[2] == (("z", 1),)})
-        points = [each for each in found if each[0] not in AROUND or dict(each[2]).keys() not in ({"z"}, {"_name"})]
+        found = self.server.points("SELECT z FROM before, after" if is_large else EVERYTHING, name)
+        around = sorted({each.name for each in found if each.name in AROUND and each.fields == (("z", 1),)})
+        points = [each for each in found if each.name not in AROUND or dict(each.fields).keys() not in ({"z"}, {"_name"})]
         is_named = len(points) != 1 or self.is_named(name, points[0])
         count = self.count(name) if is_large else len(points)
         return Stored(0, "", points, count, around, "" if is_named else "which no query finds by its name")
 
     def post(self, name, *texts):
         """Posts texts, the last with the lines around it, and tells what is stored."""
-        self.query(name, f'CREATE DATABASE "{name}"')
-        answers = [answer_of(f"{self.address}/write?db={name}&precision=ns", text) for text in texts]
+        self.server.query(f'CREATE DATABASE "{name}"')
+        answers = [answer_of(self.server, name, text) for text in texts]
         status, answer = answers[-1]
         if status >= 400:
             # What is stored apart from what was refused may come after the answer.
@@ -286,69 +246,33 @@ class Influx:
         return made
 
 
-def milliseconds(at):
-    """A time as VictoriaMetrics keeps it."""
-    return None if at is None else at // 1000000 if at >= 0 else -(-at // 1000000)
+def order(sample):
+    return sample.name, sample.tags, str(sample.value), sample.at or -1
 
 
-@dataclass
-class Sample:
-    """A number of VictoriaMetrics: the names of measurement and field with `_` between them, the labels, the value, and the time, if it
-    is not now."""
-
-    name: str
-    tags: tuple
-    value: object
-    at: int | None
-
-    def key(self):
-        return self.name, self.tags, str(self.value), self.at or -1
-
-    def shown(self):
-        name = shown_series(self.name, self.tags)
-        at = {0: "", None: " at the time of arrival"}.get(self.at, f" at {self.at} ms")
-        return f"{name}: {spelled('%.17g' % self.value if isinstance(self.value, float) else str(self.value))}{at}"
-
-
-def samples_of(point):
-    """What VictoriaMetrics has of a point, if it reads what that says. Of a string it keeps 0."""
-    name, tags, fields, at = point
-    return [Sample(f"{name}_{key}", tags, 0 if isinstance(value, str) else value, milliseconds(at)) for key, value in fields]
+def shown_sample(sample):
+    """A number of VictoriaMetrics as the tables show it."""
+    at = {0: "", None: " at the time of arrival"}.get(sample.at, f" at {sample.at} ms")
+    return f"{shown_series(sample.name, sample.tags)}: {spelled('%.17g' % sample.value if isinstance(sample.value, float) else str(sample.value))}{at}"
 
 
 class Victoria:
     """A server of VictoriaMetrics. Each text has a database, whose name is a label."""
 
-    def __init__(self, address):
-        self.address = address
-        self.asked = 0
+    def __init__(self, server):
+        self.server = server
         self.seen = set()
-
-    def lines(self, label):
-        """What is stored of series of such a label. The question is another one each time, as answers are kept."""
-        self.asked += 1
-        interop.ask(f"{self.address}/internal/force_flush")
-        words = {"match[]": f'{{db{label},none!="{self.asked}"}}', "start": "0", "end": str(2**33)}
-        return interop.ask(f"{self.address}/api/v1/export?{urllib.parse.urlencode(words)}").split("\n")[:-1]
-
-    def samples(self, line, name):
-        """The samples of a series, without the label of its database."""
-        series = json.loads(re.sub(r"\+?Inf\b(?=[],])", "Infinity", line))
-        labels = {key: value for key, value in series["metric"].items() if (key, value) != ("db", name)}
-        metric = labels.pop("__name__", "")
-        times = [None if is_now(at * 1000000) else at for at in series["timestamps"]]
-        return [Sample(metric, tuple(sorted(labels.items())), *each) for each in zip(series["values"], times)]
 
     def unnamed(self):
         """The new series that have no label of a database, or one that a text gave."""
-        found = set(self.lines('=~"|x"'))
+        found = set(self.server.lines('=~"|x"'))
         new, self.seen = found - self.seen, self.seen | found
         return new
 
     def until_next(self, name):
         """The series of a text, and those of the lines around it. The line after it is waited for."""
         for _ in range(20):
-            found = self.lines(f'="{name}"')
+            found = self.server.lines(f'="{name}"')
             if any('"__name__":"after_z"' in line for line in found):
                 break
             time.sleep(0.1)
@@ -357,14 +281,14 @@ class Victoria:
 
     def post(self, name, *chunks):
         """Posts a text with the lines around it in one call, and tells what is stored."""
-        status, answer = answer_of(f"{self.address}/write?db={name}&precision=ns", *chunks)
+        status, answer = answer_of(self.server, name, *chunks)
         lines, around = self.until_next(name)
         unnamed = self.unnamed()
-        points = [sample for line in [*lines, *unnamed] for sample in self.samples(line, name)]
+        points = [sample for line in [*lines, *unnamed] for sample in self.server.samples(line, name.__eq__)]
         words = re.search(r"too long line: more than \d+ bytes|$", answer)[0] or answer[:200]
         note = "without the label of its database" if unnamed else ""
         names = sorted(json.loads(line)["metric"]["__name__"].removesuffix("_z") for line in around)
-        return Stored(status, words, sorted(points, key=Sample.key), len(points), names, note)
+        return Stored(status, words, sorted(points, key=order), len(points), names, note)
 
 
 # The tables of the page.
@@ -417,12 +341,12 @@ def influx_cell(made, lines):
 
 def is_every(found, wanted):
     """Whether VictoriaMetrics has the numbers of these points."""
-    return found == sorted((sample for point in wanted for sample in samples_of(point)), key=Sample.key)
+    return found == sorted((sample for point in wanted for sample in samples_of(point)), key=order)
 
 
 def victoria_cell(made, lines):
     """What VictoriaMetrics stores of lines, as a cell."""
-    return shown_stored(made, lines.points, is_every, Sample.shown)
+    return shown_stored(made, lines.points, is_every, shown_sample)
 
 
 CELLS = {"influx": influx_cell, "victoria": victoria_cell}
@@ -478,20 +402,14 @@ def is_one(made, point):
     return len(made.points) == 1 and is_point(point, made.points[0])
 
 
-def is_near(wanted, found):
-    """Whether a number is kept, but for its last digits."""
-    value = found.value == wanted.value or abs(found.value - wanted.value) <= 1e-11 * abs(wanted.value)
-    return value and (wanted.name, wanted.tags, wanted.at) == (found.name, found.tags, found.at)
-
-
 def is_kept(made, point):
     """Whether VictoriaMetrics has each number of this point once, and of each string some number or none."""
-    texts = {f"{point[0]}_{key}" for key, value in point[2] if isinstance(value, str)}
-    wanted = sorted((each for each in samples_of(point) if each.name not in texts), key=Sample.key)
+    texts = {f"{point.name}_{key}" for key, value in point.fields if isinstance(value, str)}
+    wanted = sorted((each for each in samples_of(point) if each.name not in texts), key=order)
     found = [each for each in made.points if each.name not in texts]
     names, stored = ([each.name for each in some] for some in (samples_of(point), made.points))
     is_sound = not made.note and len(set(names)) == len(names) and sorted(names) == sorted(stored)
-    return is_sound and all(each.tags == point[1] for each in made.points) and all(map(is_near, wanted, found))
+    return is_sound and all(each.tags == point.tags for each in made.points) and all(map(is_near, wanted, found))
 
 
 SAME = {"influx": is_one, "victoria": is_kept}
@@ -525,7 +443,7 @@ def parsed_point(read):
     """A point that the parser of InfluxDB read."""
     fields = [(key, KINDS[kind](value)) for key, kind, value in read["Fields"]]
     at = time.time_ns() if read["Time"] == interop.NO_TIME else read["Time"]
-    return read["Name"], tuple(sorted(map(tuple, read["Tags"]))), in_order(fields), at
+    return Point(read["Name"], tuple(sorted(map(tuple, read["Tags"]))), in_order(fields), at)
 
 
 def word_of_parser(program, text):
@@ -538,42 +456,37 @@ def word_of_parser(program, text):
     return word_of(Stored(400 if read["Fault"] else 204, "", points, len(points), ["after"]), wanted_of(text), is_one)
 
 
-# What is asked of this program.
+# What is measured, and the tables of it.
 
 COLUMNS = {"influx": "i server", "parser": "i parser", "victoria": "v server"}
 WORDS = ["same", "unnamed", "other", "restart", "refused", "dropped", "panic", "taken", "+"]
 TITLES = {"influx": "Texts among other lines, in InfluxDB 1.x", "victoria": "Texts among other lines, in VictoriaMetrics"}
 
 
-def post(relay, places):
-    """What is measured before the restart."""
+def before_restart(relay, servers, parser):
+    """What is measured before the restart, of these servers and of a parser, if there is one."""
     state = {"relay": relay, "tables": {}, "words": {}, "strings": [strings_row(relay, text) for text in STRINGS]}
-    for reader, make in SERVERS.items():
-        if reader in places:
-            server = make(places[reader])
-            state["tables"][reader] = rows_of(server, relay, reader)
-            state["words"][reader] = words_of(server, reader)
-    if "parser" in places:
-        state["words"]["parser"] = [word_of_parser(places["parser"], row.text()) for row in portable.rows()]
-    if "victoria" in places:
-        state["series"] = every_series(places["victoria"])
+    for reader, server in servers.items():
+        asked = ASKED[reader](server)
+        state["tables"][reader] = rows_of(asked, relay, reader)
+        state["words"][reader] = words_of(asked, reader)
+    if parser:
+        state["words"]["parser"] = [word_of_parser(parser, row.text()) for row in portable.rows()]
+    if "victoria" in servers:
+        state["series"] = sorted(servers["victoria"].lines('!="none"'))
     return state
 
 
-def every_series(address):
-    return sorted(Victoria(address).lines('!="none"'))
+ASKED = {"influx": Influx, "victoria": Victoria}
 
 
-SERVERS = {"influx": Influx, "victoria": Victoria}
-
-
-def add_restart(state, places):
+def add_restart(state, servers):
     """Adds what is measured after the restart. VictoriaMetrics must have what it had."""
-    if "influx" in places:
-        server = Influx(places["influx"])
-        state["tables"]["influx"] = restarted(server, state["relay"], state["tables"]["influx"])
-        state["words"]["influx"] = words_after(server, state["words"]["influx"])
-    if "victoria" in places and every_series(places["victoria"]) != state["series"]:
+    if "influx" in servers:
+        asked = Influx(servers["influx"])
+        state["tables"]["influx"] = restarted(asked, state["relay"], state["tables"]["influx"])
+        state["words"]["influx"] = words_after(asked, state["words"]["influx"])
+    if "victoria" in servers and sorted(servers["victoria"].lines('!="none"')) != state["series"]:
         raise Fault("VictoriaMetrics has other series after a restart")
 
 
@@ -626,39 +539,3 @@ def compare(state):
     count = sum(map(len, state["tables"].values()))
     print(f"batches: {count} texts among other lines are stored, and kept over a restart, as docs/INTEROP.md says, and "
           f"{len(list(portable.rows()))} as portable_rows.txt says: by {', '.join(interop.READERS[name] for name in state['words'])}")
-
-
-def run(mode, path, places):
-    """Measures, and does what is asked with that."""
-    state = json.loads(path.read_text(encoding="utf-8"))
-    add_restart(state, places)
-    if mode == "--print":
-        print(page_text(state))
-    elif mode == "--write":
-        before, _, after = interop.parts_of_page(BEGIN, END)
-        interop.PAGE.write_text(before + page_text(state) + after, encoding="utf-8")
-        print("batches: docs/INTEROP.md is written")
-    else:
-        compare(state)
-
-
-def main(words):
-    mode = words.pop(0) if words and words[0] in ("--post", "--write", "--print") else ""
-    if len(words) < 2 or words[0].startswith("-"):
-        print(__doc__, file=sys.stderr)
-        return 2
-    path, relay = Path(words.pop(0)), words.pop(0) if mode == "--post" else ""
-    places = dict(word.split("=", 1) for word in words)
-    try:
-        if mode == "--post":
-            path.write_text(json.dumps(post(relay, places)), encoding="utf-8")
-        else:
-            run(mode, path, places)
-    except Fault as fault:
-        print(f"batches: {fault}", file=sys.stderr)
-        return 1
-    return 0
-
-
-if __name__ == "__main__":
-    sys.exit(main(sys.argv[1:]))

@@ -1,25 +1,15 @@
-#!/usr/bin/env python3
 """What readers in use make of the texts below, and of what lp_relay writes of them, rebuilt, verbatim and canonical: the tables of
-docs/INTEROP.md. It is called by checks/interop.sh, which starts the servers.
-
-    checks/interop.py [--write | --print] RELAY [READER=VERSION=PLACE..]
-
-RELAY: the program. READER: `influx` or `victoria`, with the address of an empty server, or `parser`, with the program that
-checks/interop.go is built to. Compares what it measures with the page, where the tables are between two marks; `--write` puts them
-there, and `--print` prints them. Of a reader that is not named nothing is compared.
-"""
+docs/INTEROP.md. measure.py compares them with the page, where they are between two marks."""
 
 import json
 import re
 import subprocess
-import sys
-import time
-import urllib.parse
-import urllib.request
 from dataclasses import dataclass
 from pathlib import Path
 
-PAGE = Path(__file__).resolve().parent.parent / "docs" / "INTEROP.md"
+from client import Fault, is_now
+
+PAGE = Path(__file__).resolve().parents[2] / "docs" / "INTEROP.md"
 BEGIN, END = "<!-- what checks/interop.sh measured -->", "<!-- the end of it -->"
 
 # The texts, as the page spells them: SIGNS for bytes that are not seen, `a×9` for nine `a`, and `[FF]` for that byte.
@@ -136,10 +126,6 @@ OTHER = [
     r'm a="x⏎n b=1i⏎o c=1i',
     r"m f=1\⏎n g=2",
 ]
-
-
-class Fault(Exception):
-    """What is wrong, in words."""
 
 
 def raw(text):
@@ -302,18 +288,6 @@ def shown_ways(text, ways):
 # What the readers make of a text.
 
 
-OPENER = urllib.request.build_opener(urllib.request.ProxyHandler({}))
-
-
-def ask(address, data=None):
-    """The answer of a server, of whatever status."""
-    try:
-        with OPENER.open(address, data=data, timeout=60) as answer:
-            return answer.read().decode("utf-8", "surrogateescape")
-    except urllib.error.HTTPError as refused:
-        return refused.read().decode("utf-8", "surrogateescape")
-
-
 def causes(fault):
     """The causes that InfluxDB gives, without the lines that it repeats."""
     found = re.findall(r"unable to parse '.*?': (.*?)(?: dropped=\d+)?(?=\n(?:unable|partial)|\Z)", fault, re.S)
@@ -323,38 +297,24 @@ def causes(fault):
 class Influx:
     """A server of InfluxDB 1.x."""
 
-    def __init__(self, address):
-        self.address = address
-
-    def query(self, text, **more):
-        words = urllib.parse.urlencode({"q": text, "epoch": "ns", **more})
-        return json.loads(ask(f"{self.address}/query?{words}", b""))["results"][0].get("series", [])
+    def __init__(self, server):
+        self.server = server
 
     def points(self):
         """The points that are stored. A time of these minutes is none."""
-        made, kinds = [], {}
-        for series in self.query("SHOW FIELD KEYS", db="texts"):
-            kinds |= {(series["name"], key): kind for key, kind in series["values"]}
-        for series in self.query("SELECT * FROM /.*/ GROUP BY *", db="texts"):
-            name, (_, *keys) = series["name"], series["columns"]
-            for at, *values in series["values"]:
-                fields = [(key, kinds[name, key], self.value(value)) for key, value in zip(keys, values) if value is not None]
-                tags = [(key, value) for key, value in series.get("tags", {}).items() if value]
-                stamp = None if abs(at - time.time_ns()) < 600e9 else at
-                made.append(point(name, tags, fields, stamp))
-        return made
-
-    def value(self, value):
-        return str(value).lower() if isinstance(value, bool) else str(value)
+        types = self.server.types("texts")
+        for name, tags, fields, at in self.server.points("SELECT * FROM /.*/ GROUP BY *", "texts"):
+            told = [(key, types[name, key], str(value).lower() if isinstance(value, bool) else str(value)) for key, value in fields]
+            yield point(name, tags, told, None if is_now(at) else at)
 
     def read(self, text):
-        self.query('DROP DATABASE "texts"')
-        self.query('CREATE DATABASE "texts"')
-        answer = ask(f"{self.address}/write?db=texts&precision=ns", text)
+        self.server.query('DROP DATABASE "texts"')
+        self.server.query('CREATE DATABASE "texts"')
+        answer = self.server.write("texts", text)[1]
         faults = [f"refused: {spelled(cause)}" for cause in causes(json.loads(answer)["error"] if answer else "")]
-        points = self.points()
+        points = list(self.points())
         if not points:
-            keys = [key for series in self.query("SHOW SERIES", db="texts") for key, in series["values"]]
+            keys = [key for series in self.server.query("SHOW SERIES", "texts") for key, in series["values"]]
             faults += [f"the series {spelled(key)}, of which no query finds a field" for key in keys]
         return Reading(points, faults)
 
@@ -381,24 +341,16 @@ class Parser:
 class Victoria:
     """A server of VictoriaMetrics. It keeps numbers, each under the name of its measurement and field. Times are not looked at."""
 
-    def __init__(self, address):
-        self.address = address
+    def __init__(self, server):
+        self.server = server
         self.count = 0
 
     def read(self, text):
         self.count += 1
         name = f"t{self.count}"
-        answer = ask(f"{self.address}/write?db={name}&precision=ns", text)
-        ask(f"{self.address}/internal/force_flush")
-        words = urllib.parse.urlencode({"match[]": f'{{db="{name}"}}', "start": "0", "end": str(2**33)})
-        points = []
-        for line in ask(f"{self.address}/api/v1/export?{words}").split("\n")[:-1]:
-            series = json.loads(line.replace("[+Inf]", "[Infinity]"))
-            labels = series["metric"]
-            del labels["db"]
-            key = labels.pop("__name__")
-            points += [(key, tuple(sorted(labels.items())), "%.12g" % (value + 0.0)) for value in series["values"]]
-        return Reading(points, [f"refused: {spelled(answer)}"] if answer else [])
+        answer = self.server.write(name, text)[1]
+        samples = [each for line in self.server.lines(f'="{name}"') for each in self.server.samples(line, name.__eq__)]
+        return Reading([(*each[:2], "%.12g" % (each.value + 0.0)) for each in samples], [f"refused: {spelled(answer)}"] if answer else [])
 
 
 def stored_by_victoria(points):
@@ -607,38 +559,3 @@ def compare(parts, columns, versions):
     count = sum(map(len, parts.values()))
     names = ", ".join(["lp_relay", *(READERS[name] for name in versions)])
     print(f"interop: {count} texts are read as docs/INTEROP.md says: by {names}")
-
-
-def run(mode, program, words):
-    """Measures, and does what is asked with that."""
-    readers = {name: (version, place) for name, version, place in (word.split("=", 2) for word in words)}
-    versions = {name: version for name, (version, _) in readers.items()}
-    if mode != "" and len(readers) != len(COLUMNS):
-        raise Fault(f"{mode} takes all readers, and there are only: {' '.join(versions)}")
-    columns = {name: COLUMNS[name](place) for name, (_, place) in readers.items()}
-    parts = measured(program, columns)
-    if mode == "--print":
-        print(page_text(parts, versions))
-    elif mode == "--write":
-        before, _, after = parts_of_page()
-        PAGE.write_text(before + page_text(parts, versions) + after, encoding="utf-8")
-        print("interop: docs/INTEROP.md is written")
-    else:
-        compare(parts, columns, versions)
-
-
-def main(words):
-    mode = words.pop(0) if words and words[0] in ("--write", "--print") else ""
-    if not words or words[0].startswith("-"):
-        print(__doc__, file=sys.stderr)
-        return 2
-    try:
-        run(mode, words[0], words[1:])
-    except Fault as fault:
-        print(f"interop: {fault}", file=sys.stderr)
-        return 1
-    return 0
-
-
-if __name__ == "__main__":
-    sys.exit(main(sys.argv[1:]))
