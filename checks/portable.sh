@@ -1,6 +1,6 @@
 #!/usr/bin/env bash
 # Compares the verdicts that rows of the library tell with those of portable.py, which knows no code of it: on each text of
-# portable_rows.txt, and on random hostile ones (verdicts.py).
+# portable_rows.txt, and on random hostile ones. verdicts.py prints the former.
 #
 #     checks/portable.sh                          makes the archive of crates/lp_c first
 #     checks/portable.sh ARCHIVE [COUNT [SEED]]   takes one that was made before; COUNT texts, 100,000 if it is not given
@@ -21,8 +21,30 @@ if [ -z "$archive" ]; then
     . "$here/library.sh"
     build_library lp_c
 fi
+count=${2:-100000}
+seed=${3:-1}
 made=$(mktemp -d)
 trap 'rm -rf "$made"' EXIT
-"${CC:-cc}" -O2 -shared -fPIC "$top/bindings/c/heap.c" -I"$top/include" -Wl,--whole-archive "$archive" -Wl,--no-whole-archive -o "$made/lp_c.so"
+"${CC:-cc}" -O2 -shared -fPIC -I"$top/include" "$top/bindings/c/heap.c" -Wl,--whole-archive "$archive" -Wl,--no-whole-archive -o "$made/lp_c.so"
+
+# compare WHAT ARGUMENTS..: compares the verdicts on the texts that portable.py prints with these arguments.
+compare() {
+    local what=$1 line
+    shift
+    python3 -B "$here/portable.py" "$@" >"$made/texts"
+    python3 -B "$here/portable.py" <"$made/texts" >"$made/wanted"
+    python3 -B "$here/verdicts.py" "$made/lp_c.so" <"$made/texts" >"$made/given"
+    if cmp -s "$made/wanted" "$made/given"; then return; fi
+    line=$(diff --unchanged-line-format= --old-line-format='%dn
+' --new-line-format= "$made/wanted" "$made/given" | head -1)
+    echo "portable: of $what the oracle says $(sed -n "${line}p" "$made/wanted"), the library $(sed -n "${line}p" "$made/given"), of the text" >&2
+    sed -n "${line}p" "$made/texts" | cut -c 1-2000 >&2
+    exit 1
+}
+
 python3 -B "$here/portable.py" --check
-python3 -B "$here/verdicts.py" "$made/lp_c.so" "${@:2}"
+compare "a row" --rows
+rows=$(wc -l <"$made/texts")
+compare "a random text" --random "$seed" "$count"
+echo "portable: the verdicts on $rows rows and on $count random texts of seed $seed are those of the oracle, which says that" \
+    "$(grep -cx 0 "$made/wanted") of these break nothing, and $(grep -cx 1 "$made/wanted") are no lines"
