@@ -1,22 +1,20 @@
 #!/usr/bin/env python3
-"""Compares the verdicts that rows of the library tell, by default limits, with those of portable.py, which knows no code of it: on each text of
-portable_rows.txt, and on random hostile ones. The verdict must say "no line" exactly if the strict reader does not take the text and a
-newline for just one line, and must be the same as the line is read.
+"""Prints the verdict of lp_offsets_verdicts on each text of standard input, a line of hexadecimal digits, by default limits: the bits of the clauses
+that it breaks. A newline at the end of a text is left out. The verdict must say "no line" exactly if the strict reader does not take the text
+and a newline for just one line, and must be the same as the line is read. Status 1: it is not.
 
-    checks/verdicts.py LIBRARY [COUNT [SEED]]
+    checks/verdicts.py LIBRARY
 
-LIBRARY: crates/lp_c as a shared library; checks/portable.sh makes it. COUNT random texts are made from SEED: 100,000 and 1 if they are not given.
+LIBRARY: crates/lp_c as a shared library; checks/portable.sh makes it.
 """
 
-import collections
 import ctypes
 import re
 import struct
 import sys
+from pathlib import Path
 
-import portable
-
-HEADER = (portable.TOP / "include/influxdb_line_protocol.h").read_text(encoding="utf-8")
+HEADER = (Path(__file__).resolve().parent.parent / "include/influxdb_line_protocol.h").read_text(encoding="utf-8")
 LINE, WRITTEN, STRICT = (int(re.search(rf"\b{name} = (\d+)", HEADER)[1]) for name in ("LP_LINE", "LP_WRITTEN", "LP_STRICT"))
 NOT_A_LINE = 1 << int(re.search(r"LP_CLAUSE_NOT_A_LINE +\(UINT64_C\(1\) << (\d+)\)", HEADER)[1])
 # An lp_offset_row, an lp_block, an lp_limits, and how long an lp_offset_part is.
@@ -59,28 +57,16 @@ def verdict_as_read(text):
     return row[VERDICT] if told.value == 1 else -1
 
 
-def compare(what, texts):
-    """Compares the verdicts on some texts, and gives how often each is told."""
-    verdicts = collections.Counter()
-    for text in texts:
-        bare = text.removesuffix(b"\n")
+def main():
+    for number, line in enumerate(sys.stdin, 1):
+        text = bytes.fromhex(line).removesuffix(b"\n")
         try:
-            verdict, read, wanted = verdict_on(bare), verdict_as_read(bare), portable.clauses(text)
-            if verdict != wanted:
-                raise Wrong(f"the oracle says {wanted}, the library {verdict}")
+            verdict, read = verdict_on(text), verdict_as_read(text)
             if read != (None if verdict & NOT_A_LINE else verdict):
                 raise Wrong(f"the verdict is {verdict}, and {read} as it is read")
         except Wrong as wrong:
-            sys.exit(f"portable: of {what} {wrong}, of the text {text[:1000]!r}")
-        verdicts[verdict] += 1
-    return verdicts
+            sys.exit(f"portable: of text {number}: {wrong}")
+        print(verdict)
 
 
-def main(count=100000, seed=1):
-    rows = compare("a row", [row.text() for row in portable.rows()]).total()
-    told = compare("a random text", portable.random_texts(int(seed), int(count)))
-    print(f"portable: the verdicts on {rows} rows and on {count} random texts of seed {seed} are those of the oracle, which says that {told[0]} of "
-          f"these break nothing, and {told[NOT_A_LINE]} are no lines")
-
-
-main(*sys.argv[2:])
+main()
