@@ -293,11 +293,12 @@ class Room:
 
     def told(self, bugs, codes):
         """What the prover prints of the modules of bugs, if the code of their files is this one."""
+        before = {file: read(self.folder / file) for file in codes}
         for file, code in codes.items():
             (self.folder / file).write_text(code, encoding="utf-8")
         told = self.rt(self.folder, "check", "--jobs", "1", *(f"--only={module}" for module in sorted({bug.module for bug in bugs})))
-        for file in codes:
-            shutil.copy(TOP / "crates" / self.folder.name / file, self.folder / file)
+        for file, code in before.items():
+            (self.folder / file).write_text(code, encoding="utf-8")
         return told
 
     def is_proved(self, bugs, codes):

@@ -4,7 +4,7 @@
 #   1. `rt check` proves the crate.
 #   2. `checks/bugs.py --some CRATE` tries bugs of the crate for at most 90 seconds, those that were tried longest ago.
 #   3. Rows. Of `lp_c` and `lp_checks` the archive is built, and `bindings/c/test.sh` or `checks/tables.sh` runs over it. Over any other crate
-#      no archive is proved: the first program that uses the crate, of `programs` below, must print its `stdout` for its `stdin`, unproved.
+#      no archive is proved: the first of `programs` that uses the crate must print its `stdout` for its `stdin`, unproved.
 #   4. `checks/documents.py`.
 #
 # It stops at the first that fails. All other checks, and the proofs of the crates above, are for `./test.sh`.
@@ -12,7 +12,7 @@ set -euo pipefail
 cd "$(dirname "$0")/.."
 . ./launch.sh
 . checks/left_out.sh
-programs="lp_examples lp_relay_program lp_series_program lp_rebuild_program"
+programs=(lp_examples lp_relay_program lp_series_program lp_rebuild_program)
 crate=${1-}
 if [ $# != 1 ] || ! line_of "$crate" >/dev/null; then
     echo "usage: checks/quick.sh CRATE, with a crate of crates.txt" >&2
@@ -20,35 +20,20 @@ if [ $# != 1 ] || ! line_of "$crate" >/dev/null; then
 fi
 need_kit quick && need quick python3 || exit
 
-# in_crate CRATE WORD..: runs rt in the folder of a crate.
-in_crate() (cd "crates/$1" && exec rt "${@:2}")
+# Compares what a program prints for its `stdin` with its `stdout`. The status is that of the comparison, since a program has its own.
+compare() { (cd "crates/$1" && { rt try <stdin || true; } | diff stdout - && echo "quick: $1 prints its stdout"); }
 
-# Prints the first program that uses the crate.
-user() {
-    local program below
-    for program in $programs; do
-        below=()
-        add_below "$program"
-        [[ " ${below[*]} " != *" $crate "* ]] || { echo "$program" && break; }
-    done
-}
+# Whether a program uses the crate.
+uses() (below=() && add_below "$1" && [[ " ${below[*]} " == *" $crate "* ]])
 
-# Compares what a program prints for its `stdin` with its `stdout`. Its status is of no use here: rt has its own.
-compare() {
-    { in_crate "$1" try <"crates/$1/stdin" || true; } | diff "crates/$1/stdout" -
-    echo "quick: $1 prints its stdout"
-}
-
-in_crate "$crate" check </dev/null
+(cd "crates/$crate" && rt check </dev/null)
 checks/bugs.py --some "$crate"
 case $crate in
-lp_c) in_crate lp_c lib </dev/null ;;
-lp_checks) in_crate lp_checks lib </dev/null ;;
-esac
-program=$(user)
-case $crate in
-lp_c) bindings/c/test.sh crates/lp_c/out/liblp_c.a ;;
-lp_checks) ARCHIVES=crates/lp_checks/out checks/tables.sh ;;
-*) if [ -n "$program" ]; then compare "$program"; else left_out "rows of $crate" "no program uses it"; fi ;;
+lp_c) bindings/c/test.sh ;;
+lp_checks) checks/tables.sh ;;
+*)
+    for program in "${programs[@]}" ''; do ! uses "$program" || break; done
+    if [ -n "$program" ]; then compare "$program"; else left_out "rows of $crate" "no program uses it"; fi
+    ;;
 esac
 checks/documents.py
