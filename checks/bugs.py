@@ -334,13 +334,16 @@ class Room:
     def answers(self, bugs):
         """Pairs of a bug and of what the prover says of it, after it has proved the files without bugs."""
         for left in (bugs[at:at + TOGETHER] for at in range(0, len(bugs), TOGETHER)):
+            some = left
             is_proved, told = self.is_proved(left, {})
             if is_proved is False:
                 raise SystemExit(f"{told}\nbugs: {self.folder.name} is not proved without a bug")
             while left:
-                found = dict.fromkeys(self.refused(left), REFUSED) or {left[0]: self.answer(left[0])} if is_proved else dict.fromkeys(left, "NOT TRIED")
+                found = dict.fromkeys(self.refused(some), REFUSED) or {some[0]: self.answer(some[0])} if is_proved else dict.fromkeys(left, "NOT TRIED")
                 yield from found.items()
                 left = [bug for bug in left if bug not in found]
+                # Bugs that wait come before other bugs of the functions for which they wait.
+                some = [bug for bug in first_of_each_function(some)[0] if bug not in found] or left
 
 
 def left_out(what, why):
