@@ -5,14 +5,18 @@
     checks/bugs.py --list               prints each public call with the bugs in its body
     checks/bugs.py --all; CRATE..       tries all rows; those of these crates
     checks/bugs.py --only NAME CRATE    tries one row or one edit
-    checks/bugs.py --some               tries the rows that were tried longest ago, of one or two crates, for ten minutes on one processor
+    checks/bugs.py --some [CRATE]       tries the rows that were tried longest ago: of one or two crates for ten minutes, of this crate for 90 seconds
     checks/bugs.py --record             writes into tables/bugs_tried.tsv which rows were tried here
 
-A try plants a bug in a copy of its crate, and has the prover check the functions of the changed file. If it still proves them, `rt must-fail` tells
-whether it refuses the crate. The status is 1 if it refuses neither, or cannot read the bug. A slow machine tries fewer rows, and fails no try.
+A try plants bugs of different functions in a copy of their crate, and has the prover check the changed files. A bug is refused if its function is,
+by its own proof. Each other bug is tried alone: if the prover still proves the file, `rt must-fail` tells whether it refuses the crate. The status is
+1 if it refuses neither, or cannot read the bug. A slow machine tries fewer rows, and fails no try.
 """
 
+import collections
 import datetime
+import functools
+import itertools
 import os
 import re
 import shutil
@@ -30,11 +34,13 @@ from documents import LIBRARIES, TOP, Tree
 TABLE, TRIED, PENDING = TOP / "tables" / "bugs.tsv", TOP / "tables" / "bugs_tried.tsv", TOP / "out" / "bugs_tried.tsv"
 NEXT = " ⏎ "  # stands between the texts of a row that changes several places
 MOST_OF_A_CRATE, MOST = 12, 120  # how many edits a folder must-fail/ may have, and all of them together
-SECONDS = 600  # how long `--some` may take, on one processor
+SECONDS, SECONDS_OF_ONE = 600, 90  # how long `--some` may take, on one processor, and `--some CRATE`
+TOGETHER = 30  # so many rows are tried, and then recorded
 INNER = r"(?:[^()]|\((?:[^()]|\((?:[^()]|\([^()]*\))*\))*\))*"  # what is between two brackets
 ONE_CALL = re.compile(rf"\s*((?:\w+::)*|self\.)(\w+)\({INNER}\)\s*")
 NOT_PROMISED = "fmt::Debug for "  # nothing is promised of what `{:?}` writes
 REFUSED = "refused"
+WAITS = r"\W*it (?:calls|passes)"  # the prover says no more than this of a function that it does not judge, since it uses a refused one
 ANSWER = re.compile(rf"^rt: must-fail \w+/\w+\.edit: ({REFUSED}|NOT REFUSED|BAD EDIT|NOT TRIED).*$", re.M)
 
 
@@ -46,7 +52,7 @@ class Bug(NamedTuple):
     crate: str
     file: str
     words: str  # what goes wrong
-    changes: list  # pairs of a text of the file, and of the text that replaces it
+    changes: tuple  # pairs of a text of the file, and of the text that replaces it
 
     @property
     def name(self):
@@ -56,15 +62,20 @@ class Bug(NamedTuple):
     def path(self):
         return TOP / "crates" / self.crate / self.file
 
+    @property
+    def module(self):
+        """The module of the file; that of no function if the file has a definition or a proof."""
+        return self.file.replace("src", self.crate, 1).removesuffix(".rt").replace("/", "::") if self.file.endswith(".rt") else ""
+
 
 def bug_of_row(line):
     crate, file, words, old, new = line.split("\t")
-    return Bug(crate, file, words, list(zip(old.split(NEXT), new.split(NEXT), strict=True)))
+    return Bug(crate, file, words, tuple(zip(old.split(NEXT), new.split(NEXT), strict=True)))
 
 
 def bug_of_edit(path):
     text = read(path)
-    return Bug(path.parts[-3], re.search(r"^file: (.*)$", text, re.M)[1], path.stem, re.findall(r"^old: (.*)\nnew: ?(.*)$", text, re.M))
+    return Bug(path.parts[-3], re.search(r"^file: (.*)$", text, re.M)[1], path.stem, tuple(re.findall(r"^old: (.*)\nnew: ?(.*)$", text, re.M)))
 
 
 def rows():
@@ -75,6 +86,15 @@ def rows():
 def edits():
     """The bugs that the gate tries."""
     return [bug_of_edit(path) for path in sorted(TOP.glob("crates/*/must-fail/*.edit"))]
+
+
+def with_bug(code, bug):
+    """The code with a bug; None if a text that the bug replaces is not there once."""
+    for old, new in bug.changes:
+        if code.count(old) != 1:
+            return None
+        code = code.replace(old, new)
+    return code
 
 
 # Can each bug be planted?
@@ -145,6 +165,27 @@ def called_by(caller, functions):
     return [each for each in named if each.path == caller.path] or named
 
 
+@functools.cache
+def body_changed_by(bug):
+    """A pattern of what the prover calls the function whose body has all changes of a bug; None if there is no such function. Types begin with a
+    capital letter there, and modules do not. A closure is told by the name of its function too."""
+    text, functions = read(bug.path), [*functions_in(bug.path)] if bug.module else []
+    places = {tuple(each.name for each in functions if each.start <= text.find(old) < each.start + len(each.body)) for old, _ in bug.changes}
+    name = "".join(places.pop()).rpartition("::")[2] if len(places) == 1 else ""
+    return rf"{bug.module}::(?:fn::)?(?:[A-Z][^\s:]*::)?{name}(?:::\S+)?" if name else None
+
+
+def first_of_each_function(bugs):
+    """The first bug of each function that one of these bugs changes, and the code with all of them, by file. A bug whose text is not there once beside
+    the others comes later."""
+    found, codes = {}, {}
+    for bug in bugs:
+        code = with_bug(codes.get(bug.file) or read(bug.path), bug)
+        if code and (pattern := body_changed_by(bug)) and pattern not in found:
+            found[pattern], codes[bug.file] = bug, code
+    return list(found.values()), codes
+
+
 def bugs_in(functions, bugs):
     """The names of the bugs that change each function."""
     found = {each: [] for each in functions}
@@ -197,12 +238,17 @@ def line_of(found):
     return "\t".join(map(str, found)) + "\n"
 
 
+@functools.cache
+def sources(crate):
+    """The sum of what a crate is made from."""
+    return subprocess.run(["bash", "-c", '. "$0/launch.sh" && sources "$1"', TOP, crate], capture_output=True, text=True, check=True).stdout.split()[0]
+
+
 def note(crate, tried, refused):
     """Keeps how many rows of a crate were tried, and how many of these the prover refused."""
     found = tried_rows()
     date = datetime.datetime.now(datetime.timezone.utc).strftime("%Y-%m-%dT%H:%M")
-    sources = subprocess.run(["bash", "-c", '. "$0/launch.sh" && sources "$1"', TOP, crate], capture_output=True, text=True, check=True).stdout
-    found[crate] = Tried(crate, date, sources.split()[0], tried, refused)
+    found[crate] = Tried(crate, date, sources(crate), tried, refused)
     PENDING.parent.mkdir(exist_ok=True)
     PENDING.write_text("".join(map(line_of, found.values())), encoding="utf-8")
 
@@ -245,24 +291,37 @@ class Room:
             raise Late
         return done.stdout
 
-    def is_proved(self, file):
-        """Whether the functions of a file are proved; None if the prover does not know. And what it prints."""
-        module = file.replace("src", self.folder.name, 1).removesuffix(".rt").replace("/", "::")
-        told = self.rt(self.folder, "check", "--jobs", "1", "--only", module)
+    def told(self, bugs, codes):
+        """What the prover prints of the modules of bugs, if the code of their files is this one."""
+        before = {file: read(self.folder / file) for file in codes}
+        for file, code in codes.items():
+            (self.folder / file).write_text(code, encoding="utf-8")
+        told = self.rt(self.folder, "check", "--jobs", "1", *(f"--only={module}" for module in sorted({bug.module for bug in bugs})))
+        for file, code in before.items():
+            (self.folder / file).write_text(code, encoding="utf-8")
+        return told
+
+    def is_proved(self, bugs, codes):
+        """Whether the functions of the modules of bugs are proved; None if the prover does not know. And what it prints."""
+        told = self.told(bugs, codes)
         if re.search(r"^only=(\d+) proved=\1$", told, re.M):
             return True, told
         return False if re.search(r"^fn \S+: (not proved|no proof)", told, re.M) else None, told
 
+    def refused(self, bugs):
+        """Those of some bugs whose functions the prover refuses by their own proofs, if bugs of different functions are planted together. If a bug does
+        not compile, the prover judges no function: then half of them are tried."""
+        together, codes = first_of_each_function(bugs)
+        if len(together) < 2:
+            return []
+        told = self.told(together, codes)
+        if not re.search("^fn ", told, re.M):
+            return self.refused(together[:len(together) // 2])
+        return [bug for bug in together if re.search(rf"^fn {body_changed_by(bug)}: (not proved|no proof)(?!{WAITS})", told, re.M)]
+
     def answer(self, bug):
-        """What the prover says of a bug. If it does not refuse the functions of the file, it can still refuse a function of another file."""
-        path = self.folder / bug.file
-        code = text = read(path)
-        for old, new in bug.changes:
-            text = text.replace(old, new)
-        path.write_text(text, encoding="utf-8")
-        is_proved = self.is_proved(bug.file)[0]
-        path.write_text(code, encoding="utf-8")
-        if is_proved is False:
+        """What the prover says of one bug. If it does not refuse the functions of the file, it can still refuse a function of another file."""
+        if self.is_proved([bug], {bug.file: with_bug(read(bug.path), bug)})[0] is False:
             return REFUSED
         edit = self.folder / "must-fail" / f"{bug.name}.edit"
         edit.parent.mkdir(exist_ok=True)
@@ -273,15 +332,18 @@ class Room:
         return found[1] if found else "NOT TRIED"
 
     def answers(self, bugs):
-        """What the prover says of bugs, one after the other."""
-        proved = None
-        for bug in bugs:
-            if bug.file != proved:
-                is_proved, told = self.is_proved(bug.file)
-                if is_proved is False:
-                    raise SystemExit(f"{told}\nbugs: {bug.crate}: {bug.file} is not proved without a bug")
-                proved = bug.file if is_proved else None
-            yield self.answer(bug) if proved else "NOT TRIED"
+        """Pairs of a bug and of what the prover says of it, after it has proved the files without bugs."""
+        for left in (bugs[at:at + TOGETHER] for at in range(0, len(bugs), TOGETHER)):
+            some = left
+            is_proved, told = self.is_proved(left, {})
+            if is_proved is False:
+                raise SystemExit(f"{told}\nbugs: {self.folder.name} is not proved without a bug")
+            while left:
+                found = dict.fromkeys(self.refused(some), REFUSED) or {some[0]: self.answer(some[0])} if is_proved else dict.fromkeys(left, "NOT TRIED")
+                yield from found.items()
+                left = [bug for bug in left if bug not in found]
+                # Bugs that wait come before other bugs of the functions for which they wait.
+                some = [bug for bug in first_of_each_function(some)[0] if bug not in found] or left
 
 
 def left_out(what, why):
@@ -291,34 +353,38 @@ def left_out(what, why):
 def try_bugs(crate, first, bugs, end=float("inf")):
     """Tries bugs of a crate, after as many tries of its rows as `first` says; None if they are no rows. Returns how many the prover does not
     refuse."""
-    answers, refused = [], tried_rows()[crate].refused if first else 0
+    found, before = {}, tried_rows()[crate].refused if first else 0
     with tempfile.TemporaryDirectory() as folder:
         try:
-            for bug, answer in zip(bugs, Room(crate, folder, end).answers(bugs)):
+            for bug, answer in Room(crate, folder, end).answers(bugs):
                 print(f"bugs: {crate}: {bug.name}: {answer}", flush=True)
                 if answer == "NOT TRIED":
                     left_out(f"bugs of {crate}", f"a check ended without an answer of {bug.name}")
                     break
-                answers.append(answer)
-                if first is not None:
-                    note(crate, first + len(answers), refused + answers.count(REFUSED))
+                found[bug] = answer
+                in_order = [found[each] for each in itertools.takewhile(found.__contains__, bugs)]
+                if first is not None and in_order:
+                    note(crate, first + len(in_order), before + in_order.count(REFUSED))
         except Late:
-            if not answers:
+            if not found:
                 left_out(f"bugs of {crate}", "the time was over before the first answer")
-    return len(answers) - answers.count(REFUSED)
+    return sum(answer != REFUSED for answer in found.values())
+
+
+def next_rows(crate):
+    """How many tries of rows of a crate there were, and the rows that come next."""
+    bugs, last = [bug for bug in rows() if bug.crate == crate], tried_rows().get(crate)
+    return (last.tried, bugs[last.tried % len(bugs):]) if last and bugs else (0, bugs)
 
 
 def due():
-    """Of each crate all of whose rows were tried its name, how many tries that were, and the rows that are due, the crate that was tried longest
-    ago first. A crate with rows that were never tried is tried by hand first, because such a row may be no bug."""
-    found, known, table = [], tried_rows(), rows()
-    for crate in dict.fromkeys(bug.crate for bug in table):
-        bugs, last = [bug for bug in table if bug.crate == crate], known.get(crate)
-        if last and last.tried >= len(bugs):
-            found.append((last.date, crate, last.tried, bugs[last.tried % len(bugs):]))
-        else:
+    """The crates all of whose rows were tried, the crate that was tried longest ago first. A crate with rows that were never tried is tried by hand
+    first, because such a row may be no bug."""
+    known, count = tried_rows(), collections.Counter(bug.crate for bug in rows())
+    for crate in count:
+        if crate not in known or known[crate].tried < count[crate]:
             left_out(f"bugs of {crate}", "they were not all tried by hand yet")
-    return [it[1:] for it in sorted(found, key=lambda it: it[:1])]
+    return sorted((crate for crate in count if crate in known and known[crate].tried >= count[crate]), key=lambda crate: known[crate].date)
 
 
 def named(name, crate):
@@ -342,9 +408,9 @@ def main(words):
             return 0
         case ["--record"]:
             return record()
-        case ["--some"]:
-            end = time.monotonic() + SECONDS
-            return sum(try_bugs(*crate, end) for crate in due()[:2] if time.monotonic() < end) > 0
+        case ["--some", *only] if len(only) < 2:
+            end = time.monotonic() + (SECONDS_OF_ONE if only else SECONDS)
+            return sum(try_bugs(crate, *next_rows(crate), end) for crate in only or due()[:2] if time.monotonic() < end) > 0
         case ["--only", name, crate]:
             return try_bugs(crate, None, named(name, crate)) > 0
         case crates if {*crates} <= {*known, "--all"}:
