@@ -23,9 +23,7 @@ if [ -z "$archive" ]; then
     . "$here/library.sh"
     build_library lp_c
 fi
-count=${2:-100000}
-seed=${3:-1}
-package=${4-}
+count=${2:-100000} seed=${3:-1} package=${4-}
 if [ -z "$package" ] || [ ! -f "$package/lp_page.wasm" ] || ! "$here/page.sh" --can-run; then
     left_out "brokenClauses by checks/portable.sh" "there is no package for JavaScript, or no Node 20 or later"
     package=
