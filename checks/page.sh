@@ -15,10 +15,7 @@ here=$(cd "$(dirname "$0")" && pwd)
 top=$(dirname "$here")
 . "$here/left_out.sh"
 node=$(node -p 'process.versions.node.split(".")[0]' 2>/dev/null) || node=0
-if [ "${1-}" = --can-run ]; then
-    [ "$node" -ge 20 ]
-    exit
-fi
+[ "${1-}" != --can-run ] || exit $((node < 20))
 flag=--experimental-wasm-memory64
 [ "$node" -lt 24 ] || flag=--no-warnings
 [ "${1-}" != --node ] || exec node "$flag" "${@:2}"

@@ -97,11 +97,6 @@ same([isPortable("m f=1u"), isPortable("m f=1u", "victoria"), isPortable("m f=1i
 const bad = [...parse(Uint8Array.from([109, 32, 102, 61, 49, 10, 109, 32, 0xc3, 0x28, 61, 49, 10, 110, 32, 102, 61, 50]))];
 same(bad.map(it => it.measurement ?? [it.fault, it.line, it.stopColumn]), ["m", ["not_utf8", 2, 3], "n"], "bytes that are not UTF-8");
 throws(() => seriesKey({ measurement: "m", tags: { a: 1 } }), TypeError, "the value of the tag a is no string", "a key of a number");
-// Of LongLabels the series counts as it is spelled, and the field key without its escapes: so crates/lp_portable has it.
-for (const [series, key, wanted] of [
-    [`m,k=${"\\=".repeat(15_997)}`, "f", []], [`m,k=x${"\\=".repeat(15_997)}`, "f", ["LongLabels"]],
-    [`m,k=${"\\=".repeat(15_000)},l=${"x".repeat(1980)}`, "\\,\\=\\ abc".repeat(2), []], [`m,k=${"\\=".repeat(15_000)},l=${"x".repeat(1981)}`, "\\,\\=\\ abc".repeat(2), ["LongLabels"]],
-]) same(brokenClauses(`${series} ${key}=1`), wanted, `labels of ${series.length} and ${key.length} bytes`);
 console.log(`page: ${texts.length} texts as one stream, in ${streams} cuts, ${keys} keys, and what is written and refused`);
 
 // The first program of the page of the package prints what it says.
