@@ -1,56 +1,51 @@
--- What is left where reading stops is an end of the text.
-use Rattle.std.proofs.Common.{◌≡◌, ◌⊎◌, ◌==◌, ℕ, List, [], ◌∷◌, drop, refl, sym, arith, Bool, cond, ℤ, Option, Result, Ok, inl, inr}
+-- What is left of a line where reading stops is an end of the line.
+use Rattle.std.proofs.Common.{◌≡◌, ◌⊎◌, ◌==◌, ℕ, zero, suc, List, [], ◌∷◌, drop, length, refl, arith, Bool, true, false, cond, ℤ, Option, Result, Ok, Err, inl, inr}
 use Rattle.std.proofs.lemmas.Bool.{cases_Bool}
-use Rattle.lp_format.specs.format.{comma, equals, Dialect, Fault, Line, NameKind, Pair, Reading, Text, Value, a_field_key, a_measurement}
-use Rattle.lp_format.specs.format.{answer, fatal, field, miss, reads, spaces, tag, timestamp, value, without_comma, ◌otherwise◌}
-use Rattle.lp_format.specs.format.{Crate, Strict, NewlineDelimited, boolean_at, float_at, integer_at, integer_len, string_at, unsigned_at}
-use Rattle.lp_format.specs.laws.Meanings.{SeparatedAfterComma, SeparatedBy}
-use Rattle.lp_format.specs.laws.MeaningsOfAnswers.{after_spaces, IsAnswer, ReadsFields, ReadsSeries}
-use Rattle.lp_format.specs.laws.MeaningsOfAnswers.IsAnswer.{fatal_measurement, no_measurement, fatal_tag, no_tag, no_space, fatal_field, no_field}
-use Rattle.lp_format.specs.laws.MeaningsOfAnswers.IsAnswer.{fatal_timestamp, left, all_read}
-use Rattle.lp_values.proofs.lemmas.fields.ReadingLemmas.{EndsIn, EndsIn-drop, EndsIn-end, EndsIn-self, name_ends, pair_parts, tag_ends}
-use Rattle.lp_events.specs.code.Stops.{Place, reading_stop}
+use Rattle.lp_format.specs.format.{comma, equals, space, Dialect, Fault, NameKind, Pair, Read, Reading, Text, Value, a_field_key, a_measurement, a_tag_key}
+use Rattle.lp_format.specs.format.{after_comma, byte, fatal, field, miss, name, reads, spaces, tag, timestamp, without_comma}
+use Rattle.lp_format.specs.format.{Crate, Strict, NewlineDelimited, integer_len}
+use Rattle.lp_format.specs.laws.MeaningsOfAnswers.{after_spaces}
+use Rattle.lp_values.proofs.lemmas.fields.ReadingLemmas.{EndsIn, EndsIn-drop, EndsIn-end, EndsIn-self, after_comma_ends, byte_ends, name_ends, tag_ends}
+use Rattle.lp_events.specs.code.Stops.{Place, after, after_time, and_more, fields_stop, is_fatal, last_stop, most, pair_stop, reading_stop, series_stop}
 use Rattle.lp_events.specs.declared.stops.LinePart.{LinePart}
-use Rattle.lp_events.proofs.lemmas.fields.ManyLemmas.{series_ends}
-use Rattle.lp_lines.proofs.lemmas.meanings.AnswerMeaning.{answer_is_by_rows, series_parts}
-use Rattle.lp_portable.proofs.FieldEnds.{field_ends, value_left}
-use Rattle.influxdb_line_protocol.specs.laws.StopLaws.{IsStopByRow, IsStopInField, IsStopInNext, IsStopInPair, IsStopInPair.at_key, IsStopInPair.at_sign}
-use Rattle.influxdb_line_protocol.specs.laws.StopLaws.{IsStopInPair.at_value, IsStopInTag, StopsAreInText}
+use Rattle.lp_portable.proofs.FieldEnds.{field_ends}
+use Rattle.influxdb_line_protocol.specs.laws.StopLaws.{StopsAreInText}
 use Rattle.influxdb_line_protocol.proofs.lemmas.laws.StopRows.{lines_are_read_whole, stops_are_by_rows}
 
--- after a comma
-comma_ends : (text place rest : List ℕ) → text ≡ comma ∷ place → EndsIn place rest → EndsIn text rest
-comma_ends text place rest is h = EndsIn-end text place rest (record { front = comma ∷ []; is = is }) h
+-- If a part reads, an end is left after it, and else here: then an end is left in each case.
+after_ends : {A : Type 0} (text : List ℕ) (r : Reading A) (here : Place) (next : Read A → Place) → EndsIn text here.1
+    → ((x : A) (rest : List ℕ) → r ≡ reads x rest → EndsIn text (next (record { value = x; rest = rest })).1)
+    → EndsIn text (after r here next).1
+after_ends text miss here next h k = h
+after_ends text (fatal e) here next h k = h
+after_ends text (reads x rest) here next h k = k x rest refl
 
--- and in what is left in a pair
-pair_ends : (kind : NameKind) (key value : LinePart) (text : List ℕ) (place : Place) → IsStopInPair kind key value text place
-    → EndsIn text place.1
-pair_ends kind key value text place (at_key none) = EndsIn-self text
-pair_ends kind key value text place (at_sign k last e none) = name_ends kind text k last e
-pair_ends kind key value text place (at_value k last e) =
-    EndsIn-end text (equals ∷ last) last (name_ends kind text k (equals ∷ last) e) (record { front = equals ∷ []; is = refl })
+-- An end is left in either of two places, so it is left in the one that a test chooses.
+cond_ends : (test : Bool) (text : List ℕ) (a b : Place) → EndsIn text a.1 → EndsIn text b.1 → EndsIn text (cond test a b).1
+cond_ends true text a b h k = h
+cond_ends false text a b h k = k
+
+-- where a pair stops
+pair_ends : (kind : NameKind) (key value : LinePart) (text : List ℕ) → EndsIn text (pair_stop kind key value text).1
+pair_ends kind key value text =
+    after_ends text (name kind text) _ _ (EndsIn-self text) (λ k sign e.
+    let named = name_ends kind text k sign e in
+    after_ends text (byte equals sign) _ _ named (λ b last at. EndsIn-end text sign last named (byte_ends equals sign b last at)))
 
 module _ {A : Type 0} (one : List ℕ → Reading A) (ends : (text : List ℕ) (x : A) (rest : List ℕ) → one text ≡ reads x rest → EndsIn text rest) where
-  -- in what is left after parts
-  many_ends : (xs : List A) (text rest : List ℕ) → SeparatedAfterComma one xs text rest → EndsIn text rest
-  many_ends [] text rest h = rw h (EndsIn-self rest)
-  many_ends (x ∷ xs) text rest h =
-      comma_ends text h.0 rest h.2 (EndsIn-end h.0 h.1 rest (ends h.0 x h.1 h.3) (many_ends xs h.1 rest h.4))
+  -- after the most parts
+  most_ends : (n : ℕ) (text : List ℕ) → EndsIn text (most one n text).rest
+  most_ends zero text = EndsIn-self text
+  most_ends (suc n) text = by_first (λ rest. most_ends n rest) (one text) refl
+    where
+      -- by what the first one is read as
+      by_first : ((rest : List ℕ) → EndsIn rest (most one n rest).rest) → (r : Reading A) → one text ≡ r
+          → EndsIn text (and_more r text (λ rest. most one n rest)).rest
+      by_first others miss e = EndsIn-self text
+      by_first others (fatal f) e = EndsIn-self text
+      by_first others (reads x rest) e = EndsIn-end text rest _ (ends text x rest e) (others rest)
 
-  -- that commas join
-  list_ends : (xs : List A) (text rest : List ℕ) → SeparatedBy one xs text rest → EndsIn text rest
-  list_ends [] text rest h = rw h (EndsIn-self rest)
-  list_ends (x ∷ xs) text rest h = EndsIn-end text h.0 rest (ends text x h.0 h.1) (many_ends xs h.0 rest h.2)
-
-  -- and in the next one
-  next_ends : (IsStop : ℕ → List ℕ → Place → Type 0) → ((number : ℕ) (text : List ℕ) (place : Place) → IsStop number text place
-      → EndsIn text place.1) → (xs : List A) (text last : List ℕ) (place : Place) → SeparatedBy one xs text last
-      → IsStopInNext IsStop xs last place → EndsIn text place.1
-  next_ends IsStop in_one [] text last place h k = rw h (in_one 1 last place k)
-  next_ends IsStop in_one (x ∷ xs) text last place h k =
-      EndsIn-end text last place.1 (list_ends (x ∷ xs) text last h) (comma_ends last k.0 place.1 k.1 (in_one _ k.0 place k.2))
-
--- in what is left after spaces
+-- after spaces
 spaces_end : (text : List ℕ) → EndsIn text (after_spaces text)
 spaces_end text = EndsIn-drop (spaces text) text (after_spaces text) refl
 
@@ -83,51 +78,51 @@ time_end text t rest e = elim (time_rest text t rest e) [
       (EndsIn-end number last (after_spaces last) (EndsIn-drop (integer_len number) number last refl) (spaces_end last)))
 ]
 
--- after a series
-series_end : {text : List ℕ} {m : Text} {tags : Option (List (Pair Text Text))} {rest : List ℕ} → ReadsSeries text m tags rest → EndsIn text rest
-series_end {text} {m} {tags} {rest} h =
-    let s = series_parts h in
-    series_ends text m s.after (record { value = tags; rest = rest }) s.named s.set
+-- where reading stops after the fields, also if the timestamp is at fault
+stamp_ends : (text : List ℕ) → EndsIn text (after_time text)
+stamp_ends text = by_stamp (timestamp text) refl
+  where
+    -- by what the timestamp is read as
+    by_stamp : (r : Result (Read (Option ℤ)) Fault) → timestamp text ≡ r → EndsIn text (after_time text)
+    by_stamp (Ok time) e = rw e (time_end text time.value time.rest e)
+    by_stamp (Err f) e = rw e (spaces_end text)
 
-module _ {dialect : Dialect} {text : List ℕ} where
-  -- after the fields
-  fields_end : {line : Line} {rest : List ℕ} → ReadsFields dialect text line rest → EndsIn text rest
-  fields_end {line} {rest} r =
-      let gap = EndsIn-end text r.after_series (after_spaces r.after_series) (record { front = line.series; is = r.series_is }) (spaces_end r.after_series) in
-      let fields = list_ends field field_ends line.fields (after_spaces r.after_series) r.after_fields r.fields_read.longest.separated in
-      let taken = EndsIn-end text r.after_fields (without_comma dialect line.fields r.after_fields)
-      (EndsIn-end text (after_spaces r.after_series) r.after_fields gap fields) (taken_end dialect line.fields r.after_fields) in
-      rw r.rest_is taken
+module _ (dialect : Dialect) where
+  -- where it stops after these fields
+  last_ends : (fields : List (Pair Text (Value Text))) (rest : List ℕ) → EndsIn rest (last_stop dialect fields rest).1
+  last_ends fields rest =
+      let left = without_comma dialect fields rest in
+      let end = EndsIn-end rest left (after_time left) (taken_end dialect fields rest) (stamp_ends left) in
+      after_ends rest (byte comma rest) _ _ end (λ b place at.
+      cond_ends (is_fatal (field place)) rest _ _ (EndsIn-end rest place _ (byte_ends comma rest b place at) (pair_ends a_field_key _ _ place)) end)
 
-  -- in each row
-  row_ends : {a : Result Line Fault} (row : IsAnswer dialect text a) (place : Place) → IsStopByRow row place → EndsIn text place.1
-  row_ends (fatal_measurement e h) place is = rw is (EndsIn-self text)
-  row_ends (no_measurement h) place is = rw is (EndsIn-self text)
-  row_ends (fatal_tag m after tags last e named longest next) place is =
-      EndsIn-end text (comma ∷ after) place.1 (name_ends a_measurement text m (comma ∷ after) named)
-      (comma_ends (comma ∷ after) after place.1 refl
-      (next_ends tag tag_ends IsStopInTag (λ n. pair_ends _ _ _) tags after last place longest.separated is))
-  row_ends (no_tag m after named h) place is =
-      EndsIn-end text (comma ∷ after) place.1 (name_ends a_measurement text m (comma ∷ after) named)
-      (comma_ends (comma ∷ after) after place.1 refl (pair_ends _ _ _ after place is))
-  row_ends (no_space m tags last series gap) place is = rw is.0 (series_end series)
-  row_ends (fatal_field m tags after fields last e series gap longest next) place is =
-      EndsIn-end text after place.1 (series_end series) (EndsIn-end after (after_spaces after) place.1 (spaces_end after)
-      (next_ends field field_ends IsStopInField (λ n. pair_ends _ _ _) fields (after_spaces after) last place longest.separated is))
-  row_ends (no_field m tags after series gap h) place is =
-      EndsIn-end text after place.1 (series_end series)
-      (EndsIn-end after (after_spaces after) place.1 (spaces_end after) (pair_ends _ _ _ (after_spaces after) place is))
-  row_ends (fatal_timestamp line last side number r stamp) place is =
-      rw is (EndsIn-end text last (after_spaces last) (fields_end r) (spaces_end last))
-  row_ends (left line last b more r stamp) place is =
-      rw is.0 (EndsIn-end text last (b ∷ more) (fields_end r) (time_end last line.timestamp (b ∷ more) stamp))
-  row_ends (all_read line last r stamp) place is = rw is.0 (EndsIn-end text last [] (fields_end r) (time_end last line.timestamp [] stamp))
+  -- where it stops from the fields on
+  fields_end : (text : List ℕ) → EndsIn text (fields_stop dialect text).1
+  fields_end text =
+      after_ends text (field text) _ _ (pair_ends a_field_key _ _ text) (λ first rest e.
+      let others = most (after_comma field) (length rest) rest in
+      EndsIn-end text rest _ (field_ends text first rest e)
+      (EndsIn-end rest others.rest _ (most_ends (after_comma field) (after_comma_ends field field_ends) (length rest) rest)
+      (last_ends (first ∷ others.value) others.rest)))
+
+  -- where it stops after the measurement and the tags
+  series_end : (tags : Read (List (Pair Text Text))) → EndsIn tags.rest (series_stop dialect tags).1
+  series_end tags =
+      let rest = tags.rest in
+      after_ends rest (byte comma rest) _ _
+      (after_ends rest (byte space rest) _ _ (EndsIn-self rest) (λ b gap at.
+      EndsIn-end rest (after_spaces rest) _ (spaces_end rest) (fields_end (after_spaces rest))))
+      (λ b place at.
+      cond_ends _ rest _ _ (EndsIn-end rest place _ (byte_ends comma rest b place at) (pair_ends a_tag_key _ _ place)) (EndsIn-self rest))
 
 -- what is left is an end
 pub stops_are_in_text : StopsAreInText
 stops_are_in_text dialect text =
-    let row = (answer_is_by_rows dialect text (answer dialect text)).0 refl in
-    let end = row_ends row (reading_stop dialect text) (stops_are_by_rows dialect text (answer dialect text) row) in
+    let end : EndsIn text (reading_stop dialect text).1 =
+        after_ends text (name a_measurement text) _ _ (EndsIn-self text) (λ m start e.
+        let tags = most (after_comma tag) (length start) start in
+        EndsIn-end text start _ (name_ends a_measurement text m start e)
+        (EndsIn-end start tags.rest _ (most_ends (after_comma tag) (after_comma_ends tag tag_ends) (length start) start) (series_end dialect tags))) in
     (end.front, end.is)
 
 -- what is left at a stop
