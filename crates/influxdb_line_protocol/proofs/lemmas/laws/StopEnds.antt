@@ -119,10 +119,10 @@ module _ (dialect : Dialect) where
 pub stops_are_in_text : StopsAreInText
 stops_are_in_text dialect text =
     let end : EndsIn text (reading_stop dialect text).1 =
-        after_ends text (name a_measurement text) _ _ (EndsIn-self text) (λ m start e.
-        let tags = most (after_comma tag) (length start) start in
-        EndsIn-end text start _ (name_ends a_measurement text m start e)
-        (EndsIn-end start tags.rest _ (most_ends (after_comma tag) (after_comma_ends tag tag_ends) (length start) start) (series_end dialect tags))) in
+    after_ends text (name a_measurement text) _ _ (EndsIn-self text) (λ m start e.
+    let tags = most (after_comma tag) (length start) start in
+    EndsIn-end text start _ (name_ends a_measurement text m start e)
+    (EndsIn-end start tags.rest _ (most_ends (after_comma tag) (after_comma_ends tag tag_ends) (length start) start) (series_end dialect tags))) in
     (end.front, end.is)
 
 -- what is left at a stop
