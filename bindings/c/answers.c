@@ -318,8 +318,8 @@ enum { DIALECTS = COUNT(NAMES), CELLS = 2 + DIALECTS + 1 };
 /* What a thread compares: how many rows of each kind, and answers in each dialect. */
 struct run { size_t rows[COUNT(KINDS)], answers[DIALECTS]; bool is_right; };
 
-/* Rows that are compared after those of the table: a text whose items take more at each step, one whose second line holds copies, and lines
- * with many tags and fields, of which one is at fault after them. */
+/* Rows that are compared after those of the table: a text whose items take more at each step, one whose second line holds copies, one whose
+ * lines both do, and lines with many tags and fields, of which one is at fault after them. */
 #define MANY ",a=1,b=1,c=1,d=1,e=1,f=1,g=1,h=1,i=1 a=1,b=1,c=1,d=1,e=1"
 #define MANY_SHOWN "S<m>,S<a>=S<1>,S<b>=S<1>,S<c>=S<1>,S<d>=S<1>,S<e>=S<1>,S<f>=S<1>,S<g>=S<1>,S<h>=S<1>,S<i>=S<1>" \
     " S<a>=f<1> S<b>=f<1> S<c>=f<1> S<d>=f<1> S<e>=f<1>"
@@ -329,6 +329,7 @@ static const char MORE[] =
     "items\tc\\\\ pu,h\\\\=ost=A\\\\ B,zone=w msg=\"a\\\\\"b\",up=t 5\\nm 5\\n\\nm f=99999999999999999999i\\n# a comment\\nm f=1 rest\\nlast f=1"
     STEPS_SHOWN STEPS_SHOWN STEPS_SHOWN "\n"
     "items\tm f=1\\nc\\\\ pu,h\\\\=ost=A\\\\ B s=\"\\\\\"q\"\tS<m> S<f>=f<1>|C<c pu>,C<h=ost>=C<A B> S<s>=C<\"q>\n"
+    "items\tc\\\\ pu f=1\\nm\\\\ em f=1\tC<c pu> S<f>=f<1>|C<m em> S<f>=f<1>\n"
     "items\tm" MANY "\\nm" MANY " rest\t" MANY_SHOWN "|rest < rest>\n";
 
 static lp_text table;
