@@ -219,7 +219,7 @@ run_both() {
 # The programs that test the library from C, over the unpacked library: all over the static one, and two over the shared one.
 build_c() {
     local program folder=$work/root/usr/lib/$cross answers=$top/checks/tables/answers.tsv
-    for program in example sums answers lending offsets verdicts cuts writing numbers; do
+    for program in example sums answers offsets cuts writing numbers; do
         "$cross-gcc" "${c_flags[@]}" -DLP_REFUSE "$top"/bindings/c/{"$program",heap,empty}.c "$folder/libinfluxdb_line_protocol.a" -o "$work/$program"
         "${emulated[@]}" "$work/$program" "$answers" >"$work/out" || fail "$program.c over the static library says: $(cat "$work/out")"
         [ ! -e "$top/bindings/c/$program.out" ] || same "what $program.c prints" "$top/bindings/c/$program.out" "$work/out"
@@ -228,7 +228,7 @@ build_c() {
         "$cross-gcc" "${c_flags[@]}" "$top/bindings/c/$program.c" -L"$folder" -linfluxdb_line_protocol -o "$work/$program"
         "${emulated[@]}" -E LD_LIBRARY_PATH="$folder" "$work/$program" "$answers" >"$work/out" || fail "$program.c over the shared library says: $(cat "$work/out")"
     done
-    told+=("11 programs in C, and $(cat "$work/out")")
+    told+=("9 programs in C, and $(cat "$work/out")")
 }
 
 # The tests of the module for Go, over the packed module.

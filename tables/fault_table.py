@@ -253,16 +253,13 @@ def of_bindings():
 
 def of_checks():
     """The stretches of tests and checks."""
-    yield Place("bindings/c/answers.c", ("static void put_fault", "        [LP_NONE]"), "    }", each_kind('        [LP_{upper}] = "{row}",', NUMBERED))
-    told = [(fault, carried, f"{fault.front}{said if fault.member else ''}{fault.back}".replace('"', '\\"')) for fault in NUMBERED
-            for carried, said in (("text", r"q\xc3\xa9"), ("none", ""))]
-    yield Place("bindings/c/writing.c", ("static bool are_messages", "    bool good"), "    return", [
-        f'    good &= has_message(LP_{fault.upper}, {carried}, "{text}");' for fault, carried, text in told])
+    yield Place("bindings/c/tests.h", ("static inline void put_fault", "    static const char"), "    }", wrapped(
+        ['"no fault"', *(f'"{fault.row}"' for fault in NUMBERED)], "        "))
+    rows = ["{}, {}".format(*('"' + text.replace('"', '\\"') + '"' for text in (fault.front, fault.back))) if fault.member
+            else f'"{fault.front}", NULL' for fault in NUMBERED]
+    yield Place("bindings/c/writing.c", ("static bool are_messages", "    static const struct"), "    };", [
+        f"        {{ LP_{fault.upper}, {row} }}," for fault, row in zip(NUMBERED, rows)])
     yield Place("bindings/c/writing.c", ("static bool are_no_messages",), "    const lp_text", [f"    const uint32_t next = LP_{NUMBERED[-1].upper} + 1;"])
-    yield Place("bindings/c/ranges.cpp", ("static std::string fault(", "    switch"), "    default", each(
-        '    case LP_{upper}: return "{row}";', [fault for fault in OF_LINES if fault.carries != "kind"],
-        number='    case LP_{upper}: return number("{row}", item);',
-        rest="    case LP_{upper}: return \"{row} <\" + std::string(lp::view(item.fault_text)) + '>';"))
     yield Place("checks/page/answers.mjs", ("    const faults = {",), "    }", each_kind('        {kind}: "{row}",', OF_LINES))
     yield Place("checks/page/in_chromium.mjs", ("    const faults = {",), "    }", each_kind('        {row}: "{kind}",', OF_LINES))
     yield Place("checks/rows.h", ("    static const char *const NAMES[]",), "    }", wrapped(

@@ -1,12 +1,7 @@
 /* Cuts texts that come in parts of each length, compares their cuts with those of the whole text, and sees that pieces are told that
  * are too long, that a search that was not begun touches nothing else, and that no request for memory is made. Compile heap.c
  * with -DLP_REFUSE. */
-#include "influxdb_line_protocol.h"
-#include <stdio.h>
-#include <stdlib.h>
-#include <string.h>
-
-extern long lp_requests;
+#include "tests.h"
 
 static const char *const TEXTS[] = {
     "", "\n\n", "m f=1\nn f=2", "m f=\"a\nb\"\nn f=2\n", "m\\\nn f=\"\\\"\n\\\\\" 5\nn f=2", "m f=\"a\n\nb", "m a,b=\"\n",
@@ -54,7 +49,7 @@ static bool reads_file(const char *text, size_t room) {
     lp_view piece = LP_NO_VIEW;
     struct taken taken = { 0, 0 };
     size_t pieces = 0, bytes = 0;
-    uint8_t *buffer = malloc(room);
+    uint8_t *buffer = lend(room);
     FILE *file = tmpfile();
     if (!file || !lp_lines_begin((const uint8_t *)text, strlen(text), LP_CRATE, &lines)) return false;
     while (lp_lines_piece(&lines, &piece)) {
@@ -77,8 +72,7 @@ static size_t cut_in_parts(const char *text, size_t len, size_t most, uint32_t d
     lp_cuts_begin(dialect, SIZE_MAX, &cuts);
     while (at < len) {
         size_t part_len = len - at < most ? len - at : most;
-        uint8_t *part = malloc(part_len);
-        memcpy(part, text + at, part_len);
+        uint8_t *part = copy_of(text + at, part_len);
         uint32_t answer = lp_cuts_next(&cuts, part, part_len, &cut);
         free(part);
         if (answer == LP_PIECE) places[count++] = at + cut;
@@ -88,25 +82,16 @@ static size_t cut_in_parts(const char *text, size_t len, size_t most, uint32_t d
     return count;
 }
 
-/* Whether a text has just these cuts. */
-static bool has_cuts(const char *text, size_t len, uint32_t dialect, const size_t *places, size_t count) {
-    lp_lines lines = LP_NO_LINES;
-    lp_view piece = LP_NO_VIEW;
-    if (!lp_lines_begin((const uint8_t *)text, len, dialect, &lines)) return false;
-    for (size_t n = 0; n < count; n++) {
-        if (!lp_lines_piece(&lines, &piece) || piece.text.at + piece.text.len != (const uint8_t *)text + places[n]) return false;
-    }
-    return lp_lines_piece(&lines, &piece) && !lp_lines_piece(&lines, &piece);
-}
-
 /* Whether parts of each length have the cuts of the whole text. */
 static bool equals_whole(const char *text, uint32_t dialect) {
-    size_t len = strlen(text), places[32];
-    for (size_t most = 1; most <= len; most++) {
-        size_t count = cut_in_parts(text, len, most, dialect, places);
-        if (count == SIZE_MAX || !has_cuts(text, len, dialect, places, count)) return false;
-    }
-    return true;
+    size_t len = strlen(text), places[32], wanted[32], pieces = 0;
+    lp_lines lines = LP_NO_LINES;
+    lp_view piece = LP_NO_VIEW;
+    bool good = lp_lines_begin((const uint8_t *)text, len, dialect, &lines);
+    while (lp_lines_piece(&lines, &piece)) wanted[pieces++] = (size_t)(piece.text.at + piece.text.len - (const uint8_t *)text);
+    for (size_t most = 1; most <= len; most++)
+        good = good && cut_in_parts(text, len, most, dialect, places) + 1 == pieces && !memcmp(places, wanted, (pieces - 1) * sizeof *places);
+    return good;
 }
 
 /* Whether a call answers so. */
@@ -133,7 +118,7 @@ static bool refuses_uncounted(void) {
 
 /* Whether searches that were never begun, over a text that none of them knows, answer some place of it. */
 static bool is_safe_forged(void) {
-    const char *text = TEXTS[sizeof TEXTS / sizeof *TEXTS - 1];
+    const char *text = TEXTS[COUNT(TEXTS) - 1];
     size_t len = strlen(text);
     for (uint32_t n = 0; n < 4096; n++) {
         lp_cuts cuts = { n & 1 ? SIZE_MAX : n, n % 5 * (SIZE_MAX / 8), n * 77777, SIZE_MAX - n, n % 4, n / 4 % 4, n / 32 % 4,
@@ -146,7 +131,7 @@ static bool is_safe_forged(void) {
 }
 
 int main(void) {
-    size_t count = sizeof TEXTS / sizeof *TEXTS;
+    size_t count = COUNT(TEXTS);
     for (size_t n = 0; n < count; n++) {
         bool is_read = reads_file(TEXTS[n], 1) && reads_file(TEXTS[n], 8) && reads_file(TEXTS[n], 200);
         bool is_cut = equals_whole(TEXTS[n], LP_CRATE) && equals_whole(TEXTS[n], LP_STRICT) && equals_whole(TEXTS[n], LP_NEWLINE_DELIMITED);

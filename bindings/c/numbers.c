@@ -1,12 +1,13 @@
 /* Compares the numbers of literals of floats with the doubles that are nearest to them: of worked literals these are written out in
  * hexadecimal, of others strtod gives them. What is no literal has no number. Compile heap.c with -DLP_REFUSE. */
-#include "influxdb_line_protocol.h"
+#include "tests.h"
 #include <math.h>
-#include <stdio.h>
-#include <stdlib.h>
-#include <string.h>
 
-extern long lp_requests;
+/* Half way between the greatest double and the one that would follow it, without its last digit. */
+#define HALF "1797693134862315807937289714053034150799341327100378269361737789804449682927647509466490179775872070" \
+    "9633028641669288791094655554785194040263065748867150582068190890200070838367627385484581771153176447" \
+    "5730270069855571366959622842914819860834936475292719074168444365510704342711559699508093042880177904" \
+    "17449779"
 
 /* Worked literals: the bounds of the doubles and of those with fewer digits, what is half way between two, and what is just beside. */
 static const struct row { const char *text; double value; } ROWS[] = {
@@ -14,14 +15,7 @@ static const struct row { const char *text; double value; } ROWS[] = {
     { "1e+2", 100.0 }, { "1E-2", 0x1.47ae147ae147bp-7 }, { "0.1", 0x1.999999999999ap-4 }, { "0.3", 0x1.3333333333333p-2 },
     { "1e308", 0x1.1ccf385ebc8ap+1023 }, { "1.7976931348623157e308", 0x1.fffffffffffffp+1023 },
     { "1.7976931348623158e308", 0x1.fffffffffffffp+1023 },
-    { "1797693134862315807937289714053034150799341327100378269361737789804449682927647509466490179775872070"
-      "9633028641669288791094655554785194040263065748867150582068190890200070838367627385484581771153176447"
-      "5730270069855571366959622842914819860834936475292719074168444365510704342711559699508093042880177904"
-      "174497792", INFINITY },
-    { "1797693134862315807937289714053034150799341327100378269361737789804449682927647509466490179775872070"
-      "9633028641669288791094655554785194040263065748867150582068190890200070838367627385484581771153176447"
-      "5730270069855571366959622842914819860834936475292719074168444365510704342711559699508093042880177904"
-      "174497791.99", 0x1.fffffffffffffp+1023 },
+    { HALF "2", INFINITY }, { HALF "1.99", 0x1.fffffffffffffp+1023 },
     { "1.7976931348623159e308", INFINITY }, { "1e400", INFINITY }, { "-1e400", -INFINITY },
     { "2.2250738585072014e-308", 0x1p-1022 }, { "2.2250738585072011e-308", 0x0.fffffffffffffp-1022 },
     { "4.9406564584124654e-324", 0x1p-1074 }, { "5e-324", 0x1p-1074 }, { "2.4703282292062328e-324", 0x1p-1074 },
@@ -41,32 +35,18 @@ static const char *const NONE[] = {
     "--1", "1.2.3", "1e5.0", "\xc3\xa9", "1\xff", "\xff",
 };
 
-static bool is_same(double a, double b) {
-    return memcmp(&a, &b, sizeof a) == 0;
-}
-
-/* The number of a literal in a block of just its length, so that the address sanitizer sees what is read past it. */
-static bool number_of(const char *text, size_t len, double *value) {
-    uint8_t *copy = malloc(len > 0 ? len : 1);
-    memcpy(copy, text, len);
-    bool is_literal = lp_float_value(copy, len, value);
-    free(copy);
-    return is_literal;
-}
-
-static bool has_number(const char *text, size_t len, double wanted) {
+/* Whether a text, in a block of just its length, has this number, or none: then the value is as it was. */
+static bool has(const char *text, size_t len, bool is_literal, double wanted) {
     double value = 77.0;
-    bool good = number_of(text, len, &value) && is_same(value, wanted);
+    uint8_t *copy = copy_of(text, len);
+    bool good = lp_float_value(copy, len, &value) == is_literal && memcmp(&value, &wanted, sizeof value) == 0;
+    free(copy);
     if (!good) printf("%.*s is %a, and not %a; ", (int)len, text, value, wanted);
     return good;
 }
 
-static bool has_none(const char *text, size_t len) {
-    double value = 77.0;
-    bool good = !number_of(text, len, &value) && is_same(value, 77.0);
-    if (!good) printf("<%.*s> is no literal; ", (int)len, text);
-    return good;
-}
+static bool has_number(const char *text, size_t len, double wanted) { return has(text, len, true, wanted); }
+static bool has_none(const char *text, size_t len) { return has(text, len, false, 77.0); }
 
 static uint64_t drawn = 88172645463325252u;
 
@@ -104,9 +84,9 @@ static bool are_ties_right(char *out) {
 int main(void) {
     static char text[4096];
     bool good = true;
-    size_t rows = sizeof ROWS / sizeof ROWS[0], count = 100000, ties = 2000;
+    size_t rows = COUNT(ROWS), count = 100000, ties = 2000;
     for (size_t at = 0; at < rows; at++) good &= has_number(ROWS[at].text, strlen(ROWS[at].text), ROWS[at].value);
-    for (size_t at = 0; at < sizeof NONE / sizeof NONE[0]; at++) good &= has_none(NONE[at], strlen(NONE[at]));
+    for (size_t at = 0; at < COUNT(NONE); at++) good &= has_none(NONE[at], strlen(NONE[at]));
     good &= has_none("1\0", 2) & has_none("1\n", 2);
     for (size_t at = 0; at < count; at++) {
         size_t len = draw_literal(text);

@@ -2,6 +2,7 @@
  * dialect; writes each line that can be read, and reads it back; and sees what comes of what is empty, of bytes that are not UTF-8 and of
  * an end without more lent, and that a range takes no memory. */
 #include "influxdb_line_protocol.hpp"
+#include "tests.h"
 #include <algorithm>
 #include <array>
 #include <cstdio>
@@ -32,22 +33,12 @@ static std::string value(const lp_part &part) {
     }
 }
 
-static std::string number(const char *what, const lp::item &item) {
-    return std::string(what) + (item.side == LP_ABOVE ? " Above <" : " Below <") + std::string(lp::view(item.fault_text)) + '>';
-}
-
 static std::string fault(const lp::item &item) {
-    switch (item.fault) {
-    case LP_MEASUREMENT_VALUE_INVALID: return "MeasurementValueInvalid";
-    case LP_FIELD_SET_MISSING: return "FieldSetMissing";
-    case LP_INTEGER_VALUE_INVALID: return number("IntegerValueInvalid", item);
-    case LP_UINTEGER_VALUE_INVALID: return number("UIntegerValueInvalid", item);
-    case LP_TIMESTAMP_VALUE_INVALID: return number("TimestampValueInvalid", item);
-    case LP_ENDS_WITH_BACKSLASH: return "EndsWithBackslash";
-    case LP_CANNOT_PARSE_ENTIRE_LINE: return "rest <" + std::string(lp::view(item.fault_text)) + '>';
-    case LP_TAG_SET_MALFORMED: return "TagSetMalformed";
-    default: return "TakeWhile1";
-    }
+    text out = {nullptr, 0, 0};
+    put_fault(&out, &item);
+    std::string said(reinterpret_cast<const char *>(out.at), out.len);
+    std::free(out.at);
+    return said;
 }
 
 static std::string shown(const lp::item &item) {

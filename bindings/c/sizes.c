@@ -3,10 +3,7 @@
  * here, by the rules of docs/FORMAT.md. Each block that is lent has just the length that is needed. Then it reads and cuts a million
  * short lines, and sees that the time of each call grows as the text does. */
 #include "../../checks/growth.h"
-#include "influxdb_line_protocol.h"
-#include <stdio.h>
-#include <stdlib.h>
-#include <string.h>
+#include "tests.h"
 
 enum { LONGEST = 1048577 };
 enum order { RISING, FALLING, REPEATED };
@@ -16,9 +13,6 @@ enum order { RISING, FALLING, REPEATED };
  * the first. */
 struct shape { size_t bytes, tags, fields; bool stamped, escaped; enum order order; };
 
-/* A text that is composed. */
-struct text { uint8_t *at; size_t len, room; };
-
 /* What is lent to read two lines. */
 struct lent { lp_row rows[2]; lp_part *parts; uint8_t *bytes; };
 
@@ -26,18 +20,6 @@ static bool must(bool holds, const char *what, const struct shape *shape) {
     if (!holds) fprintf(stderr, "sizes: %s is wrong: %zu bytes, %zu tags, %zu fields, stamped %d, escaped %d, order %d\n", what,
                         shape->bytes, shape->tags, shape->fields, shape->stamped, shape->escaped, (int)shape->order);
     return holds;
-}
-
-static void *lend(void *old, size_t size) {
-    void *new = realloc(old, size ? size : 1);
-    if (!new) abort();
-    return new;
-}
-
-static void put(struct text *text, const void *bytes, size_t len) {
-    if (text->room - text->len < len) text->at = lend(text->at, text->room = 2 * text->room + len);
-    memcpy(text->at + text->len, bytes, len);
-    text->len += len;
 }
 
 /* The name or string of this kind and number: letters, and six digits at the end where it is longer than they are. */
@@ -90,19 +72,18 @@ static void put_series(struct text *text, const struct shape *shape, bool spelle
 
 /* Puts a line: its series; its fields, by turns a string, in these quotes, and an integer; and a timestamp, if it has one. */
 static void put_line(struct text *text, const struct shape *shape, const char *quote) {
-    char integer[32];
     put_series(text, shape, true);
     for (size_t at = 0; at < shape->fields; at++) {
         put(text, at ? "," : " ", 1);
         put_name(text, shape, 'f', at, true);
         put(text, "=", 1);
         if (at % 2) {
-            put(text, integer, (size_t)snprintf(integer, sizeof integer, "-%zui", at));
+            say(text, "-%zui", at);
             continue;
         }
-        put(text, quote, strlen(quote));
+        say(text, "%s", quote);
         put_name(text, shape, 's', at, true);
-        put(text, quote, strlen(quote));
+        say(text, "%s", quote);
     }
     if (shape->stamped) put(text, " -7", 3);
 }
@@ -115,21 +96,16 @@ static bool shows(const lp_view *view, const struct shape *shape, char kind, siz
            memcmp(view->text.at, name_of(shape, kind, number), shape->bytes) == 0;
 }
 
-static bool shows_tags(const lp_part *parts, const struct shape *shape) {
+static bool shows_parts(const lp_part *parts, const struct shape *shape) {
     bool good = true;
     for (size_t at = 0; at < shape->tags; at++) {
         size_t number = tag_number(shape, at);
         good &= parts[at].kind == LP_TAG && shows(&parts[at].key, shape, 'k', number) && shows(&parts[at].text, shape, 'v', number);
     }
-    return good;
-}
-
-static bool shows_fields(const lp_part *parts, const struct shape *shape) {
-    bool good = true;
+    parts += shape->tags;
     for (size_t at = 0; at < shape->fields; at++) {
-        good &= shows(&parts[at].key, shape, 'f', at);
-        if (at % 2) good &= parts[at].kind == LP_INTEGER && parts[at].integer == -(int64_t)at;
-        else good &= parts[at].kind == LP_STRING && shows(&parts[at].text, shape, 's', at);
+        good &= shows(&parts[at].key, shape, 'f', at) && parts[at].kind == (at % 2 ? LP_INTEGER : LP_STRING);
+        good &= at % 2 ? parts[at].integer == -(int64_t)at : shows(&parts[at].text, shape, 's', at);
     }
     return good;
 }
@@ -137,7 +113,7 @@ static bool shows_fields(const lp_part *parts, const struct shape *shape) {
 static bool shows_line(const lp_line *line, const lp_part *parts, const struct shape *shape) {
     return line->tags == shape->tags && line->fields == shape->fields && line->has_tag_set == (shape->tags > 0) &&
            line->has_timestamp == shape->stamped && line->timestamp == (shape->stamped ? -7 : 0) &&
-           shows(&line->measurement, shape, 'm', 0) && shows_tags(parts, shape) && shows_fields(parts + shape->tags, shape);
+           shows(&line->measurement, shape, 'm', 0) && shows_parts(parts, shape);
 }
 
 /* Reads the line by itself, with nothing lent, then a byte too little, then just enough. */
@@ -150,9 +126,9 @@ static bool reads_next(const struct text *text, const struct shape *shape, struc
     lp_room room = { lent->bytes, 0 };
     good &= must(lp_lines_next(&lines, &room, line, lent->parts, 0) == LP_MORE_PARTS, "LP_MORE_PARTS", shape);
     good &= must(line->tags + line->fields == parts_len && line->copied_len == copied, "how much a line takes", shape);
-    lent->parts = lend(lent->parts, 2 * parts_len * sizeof *lent->parts);
+    free(lent->parts), free(lent->bytes);
+    lent->parts = lend(2 * parts_len * sizeof *lent->parts), lent->bytes = lend(2 * copied);
     lp_empty_parts(lent->parts, 2 * parts_len);
-    lent->bytes = lend(lent->bytes, 2 * copied);
     room = (lp_room){ lent->bytes, copied ? copied - 1 : 0 };
     if (copied) good &= must(lp_lines_next(&lines, &room, line, lent->parts, parts_len) == LP_MORE_ROOM, "LP_MORE_ROOM", shape);
     room = (lp_room){ lent->bytes, copied };
@@ -174,32 +150,28 @@ static bool reads_block(const struct text *twice, const struct shape *shape, str
     return good & must(shows_line(&lent->rows[1].line, lent->parts + parts_len, shape), "the second row", shape);
 }
 
-/* Reads a fault whose text has so many bytes. */
+/* Reads a fault whose text has so many bytes, with a byte too little lent, and with just enough. */
 static bool reads_fault(const struct shape *shape) {
+    const size_t len = shape->bytes + 1;
     struct text text = { NULL, 0, 0 };
     lp_lines lines = LP_NO_LINES;
     lp_line line = LP_EMPTY_LINE;
-    lp_part part;
-    uint8_t *bytes = lend(NULL, shape->bytes + 1);
-    lp_room room = { bytes, shape->bytes };
-    lp_empty_parts(&part, 1);
-    put(&text, "m f=t ", 6);
+    lp_part part = LP_EMPTY_PART;
+    uint8_t *bytes = lend(len);
+    say(&text, "m f=t ");
     put(&text, name_of(shape, 'm', 0), shape->bytes);
     bool good = must(lp_lines_begin(text.at, text.len, LP_CRATE, &lines), "lp_lines_begin", shape);
-    good &= must(lp_lines_next(&lines, &room, &line, &part, 1) == LP_MORE_ROOM, "a fault without room", shape);
-    room.len = shape->bytes + 1;
-    good &= must(lp_lines_next(&lines, &room, &line, &part, 1) == LP_FAULT, "a fault", shape);
-    good &= must(line.fault == LP_CANNOT_PARSE_ENTIRE_LINE && line.fault_text.len == shape->bytes + 1 &&
-                 memcmp(line.fault_text.at, text.at + 5, shape->bytes + 1) == 0, "the text of a fault", shape);
+    good &= must(lp_lines_next(&lines, &(lp_room){ bytes, len - 1 }, &line, &part, 1) == LP_MORE_ROOM, "a fault without room", shape);
+    good &= must(lp_lines_next(&lines, &(lp_room){ bytes, len }, &line, &part, 1) == LP_FAULT, "a fault", shape);
+    good &= must(line.fault == LP_CANNOT_PARSE_ENTIRE_LINE && line.fault_text.len == len &&
+                 memcmp(line.fault_text.at, text.at + 5, len) == 0, "the text of a fault", shape);
     free(bytes);
     free(text.at);
     return good;
 }
 
-typedef uint32_t writer(const lp_line *, const lp_part *, size_t, uint8_t *, size_t, size_t *);
-
 /* lp_line_write by the strict rules. */
-static uint32_t write_line(const lp_line *line, const lp_part *parts, size_t parts_len, uint8_t *out, size_t room, size_t *len) {
+static uint32_t write_strict(const lp_line *line, const lp_part *parts, size_t parts_len, uint8_t *out, size_t room, size_t *len) {
     return lp_line_write(LP_STRICT, line, parts, parts_len, out, room, len);
 }
 
@@ -208,7 +180,7 @@ static bool puts_out(writer *write, const struct lent *lent, uint32_t wanted, co
                      const struct shape *shape) {
     const lp_line *line = &lent->rows[0].line;
     const size_t parts_len = shape->tags + shape->fields;
-    uint8_t *out = lend(NULL, text->len);
+    uint8_t *out = lend(text->len);
     size_t len = 77;
     bool good = write(line, lent->parts, parts_len, out, text->len - 1, &len) == LP_MORE_ROOM && len == text->len;
     len = 77;
@@ -218,67 +190,44 @@ static bool puts_out(writer *write, const struct lent *lent, uint32_t wanted, co
     return must(good, what, shape);
 }
 
-static bool puts_line(const struct text *written, const struct shape *shape, const struct lent *lent) {
-    struct text shown = { NULL, 0, 0 };
-    put_line(&shown, shape, "");
-    bool good = puts_out(write_line, lent, LP_WRITTEN, written, "lp_line_write", shape);
-    good &= puts_out(lp_line_show, lent, LP_WRITTEN, &shown, "lp_line_show", shape);
-    free(shown.at);
-    return good;
-}
-
-/* Says of the measurement and of each tag that it is a copy. */
-static void say_copied(struct lent *lent, const struct shape *shape) {
+/* Puts out the line; the base, as the line spells it, where the keys rise and no text is a copy, or without escapes, in the order of the keys;
+ * the base of a line whose measurement and tags are said to be copies; and the key, with its escapes, in the order of the keys, of which the
+ * repeated one has its two tags. */
+static bool puts_all(const struct text *written, const struct shape *shape, struct lent *lent) {
+    enum { SHOWN, KEY, BASE, UNESCAPED, OUTS };
+    struct text outs[OUTS] = { { NULL, 0, 0 } };
+    const uint32_t wanted = shape->order == REPEATED ? LP_FAULT : LP_WRITTEN;
+    put_line(&outs[SHOWN], shape, "");
+    put_tags(&outs[KEY], shape, true, sorted_number);
+    if (shape->order == REPEATED) put_name(&outs[UNESCAPED], shape, 'k', 0, false);
+    else put_series(&outs[UNESCAPED], shape, false);
+    if (shape->order == RISING && !has_copies(shape)) put_series(&outs[BASE], shape, true);
+    else put(&outs[BASE], outs[UNESCAPED].at, outs[UNESCAPED].len);
+    bool good = puts_out(write_strict, lent, LP_WRITTEN, written, "lp_line_write", shape);
+    good &= puts_out(lp_line_show, lent, LP_WRITTEN, &outs[SHOWN], "lp_line_show", shape);
+    good &= puts_out(lp_line_base, lent, wanted, &outs[BASE], "lp_line_base", shape);
+    good &= puts_out(lp_line_key, lent, LP_WRITTEN, &outs[KEY], "lp_line_key", shape);
     lent->rows[0].line.measurement.copied = true;
     for (size_t at = 0; at < shape->tags; at++) lent->parts[at].key.copied = lent->parts[at].text.copied = true;
-}
-
-/* The base: as the line spells it, where the keys rise and no text is a copy; or without escapes, in the order of the keys. */
-static bool puts_base(const struct shape *shape, struct lent *lent) {
-    struct text base = { NULL, 0, 0 }, unescaped = { NULL, 0, 0 };
-    uint32_t wanted = shape->order == REPEATED ? LP_FAULT : LP_WRITTEN;
-    if (shape->order == REPEATED) put_name(&unescaped, shape, 'k', 0, false);
-    else put_series(&unescaped, shape, false);
-    if (shape->order == RISING && !has_copies(shape)) put_series(&base, shape, true);
-    else put(&base, unescaped.at, unescaped.len);
-    bool good = puts_out(lp_line_base, lent, wanted, &base, "lp_line_base", shape);
-    say_copied(lent, shape);
-    good &= puts_out(lp_line_base, lent, wanted, &unescaped, "lp_line_base of copies", shape);
-    free(base.at);
-    free(unescaped.at);
+    good &= puts_out(lp_line_base, lent, wanted, &outs[UNESCAPED], "lp_line_base of copies", shape);
+    for (size_t at = 0; at < OUTS; at++) free(outs[at].at);
     return good;
 }
 
-/* The key: with its escapes, in the order of the keys, of which the repeated one has its two tags. */
-static bool puts_key(const struct shape *shape, const struct lent *lent) {
-    struct text key = { NULL, 0, 0 };
-    put_tags(&key, shape, true, sorted_number);
-    bool good = puts_out(lp_line_key, lent, LP_WRITTEN, &key, "lp_line_key", shape);
-    free(key.at);
-    return good;
-}
-
-/* Whether a line is told not to be admitted, and is not written. */
-static bool is_refused(const lp_line *line, const lp_part *parts, size_t parts_len) {
-    bool admitted = true;
-    size_t len = 77;
-    uint8_t out = '~';
-    bool good = lp_line_is_admitted(LP_CRATE, line, parts, parts_len, &admitted) == LP_WRITTEN && !admitted;
-    return good && write_line(line, parts, parts_len, &out, 1, &len) == LP_NOT_ADMITTED && len == 77 && out == '~';
-}
-
-/* Whether the line that is handed in is told as admitted, and is refused with this view in the place of one of its own. */
+/* Whether the line that is handed in is told as admitted; with this view in the place of one of its own it is not, and is not written. */
 static bool is_admitted_but_with(const struct shape *shape, struct lent *lent, lp_view *place) {
-    static const lp_view bad = { { (const uint8_t *)"a\t", 2 }, false };
     const lp_line *line = &lent->rows[0].line;
     const size_t parts_len = shape->tags + shape->fields;
-    const lp_view good = *place;
+    const lp_view kept = *place;
     bool admitted = false;
-    bool answered = lp_line_is_admitted(LP_CRATE, line, lent->parts, parts_len, &admitted) == LP_WRITTEN;
-    *place = bad;
-    answered &= is_refused(line, lent->parts, parts_len);
-    *place = good;
-    return answered && admitted;
+    size_t len = 77;
+    uint8_t out = '~';
+    bool good = lp_line_is_admitted(LP_CRATE, line, lent->parts, parts_len, &admitted) == LP_WRITTEN && admitted;
+    *place = (lp_view)VIEW("a\t");
+    good &= lp_line_is_admitted(LP_CRATE, line, lent->parts, parts_len, &admitted) == LP_WRITTEN && !admitted;
+    good &= write_strict(line, lent->parts, parts_len, &out, 1, &len) == LP_NOT_ADMITTED && len == 77 && out == '~';
+    *place = kept;
+    return good;
 }
 
 /* Whether the line is admitted, and with a measurement, a last tag or a last field whose name is not. */
@@ -310,7 +259,7 @@ static bool is_told_safe(const struct shape *shape, struct lent *lent) {
 /* The line is read, by itself and twice in a block, and handed in. */
 static bool is_right(const struct shape *shape) {
     struct text twice = { NULL, 0, 0 };
-    struct lent lent = { { LP_EMPTY_ROW, LP_EMPTY_ROW }, lend(NULL, 0), lend(NULL, 0) };
+    struct lent lent = { { LP_EMPTY_ROW, LP_EMPTY_ROW }, lend(0), lend(0) };
     put_line(&twice, shape, "\"");
     put(&twice, "\n", 1);
     const size_t len = twice.len;
@@ -318,8 +267,7 @@ static bool is_right(const struct shape *shape) {
     const struct text once = { twice.at, len - 1, 0 }, written = { twice.at, len, 0 };
     bool good = reads_fault(shape) & reads_next(&once, shape, &lent);
     if (good) good = reads_block(&twice, shape, &lent);
-    if (good) good = puts_line(&written, shape, &lent) & puts_base(shape, &lent) & is_tested(shape, &lent);
-    if (good) good = is_told_safe(shape, &lent) & puts_key(shape, &lent);
+    if (good) good = puts_all(&written, shape, &lent) & is_tested(shape, &lent) & is_told_safe(shape, &lent);
     free(twice.at);
     free(lent.parts);
     free(lent.bytes);
@@ -328,12 +276,10 @@ static bool is_right(const struct shape *shape) {
 
 /* A text of so many items, by turns a line and a fault; the batch and the fault lines that it is rebuilt to. */
 static void put_items(size_t items, struct text *text, struct text *batch, struct text *faults) {
-    char line[128];
     for (size_t at = 1; at <= items; at += 2) {
-        put(text, line, (size_t)snprintf(line, sizeof line, "m,host=a\\ %zu  up=T,f=%zui %zu\nm f=1i x%zu\n", at, at, at, at));
-        put(batch, line, (size_t)snprintf(line, sizeof line, "m,host=a\\ %zu up=true,f=%zui %zu\n", at, at, at));
-        put(faults, line, (size_t)snprintf(line, sizeof line,
-            "item %zu: Could not parse entire line. Found trailing content: ' x%zu'\n", at + 1, at));
+        say(text, "m,host=a\\ %zu  up=T,f=%zui %zu\nm f=1i x%zu\n", at, at, at, at);
+        say(batch, "m,host=a\\ %zu up=true,f=%zui %zu\n", at, at, at);
+        say(faults, "item %zu: Could not parse entire line. Found trailing content: ' x%zu'\n", at + 1, at);
     }
 }
 
@@ -342,7 +288,7 @@ static bool rebuilds(size_t items) {
     struct text text = { NULL, 0, 0 }, batch = { NULL, 0, 0 }, faults = { NULL, 0, 0 };
     lp_counts counts = { 77, 77, 77, 77 };
     put_items(items, &text, &batch, &faults);
-    uint8_t *out = lend(NULL, batch.len), *err = lend(NULL, faults.len);
+    uint8_t *out = lend(batch.len), *err = lend(faults.len);
     bool good = lp_rebuild(LP_CRATE, text.at, text.len, out, batch.len, err, faults.len - 1, &counts) == LP_MORE_ROOM;
     good &= counts.batch_len == batch.len && counts.faults_len == faults.len;
     good &= lp_rebuild(LP_STRICT, text.at, text.len, out, batch.len, err, faults.len, &counts) == LP_WRITTEN;
@@ -376,41 +322,32 @@ static void call_block(const uint8_t *text, size_t len) {
     for (items = 0; filled == 4; items += filled) lp_lines_block(&lines, &room, rows, 4, parts, 4, &filled);
 }
 
+/* How many of these rows are portable lines. */
+static size_t count_portable(const lp_offset_row *rows, size_t told) {
+    size_t count = 0;
+    for (size_t at = 0; at < told; at++) count += rows[at].verdict == 0;
+    return count;
+}
+
+/* Reads rows, tells their keys and verdicts, and writes them again: a block counts if its lines begin with their keys, are portable, and come
+ * back. */
 static void call_offsets(const uint8_t *text, size_t len) {
     lp_offset_row rows[4];
     lp_offset_part parts[4];
-    lp_block block = { 1, 0, 0, 0, 0 };
-    uint32_t answer = LP_LINE;
-    for (items = 0; answer == LP_LINE; items += block.rows)
-        answer = lp_offsets_block(text, len, LP_CRATE, true, &block, (uint8_t *)parts, 0, rows, 4, parts, 4);
-}
-
-/* Reads rows, and tells their keys: as many are counted as lines begin with them. */
-static void call_keys(const uint8_t *text, size_t len) {
-    lp_offset_row rows[4];
-    lp_offset_part parts[4];
-    lp_block block = { 1, 0, 0, 0, 0 };
-    uint32_t answer = LP_LINE;
-    for (items = 0; answer == LP_LINE;) {
-        answer = lp_offsets_block(text, len, LP_CRATE, true, &block, (uint8_t *)parts, 0, rows, 4, parts, 4);
-        lp_offsets_keys(text, len, rows, block.rows);
-        for (uint32_t at = 0; at < block.rows; at++) items += rows[at].key == 1;
-    }
-}
-
-/* Reads rows, and tells their verdicts: as many are counted as lines are portable. */
-static void call_verdicts(const uint8_t *text, size_t len) {
-    lp_offset_row rows[4];
-    lp_offset_part parts[4];
+    uint8_t out[64];
     lp_limits limits;
     lp_block block = { 1, 0, 0, 0, 0 };
     uint32_t answer = LP_LINE;
     lp_limits_default(&limits);
     for (items = 0; answer == LP_LINE;) {
         size_t told = 0;
+        lp_rows_written written = { 0, 0, 0 };
         answer = lp_offsets_block(text, len, LP_CRATE, true, &block, (uint8_t *)parts, 0, rows, 4, parts, 4);
-        if (lp_offsets_verdicts(text, len, rows, block.rows, &limits, &told) != LP_WRITTEN) return;
-        for (size_t at = 0; at < told; at++) items += rows[at].verdict == 0;
+        lp_offsets_keys(text, len, rows, block.rows);
+        bool good = block.rows == 0 || (rows[0].key == 1 && rows[block.rows - 1].key == 1);
+        good &= lp_offsets_verdicts(text, len, rows, block.rows, &limits, &told) == LP_WRITTEN && count_portable(rows, told) == block.rows;
+        good &= lp_offsets_write(LP_CRATE, text, len, text, 0, rows, block.rows, parts, block.parts, out, sizeof out, &written) == LP_WRITTEN;
+        if (good && written.len == 7 * block.rows) items += block.rows;
     }
 }
 
@@ -421,27 +358,10 @@ static void call_block_verdicts(const uint8_t *text, size_t len) {
     lp_limits limits;
     lp_block block = { 1, 0, 0, 0, 0 };
     uint32_t answer = LP_LINE;
+    size_t told = 0;
     lp_limits_default(&limits);
-    for (items = 0; answer == LP_LINE;) {
-        size_t told = 0;
+    for (items = 0; answer == LP_LINE; items += count_portable(rows, told))
         answer = lp_offsets_block_verdicts(text, len, LP_STRICT, true, &block, (uint8_t *)parts, 0, rows, 4, parts, 4, &limits, &told);
-        for (size_t at = 0; at < told; at++) items += rows[at].verdict == 0;
-    }
-}
-
-/* Reads rows, and writes them again: as many lines as come back are counted. */
-static void call_offsets_write(const uint8_t *text, size_t len) {
-    lp_offset_row rows[4];
-    lp_offset_part parts[4];
-    uint8_t out[64];
-    lp_block block = { 1, 0, 0, 0, 0 };
-    uint32_t answer = LP_LINE;
-    for (items = 0; answer == LP_LINE;) {
-        lp_rows_written written = { 0, 0, 0 };
-        answer = lp_offsets_block(text, len, LP_CRATE, true, &block, (uint8_t *)parts, 0, rows, 4, parts, 4);
-        if (lp_offsets_write(LP_CRATE, text, len, text, 0, rows, block.rows, parts, block.parts, out, sizeof out, &written) == LP_WRITTEN)
-            items += written.len / 7;
-    }
 }
 
 static void call_piece(const uint8_t *text, size_t len) {
@@ -461,13 +381,11 @@ static void call_cuts(const uint8_t *text, size_t len) {
 /* Whether a million short lines come of each call that reads or cuts, or that writes many, in time that grows as the text does. */
 static bool reads_evenly(void) {
     static const struct { const char *name; growth_call *call; } calls[] = {
-        { "lp_lines_next", call_next }, { "lp_lines_block", call_block }, { "lp_offsets_block", call_offsets },
-        { "lp_offsets_keys", call_keys }, { "lp_offsets_verdicts", call_verdicts },
-        { "lp_offsets_block_verdicts", call_block_verdicts }, { "lp_offsets_write", call_offsets_write }, { "lp_lines_piece", call_piece },
-        { "lp_cuts_next", call_cuts },
+        { "lp_lines_next", call_next }, { "lp_lines_block", call_block }, { "lp_offsets_block, or _keys, _verdicts or _write", call_offsets },
+        { "lp_offsets_block_verdicts", call_block_verdicts }, { "lp_lines_piece", call_piece }, { "lp_cuts_next", call_cuts },
     };
     static const struct growth lines = { "", "m a=1i\n", "" };
-    for (size_t at = 0; at < sizeof calls / sizeof *calls; at++) {
+    for (size_t at = 0; at < COUNT(calls); at++) {
         const bool even = growth_is_even(calls[at].call, &lines, 1000000);
         if (even && items == 1000000) continue;
         fprintf(stderr, "sizes: %s of many lines %s\n", calls[at].name, even ? "gives others" : "takes too long for more of them");
@@ -486,7 +404,7 @@ int main(void) {
     };
     bool good = reads_evenly() && rebuilds(2) && rebuilds(160000);
     int lines = 0;
-    for (size_t at = 0; at < 6 * (sizeof sizes / sizeof *sizes); at++) {
+    for (size_t at = 0; at < 6 * COUNT(sizes); at++) {
         struct shape shape = sizes[at / 6];
         shape.escaped = at % 2 == 1;
         shape.order = (enum order)(at % 6 / 2);

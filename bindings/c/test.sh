@@ -1,11 +1,11 @@
 #!/usr/bin/env bash
-# Builds the static library of crates/lp_c, and programs over it, watched by the address and undefined behaviour sanitizers;
-# compares what the examples print with example.out, sums.out and groups.out, also over the heap of arena.c, and lets answers.c compare the table of answers, lending.c read with
-# little lent and no request for memory, offsets.c read by offsets, verdicts.c ask which lines are portable, cuts.c cut texts that come in
-# parts, writing.c write with little lent and memory refused, numbers.c ask for the numbers of literals, and sizes.c hand over what is
-# large. threads.c is watched by the thread sanitizer, and by helgrind, which sees the library's own loads and stores too; and the archive
-# must hold no variable. The header goes through a C++ compiler too; and each C++ compiler that is there builds example.cpp, which prints
-# example_cpp.out, and ranges.cpp, which compares the table of answers, by C++17 and under the same sanitizers.
+# Builds the static library of crates/lp_c, and programs over it, watched by the address and undefined behaviour sanitizers. The examples must
+# print example.out, sums.out and groups.out, also over the heap of arena.c. answers.c compares the table of answers with little lent and no
+# request for memory, offsets.c reads by offsets and tells keys and verdicts, cuts.c cuts texts that come in parts, writing.c writes with little
+# lent and memory refused, numbers.c asks for the numbers of literals, and sizes.c hands over large texts. Threads of answers.c are watched by
+# the thread sanitizer, and by helgrind, which sees the library's own loads and stores too; and the archive must hold no variable. The header
+# goes through a C++ compiler too; and each C++ compiler that is there builds example.cpp, which prints example_cpp.out, and ranges.cpp, which
+# compares the table of answers, by C++17 and under the same sanitizers.
 #
 #     bindings/c/test.sh             makes the archive first
 #     bindings/c/test.sh ARCHIVE     takes one that was made before
@@ -46,39 +46,35 @@ for heap in arena heap; do
         fi
     done
 done
-build answers "${watched[@]}"
+build answers -DLP_REFUSE -pthread "${watched[@]}"
 if ! answers=$("$built/answers" "$top/checks/tables/answers.tsv"); then
     echo "c: the table of answers is not as the library says: $answers" >&2
     exit 1
 fi
 said="the examples print what they should"
-while IFS='|' read -r name flags wrong; do
-    # shellcheck disable=SC2086
-    build "$name" "${watched[@]}" $flags
+while IFS='|' read -r name wrong; do
+    build "$name" "${watched[@]}" -DLP_REFUSE
     if ! told=$("$built/$name"); then
         echo "c: $wrong: $told" >&2
         exit 1
     fi
     said="$said; $told"
 done <<'END'
-lending|-DLP_REFUSE|what should come where little is lent did not come
-offsets|-DLP_REFUSE|by offsets texts do not give what they should
-verdicts|-DLP_REFUSE|verdicts on lines are not those that they should be
-cuts|-DLP_REFUSE|texts that come in parts are not cut as they should be
-writing|-DLP_REFUSE|what should be written was not
-numbers|-DLP_REFUSE|literals do not have the numbers that they should
-sizes||what should come of what is large did not come
+offsets|by offsets texts do not give the rows, keys and verdicts that they should
+cuts|texts that come in parts are not cut as they should be
+writing|what should be written was not
+numbers|literals do not have the numbers that they should
+sizes|what should come of what is large did not come
 END
 
-# Runs threads.c, built with these flags, by this command.
+# Runs answers.c by threads side by side, built with these flags, by this command.
 run_threads() {
     local flags=$1
     shift
-    # shellcheck disable=SC2086
-    build threads -pthread $flags
-    if ! "$@" "$built/threads" >"$built/log" 2>&1; then
+    build answers -pthread ${flags:+"$flags"}
+    if ! "$@" "$built/answers" "$top/checks/tables/answers.tsv" >"$built/log" 2>&1; then
         cat "$built/log" >&2
-        echo "c: threads side by side do not get what one alone gets, or touch what another does" >&2
+        echo "c: threads side by side do not get what the table of answers says, or touch what another does" >&2
         exit 1
     fi
 }
@@ -104,7 +100,7 @@ if [ ${#watchers[@]} = 0 ]; then
     run_threads ""
     said="$said; threads side by side, watched by nothing"
 else
-    said="$said; $(cat "$built/log"), watched by $(printf '%s and ' "${watchers[@]}" | sed 's/ and $//')"
+    said="$said; the table of answers by threads side by side, watched by $(printf '%s and ' "${watchers[@]}" | sed 's/ and $//')"
 fi
 if command -v g++ >/dev/null; then
     printf '%s\n' '#include "influxdb_line_protocol.h"' 'int main() {' '    lp_part parts[2] = { lp_empty_part, lp_empty_part };' \
