@@ -1,8 +1,7 @@
-/* Compares the items that events tell, to a sink and one after another, and those of the blocks of lp_c, with the items of
-   `parse_lines_in`, and the pieces that the splitter finds by jumps with those that are found here byte by byte, in each dialect: of
-   every text of at most six bytes over eleven that mean something, and of every text of at most five such bytes after each of some
-   fronts of a line. Of a batch each front has the lines that it holds, and of a line at fault just what reads before its fault is told.
-   What must come of these is written out here, from the format's rules (docs/FORMAT.md). `checks/events.sh` builds this and runs it. */
+/* Compares, of every text of at most so many bytes over eleven that mean something after a front, in each dialect: the items that events tell, to
+   a sink and one after another, and those of the blocks of lp_c, with the items of `parse_lines_in`; and the pieces that the splitter finds
+   by jumps with those that are found here byte by byte. These are a hundred million calls, for which Python would take five minutes more;
+   `events.py` has the fronts, and calls this. */
 #include "lp_checks.h"
 #include "rows.h"
 
@@ -13,29 +12,23 @@
 /* `m` is in names and begins no value; `1` and `i` are in names and in values. */
 static const char BYTES[] = {'m', ',', '=', ' ', '"', '\\', '\n', '1', 'i', '#', '\t'};
 
-enum { KINDS = sizeof BYTES, LONGEST = 6, TEXT = 64, ROOM = 1 << 12, ENTRIES = 64 };
-
-/* Places of a line: after a space, in a tag, in a field, in a string, after a field, and in the lines after. */
-static const char *const FRONTS[] = {
-    "m ", "m,", "m,1=", "m,1=\\", "m,m=1,", "m 1=", "m 1=-", "m 1=1", "m 1=\"", "m 1=\"\\", "m 1=\"i\"", "m m=1i,", "m m=1i ",
-    "m m=1i 1", "m m=t,i=T\n", "m 1=1i\\", "m\\ ", "# m=\"", "# \\",
-};
+enum { KINDS = sizeof BYTES, TEXT = 256, ROOM = 1 << 12, ENTRIES = 64 };
 
 /* Items, an entry each. */
 struct items { uint64_t count, ends[ENTRIES]; uint8_t out[ROOM]; };
 
 static struct items by_events, by_pull, by_blocks, by_parse, by_jumps, by_bytes;
-static unsigned long texts, lines, faults;
+static uint64_t texts, lines, faults;
 
 enum dialect { CRATE, STRICT, NEWLINE_DELIMITED, DIALECTS };
 
 static const char *const NAMES[DIALECTS] = {"crate's", "strict", "newline-delimited"};
 
-static void fail(const char *what, const char *text, size_t len, uint32_t dialect) {
+static bool fail(const char *what, const char *text, size_t len, uint32_t dialect) {
     fprintf(stderr, "events: in the %s dialect other %s of the text of the bytes", NAMES[dialect], what);
     for (size_t at = 0; at < len; at++) fprintf(stderr, " %02x", (unsigned)text[at]);
     fputc('\n', stderr);
-    exit(1);
+    return false;
 }
 
 static size_t len_of(const struct items *items) { return items->count ? (size_t)items->ends[items->count - 1] : 0; }
@@ -87,7 +80,7 @@ static void count_items(void) {
     }
 }
 
-static void compare(const char *text, size_t len) {
+static bool compare(const char *text, size_t len) {
     const uint8_t *bytes = (const uint8_t *)text;
     for (uint32_t dialect = 0; dialect < DIALECTS; dialect++) {
         by_parse.count = lp_checks_items(dialect, bytes, len, by_parse.out, ROOM, by_parse.ends, ENTRIES);
@@ -96,120 +89,32 @@ static void compare(const char *text, size_t len) {
         by_blocks.count = rows_items(dialect, bytes, len, by_blocks.out, ROOM, by_blocks.ends, ENTRIES);
         by_jumps.count = lp_checks_pieces(dialect, bytes, len, by_jumps.out, ROOM, by_jumps.ends, ENTRIES);
         cut(dialect, text, len, &by_bytes);
-        if (!is_same(&by_events, &by_parse) || !is_same(&by_pull, &by_parse)) fail("items are told", text, len, dialect);
-        if (!is_same(&by_blocks, &by_parse)) fail("items are in blocks", text, len, dialect);
-        if (!is_same(&by_jumps, &by_bytes)) fail("pieces come", text, len, dialect);
+        if (!is_same(&by_events, &by_parse) || !is_same(&by_pull, &by_parse)) return fail("items are told", text, len, dialect);
+        if (!is_same(&by_blocks, &by_parse)) return fail("items are in blocks", text, len, dialect);
+        if (!is_same(&by_jumps, &by_bytes)) return fail("pieces come", text, len, dialect);
         count_items();
     }
     texts++;
+    return true;
 }
 
 /* Each text of at most so many bytes after the first `len` bytes of `text`. */
-static void compare_each(char *text, size_t len, int most) {
-    compare(text, len);
-    if (most == 0) return;
-    for (size_t kind = 0; kind < KINDS; kind++) {
+static bool compare_each(char *text, size_t len, int most) {
+    bool is_right = compare(text, len);
+    for (size_t kind = 0; kind < KINDS && most > 0 && is_right; kind++) {
         text[len] = BYTES[kind];
-        compare_each(text, len + 1, most - 1);
+        is_right = compare_each(text, len + 1, most - 1);
     }
+    return is_right;
 }
 
-/* ---- fronts of a batch ---- */
-
-/* Two lines, and their items, in the dialects in which a string may hold a newline. */
-static const char FIRST_LINE[] = "m,t\\ 1=v s=\"x\ny\",f=1i 5\n", BATCH[] = "m,t\\ 1=v s=\"x\ny\",f=1i 5\nn a=2u\n";
-static const char FIRST[] = "line 8:m,t\\ 1=v S1:m,C3:t 1=S1:v S1:s=sS3:x\ny S1:f=i1 at 5", LAST[] = "line 1:n S1:n S1:a=u2";
-
-static void read_items(uint32_t dialect, const char *text, size_t len) {
-    by_parse.count = lp_checks_items(dialect, (const uint8_t *)text, len, by_parse.out, ROOM, by_parse.ends, ENTRIES);
-}
-
-static bool is_item(uint64_t place, const char *wanted) {
-    const size_t start = place ? (size_t)by_parse.ends[place - 1] : 0;
-    return place < by_parse.count && fits(&by_parse) && by_parse.ends[place] - start == strlen(wanted) &&
-           !memcmp(by_parse.out + start, wanted, strlen(wanted));
-}
-
-/* The first line is read as soon as it is whole, whatever follows it; before that there is one item at most. */
-static void read_fronts(void) {
-    for (size_t len = 0; len < sizeof BATCH; len++) {
-        compare(BATCH, len);
-        for (uint32_t dialect = CRATE; dialect <= STRICT; dialect++) {
-            read_items(dialect, BATCH, len);
-            if (len < sizeof FIRST_LINE - 1 ? by_parse.count > 1 : !is_item(0, FIRST) || by_parse.count > 2)
-                fail("items are read", BATCH, len, dialect);
-            if (len == sizeof BATCH - 1 && !is_item(1, LAST)) fail("items are read", BATCH, len, dialect);
-        }
-    }
-}
-
-/* ---- what is told of a line at fault ---- */
-
-/* A name that is longer than the text of each fault here. */
-#define NAME "oooooooooooooooooooooooooooooooooooooooooooooooooooooooooooooooo"
-#define TOLD "S64:" NAME
-
-/* Lines at fault. What must be told of each before its fault is all that can be read of it. */
-static const struct { const char *line, *told; } FAULTS[] = {
-    {",x", ""},
-    {NAME "\\\\ f=1i", ""},
-    {NAME, TOLD},
-    {NAME " 5", TOLD},
-    {NAME ", f=1i", TOLD},
-    {NAME ",t=x", TOLD ",S1:t=S1:x"},
-    {NAME ",t=x,", TOLD ",S1:t=S1:x"},
-    {NAME ",t=x,u f=1i", TOLD ",S1:t=S1:x"},
-    {NAME ",t=x,u=y\\\\ f=1i", TOLD ",S1:t=S1:x"},
-    {NAME ",t=x,f=1i\tg=2i", TOLD ",S1:t=S1:x,S1:f=S2:1i"},
-    {NAME ",t=x  f", TOLD ",S1:t=S1:x"},
-    {NAME ",t=x f=1i,g", TOLD ",S1:t=S1:x S1:f=i1"},
-    {NAME ",t=x f=1i,g=18446744073709551616u", TOLD ",S1:t=S1:x S1:f=i1"},
-    {NAME ",t=x f=1i,g=2i,", TOLD ",S1:t=S1:x S1:f=i1 S1:g=i2"},
-    {NAME ",t=x f=1i,g=2i 9223372036854775808", TOLD ",S1:t=S1:x S1:f=i1 S1:g=i2"},
-    {NAME ",t=x,u=y f=1i,g=2i x", TOLD ",S1:t=S1:x,S1:u=S1:y S1:f=i1 S1:g=i2"},
-};
-
-static const char BEFORE[] = "m,k=v e=1i\n", BEFORE_TOLD[] = "line 5:m,k=v S1:m,S1:k=S1:v S1:e=i1";
-
-typedef uint64_t events_call(uint32_t dialect, const uint8_t *text, size_t len, uint8_t *out, size_t room, uint64_t *ends, size_t entries);
-
-/* At a fault the sink writes its text over what it was told of the line. So after that text its buffer has the rest of what it was told,
-   and then nothing. */
-static void must_tell(events_call *call, const char *text, const char *told) {
-    const size_t start = strlen(BEFORE_TOLD);
-    static uint8_t wanted[ROOM];
-    memset(by_events.out, 0, ROOM);
-    memset(wanted, 0, ROOM);
-    by_events.count = call(CRATE, (const uint8_t *)text, strlen(text), by_events.out, ROOM, by_events.ends, ENTRIES);
-    memcpy(wanted, BEFORE_TOLD, start);
-    memcpy(wanted + start, told, strlen(told));
-    if (by_events.count == 2 && by_events.ends[0] == start && len_of(&by_events) - start < strlen(TOLD)) {
-        memcpy(wanted + start, by_events.out + start, len_of(&by_events) - start);
-        if (!memcmp(by_events.out, wanted, ROOM)) return;
-    }
-    fail("parts are told before the fault", text, strlen(text), CRATE);
-}
-
-static void tell_faults(void) {
-    char text[4 * TEXT];
-    for (size_t at = 0; at < sizeof FAULTS / sizeof FAULTS[0]; at++) {
-        snprintf(text, sizeof text, "%s%s\n", BEFORE, FAULTS[at].line);
-        compare(text, strlen(text));
-        must_tell(lp_checks_events, text, FAULTS[at].told);
-        must_tell(lp_checks_pulled, text, FAULTS[at].told);
-    }
-}
-
-int main(void) {
+/* Whether all is the same of each text of at most so many bytes after a front, which is short; and how many texts, lines and faults these are. */
+bool events_agree(const char *front, size_t len, int most, uint64_t told[3]);
+bool events_agree(const char *front, size_t len, int most, uint64_t told[3]) {
     char text[TEXT];
-    read_fronts();
-    tell_faults();
-    compare_each(text, 0, LONGEST);
-    for (size_t front = 0; front < sizeof FRONTS / sizeof FRONTS[0]; front++) {
-        size_t len = strlen(FRONTS[front]);
-        memcpy(text, FRONTS[front], len);
-        compare_each(text, len, LONGEST - 1);
-    }
-    printf("%lu texts in each dialect, with %lu lines and %lu faults", texts, lines, faults);
-    return 0;
+    texts = lines = faults = 0;
+    memcpy(text, front, len);
+    const bool is_right = compare_each(text, len, most);
+    told[0] = texts, told[1] = lines, told[2] = faults;
+    return is_right;
 }

@@ -10,46 +10,20 @@ not given, of series that are made from SEED, 1 if it is not given. Those of a g
 name is spelled, in a byte, or in where one name ends and the next begins.
 """
 
-import ctypes
 import functools
 import itertools
 import random
 import re
 import sys
 
+from library import Library, sized
+
 # What a name may hold: bytes that a backslash escapes somewhere, others, and pairs that are no escape.
 PARTS = [b"a", b"b", b"A", b"0", b"\\,", b"\\=", b"\\ ", b"=", b",", b"\\\\", b"\\n", b"\"", b"#", b"\t", b"\\\t", b"\\\n", "é".encode()]
 ESCAPED = {"measurement": b", \\", "tag": b",= \\"}
 OF_A_GROUP = 12
 
-ROOM, ENTRIES = 1 << 22, 1 << 14
-OUT, ENDS = ctypes.create_string_buffer(ROOM), (ctypes.c_uint64 * ENTRIES)()
-
-
-def load(library):
-    """The calls that report lines, and keys with their hashes."""
-    calls, size, room = ctypes.CDLL(library), ctypes.c_size_t, ctypes.c_void_p
-    calls.lp_checks_items.argtypes = [ctypes.c_uint32, ctypes.c_char_p, size, room, size, room, size]
-    calls.lp_checks_keys.argtypes = [ctypes.c_char_p, size, room, size, room, size]
-    calls.lp_checks_items.restype = calls.lp_checks_keys.restype = ctypes.c_uint64
-    return calls
-
-
-CALLS = load(sys.argv[1])
-
-
-def reported(call, *words):
-    """The entries that a call reports."""
-    count = call(*words, OUT, ROOM, ENDS, ENTRIES)
-    ends = ENDS[:count]
-    given = ctypes.string_at(OUT, ends[-1] if ends else 0)
-    return [given[start:end] for start, end in zip([0, *ends], ends)]
-
-
-def sized(text):
-    """What is reported as its length, a colon and itself, and what comes after it."""
-    size, _, rest = text.partition(b":")
-    return rest[:int(size)], rest[int(size):]
+LIBRARY = Library(sys.argv[1], 1 << 22, 1 << 14)
 
 
 def read(entry):
@@ -113,11 +87,11 @@ def group(rng):
 def compare(texts):
     """Compares the keys of some series with each other, and gives how many pairs there are and how many have one key."""
     lines = [text + b" f=1i" for text in texts]
-    items = [read(item[0]) if len(item) == 1 else None for item in (reported(CALLS.lp_checks_items, 0, line, len(line)) for line in lines)]
+    items = [read(item[0]) if len(item) == 1 else None for item in (LIBRARY.reported("items", 0, line) for line in lines)]
     told = []
     for line, item in zip(lines, items):
         if item:
-            key, *others = reported(CALLS.lp_checks_keys, line, len(line))
+            key, *others = LIBRARY.reported("keys", line)
             text, *names = item
             wanted = written(*names)
             stands = wanted if text == wanted else b"None"

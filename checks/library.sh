@@ -10,3 +10,8 @@ build_library() {
     archive=${ARCHIVES:-$top/crates/lp_c/out}/liblp_c.a
     [ -n "${ARCHIVES:-}" ] || build_if_changed "$(basename "$0" .sh)" "$@" || exit 1
 }
+
+# share_library OUT FILE..: makes a shared library of lp_checks and these sources and archives, for programs in Python: library.py has its calls.
+share_library() {
+    cc -O2 -Wall -Wextra -shared -fPIC -I"$top/include" "${@:2}" -Wl,--whole-archive "$library" -Wl,--no-whole-archive "$heap" -o "$1"
+}

@@ -10,13 +10,14 @@ LIBRARY: the calls of crates/lp_checks, with `lp_checks_blocks` of checks/rows.c
 texts are those of the table of answers, and COUNT hostile ones, made from SEED: 100,000 and 1 if they are not given.
 """
 
-import ctypes
 import functools
 import json
 import pathlib
 import random
 import re
 import sys
+
+from library import KINDS, Library
 
 STRICT, NEWLINE_DELIMITED = 1, 2
 
@@ -33,56 +34,26 @@ OTHERS = BYTES + [b"\xff", b"\xed\xa0\x80", b"\xc3", b"\r"]
 LETTERS = [b"lork", b"jr", b"lorkv", b"jrk", b"lorkc"]
 LIMITS = [1 << 24, 1 << 24, 12]
 
-ROOM, ENTRIES = 1 << 16, 1 << 10
-KINDS = int(re.search(r"LP_KINDS = (\d+)", pathlib.Path(__file__).with_name("lp_checks.h").read_text(encoding="utf-8"))[1])
-OUT, ERR, REFUSED = (ctypes.create_string_buffer(ROOM) for _ in range(3))
-ENDS, TOLD, COUNTS = ((ctypes.c_uint64 * count)() for count in (ENTRIES, 6, KINDS))
-
-
-def load(library):
-    """The calls that report entries, each under its name, and the relay."""
-    calls = ctypes.CDLL(library)
-    text, size = [ctypes.c_char_p, ctypes.c_size_t], ctypes.c_size_t
-    room = [ctypes.c_void_p, size]
-    for name in "pieces", "items", "events", "pulled", "blocks", "rebuild", "streamed":
-        call = getattr(calls, "lp_checks_" + name)
-        call.argtypes = [ctypes.c_uint32, *text, *([size] if name == "streamed" else []), *room, *room]
-        call.restype = ctypes.c_uint64
-    calls.lp_checks_relay.argtypes = [*text, size, *text, size, *room, *room, *room, ctypes.c_void_p, ctypes.c_void_p]
-    calls.lp_checks_relay.restype = ctypes.c_uint8
-    return calls
-
-
-CALLS = load(sys.argv[1])
-
-
-def reported(name, dialect, text, *words):
-    """The entries that a call reports of a text."""
-    count = getattr(CALLS, "lp_checks_" + name)(dialect, text, len(text), *words, OUT, ROOM, ENDS, ENTRIES)
-    ends = ENDS[:count]
-    given = ctypes.string_at(OUT, ends[-1] if ends else 0)
-    return [given[start:end] for start, end in zip([0, *ends], ends)]
+LIBRARY = Library(sys.argv[1], 1 << 16, 1 << 10)
 
 
 def relayed(letters, limit, text, part):
     """What a relay writes to its three outputs, by lines, and how many items it refuses for each kind of fault."""
-    COUNTS[:] = [0] * KINDS
-    ended = CALLS.lp_checks_relay(
-        letters, len(letters), limit, text, len(text), part, OUT, ROOM, ERR, ROOM, REFUSED, ROOM, TOLD, COUNTS)
+    ended = LIBRARY.relay(letters, limit, text, part)
     if ended != 0:
         sys.exit(f"newline_delimited: a relay of {text!r} ends with {ended}")
-    written, faults, refused = (ctypes.string_at(*output).split(b"\n")[:-1] for output in zip((OUT, ERR, REFUSED), TOLD))
-    return [written, [json.loads(fault) for fault in faults] if b"j" in letters else faults, refused, COUNTS[:]]
+    written, faults, refused = (output.split(b"\n")[:-1] for output in LIBRARY.outputs())
+    return [written, [json.loads(fault) for fault in faults] if b"j" in letters else faults, refused, LIBRARY.kinds[:]]
 
 
 @functools.cache
 def items_alone(line):
-    return reported("items", STRICT, line)
+    return LIBRARY.reported("items", STRICT, line)
 
 
 @functools.cache
 def rebuilt_alone(line):
-    return reported("rebuild", STRICT, line)
+    return LIBRARY.reported("rebuild", STRICT, line)
 
 
 @functools.cache
@@ -130,12 +101,12 @@ def same(what, text, given, wanted):
 def compare(text, number):
     """Compares what is given for a text with what its lines give, and gives how many lines it has."""
     lines = text.split(b"\n")
-    same("the pieces", text, reported("pieces", NEWLINE_DELIMITED, text), lines)
-    same("the pieces in parts", text, reported("streamed", NEWLINE_DELIMITED, text, number % 7 + 1), lines)
+    same("the pieces", text, LIBRARY.reported("pieces", NEWLINE_DELIMITED, text), lines)
+    same("the pieces in parts", text, LIBRARY.reported("streamed", NEWLINE_DELIMITED, text, number % 7 + 1), lines)
     items = [item for line in lines for item in items_alone(line)]
     for name in "items", "events", "pulled", "blocks":
-        same(f"the {name}", text, reported(name, NEWLINE_DELIMITED, text), items)
-    same("what is rebuilt", text, reported("rebuild", NEWLINE_DELIMITED, text), rebuilt_by_lines(lines))
+        same(f"the {name}", text, LIBRARY.reported(name, NEWLINE_DELIMITED, text), items)
+    same("what is rebuilt", text, LIBRARY.reported("rebuild", NEWLINE_DELIMITED, text), rebuilt_by_lines(lines))
     letters, limit = LETTERS[number % len(LETTERS)], LIMITS[number % len(LIMITS)]
     if number % 2 == 0:
         outputs = relayed(b"n" + letters, limit, text, number % 7 + 1)

@@ -27,7 +27,7 @@ DEFINED = {"Refusal": ("crates/lp_programs/specs/Refusals.antt", "refusal_text")
 LAST_LINE = "crates/lp_programs/src/relays.rt"
 # What quotes messages: checks whole ones, and these files also parts of so many words at least.
 CHECKS = ("checks/runs/*.txt", "checks/program_cases.py", "checks/batch_files.py", "checks/ranges.py", "checks/posting.sh",
-          "checks/tables/relays.h", "checks/tables/relays.tsv")
+          "checks/tables.py", "checks/tables/relays.tsv")
 PAGES, LEAST = ("tables/bugs.tsv", "crates/*/must-fail/*.edit", "docs/OPERATING.md", "docs/INTEROP.md", "docs/SCALING.md", "README.md"), 4
 
 
