@@ -479,18 +479,25 @@ static void must_be_same(struct stretch entry, struct stretch wanted) {
         fail("what is counted is %.*s and should be %.*s", (int)entry.len, entry.at, (int)wanted.len, wanted.at);
 }
 
-/* The totals must be those of `least`. What else the entry has is in `least` or in `most`, and it has all of `least`, but for what has
-   another value in `most`, of which it has one of the two: a part of the lost line may be there. */
+/* Whether a line tells of a field or a tag: of these a part of the lost line may be there. Each other line tells a count. */
+static bool is_name(struct stretch line) {
+    static const struct stretch field = {"field ", 6}, tag = {"tag ", 4};
+    return begins_with(line, field) || begins_with(line, tag);
+}
+
+/* Each count must be that of `least`. A field or a tag is in `least` or in `most`, and the entry has all of `least`, but for fields that have
+   another value in `most`, of which it has one of the two. */
 static void must_be_between(struct stretch entry, struct stretch least, struct stretch most) {
     must_be_same(take_line(&entry), take_line(&least));
     take_line(&most);
     for (struct stretch left = entry; left.len;) {
         const struct stretch line = take_line(&left);
-        if (!has_line(least, line) && !has_line(most, line)) fail("the tables have %.*s", (int)line.len, line.at);
+        if (!has_line(least, line) && !(is_name(line) && has_line(most, line))) fail("the tables have %.*s", (int)line.len, line.at);
     }
     for (struct stretch left = least; left.len;) {
         const struct stretch line = take_line(&left);
-        if (!has_line(entry, has_line(most, line) ? line : name_of(line))) fail("the tables have not %.*s", (int)line.len, line.at);
+        if (!has_line(entry, !is_name(line) || has_line(most, line) ? line : name_of(line)))
+            fail("the tables have not %.*s", (int)line.len, line.at);
     }
 }
 
@@ -506,26 +513,14 @@ static size_t refused_call(const struct told_series *told) {
     return refused;
 }
 
-/* How many series an entry has. */
-static size_t series_in(struct stretch entry) {
-    static const struct stretch word = {"series ", 7};
-    size_t number = 0;
-    while (entry.len) number += begins_with(take_line(&entry), word);
-    return number;
-}
-
 /* A call was refused. Its line is lost, and no other: what was counted before is still there, and the later lines are counted, as `without`
-   has it, which is told of the other lines. If the lost line is the first of its series, the tables may know the series without its tags, so
-   of later calls the totals alone are compared. */
+   has it, which is told of the other lines. */
 static void must_have_lost(const struct told_series *got, size_t place, const struct told_series *whole, const struct told_series *without) {
-    const size_t lost = place < series_count ? place : series_count;
-    const bool is_new = series_in(entry_of(whole, lost - 1)) < series_in(entry_of(whole, lost));
     for (size_t at = 0; at < place; at++) must_be_same(entry_of(got, at), entry_of(whole, at));
     for (size_t at = place; at < got->count; at++) {
-        struct stretch entry = entry_of(got, at), least = entry_of(without, at - 1);
+        struct stretch entry = entry_of(got, at);
         if (at == place) take_line(&entry);
-        if (at == place || !is_new) must_be_between(entry, least, entry_of(whole, at));
-        else must_be_same(take_line(&entry), take_line(&least));
+        must_be_between(entry, entry_of(without, at - 1), entry_of(whole, at));
     }
 }
 

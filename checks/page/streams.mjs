@@ -158,6 +158,21 @@ for (const [maxLine, kind, message] of [
 }
 console.log("page: a limit is one of the piece, and the items after a piece that is too long come");
 
+// A ReadableStream that is left in the middle is canceled, also in an engine that cannot go over one.
+for (const over of [stream => stream, stream => ({ getReader: () => stream.getReader() })]) {
+    let isCanceled = false;
+    const lines = new ReadableStream({ pull: to => to.enqueue("m f=1\n"), cancel: () => { isCanceled = true; } });
+    for await (const { measurement } of new Reader(over(lines))) if (measurement === "m") break;
+    deepStrictEqual(isCanceled, true);
+}
+// The bytes of a long piece are not moved with each part.
+const typed = Object.getPrototypeOf(Uint8Array.prototype), { set } = typed;
+let moved = 0;
+typed.set = function (from, at) { moved += from.length; set.call(this, from, at); };
+await gathered(Array(2000).fill("x".repeat(64)));
+typed.set = set;
+if (moved > 10 * 2000 * 64) throw new Error(`of a piece of 128,000 bytes ${moved} are moved`);
+
 // Half of a surrogate pair is never replaced: what writes refuses it, and what reads refuses its line.
 for (const half of ["\ud800", "\udbff", "\udc00", "\udfff"]) {
     const kept = "is 😀 é", reason = "holds half of a surrogate pair";

@@ -108,6 +108,13 @@ class EachWriter(unittest.TestCase):
                     said = self.refuse(lambda: call(line, dialect=dialect), "field value", string, *place)
                     self.assertTrue(said.endswith(f"the value of the field 'k' is not admitted: {string!r} holds a newline"), said)
 
+    def test_names_that_the_reader_keeps(self):
+        """Names of one length, that begin and end alike, are told apart, and a name `k=v` from a tag with these bytes."""
+        names = [f"{'a' * 8}{number % 7:028}{'b' * 8}" for number in range(200)]
+        items = list(parse("".join(f"{name} f=1i\n" for name in names) + "k=v,k=v f=1i\n"))
+        self.assertTrue([item.measurement for item in items] == [*names, "k=v"])
+        self.assertEqual(items[-1].tags, [("k", "v")])
+
     def test_each_short_name(self):
         """A name is refused exactly if `rebuild` would not write it again, and else reads back."""
         names = ["".join(letters) for size in range(4) for letters in itertools.product("\n\t\\\0# a,=\"", repeat=size)]
