@@ -200,12 +200,14 @@ build_all() (
 # kit's own code has changed, no library gets it.
 take_proofs() {
     python3 - "$(kit)" "$top" <<'CODE' || echo "test: the libraries of the gate are not taken, and are proved again" >&2
-import os, sys
+import functools, os, sys
 kit, top = sys.argv[1:]
 sys.path.insert(0, f"{kit}/bin")
 import rtlib
+rtlib.Crate.stamp = functools.cache(rtlib.Crate.stamp)
+known = {}
 for name in [line.split(":")[0].split()[0] for line in open(f"{top}/crates.txt") if line[0] != "#"]:
-    crate = rtlib.Crate(f"{top}/crates/{name}", top, {})
+    crate = rtlib.Crate(f"{top}/crates/{name}", top, known)
     if crate.makes_rlib() and os.path.isdir(crate.rlib) and not crate.is_built():
         open(f"{crate.folder}/out/rlib/stamp", "w").write(crate.stamp())
 CODE
