@@ -5,7 +5,7 @@
 #   2. The gate, which proves all; beside it the checks of bin/take, of the launchers and of completion. If the gate fails, nothing else is run.
 #   3. Side by side: the checks of the programs that the gate made; the misuses, and for at most ten minutes of one processor the bugs that were
 #      tried longest ago; and the archives of lp_c and lp_checks, over the libraries that the gate proved, with the module of lp_page for
-#      WebAssembly where Node can run it. Then come the checks that link the archives, and beside them the checks of Python and JavaScript.
+#      WebAssembly where Node can run it. Then come, side by side too, the checks of the library, of the bindings, and of the page.
 #
 # Before the gate's last line, which comes last, it prints how long each part took, what the checks left out, and which checks failed. The
 # status is the status of the gate, or 1 if a check failed.
@@ -64,7 +64,7 @@ check_refusals() {
     part misuses/check.sh misuses/check.sh
     part checks/bugs.py checks/bugs.py --some
 }
-check_archives() {
+check_library() {
     part checks/tables.sh checks/tables.sh
     part checks/refusals.sh checks/refusals.sh
     part checks/events.sh checks/events.sh
@@ -72,15 +72,17 @@ check_archives() {
     part checks/portable.sh checks/portable.sh "$made/liblp_c.a" 100000 1 "$made/page/influxdb-line-protocol-js"
     part checks/influx.sh checks/influx.sh --fast
     part checks/differential.sh checks/differential.sh
+}
+check_bindings() {
     part bindings/c bindings/c/test.sh "$made/liblp_c.a"
     LP_LIB_DIR=$made part bindings/rust bindings/rust/test.sh
     part bindings/go bindings/go/test.sh "$made/liblp_c.a"
+    part bindings/python bindings/python/test.sh "$made/liblp_c.a"
     part checks/endpoint.sh checks/endpoint.sh "$made/liblp_c.a"
     part checks/instructions.sh checks/instructions.sh "$made/liblp_c.a"
 }
-beside_archives() {
+check_page() {
     LP_RELAY=$made/lp_relay_program part checks/page.sh checks/page.sh "$made/page"
-    part bindings/python bindings/python/test.sh "$made/liblp_c.a"
 }
 # beside FUNCTION: starts one of them. `joined` waits for all, shows what they said, and takes note of those that did not come to their end.
 beside() {
@@ -148,12 +150,13 @@ part "the archives, proved" build_all test "${archives[@]}" || stop "the build o
 cp crates/lp_c/out/liblp_c.a crates/lp_checks/out/liblp_checks.a "$made"
 export ARCHIVES=$made
 beside check_refusals
+beside check_bindings
 if [[ ${archives[*]} == *lp_page* ]]; then
     sources lp_page >crates/lp_page/out/launcher.stamp
     part packaging/page packaging/page/build.sh "$made/page"
 fi
-beside beside_archives
-check_archives
+beside check_page
+check_library
 joined
 print_times
 print_left_out
