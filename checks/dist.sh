@@ -15,10 +15,7 @@ top=$(cd "$(dirname "$0")/.." && pwd)
 . "$top/checks/bare_debian.sh"
 . "$top/bindings/rust/flags.sh"
 . "$top/launch.sh"
-if ! command -v "${CC:-cc}" >/dev/null || ! command -v ar >/dev/null || ! command -v dpkg-deb >/dev/null; then
-    left_out checks/dist.sh "there is no ${CC:-cc}, no ar or no dpkg-deb"
-    exit 0
-fi
+has_tools checks/dist.sh "${CC:-cc}" ar dpkg-deb || exit 0
 unset DESTDIR SOURCE_DATE_EPOCH SOURCE_COMMIT
 SOURCE_COMMIT=$(commit) # of the copies that are made here too
 export SOURCE_COMMIT
@@ -173,10 +170,7 @@ look_at_library() {
 }
 # lintian has nothing to say of the packages.
 ask_lintian() {
-    if ! command -v lintian >/dev/null; then
-        left_out "packages by lintian" "there is no lintian"
-        return
-    fi
+    has_tools "packages by lintian" lintian || return 0
     equal "what lintian says" "" "$(lintian -I --pedantic "${packages[@]}" 2>/dev/null)"
     told+=("lintian has nothing to say")
 }
@@ -244,10 +238,7 @@ STUB
 # What is made of a commit can be made again by its record, by that stub; what differs is named.
 verify_record() {
     local repo="$work/a copy" to=$work/recorded record=$work/recorded/RECORD.json commit
-    if ! command -v git >/dev/null; then
-        left_out "records" "there is no git"
-        return
-    fi
+    has_tools "records" git || return 0
     local PATH=$work/stub:$PATH
     printf 'out/\n' >"$repo/.gitignore"
     printf 'some words\n7 passed, 0 failed' >"$work/gate.log"
@@ -469,10 +460,7 @@ refuse_tools() {
 # Builds programs over the installed library by pkg-config, shared and static, and runs them.
 build_over() {
     local static program words
-    if ! command -v pkg-config >/dev/null; then
-        left_out "programs by pkg-config" "there is no pkg-config"
-        return
-    fi
+    has_tools "programs by pkg-config" pkg-config || return 0
     export PKG_CONFIG_PATH=$prefix/lib/pkgconfig
     equal "the version of pkg-config" "$version" "$(pkg-config --modversion influxdb_line_protocol)"
     printf '#include <influxdb_line_protocol.h>\n#include <stdio.h>\nint main(void) {\n%s\nreturn 0; }\n' \
@@ -503,10 +491,7 @@ build_as_documented() {
     "${CC:-cc}" "$work/example.c" "${words[@]}" -Wl,-rpath,"$(pkg-config --variable=libdir influxdb_line_protocol)" -o "$work/by_folder"
     equal "bindings/c/example.c over the tar file" "$(cat "$top/bindings/c/example.out")" "$(env -u LD_LIBRARY_PATH "$work/by_folder")"
     export PKG_CONFIG_PATH=$prefix/lib/pkgconfig
-    if ! command -v c++ >/dev/null; then
-        left_out "programs in C++" "there is no c++"
-        return
-    fi
+    has_tools "programs in C++" c++ || return 0
     IFS=' ' read -ra words <<<"$(pkg-config --cflags --libs influxdb_line_protocol)"
     c++ -std=c++17 -Wall -Wextra -Wpedantic -Werror "$top/bindings/c/example.cpp" "${words[@]}" -o "$work/in_cpp"
     equal "bindings/c/example.cpp" "$(cat "$top/bindings/c/example_cpp.out")" "$(LD_LIBRARY_PATH=$prefix/lib "$work/in_cpp")"
@@ -515,10 +500,7 @@ build_as_documented() {
 # Builds a program in Go over the packed module, and over the library that is installed.
 build_go() {
     local module=$work/go/lineprotocol how
-    if ! command -v go >/dev/null; then
-        left_out "programs in Go" "there is no go"
-        return
-    fi
+    has_tools "programs in Go" go || return 0
     mkdir "$work/go"
     tar -C "$work/go" -xzf "$work/one/influxdb-line-protocol-go-$version-x86_64-linux.tgz"
     printf '%s\n' 'package main' 'import ("fmt"; "strings"; "yomskafi.example/lineprotocol/v3")' 'func main() {' \
@@ -549,10 +531,7 @@ build_go() {
 build_rust() {
     local how ways=(packed) path=$work/rust/influxdb-line-protocol-rust
     ! command -v pkg-config >/dev/null || ways+=(installed)
-    if ! command -v cargo >/dev/null; then
-        left_out "programs in Rust" "there is no cargo"
-        return
-    fi
+    has_tools "programs in Rust" cargo || return 0
     mkdir -p "$work/rust/src"
     tar -C "$work/rust" -xzf "$work/one/influxdb-line-protocol-rust-$version-x86_64-linux.tgz"
     printf '%s\n' 'fn main() {' '    for item in influxdb_line_protocol::parse_lines("x\nm f=1i") {' \
@@ -609,10 +588,7 @@ run_built() {
 
 # The same by CMake, also over the packages. Another major version is not found.
 build_by_cmake() {
-    if ! command -v cmake >/dev/null; then
-        left_out "programs by CMake" "there is no cmake"
-        return
-    fi
+    has_tools "programs by CMake" cmake || return 0
     mkdir "$work/project"
     cp "$top/bindings/c/example.c" "$work/project"
     cat >"$work/project/CMakeLists.txt" <<'TEXT'

@@ -14,13 +14,7 @@ if [ $# != 1 ] || [ ! -f "$1" ]; then
     echo "usage: checks/endpoint.sh ARCHIVE" >&2
     exit 2
 fi
-if ! command -v go >/dev/null; then
-    left_out checks/endpoint.sh "there is no go"
-    exit 0
-elif ! command -v influxd >/dev/null; then
-    left_out checks/endpoint.sh "there is no influxd"
-    exit 0
-fi
+has_tools checks/endpoint.sh go influxd || exit 0
 # The first Python that has influxdb-python.
 for python in "${PYTHON:-python3}" /usr/bin/python3 ''; do
     [ -z "$python" ] || ! "$python" -c 'import influxdb, sys; sys.exit(sys.version_info < (3, 10))' 2>/dev/null || break

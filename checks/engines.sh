@@ -11,10 +11,7 @@ set -eu
 top=$(cd "$(dirname "$0")/.." && pwd)
 . "$top/checks/left_out.sh"
 relay=$(readlink -f "$1")
-if ! python3 -c '' 2>/dev/null; then
-    left_out checks/engines.sh "there is no python3, which writes its input"
-    exit 0
-fi
+has_tools checks/engines.sh python3 || exit 0
 work=$(mktemp -d)
 mkdir "$work/waiting"
 running=

@@ -21,10 +21,7 @@ if [ "${1-}" = --fuzz ]; then
 fi
 . "$here/golang.sh"
 lacking=$(golang_lacks)
-if [ -n "$lacking" ]; then
-    left_out checks/go_beside.sh "$lacking"
-    exit 0
-fi
+[ -z "$lacking" ] || { left_out checks/go_beside.sh "$lacking" && exit; }
 [ $# != 0 ] || "$top/bindings/build.sh" >/dev/null
 archive=${1:-$top/crates/lp_c/out/liblp_c.a}
 built=$(mktemp -d)

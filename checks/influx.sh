@@ -12,6 +12,7 @@
 set -euo pipefail
 here=$(cd "$(dirname "$0")" && pwd)
 . "$here/left_out.sh"
+. "$here/golang.sh"
 statements=$here/../crates/lp_influx/proofs/WorkedLines.antt
 count=5000000 depth=7 writes=false
 case ${1-} in
@@ -25,20 +26,15 @@ case ${1-} in
     ;;
 esac
 seed=${1:-1}
-if ! command -v go >/dev/null || ! command -v cc >/dev/null; then
-    left_out checks/influx.sh "there is no go, or no cc"
-    exit 0
-elif [ ! -d /usr/share/gocode/src/github.com/influxdata/influxdb/models ] &&
-    [ ! -d /usr/local/share/gocode/src/github.com/influxdata/influxdb/models ]; then
-    left_out checks/influx.sh "there is no golang-github-influxdb-influxdb-dev"
-    exit 0
-fi
+has_tools checks/influx.sh cc || exit 0
+lacking=$(golang_lacks)
+[ -z "$lacking" ] || { left_out checks/influx.sh "$lacking" && exit; }
 top=$(dirname "$here")
 . "$here/library.sh"
 build_library lp_checks
 made=$(mktemp -d)
 trap 'rm -rf "$made"' EXIT
-if ! env GO111MODULE=off GOPROXY=off GOFLAGS= GOPATH=/usr/share/gocode:/usr/local/share/gocode GOCACHE="${GOCACHE:-$made/cache}" \
+if ! env GO111MODULE=off GOPROXY=off GOFLAGS= GOPATH=$sources GOCACHE="${GOCACHE:-$made/cache}" \
     CGO_ENABLED=1 CGO_CFLAGS="-O2 -I$here" CGO_LDFLAGS="$library $heap" go build -o "$made/influx" "$here/influx.go" >"$made/log" 2>&1; then
     tail -n 20 "$made/log" >&2
     echo "influx: checks/influx.go was not built" >&2

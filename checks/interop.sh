@@ -25,10 +25,7 @@ if [ $# != 1 ] || [ ! -x "$1" ]; then
     exit 2
 fi
 relay=$(readlink -f "$1")
-if ! python3 -c 'import sys; sys.exit(sys.version_info < (3, 10))' 2>/dev/null; then
-    left_out checks/interop.sh "there is no Python 3.10 or later"
-    exit 0
-fi
+has_tools checks/interop.sh python3 || exit 0
 work=$(mktemp -d)
 trap 'rm -rf "$work"' EXIT
 readers=()
@@ -52,23 +49,10 @@ build_parser() {
     readers+=("parser=$(version_of golang-github-influxdb-influxdb-dev)=$work/parser")
 }
 
-if command -v influxd >/dev/null; then
-    readers+=("influx=$(version_of influxdb)")
-else
-    left_out "InfluxDB of docs/INTEROP.md" "there is no influxd"
-fi
-if ! command -v go >/dev/null; then
-    left_out "the parser of docs/INTEROP.md" "there is no go"
-elif ! source_of github.com/influxdata/influxdb/models >/dev/null; then
-    left_out "the parser of docs/INTEROP.md" "there is no golang-github-influxdb-influxdb-dev"
-else
-    build_parser
-fi
-if command -v victoria-metrics >/dev/null; then
-    readers+=("victoria=$(version_of victoria-metrics)")
-else
-    left_out "VictoriaMetrics of docs/INTEROP.md" "there is no victoria-metrics"
-fi
+! has_tools "InfluxDB of docs/INTEROP.md" influxd || readers+=("influx=$(version_of influxdb)")
+lacking=$(golang_lacks)
+if [ -n "$lacking" ]; then left_out "the parser of docs/INTEROP.md" "$lacking"; else build_parser; fi
+! has_tools "VictoriaMetrics of docs/INTEROP.md" victoria-metrics || readers+=("victoria=$(version_of victoria-metrics)")
 # The Python that has the writers: this one, or Debian's.
 python=python3
 "$python" -c 'import influxdb' 2>/dev/null || python=/usr/bin/python3

@@ -10,14 +10,7 @@ set -eu
 here=$(cd "$(dirname "$0")" && pwd)
 top=$(dirname "$here")
 . "$here/left_out.sh"
-if ! command -v "${CC:-cc}" >/dev/null; then
-    left_out checks/portable.sh "there is no ${CC:-cc}"
-    exit 0
-fi
-if ! python3 -c 'import sys; sys.exit(sys.version_info < (3, 10))' 2>/dev/null; then
-    left_out checks/portable.sh "there is no Python 3.10 or later"
-    exit 0
-fi
+has_tools checks/portable.sh "${CC:-cc}" python3 || exit 0
 archive=${1-}
 if [ -z "$archive" ]; then
     . "$here/library.sh"

@@ -31,10 +31,7 @@ if [ $# = 0 ] || [ ! -f "$1" ]; then
 fi
 archive=$(readlink -f "$1")
 lacking=$(golang_lacks)
-if [ -n "$lacking" ]; then
-    left_out checks/servers.sh "$lacking"
-    exit 0
-fi
+[ -z "$lacking" ] || { left_out checks/servers.sh "$lacking" && exit; }
 export LP_SEED=${2:-1} LP_PORTABLE=${3:-5000000} LP_SHORT=${LP_SHORT:-6} LP_LINES=0
 lines=${4:-20000}
 work=$(mktemp -d)
@@ -70,12 +67,6 @@ LP_LINES=$lines LP_FOLDER=$work/lines beside TestLines
 readers=()
 for reader in influx victoria; do
     program=$([ "$reader" = influx ] && echo influxd || echo victoria-metrics)
-    if [ ! -f "$work/lines/$reader" ]; then
-        continue
-    elif command -v "$program" >/dev/null; then
-        readers+=("$reader")
-    else
-        left_out "$reader of checks/servers.sh" "there is no $program"
-    fi
+    if [ -f "$work/lines/$reader" ] && has_tools "$reader of checks/servers.sh" "$program"; then readers+=("$reader"); fi
 done
 [ ${#readers[@]} = 0 ] || python3 -B "$here/servers/lines.py" "$work/lines" "${readers[@]}"
