@@ -5,7 +5,7 @@ import textwrap
 
 from records import Place, read, records
 
-FIELDS = ["name", "text", "fault", "servers", "inside", "outside", "example", "server", "js", "measured"]
+FIELDS = ["name", "text", "fault", "servers", "inside", "outside", "example", "server", "js", "proof", "measured"]
 SERVERS = ["influx1", "victoria"]
 
 
@@ -71,6 +71,7 @@ def of_lp_portable():
                 each(lambda c: f"listed format.{c.snake} = (Clause.{c.name}, {c.number - 1}, refl, omega arith, refl)"))
     same, given = "crates/lp_portable/proofs/SameBroken.antt", [f"h{place}" for place in range(len(CLAUSES))]
     yield Place(same, ("pub same_broken",), "    → x ≡ y", each(lambda c: f"    → x.{c.snake} ≡ y.{c.snake}"))
+    yield Place("crates/lp_portable/proofs/portable/broken_in/Answers.antt", ("returns c = same_broken",), "", each(lambda c: f"    {c.proof or 'refl'}"))
     yield Place(same, ("    → x ≡ y",), "", [f"same_broken x y {' '.join(given)} =", f"    rw ({', '.join(given)}) refl"])
 
 
