@@ -3,14 +3,16 @@
 
     checks/what_sees.py                            prints each bug that cannot be planted; the status is 1 if there is any
     checks/what_sees.py python ARCHIVE [NAME..]    plants each bug of the Python package, or those of these names
+    checks/what_sees.py rust ARCHIVE [NAME..]      the same for the crate for Rust
+    checks/what_sees.py go ARCHIVE [NAME..]        the same for the module for Go
     checks/what_sees.py js FOLDER [NAME..]         the same for the JavaScript package
 
 ARCHIVE is liblp_c.a. FOLDER is one that packaging/page/build.sh made. Each bug is planted alone in a copy of the sources outside the repository,
-and the tests run over the copy: the modules of the Python tests but test_packing, up to the first test that fails; or checks/page/in_node.mjs and
-streams.mjs. A line for each bug names the module or the files that fail, or says `NO TEST`. Before, the tests run without a bug: if one fails, no
-bug is planted. The status is 1 if a bug is seen by no test. A name is what goes wrong, with `_` in place of each space. JOBS copies, 3 by default,
-are tested side by side, by the Python that runs this script. LP_RELAY can be the absolute path of a built lp_relay; without it, and without pandas,
-the tests that need it are left out.
+and the tests run over the copy: the modules of the Python tests but test_packing, up to the first test that fails; `cargo test`, up to the first
+program of tests that fails; `go test`; or checks/page/in_node.mjs and streams.mjs. A line for each bug names the module, the tests or the files
+that fail, or says `NO TEST`. Before, the tests run without a bug: if one fails, no bug is planted. The status is 1 if a bug is seen by no test. A
+name is what goes wrong, with `_` in place of each space. JOBS copies, 3 by default, are tested side by side, by the Python that runs this script.
+LP_RELAY can be the absolute path of a built lp_relay; without it, and without pandas, the tests that need it are left out.
 """
 
 import os
@@ -25,8 +27,11 @@ from typing import NamedTuple
 
 TOP = Path(__file__).resolve().parent.parent
 TABLE = TOP / "tables" / "bugs_of_packages.tsv"
-SECONDS = 900  # how long the tests of one package may run
+SECONDS = int(os.environ.get("SECONDS", "900"))  # how long the tests of one package may run
 FAILED = re.compile(r"^(?:FAIL|ERROR): \w+ \((?:unittest\.loader\._FailedTest\.)?(\w+)", re.M)
+
+
+FAILED_ELSEWHERE = re.compile(r"^test (.+) \.\.\. FAILED$|^--- FAIL: (\w+)", re.M)  # as cargo and go print it
 
 
 class Bug(NamedTuple):
@@ -44,7 +49,7 @@ class Bug(NamedTuple):
 def bugs():
     """Returns the bugs of the table, in order."""
     lines = [line for line in TABLE.read_text(encoding="utf-8").splitlines() if not line.startswith("#")]
-    return [Bug(*(cell.replace("⏎", "\n") for cell in line.split("\t"))) for line in lines]
+    return [Bug(*(cell.replace("⏎", "\n").replace("⇥", "\t") for cell in line.split("\t"))) for line in lines]
 
 
 def unplantable(table):
@@ -72,16 +77,21 @@ def plant(bug, package):
         (package / bug.file).write_text(text.replace(bug.old, bug.new), encoding="utf-8")
 
 
+def copy_package(name, bug, room):
+    """Copies the files of the repository into a folder, with a bug in a package. Returns the folder of the package."""
+    tree = Path(room) / "tree"
+    listed = subprocess.run(["git", "ls-files", "-z"], cwd=TOP, capture_output=True, text=True, check=True).stdout
+    for file in listed.split("\0")[:-1]:
+        (tree / file).parent.mkdir(parents=True, exist_ok=True)
+        shutil.copy(TOP / file, tree / file)
+    plant(bug, tree / "bindings" / name)
+    return tree / "bindings" / name
+
+
 def failed_python(bug, archive):
     """Returns the first module of tests of the Python package that fails with a bug, or what says that the package cannot be built."""
     with tempfile.TemporaryDirectory() as room:
-        tree, built = Path(room) / "tree", Path(room) / "built"
-        listed = subprocess.run(["git", "ls-files", "-z"], cwd=TOP, capture_output=True, text=True, check=True).stdout
-        for name in listed.split("\0")[:-1]:
-            (tree / name).parent.mkdir(parents=True, exist_ok=True)
-            shutil.copy(TOP / name, tree / name)
-        package = tree / "bindings" / "python"
-        plant(bug, package)
+        package, built = copy_package("python", bug, room), Path(room) / "built"
         for folder, words in (("package", []), ("refusing", ["--refuse"])):
             is_built, said = run([sys.executable, package / "build_backend.py", built / folder, *words], room, ARCHIVE=archive)
             if not is_built:
@@ -90,6 +100,27 @@ def failed_python(bug, archive):
         command = [sys.executable, "-m", "unittest", "-f", *modules]
         passed, said = run(command, package / "tests", ARCHIVE=archive, LP_REFUSED_LIBRARY=str(built / "refusing"), PYTHONPATH=str(built / "package"))
         return set() if passed else set(FAILED.findall(said)) or {"the tests end by a signal"}
+
+
+def failed_elsewhere(name, bug, command, **more):
+    """Returns the tests of a package that fail by a command with a bug, or what says that they cannot be built."""
+    with tempfile.TemporaryDirectory() as room:
+        passed, said = run(command, copy_package(name, bug, room), LOG=f"{room}/log", **more)
+    found = {one or other for one, other in FAILED_ELSEWHERE.findall(said)}
+    return set() if passed else found or {"build: " + said.strip().splitlines()[-1]}
+
+
+def failed_rust(bug, archive):
+    """Returns the tests of the crate for Rust that fail with a bug."""
+    tables = {"LP_ANSWERS": "checks/tables/answers.tsv", "LP_PORTABLE": "checks/portable_rows.txt"}
+    command = ["bash", "-c", '. ./flags.sh && find_crates . "$LOG" && cargo test "${flags[@]}"']
+    return failed_elsewhere("rust", bug, command, LP_LIB_DIR=str(Path(archive).parent), **{name: str(TOP / file) for name, file in tables.items()})
+
+
+def failed_go(bug, archive):
+    """Returns the tests of the module for Go that fail with a bug."""
+    command = ["bash", "-c", "go test -tags lp_lib_dir . && go test -tags lp_lib_dir,lp_refuse -run TestRefused ."]
+    return failed_elsewhere("go", bug, command, GOPROXY="off", CGO_ENABLED="1", CGO_LDFLAGS=f"-L{Path(archive).parent}")
 
 
 def failed_js(bug, made):
@@ -109,11 +140,12 @@ def main(arguments):
     if not arguments or wrong:
         print("\n".join(wrong) or f"what_sees: each of {len(table)} bugs can be planted")
         return int(bool(wrong))
-    if len(arguments) < 2 or arguments[0] not in ("python", "js"):
+    failed_of = {"python": failed_python, "rust": failed_rust, "go": failed_go, "js": failed_js}
+    if len(arguments) < 2 or arguments[0] not in failed_of:
         print(__doc__, file=sys.stderr)
         return 2
     package, made, *names = arguments
-    failed = {"python": failed_python, "js": failed_js}[package]
+    failed = failed_of[package]
     chosen = [bug for bug in table if bug.package == package and (not names or bug.name in names)]
     made = str(Path(made).resolve())
     if known := failed(None, made):

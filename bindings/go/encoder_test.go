@@ -242,14 +242,20 @@ func TestDialectOfLines(t *testing.T) {
 	}
 }
 
-// What an encoder gathers goes by its longest line, and not by how much it writes.
+// What an encoder gathers goes by its longest line, and not by how much it writes, or by how many lines it drops.
 func TestEncoderHoldsLittle(t *testing.T) {
-	var e Encoder
+	var e, dropping Encoder
 	long := value(t, strings.Repeat("x", 10000))
 	for i := 0; i < 3000; i++ {
 		line(&e, "m", "s", long)
 		if cap(e.gathered.texts) > 1<<20 || cap(e.gathered.rows) > 4096 {
 			t.Fatalf("line %d: %d bytes and %d rows are held", i, cap(e.gathered.texts), cap(e.gathered.rows))
+		}
+		dropping.StartLine("m")
+		dropping.AddTag("k", "v")
+		dropping.EndLine(time.Time{}) // it has no field
+		if cap(dropping.gathered.texts) > 1024 || cap(dropping.gathered.parts) > 64 {
+			t.Fatalf("line %d: %d bytes and %d parts are held", i, cap(dropping.gathered.texts), cap(dropping.gathered.parts))
 		}
 	}
 	if e.Err() != nil || len(e.Bytes()) != 3000*len("m s=\"\"\n")+3000*10000 {

@@ -87,11 +87,11 @@ func TestLinesOfCutBodies(t *testing.T) {
 	}
 }
 
-// A reader that says that it gave more bytes than there was room for, or less than none, is told.
+// A reader that says that it gave more bytes than there was room for, or less than none, is told; so is one that goes on giving nothing.
 func TestBadReaders(t *testing.T) {
-	for _, n := range []int{-1, 1 << 30} {
+	for n, why := range map[int]error{-1: bufio.ErrBadReadCount, 0: io.ErrNoProgress, 1 << 30: bufio.ErrBadReadCount} {
 		d := NewDecoder(io.MultiReader(strings.NewReader("m f=1i\n"), bad(n)))
-		if got := told(d); len(got) != 1 || d.Err() != bufio.ErrBadReadCount || d.Next() {
+		if got := told(d); len(got) != 1 || d.Err() != why || d.Next() {
 			t.Errorf("%q, %v", got, d.Err())
 		}
 	}

@@ -58,6 +58,8 @@ class Columns(unittest.TestCase):
             keys = [key(line) for line in lines if line.measurement == measurement]
             self.assertEqual([told.keys[number] for number in table.series], keys)
         self.assertEqual(len(told.keys), 6)
+        many = columns("".join(f"m,a={number} f=1i\n" for number in range(65_540)), use_numpy=False, series=True)
+        self.assertEqual(list(many.tables["m"].series), list(range(65_540)))
         untold = columns(text, use_numpy=False)
         self.assertIsNone(untold.keys)
         self.assertEqual({table.series for table in untold.tables.values()}, {None})
@@ -81,7 +83,8 @@ class Columns(unittest.TestCase):
 
     def compare_column(self, column, cells, kinds):
         found = cells_of(column)
-        self.assertEqual([repr(one) for one in found], [repr(of_column(one, len(kinds) > 1)) for one in cells])
+        cells = [of_column(one, len(kinds) > 1) for one in cells]
+        self.assertEqual([(type(one), repr(one)) for one in found], [(type(one), repr(one)) for one in cells])
         self.assertEqual(column.mask is None, MISSING not in cells)
         wanted = {frozenset([int]): "q", frozenset([Unsigned]): "Q", frozenset([float]): "d"}.get(frozenset(kinds))
         self.assertEqual(column.values.typecode if isinstance(column.values, array) else None, wanted)
@@ -105,6 +108,8 @@ class Columns(unittest.TestCase):
         text = 'm f=1i\nm f=2.5\nm g=1\nm f=7u\nm f="x",g=t\nm f=1e400\nm f=-1i,g=f'
         told = self.compare(text, text)
         self.assertEqual(list(map(type, told.tables["m"].fields["f"])), [int, float, type(None), Unsigned, str, float, int])
+        long = "m f=1i\n" + "m g=1\n" * 2000 + "m f=2u"
+        self.compare(long, long)
 
     def test_a_key_that_comes_twice(self):
         text = "m,a=1,a=2 f=1i,f=2i\nm,a=3 f=1i,f=2.5,f=3i\nm,f=tag f=1i"

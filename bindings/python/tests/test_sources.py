@@ -24,6 +24,7 @@ import unittest
 import warnings
 import weakref
 from typing import get_args
+from unittest import mock
 
 import line_protocol
 from line_protocol import Dialect, Fault, FaultKind, Line, columns, parse, rebuild, split
@@ -114,6 +115,9 @@ class Kinds(Folder):
         items = list(parse(io.BytesIO(long)))
         self.assertEqual([item.measurement for item in items], ["m", "n"])
         self.assertEqual(len(items[0].fields[0][1]), 8_000_000)
+        with mock.patch.object(line_protocol._fast, "cut", wraps=line_protocol._fast.cut) as cut:
+            self.assertEqual(list(parse(in_parts(long, 20_000))), items)
+        self.assertLess(cut.call_count, 20)  # of 401 parts
 
     def test_what_is_no_source(self):
         for source in (5, None, 1.5, ["m f=1i"], ("m f=1i",), {"m": 1}, {1}, range(3), object(), iter("m f=1i"), iter("é"), b"m".hex):
@@ -172,12 +176,13 @@ class Kinds(Folder):
 
     def test_files_are_closed(self):
         path = self.file(TEXT.encode())
-        with warnings.catch_warnings():
-            warnings.simplefilter("error")
+        with warnings.catch_warnings(record=True) as told:
+            warnings.simplefilter("always")
             list(parse(path))
             parse(path)
             next(parse(path))
             gc.collect()
+        self.assertEqual(told, [])
         before = len(os.listdir("/proc/self/fd")) if os.path.exists("/proc/self/fd") else 0
         held = [parse(path) for _ in range(10)]
         del held
@@ -412,7 +417,7 @@ class Memory(Folder):
     @unittest.skipUnless(os.path.exists("/proc/self/statm"), "the system does not say how much memory is taken")
     @unittest.skipIf("WATCHED" in os.environ, "the sanitizer keeps what is given back")
     def test_a_million_items_take_no_more_memory_than_a_few(self):
-        block = b"".join(b"m,t=a%d f=1i,g=0.10 %d\nm f\n%s" % (i % 7, i, b"" if i % 50 else b"x \xff\n") for i in range(5_000))
+        block = b"".join(b"m,t=a%d f=1i,g=0.10 %d\nm f\n%s" % (i, i, b"" if i % 50 else b"x \xff\n") for i in range(5_000))
         count = 0
         for count, _ in enumerate(parse(itertools.repeat(block, 100)), 1):
             if count == 250_000:

@@ -65,7 +65,7 @@ class Times(unittest.TestCase):
         "shown": lambda time: show(assigned(time)) + "\n"}
 
     def test_each_writer_writes_nanoseconds(self):
-        for time, number in TIMES:
+        for time, number in [*TIMES, (type("Count", (int,), {})(-1), -1)]:
             for name, call in self.WRITERS.items():
                 with self.subTest(time=time, writer=name):
                     self.assertEqual(call(time), f"m f=1i {number}\n")

@@ -153,7 +153,7 @@ impl Read for Failing<'_> {
         match self.calls % 3 {
             1 => self.text.read(&mut out[..1]),
             2 => Err(io::ErrorKind::Interrupted.into()),
-            _ => Err(io::Error::other("no more paper")),
+            _ => Err(io::Error::new([io::ErrorKind::Other, io::ErrorKind::WouldBlock][self.calls % 2], "no more paper")),
         }
     }
 }

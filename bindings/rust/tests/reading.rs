@@ -22,7 +22,7 @@ fn floats_are_those_of_the_standard_library() {
     let mut state = 1u64;
     for round in 0..20_000usize {
         state = state.wrapping_mul(6364136223846793005).wrapping_add(1442695040888963407);
-        let digits = (state >> 11).to_string();
+        let digits = (state >> (10 + round % 2)).to_string();
         let (whole, fraction) = digits.split_at(1 + round % (digits.len() - 1));
         let fraction = &fraction[..fraction.len().min(round % 17 + 1)];
         for literal in [format!("{whole}.{fraction}"), format!("-{whole}.{fraction}"), format!("{whole}.{fraction}e-{}", round % 40)] {
