@@ -6,7 +6,6 @@ use Rattle.std.proofs.lemmas.List.{drop-append-le, length-take-le, take-append-d
 use Rattle.influxdb_line_protocol.specs.format.Dialects.{Dialect}
 use Rattle.lp_format.specs.format.{Strict}
 use Rattle.lp_c.specs.BlockVerdicts.{ReadsVerdicts}
-use Rattle.lp_offsets.specs.Numbers.{dialect_number, dialect_of}
 use Rattle.lp_offsets.specs.OffsetBlocks.{OffsetRows, ReadsOffsets, begins_at, filled_in}
 use Rattle.lp_c.specs.SureRows.{IsShownRow}
 use Rattle.lp_c.specs.Verdicts.{MayTakeMemory, TellsVerdict}
@@ -14,7 +13,6 @@ use Rattle.lp_offsets.specs.declared.offsets.Block.{Block}
 use Rattle.lp_offsets.specs.declared.offsets.OffsetRow.{OffsetRow}
 use Rattle.lp_offsets.specs.declared.placed.OffsetPart.{OffsetPart}
 use Rattle.lp_c.specs.declared.verdicts.Limits.{Limits}
-use Rattle.lp_offsets.specs.declared.enums.Dialect.{Dialect as Rules}
 use Rattle.lp_c.proofs.SureRowLemmas.{rows_shown}
 
 -- what may take memory at the first of rows may do so if more rows follow
@@ -65,10 +63,3 @@ module _ (dialect : Dialect) (last : Bool) (text : List ℕ) (before : Block) (r
         memory = λ less. subst (MayTakeMemory text) rest
             (may_more text (drop told (take after.rows rows)) (drop after.rows rows) (memory (omega (arith, less, size, many))));
       }
-
--- the rules by which rows were filled are strict, if there are parts
-pub strict_if_shown : (rules : Rules) (dialect : Dialect) (parts : List OffsetPart) (own : Option (Bor (List OffsetPart)))
-    → dialect ≡ dialect_of (dialect_number rules) → IfSome own (λ ps. (rules ≡ Rules.Strict) × (ps.now ≡ parts))
-    → IfSome own (λ ps. (dialect ≡ Strict) × (ps.now ≡ parts))
-strict_if_shown rules dialect parts None is own = tt
-strict_if_shown rules dialect parts (Some ps) is (strict, same) = (is ∙ ap (λ (r : Rules). dialect_of (dialect_number r)) strict, same)

@@ -1,17 +1,17 @@
--- The literals of floats are texts of which std reads a number, and are ASCII.
-use Rattle.std.proofs.Common.{◌≡◌, ℕ, ◌<◌, ◌++◌, List, [], ◌∷◌, cond, true, false, refl, sym, ◌∙◌, subst, arith, inl, inr, append-nil}
+-- The literals of floats are texts of which std reads a number, and are UTF-8.
+use Rattle.std.proofs.Common.{◌≡◌, ℕ, ◌++◌, List, [], ◌∷◌, cond, true, false, refl, sym, ◌∙◌, subst, arith, inl, inr, append-nil}
 use Rattle.std.specs.Prelude.{◌==◌, codes, nat_lt}
 use Rattle.std.specs.Char.{is_ascii_digit}
-use Rattle.std.specs.Str.{IsAscii, IsUtf8}
+use Rattle.std.specs.Str.{IsUtf8}
 use Rattle.std.specs.Str.Parse.{AllDigits, IsNumeral}
 use Rattle.std.specs.Float.Parse.{completes_number, float_scan_step, is_float_text, without_sign}
 use Rattle.std.proofs.lemmas.Str.{IsUtf8-from_ascii}
-use Rattle.std.proofs.lemmas.Str.Ascii.{IsAscii-cons, IsAscii-nil}
+use Rattle.std.proofs.lemmas.{Bool.cases_lt, Grind.common_steps, List.get_or_past}
 use Rattle.std.proofs.lemmas.Str.Parse.{digit_from_value}
 use Rattle.std.proofs.lemmas.Bool.{or_cases, eqb-true, ne_eqb, false≢true}
 use Rattle.lp_format.specs.format.Bytes.{is_one_of}
 use Rattle.lp_format.specs.format.Values.{IsFloat, IsMarked, IsSigned}
-use Rattle.lp_format.proofs.lemmas.literals.FloatLemmas.{digit_passes}
+use Rattle.lp_format.proofs.lemmas.literals.FloatLemmas.{digit_passes, float_bytes}
 
 -- how far a reader of a number has come after a digit
 abbrev after_digit : ℕ → ℕ
@@ -98,41 +98,7 @@ literal_is_float_text t parts =
     let all = signed_completes parts.0 (parts.1 ++ parts.2) parts.4 (fraction_completes parts.1 parts.2 parts.5 parts.6) in
     rw (parts.3, all) refl
 
--- digits before ASCII are ASCII
-digits_ascii : (ds rest : List ℕ) → AllDigits 10 ds → IsAscii rest → IsAscii (ds ++ rest)
-digits_ascii [] rest digits ascii = ascii
-digits_ascii (d ∷ ds) rest digits ascii =
-    IsAscii-cons d _ (omega (arith, digit_from_value d digits.0)) (digits_ascii ds rest digits.1 ascii)
-
--- so is an exponent
-power_ascii : (text : List ℕ) → IsSigned (codes "+-") text → IsAscii text
-power_ascii [] signed = absurd signed
-power_ascii (b ∷ ds) (inl signed) =
-    let rest = subst IsAscii (append-nil ds) (digits_ascii ds [] signed.1.1 IsAscii-nil) in
-    IsAscii-cons b ds (one_of_two (λ sign. sign < 128) 43 45 b signed.0 (omega arith) (omega arith)) rest
-power_ascii (b ∷ ds) (inr numeral) = subst IsAscii (append-nil (b ∷ ds)) (digits_ascii (b ∷ ds) [] numeral.1 IsAscii-nil)
-
--- so it is with its mark, or if it is missing
-exponent_ascii : (text : List ℕ) → IsMarked (codes "eE") (IsSigned (codes "+-")) text → IsAscii text
-exponent_ascii [] marked = IsAscii-nil
-exponent_ascii (b ∷ text) marked =
-    IsAscii-cons b text (one_of_two (λ mark. mark < 128) 101 69 b marked.0 (omega arith) (omega arith)) (power_ascii text marked.1)
-
--- a fraction or none before ASCII is ASCII
-fraction_ascii : (text rest : List ℕ) → IsMarked (codes ".") (IsNumeral 10) text → IsAscii rest → IsAscii (text ++ rest)
-fraction_ascii [] rest marked ascii = ascii
-fraction_ascii (b ∷ ds) rest marked ascii =
-    IsAscii-cons b _ (one_of_one (λ mark. mark < 128) 46 b marked.0 (omega arith)) (digits_ascii ds rest marked.1.1 ascii)
-
--- a number with a sign or none before ASCII is ASCII
-whole_ascii : (text rest : List ℕ) → IsSigned (codes "-") text → IsAscii rest → IsAscii (text ++ rest)
-whole_ascii [] rest signed ascii = absurd signed
-whole_ascii (b ∷ ds) rest (inl signed) ascii =
-    IsAscii-cons b _ (one_of_one (λ sign. sign < 128) 45 b signed.0 (omega arith)) (digits_ascii ds rest signed.1.1 ascii)
-whole_ascii (b ∷ ds) rest (inr numeral) ascii = digits_ascii (b ∷ ds) rest numeral.1 ascii
-
 -- each literal of a float is UTF-8
 pub literal_is_utf8 : (t : List ℕ) → IsFloat t → IsUtf8 t
 literal_is_utf8 t parts =
-    let rest = fraction_ascii parts.1 parts.2 parts.5 (exponent_ascii parts.2 parts.6) in
-    IsUtf8-from_ascii t (subst IsAscii (sym parts.3) (whole_ascii parts.0 (parts.1 ++ parts.2) parts.4 rest))
+    IsUtf8-from_ascii t (λ i. let byte = float_bytes t parts i 0 in grind (arith, common_steps, cases_lt, get_or_past))

@@ -1,30 +1,29 @@
 -- Lines whose rows surely break no clause but those about their time, their tags and their length.
-use Rattle.std.proofs.Common.{zero, suc, ◌≡◌, ◌∙◌, ℕ, ◌+◌, ◌-◌, ◌<◌, ◌≤◌, ◌==◌, List, [], ◌∷◌, ◌++◌, length, map, take, drop, Option, Some, None, Ok}
+use Rattle.std.proofs.Common.{zero, suc, ◌≡◌, ◌∙◌, ℕ, ◌+◌, ◌-◌, ◌<◌, ◌≤◌, ◌==◌, List, [], ◌∷◌, ◌++◌, length, map, take, drop, Option, Some, None}
 use Rattle.std.proofs.Common.{Bor, IfSome, Bool, true, false, codes, refl, sym, ap, subst, arith, append_assoc, inl, inr, get_or, IsUtf8}
 use Rattle.std.specs.Prelude.{if◌then◌else◌}
 use Rattle.std.specs.List.{AllByRecursion, list_any}
-use Rattle.std.proofs.lemmas.Bool.{and_parts, cases_Bool, eqb-true, false≢true, le-ltb}
-use Rattle.std.proofs.lemmas.List.{drop_at, drop-take, drop_more, length-drop, length-map, length-take-le, take-append-drop, take_at, take-take}
-use Rattle.lp_format.specs.format as format
-use Rattle.lp_format.specs.format.{IsFloat, IsValue, Line, Pair, Strict, Text, Value, answer, boolean, float, integer, is_one_of, logical_field, logical_tag, logical_value, some_tags, string, trimmed, unsigned}
+use Rattle.std.proofs.lemmas.Bool.{and_parts, cases_Bool, eqb-true, le-ltb}
+use Rattle.std.proofs.lemmas.List.{drop_at, drop-take, drop_more, length-drop, length-map, length-take-le, take_at, take-take}
+use Rattle.lp_format.specs.format.{IsValue, Pair, Strict, Text, Value, answer, boolean, float, integer, is_one_of, logical_field, logical_tag, logical_value, some_tags, string, trimmed, unsigned}
 use Rattle.lp_written.proofs.lemmas.points.LinesArePoints.{lines_are_points}
 use Rattle.lp_portable.specs.declared.limits.Limits as portable
-use Rattle.lp_portable.specs.code.Sure.{IsLineNoted, SureField, SureTag, begins_own, counted, is_sure_key, is_sure_tag, is_sure_value}
+use Rattle.lp_portable.specs.code.Sure.{IsLineNoted, SureField, SureTag, begins_own, counted, is_sure_key, is_sure_value}
 use Rattle.lp_portable.specs.format.Portable.{has_repeats}
 use Rattle.lp_events.specs.code.OwnBases.{is_strictly_sorted}
 use Rattle.lp_portable.proofs.{Repeats.risen_once, ShortFloats.short_is_sure}
-use Rattle.lp_offsets.specs.Numbers.{answer_number, kind_number}
+use Rattle.lp_offsets.specs.Numbers.{kind_number}
+use Rattle.lp_offsets.proofs.PlacedLemmas.{piece_fits}
 use Rattle.lp_offsets.specs.OffsetBlocks.{IsPieceIn, IsPlaced, OffsetRows, ShowsItem, ShowsRow, piece_in, timestamp_in}
 use Rattle.lp_offsets.specs.OffsetBlocks.{blank, fault, line, more, no_text, none}
 use Rattle.lp_offsets.specs.Offsets.{bytes_at, field_at, is_stray, key_at, tag_at, text_at, value_at, with_key}
 use Rattle.lp_c.specs.SureRows.{AreSureParts, IsShownRow, IsSureRow, ShowsStrictly, SurePart, SureValue, key_in, lies_in}
-use Rattle.lp_c.specs.Verdicts.{HasPiece, IsVerdictBy, piece_there}
+use Rattle.lp_c.specs.Verdicts.{IsVerdictBy, piece_there}
 use Rattle.lp_offsets.specs.declared.offsets.OffsetRow.{OffsetRow}
 use Rattle.lp_offsets.specs.declared.pieces.Piece.{Piece}
 use Rattle.lp_offsets.specs.declared.pieces.Spot.{Spot}
 use Rattle.lp_offsets.specs.declared.placed.OffsetPart.{OffsetPart}
 use Rattle.lp_offsets.specs.declared.placed.Span.{Span}
-use Rattle.lp_offsets.specs.declared.enums.Answer.TheVariants as Answer
 use Rattle.lp_offsets.specs.declared.enums.Kind.{Kind}
 
 -- what lies in the text is no copy
@@ -199,7 +198,7 @@ line_noted text parts tags fields row s tags_are fields_are all sure_tags sure_f
     )
 
 -- what is so of all is so of one more
-all_snoc : {X : Type 0} (P : X → Type 0) (xs : List X) (x : X) → AllByRecursion P xs → P x → AllByRecursion P (xs ++ x ∷ [])
+pub all_snoc : {X : Type 0} (P : X → Type 0) (xs : List X) (x : X) → AllByRecursion P xs → P x → AllByRecursion P (xs ++ x ∷ [])
 all_snoc P [] x all is = (is, tt)
 all_snoc P (y ∷ xs) x all is = (all.0, all_snoc P xs x all.1 is)
 
@@ -216,11 +215,6 @@ next_shown P old rows i d here same all =
     (subst (AllByRecursion P) (sym same ∙ drop_more rows i d here) (all_drop P i old all)).0
 
 module _ (last : Bool) (text : List ℕ) (from : Spot) (room : List ℕ) (used : ℕ) (within : used ≤ length room) where
-  -- a piece lies in the text
-  piece_fits : (piece : Piece) → IsPieceIn Strict last text piece → piece.at + piece.len ≤ length text
-  piece_fits piece (inl (cut, next, fits)) = omega (arith, next, fits)
-  piece_fits piece (inr (ends, is_last, fits, next, some)) = omega (arith, fits)
-
   -- a row that shows the item of a piece shows its line, if it has one
   item_shown : (piece : Piece) (number : ℕ) (parts own rest : List OffsetPart) (row : OffsetRow) → IsPieceIn Strict last text piece
       → IsPlaced piece number (length parts) row → ShowsItem Strict text piece own room used row
@@ -237,7 +231,7 @@ module _ (last : Bool) (text : List ℕ) (from : Spot) (room : List ℕ) (used :
         within = within;
         piece = record {
           answered = answered;
-          fits = omega (arith, placed.at, placed.len, piece_fits piece is);
+          fits = omega (arith, placed.at, placed.len, piece_fits Strict last text piece is);
           utf8 = subst IsUtf8 bytes utf8;
         };
         answered = ap (λ (t : List ℕ). answer Strict (trimmed t)) (sym bytes) ∙ answer_is;

@@ -17,8 +17,8 @@ use Rattle.influxdb_line_protocol.specs.format.Readings.{Text}
 use Rattle.lp_lines.proofs.lemmas.line.AnsweredLines.{HasSome, line_some_tags}
 use Rattle.lp_offsets.proofs.SinkLemmas.{Sink, ToldEvents, answer_told, keep_all, line_len}
 use Rattle.lp_offsets.specs.Sinks.{Keeps, all_shown}
-use Rattle.lp_c.specs.Crossing.{ShowsLine, copied_field, copied_tag, field_shown, tag_shown}
-use Rattle.lp_c.specs.Telling.{Tells, Told, ToldLine, WaitsLine, event_copied, field_filled, filled_line, filled_own, filled_part, filled_parts}
+use Rattle.lp_c.specs.Crossing.{copied_field, copied_tag, field_shown, tag_shown}
+use Rattle.lp_c.specs.Telling.{Tells, Told, ToldLine, WaitsLine, event_copied, field_filled, filled_own, filled_part, filled_parts}
 use Rattle.lp_c.specs.Telling.{lent_of, part_len, tag_filled, told_line, view_filled, view_len}
 use Rattle.lp_c.specs.declared.telling.Telling.{Telling}
 use Rattle.lp_c.specs.declared.views.Part.{Part}

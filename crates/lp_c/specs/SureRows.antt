@@ -1,5 +1,5 @@
 -- Rows whose lines surely break no clause but those about their time, their tags and their length, as their places tell.
-use Rattle.std.specs.Prelude.{◌≡◌, ◌≢◌, ◌≤◌, ◌+◌, ℕ, List, codes, length, map, take, drop, true, false, Ok, IsUtf8}
+use Rattle.std.specs.Prelude.{◌≡◌, ◌≢◌, ◌≤◌, ◌+◌, ℕ, List, codes, length, map, take, drop, true, false, Ok}
 use Rattle.std.specs.List.{AllByRecursion, list_any}
 use Rattle.influxdb_line_protocol.specs.format.Lines as format
 use Rattle.lp_format.specs.format.{Strict, is_one_of, trimmed}

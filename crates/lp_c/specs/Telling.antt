@@ -1,5 +1,5 @@
 -- What the sink of the parts of a line does with each, and what it has put at the end.
-use Rattle.std.specs.Prelude.{◌≡◌, ◌<◌, ◌≤◌, ◌+◌, ◌-◌, ◌^◌, ◌==◌, ℕ, ℤ, List, [], ◌∷◌, Bool, false, drop, length, min, not, pos, take}
+use Rattle.std.specs.Prelude.{◌≡◌, ◌<◌, ◌≤◌, ◌+◌, ◌-◌, ◌^◌, ◌==◌, ℕ, ℤ, List, [], ◌∷◌, false, drop, length, min, not, pos, take}
 use Rattle.std.specs.Prelude.{Option, Some, Result, if◌then◌else◌}
 use Rattle.std.specs.List.{sum_by}
 use Rattle.influxdb_line_protocol.specs.code.Events.{Event, ended, failed, named, tagged, valued}

@@ -1,6 +1,7 @@
 //! Many items in one call, by offsets, and which clauses of what is portable each line breaks.
 
 ghost use Rattle.std.specs.Prelude.{◌≡◌, ◌≢◌, ◌↔◌, ◌⊎◌, ◌≤◌, ◌^◌, IfSome, length};
+ghost use Rattle.lp_format.specs.format.{Strict};
 ghost use Rattle.lp_c.specs.BlockVerdicts.{ReadsVerdicts};
 ghost use Rattle.lp_offsets.specs.Numbers.{IsNoDialect, answer_number, dialect_of};
 ghost use Rattle.lp_offsets.specs.declared.enums.Answer.TheVariants as Answer;
@@ -8,17 +9,19 @@ ghost use Rattle.lp_offsets.specs.declared.enums.Answer.TheVariants as Answer;
 use crate::verdicts::{Limits, tell_verdicts};
 use lp_offsets::enums::{Answer, Dialect};
 use lp_offsets::offsets::{Block, OffsetRow, are_in_32, fill_block};
+use lp_offsets::pieces::Source;
 use lp_offsets::placed::OffsetPart;
 use std::alloc::Global;
 
-// The parts of rows that are filled by these rules, if these are the strict ones.
+// The parts of rows that are filled by the rules of this number, if these are the strict ones.
 #[inline(always)]
-fn strict_parts(dialect: Dialect, parts: &[OffsetPart]) -> Option<&[OffsetPart]>
-    ensures { IfSome result (λ own. (dialect ≡ Dialect.Strict) × (own.now ≡ parts.now)) }
+fn strict_parts(dialect: u32, parts: &[OffsetPart]) -> Option<&[OffsetPart]>
+    ensures { IfSome result (λ own. (dialect_of dialect ≡ Strict) × (own.now ≡ parts.now)) }
 {
-    match dialect {
-        Dialect::Strict => Some(parts),
-        _ => None,
+    if dialect == Dialect::Strict.number() {
+        Some(parts)
+    } else {
+        None
     }
 }
 
@@ -55,14 +58,19 @@ pub extern "C" fn lp_offsets_block_verdicts(
     ensures memory { result ≢ answer_number Answer.OutOfMemory }
 {
     *told = 0;
-    let Some(rules) = Dialect::numbered(dialect) else {
+    if Dialect::numbered(dialect).is_none() {
         return Answer::NotADialect.number();
-    };
+    }
     if !are_in_32(text, rows, parts, room) {
         return Answer::TooLong.number();
     }
-    let answer = fill_block(rules.rules(), last, text, block, room, rows, parts);
+    let source = Source {
+        text,
+        dialect,
+        last,
+    };
+    let answer = fill_block(source, block, room, rows, parts);
     let filled = &mut rows[..block.rows as usize];
-    *told = tell_verdicts(alloc, limits, text, strict_parts(rules, parts), filled);
+    *told = tell_verdicts(alloc, limits, text, strict_parts(dialect, parts), filled);
     answer
 }

@@ -29,7 +29,7 @@ fn is_item(answer: u32) -> bool
     answer == Answer::Line.number() || answer == Answer::Fault.number()
 }
 
-// Reads the next item into a row, with its parts from `used` on, and gives its answer and how many parts it has.
+// Reads the next item into a row, with its parts from where the row says, and gives its answer and how many parts it has.
 #[inline(always)]
 fn read_row<'a>(
     pieces: &mut SplitLines<'a>,
@@ -37,25 +37,24 @@ fn read_row<'a>(
     room: &mut Room<'a>,
     row: &mut Row<'a>,
     parts: &mut [Part<'a>],
-    used: usize,
 ) -> (u32, usize)
     requires text { IsUtf8 lines.old.rest.now }
     requires left { lines.old.ended ≡ false → pieces.old ≡ left_of lines.old }
-    requires used { used ≤ length parts.old }
+    requires at { row.old.parts_at ≤ length parts.old }
     ensures text { IsUtf8 lines.new.rest.now }
     ensures left { IsTrue (is_item result.0) → lines.new.ended ≡ false → pieces.new ≡ left_of lines.new }
     ensures answer { result.0 ≡ row.new.answer }
     ensures own { result.1 ≡ parts_of row.new }
-    ensures at { row.new.parts_at ≡ used }
+    ensures at { row.new.parts_at ≡ row.old.parts_at }
     ensures size { length parts.new ≡ length parts.old }
-    ensures kept { take used parts.new ≡ take used parts.old }
-    ensures fits { used + result.1 ≤ length parts.new }
+    ensures kept { take row.old.parts_at parts.new ≡ take row.old.parts_at parts.old }
+    ensures fits { row.old.parts_at + result.1 ≤ length parts.new }
     ensures reads { ∥ ReadsItem lines.old (length room.old.bytes.now) (length room.new.bytes.now) row.new.answer row.new.line
-        (drop used parts.new) lines.new ∥₁ }
+        (drop row.old.parts_at parts.new) lines.new ∥₁ }
     ensures memory { result.0 ≢ answer_number Answer.OutOfMemory }
 {
-    row.parts_at = used;
-    row.answer = read_next(pieces, lines, room, &mut row.line, &mut parts[used..]);
+    let own_parts = &mut parts[row.parts_at..];
+    row.answer = read_next(pieces, lines, room, &mut row.line, own_parts);
     let own = if row.answer == Answer::Line.number() {
         row.line.tags + row.line.fields
     } else {
@@ -88,7 +87,9 @@ pub extern "C" fn lp_lines_block<'a>(
     let mut pieces = pieces_of(lines);
     let mut used = 0usize;
     for at in 0..rows.len() {
-        let (answer, own) = read_row(&mut pieces, lines, room, &mut rows[at], parts, used);
+        let row = &mut rows[at];
+        row.parts_at = used;
+        let (answer, own) = read_row(&mut pieces, lines, room, row, parts);
         if !is_item(answer) {
             *filled = at;
             return answer;

@@ -11,6 +11,7 @@ ghost use Rattle.lp_offsets.specs.declared.enums.Answer.TheVariants.{MoreText, O
 
 use lp_offsets::cuts::{Cuts, begin_cuts, search_next};
 use lp_offsets::offsets::{Block, OffsetRow, read_block};
+use lp_offsets::pieces::Source;
 use lp_offsets::placed::OffsetPart;
 use lp_offsets::row_keys::tell_keys;
 
@@ -34,7 +35,17 @@ pub extern "C" fn lp_offsets_block(
         ⊎ (2 ^ 32 ≤ length parts.new) ⊎ (2 ^ 32 ≤ length room.new) }
     ensures memory { result ≢ answer_number Answer.OutOfMemory }
 {
-    read_block(text, dialect, last, block, room, rows, parts)
+    read_block(
+        Source {
+            text,
+            dialect,
+            last,
+        },
+        block,
+        room,
+        rows,
+        parts,
+    )
 }
 
 /// Tells each row how many bytes at the start of its line are the key of its series, as [`tell_keys`] does.

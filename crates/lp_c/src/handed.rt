@@ -99,29 +99,6 @@ fn field_in<'a>(
     Ok((key, value))
 }
 
-// Appends the tag of a part.
-fn push_tag<'a>(
-    alloc: Global,
-    copies: bool,
-    part: &Part<'a>,
-    tags: &mut TagSet<'a>,
-) -> Result<(), Answer>
-    requires { 8 ≤ tags.old.capacity }
-    ensures is { OnOk result (IsTagIn part.now) }
-    ensures pushed { OnOk result
-        (map tag_of tags.new.items ≡ map tag_of tags.old.items ++ tag_in copies part.now ∷ []) }
-    ensures len { OnOk result (length tags.new.items ≡ length tags.old.items + 1) }
-    ensures room { OnOk result (8 ≤ tags.new.capacity) }
-    ensures err { IfErr result (λ e. RefusesFor (IsTagIn part.now) e) }
-    ensures told { copies ≡ false → length tags.old.items < 8 → IfErr result (λ e. e ≡ NotALine) }
-{
-    let tag = tag_in(alloc, copies, part)?;
-    match tags.push(tag) {
-        Ok(()) => Ok(()),
-        Err(_) => Err(Answer::OutOfMemory),
-    }
-}
-
 // Takes the tags of parts into an empty set.
 fn take_tags<'a>(
     alloc: Global,
@@ -137,32 +114,12 @@ fn take_tags<'a>(
     ensures told { copies ≡ false → length parts.now ≤ 8 → IfErr result (λ e. e ≡ NotALine) }
 {
     for part in parts {
-        push_tag(alloc, copies, part, tags)?;
+        let tag = tag_in(alloc, copies, part)?;
+        let Ok(()) = tags.push(tag) else {
+            return Err(Answer::OutOfMemory);
+        };
     }
     Ok(())
-}
-
-// Appends the field of a part.
-fn push_field<'a>(
-    alloc: Global,
-    copies: bool,
-    part: &Part<'a>,
-    fields: &mut FieldSet<'a>,
-) -> Result<(), Answer>
-    requires { 4 ≤ fields.old.capacity }
-    ensures is { OnOk result (IsFieldIn part.now) }
-    ensures pushed { OnOk result
-        (map field_of fields.new.items ≡ map field_of fields.old.items ++ field_in copies part.now ∷ []) }
-    ensures len { OnOk result (length fields.new.items ≡ length fields.old.items + 1) }
-    ensures room { OnOk result (4 ≤ fields.new.capacity) }
-    ensures err { IfErr result (λ e. RefusesFor (IsFieldIn part.now) e) }
-    ensures told { copies ≡ false → length fields.old.items < 4 → IfErr result (λ e. e ≡ NotALine) }
-{
-    let field = field_in(alloc, copies, part)?;
-    match fields.push(field) {
-        Ok(()) => Ok(()),
-        Err(_) => Err(Answer::OutOfMemory),
-    }
 }
 
 // Takes the fields of parts into an empty set.
@@ -180,7 +137,10 @@ fn take_fields<'a>(
     ensures told { copies ≡ false → length parts.now ≤ 4 → IfErr result (λ e. e ≡ NotALine) }
 {
     for part in parts {
-        push_field(alloc, copies, part, fields)?;
+        let field = field_in(alloc, copies, part)?;
+        let Ok(()) = fields.push(field) else {
+            return Err(Answer::OutOfMemory);
+        };
     }
     Ok(())
 }

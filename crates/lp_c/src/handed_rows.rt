@@ -8,7 +8,7 @@ ghost use Rattle.influxdb_line_protocol.specs.format.Lines.{logical_field, logic
 ghost use Rattle.lp_c.specs.Handed.{RefusesFor};
 ghost use Rattle.lp_c.specs.HandedRows.{IsFieldAt, IsRowIn, IsTagAt, IsTextAt, IsValueAt, field_there, point_there, tag_there, value_there};
 ghost use Rattle.lp_offsets.specs.Offsets.{bytes_at};
-ghost use Rattle.lp_offsets.specs.Portions.{IsPortionOf, IsSpanIn};
+ghost use Rattle.lp_offsets.specs.Portions.{IsSpanIn};
 
 use influxdb_line_protocol::{EscapedStr, FieldSet, FieldValue, FloatText, ParsedLine, TagSet};
 use lp_offsets::enums::{Answer, Kind};
@@ -17,76 +17,69 @@ use lp_offsets::placed::{OffsetPart, Span};
 use lp_offsets::portions::{Portion, no_portion};
 use std::alloc::Global;
 
+// Where the texts of rows lie: in bytes, of which a portion was tested, or in the room.
+#[derive(Clone, Copy)]
+pub(crate) struct Texts<'a> {
+    pub(crate) portion: Portion<'a>,
+    pub(crate) room: &'a [u8],
+}
+
 // The text at a place of bytes, of which a portion was tested.
 #[inline(always)]
-fn text_in<'a>(bytes: &'a [u8], portion: &Portion<'a>, span: Span) -> Result<&'a str, Answer>
-    requires { IsPortionOf bytes.now portion.now }
-    ensures ok { IfOk result (λ t. IsSpanIn bytes.now span × (t.now ≡ take span.len (drop span.at bytes.now))) }
-    ensures err { IfErr result (λ e. RefusesFor (IsSpanIn bytes.now span) e) }
+fn text_in<'a>(portion: &Portion<'a>, span: Span) -> Result<&'a str, Answer>
+    ensures ok { IfOk result (λ t. IsSpanIn portion.now.bytes.now span × (t.now ≡ take span.len (drop span.at portion.now.bytes.now))) }
+    ensures err { IfErr result (λ e. RefusesFor (IsSpanIn portion.now.bytes.now span) e) }
 {
     let at = span.at as usize;
     let len = span.len as usize;
-    if bytes.len() < at + len {
+    if portion.bytes.len() < at + len {
         return Err(Answer::NotALine);
     }
-    match portion.text_at(bytes, at, len) {
+    match portion.text_at(at, len) {
         Some(found) => Ok(found),
         None => Err(Answer::NotALine),
     }
 }
 
-// The text at a place: in the room, if it was copied, or else in the text, of which a portion was tested.
+// The text at a place: in the room, if it was copied, or else in the bytes.
 #[inline(always)]
-fn text_at<'a>(
-    text: &'a [u8],
-    room: &'a [u8],
-    portion: &Portion<'a>,
-    copied: u16,
-    span: Span,
-) -> Result<&'a str, Answer>
-    requires { IsPortionOf text.now portion.now }
-    ensures ok { IfOk result (λ t. IsTextAt text.now room.now copied span × (t.now ≡ bytes_at text.now room.now copied span)) }
-    ensures err { IfErr result (λ e. RefusesFor (IsTextAt text.now room.now copied span) e) }
+fn text_at<'a>(texts: &Texts<'a>, copied: u16, span: Span) -> Result<&'a str, Answer>
+    ensures ok { IfOk result (λ t. IsTextAt texts.now.portion.bytes.now texts.now.room.now copied span
+        × (t.now ≡ bytes_at texts.now.portion.bytes.now texts.now.room.now copied span)) }
+    ensures err { IfErr result (λ e. RefusesFor (IsTextAt texts.now.portion.bytes.now texts.now.room.now copied span) e) }
 {
     if copied == 0 {
-        text_in(text, portion, span)
+        text_in(&texts.portion, span)
     } else {
-        text_in(room, &no_portion(0, 0, 0), span)
+        text_in(&no_portion(texts.room, 0), span)
     }
 }
 
 // The tag of a part.
 fn tag_at<'a>(
-    text: &'a [u8],
-    room: &'a [u8],
-    portion: &Portion<'a>,
+    texts: &Texts<'a>,
     part: &OffsetPart,
 ) -> Result<(EscapedStr<'a>, EscapedStr<'a>), Answer>
-    requires { IsPortionOf text.now portion.now }
-    ensures ok { IfOk result (λ t. IsTagAt text.now room.now part.now × (logical_tag (tag_of t) ≡ tag_there text.now room.now part.now)) }
-    ensures err { IfErr result (λ e. RefusesFor (IsTagAt text.now room.now part.now) e) }
+    ensures ok { IfOk result (λ t. IsTagAt texts.now.portion.bytes.now texts.now.room.now part.now
+        × (logical_tag (tag_of t) ≡ tag_there texts.now.portion.bytes.now texts.now.room.now part.now)) }
+    ensures err { IfErr result (λ e. RefusesFor (IsTagAt texts.now.portion.bytes.now texts.now.room.now part.now) e) }
 {
     if part.kind != Kind::Tag.number() {
         return Err(Answer::NotALine);
     }
-    let key = text_at(text, room, portion, part.key_copied, part.key)?;
-    let value = text_at(text, room, portion, part.text_copied, part.text)?;
+    let key = text_at(texts, part.key_copied, part.key)?;
+    let value = text_at(texts, part.text_copied, part.text)?;
     Ok((EscapedStr::SingleSlice(key), EscapedStr::SingleSlice(value)))
 }
 
 // The literal of a part that is a float.
-fn literal_at<'a>(
-    text: &'a [u8],
-    room: &'a [u8],
-    portion: &Portion<'a>,
-    part: &OffsetPart,
-) -> Result<FieldValue<'a>, Answer>
-    requires kind { part.now.kind ≡ 3 }
-    requires portion { IsPortionOf text.now portion.now }
-    ensures ok { IfOk result (λ v. IsValueAt text.now room.now part.now × (logical_value (value_of v) ≡ value_there text.now room.now part.now)) }
-    ensures err { IfErr result (λ e. RefusesFor (IsValueAt text.now room.now part.now) e) }
+fn literal_at<'a>(texts: &Texts<'a>, part: &OffsetPart) -> Result<FieldValue<'a>, Answer>
+    requires { part.now.kind ≡ 3 }
+    ensures ok { IfOk result (λ v. IsValueAt texts.now.portion.bytes.now texts.now.room.now part.now
+        × (logical_value (value_of v) ≡ value_there texts.now.portion.bytes.now texts.now.room.now part.now)) }
+    ensures err { IfErr result (λ e. RefusesFor (IsValueAt texts.now.portion.bytes.now texts.now.room.now part.now) e) }
 {
-    let spelling = text_at(text, room, portion, part.text_copied, part.text)?;
+    let spelling = text_at(texts, part.text_copied, part.text)?;
     match FloatText::new(spelling) {
         Some(literal) => Ok(FieldValue::F64(literal)),
         None => Err(Answer::NotALine),
@@ -94,22 +87,17 @@ fn literal_at<'a>(
 }
 
 // The value of a part that is a field.
-fn value_at<'a>(
-    text: &'a [u8],
-    room: &'a [u8],
-    portion: &Portion<'a>,
-    part: &OffsetPart,
-) -> Result<FieldValue<'a>, Answer>
-    requires { IsPortionOf text.now portion.now }
-    ensures ok { IfOk result (λ v. IsValueAt text.now room.now part.now × (logical_value (value_of v) ≡ value_there text.now room.now part.now)) }
-    ensures err { IfErr result (λ e. RefusesFor (IsValueAt text.now room.now part.now) e) }
+fn value_at<'a>(texts: &Texts<'a>, part: &OffsetPart) -> Result<FieldValue<'a>, Answer>
+    ensures ok { IfOk result (λ v. IsValueAt texts.now.portion.bytes.now texts.now.room.now part.now
+        × (logical_value (value_of v) ≡ value_there texts.now.portion.bytes.now texts.now.room.now part.now)) }
+    ensures err { IfErr result (λ e. RefusesFor (IsValueAt texts.now.portion.bytes.now texts.now.room.now part.now) e) }
 {
     match part.kind {
         1 => Ok(FieldValue::I64(part.number.cast_signed())),
         2 => Ok(FieldValue::U64(part.number)),
-        3 => literal_at(text, room, portion, part),
+        3 => literal_at(texts, part),
         4 => {
-            let string = text_at(text, room, portion, part.text_copied, part.text)?;
+            let string = text_at(texts, part.text_copied, part.text)?;
             Ok(FieldValue::String(EscapedStr::SingleSlice(string)))
         }
         5 => Ok(FieldValue::Boolean(part.number == 1)),
@@ -119,57 +107,35 @@ fn value_at<'a>(
 
 // The field of a part.
 fn field_at<'a>(
-    text: &'a [u8],
-    room: &'a [u8],
-    portion: &Portion<'a>,
+    texts: &Texts<'a>,
     part: &OffsetPart,
 ) -> Result<(EscapedStr<'a>, FieldValue<'a>), Answer>
-    requires { IsPortionOf text.now portion.now }
-    ensures ok { IfOk result (λ f. IsFieldAt text.now room.now part.now × (logical_field (field_of f) ≡ field_there text.now room.now part.now)) }
-    ensures err { IfErr result (λ e. RefusesFor (IsFieldAt text.now room.now part.now) e) }
+    ensures ok { IfOk result (λ f. IsFieldAt texts.now.portion.bytes.now texts.now.room.now part.now
+        × (logical_field (field_of f) ≡ field_there texts.now.portion.bytes.now texts.now.room.now part.now)) }
+    ensures err { IfErr result (λ e. RefusesFor (IsFieldAt texts.now.portion.bytes.now texts.now.room.now part.now) e) }
 {
-    let key = text_at(text, room, portion, part.key_copied, part.key)?;
-    let value = value_at(text, room, portion, part)?;
+    let key = text_at(texts, part.key_copied, part.key)?;
+    let value = value_at(texts, part)?;
     Ok((EscapedStr::SingleSlice(key), value))
-}
-
-// Appends the tag of a part.
-fn push_tag<'a>(
-    text: &'a [u8],
-    room: &'a [u8],
-    portion: &Portion<'a>,
-    part: &OffsetPart,
-    tags: &mut TagSet<'a>,
-) -> Result<(), Answer>
-    requires { IsPortionOf text.now portion.now }
-    ensures is { OnOk result (IsTagAt text.now room.now part.now) }
-    ensures pushed { OnOk result (map logical_tag (map tag_of tags.new.items)
-        ≡ map logical_tag (map tag_of tags.old.items) ++ tag_there text.now room.now part.now ∷ []) }
-    ensures err { IfErr result (λ e. RefusesFor (IsTagAt text.now room.now part.now) e) }
-{
-    let tag = tag_at(text, room, portion, part)?;
-    match tags.push(tag) {
-        Ok(()) => Ok(()),
-        Err(_) => Err(Answer::OutOfMemory),
-    }
 }
 
 // Takes the tags of parts into an empty set.
 fn take_tags<'a>(
-    text: &'a [u8],
-    room: &'a [u8],
-    portion: &Portion<'a>,
+    texts: &Texts<'a>,
     parts: &[OffsetPart],
     tags: &mut TagSet<'a>,
 ) -> Result<(), Answer>
-    requires portion { IsPortionOf text.now portion.now }
-    requires none { tags.old.items ≡ [] }
-    ensures are { OnOk result (AllByRecursion (IsTagAt text.now room.now) parts.now) }
-    ensures taken { OnOk result (map logical_tag (map tag_of tags.new.items) ≡ map (tag_there text.now room.now) parts.now) }
-    ensures err { IfErr result (λ e. RefusesFor (AllByRecursion (IsTagAt text.now room.now) parts.now) e) }
+    requires { tags.old.items ≡ [] }
+    ensures are { OnOk result (AllByRecursion (IsTagAt texts.now.portion.bytes.now texts.now.room.now) parts.now) }
+    ensures taken { OnOk result (map logical_tag (map tag_of tags.new.items)
+        ≡ map (tag_there texts.now.portion.bytes.now texts.now.room.now) parts.now) }
+    ensures err { IfErr result (λ e. RefusesFor (AllByRecursion (IsTagAt texts.now.portion.bytes.now texts.now.room.now) parts.now) e) }
 {
     for part in parts {
-        push_tag(text, room, portion, part, tags)?;
+        let tag = tag_at(texts, part)?;
+        let Ok(()) = tags.push(tag) else {
+            return Err(Answer::OutOfMemory);
+        };
     }
     Ok(())
 }
@@ -179,62 +145,39 @@ fn take_tags<'a>(
 #[inline(never)]
 fn take_first_tags<'a>(
     alloc: Global,
-    text: &'a [u8],
-    room: &'a [u8],
-    portion: &Portion<'a>,
+    texts: &Texts<'a>,
     parts: &[OffsetPart],
     set: &mut Option<TagSet<'a>>,
 ) -> Result<(), Answer>
-    requires { IsPortionOf text.now portion.now }
-    ensures are { OnOk result (AllByRecursion (IsTagAt text.now room.now) parts.now) }
-    ensures taken { OnOk result (map logical_tag (some_tags (option_map tags_of set.new)) ≡ map (tag_there text.now room.now) parts.now) }
-    ensures err { IfErr result (λ e. RefusesFor (AllByRecursion (IsTagAt text.now room.now) parts.now) e) }
+    ensures are { OnOk result (AllByRecursion (IsTagAt texts.now.portion.bytes.now texts.now.room.now) parts.now) }
+    ensures taken { OnOk result (map logical_tag (some_tags (option_map tags_of set.new))
+        ≡ map (tag_there texts.now.portion.bytes.now texts.now.room.now) parts.now) }
+    ensures err { IfErr result (λ e. RefusesFor (AllByRecursion (IsTagAt texts.now.portion.bytes.now texts.now.room.now) parts.now) e) }
 {
     let mut tags = TagSet::new(alloc);
-    take_tags(text, room, portion, parts, &mut tags)?;
+    take_tags(texts, parts, &mut tags)?;
     *set = Some(tags);
     Ok(())
 }
 
-// Appends the field of a part.
-fn push_field<'a>(
-    text: &'a [u8],
-    room: &'a [u8],
-    portion: &Portion<'a>,
-    part: &OffsetPart,
-    fields: &mut FieldSet<'a>,
-) -> Result<(), Answer>
-    requires { IsPortionOf text.now portion.now }
-    ensures is { OnOk result (IsFieldAt text.now room.now part.now) }
-    ensures pushed { OnOk result (map logical_field (map field_of fields.new.items)
-        ≡ map logical_field (map field_of fields.old.items) ++ field_there text.now room.now part.now ∷ []) }
-    ensures len { OnOk result (length fields.new.items ≡ length fields.old.items + 1) }
-    ensures err { IfErr result (λ e. RefusesFor (IsFieldAt text.now room.now part.now) e) }
-{
-    let field = field_at(text, room, portion, part)?;
-    match fields.push(field) {
-        Ok(()) => Ok(()),
-        Err(_) => Err(Answer::OutOfMemory),
-    }
-}
-
 // Takes the fields of parts into an empty set.
 fn take_fields<'a>(
-    text: &'a [u8],
-    room: &'a [u8],
-    portion: &Portion<'a>,
+    texts: &Texts<'a>,
     parts: &[OffsetPart],
     fields: &mut FieldSet<'a>,
 ) -> Result<(), Answer>
-    requires portion { IsPortionOf text.now portion.now }
-    requires none { fields.old.items ≡ [] }
-    ensures are { OnOk result (AllByRecursion (IsFieldAt text.now room.now) parts.now) }
-    ensures taken { OnOk result (map logical_field (map field_of fields.new.items) ≡ map (field_there text.now room.now) parts.now) }
+    requires { fields.old.items ≡ [] }
+    ensures are { OnOk result (AllByRecursion (IsFieldAt texts.now.portion.bytes.now texts.now.room.now) parts.now) }
+    ensures taken { OnOk result (map logical_field (map field_of fields.new.items)
+        ≡ map (field_there texts.now.portion.bytes.now texts.now.room.now) parts.now) }
     ensures len { OnOk result (length fields.new.items ≡ length parts.now) }
-    ensures err { IfErr result (λ e. RefusesFor (AllByRecursion (IsFieldAt text.now room.now) parts.now) e) }
+    ensures err { IfErr result (λ e. RefusesFor (AllByRecursion (IsFieldAt texts.now.portion.bytes.now texts.now.room.now) parts.now) e) }
 {
     for part in parts {
-        push_field(text, room, portion, part, fields)?;
+        let field = field_at(texts, part)?;
+        let Ok(()) = fields.push(field) else {
+            return Err(Answer::OutOfMemory);
+        };
     }
     Ok(())
 }
@@ -242,20 +185,17 @@ fn take_fields<'a>(
 /// Takes the line that a row and its parts hold into the place of another, whose memory is used again.
 pub(crate) fn take_row<'a>(
     alloc: Global,
-    text: &'a [u8],
-    room: &'a [u8],
-    portion: &Portion<'a>,
+    texts: &Texts<'a>,
     row: &OffsetRow,
     parts: &[OffsetPart],
     taken: &mut ParsedLine<'a>,
 ) -> Result<(), Answer>
-    requires { IsPortionOf text.now portion.now }
-    ensures ok { OnOk result (IsRowIn text.now room.now parts.now row.now
-        × (parsed_point taken.new ≡ point_there text.now room.now parts.now row.now)) }
+    ensures ok { OnOk result (IsRowIn texts.now.portion.bytes.now texts.now.room.now parts.now row.now
+        × (parsed_point taken.new ≡ point_there texts.now.portion.bytes.now texts.now.room.now parts.now row.now)) }
     ensures some { OnOk result (0 < length taken.new.field_set.items) }
-    ensures err { IfErr result (λ e. RefusesFor (IsRowIn text.now room.now parts.now row.now) e) }
+    ensures err { IfErr result (λ e. RefusesFor (IsRowIn texts.now.portion.bytes.now texts.now.room.now parts.now row.now) e) }
 {
-    let measurement = text_at(text, room, portion, row.measurement_copied, row.measurement)?;
+    let measurement = text_at(texts, row.measurement_copied, row.measurement)?;
     taken.series.measurement = EscapedStr::SingleSlice(measurement);
     let at = row.parts_at as usize;
     let fields_at = at + row.tags as usize;
@@ -270,23 +210,15 @@ pub(crate) fn take_row<'a>(
     };
     if let Some(tags) = &mut taken.series.tag_set {
         tags.clear();
-        take_tags(text, room, portion, &parts[at..fields_at], tags)?;
+        take_tags(texts, &parts[at..fields_at], tags)?;
     } else {
         take_first_tags(
             alloc,
-            text,
-            room,
-            portion,
+            texts,
             &parts[at..fields_at],
             &mut taken.series.tag_set,
         )?;
     }
     taken.field_set.clear();
-    take_fields(
-        text,
-        room,
-        portion,
-        &parts[fields_at..end],
-        &mut taken.field_set,
-    )
+    take_fields(texts, &parts[fields_at..end], &mut taken.field_set)
 }

@@ -5,7 +5,6 @@ ghost use Rattle.std.specs.List.{AllByRecursion, AllZip};
 ghost use Rattle.lp_format.specs.{code.Light.is_light, format.Strict, format.trimmed};
 ghost use Rattle.lp_portable.specs.format.Portable.{default_limits};
 ghost use Rattle.lp_offsets.specs.Numbers.{answer_number};
-ghost use Rattle.lp_offsets.specs.Portions.{IsPortionOf};
 ghost use Rattle.lp_c.specs.SureRows.{IsShownRow};
 ghost use Rattle.lp_c.specs.Verdicts.{IsPieceOf, IsVerdictBy, MayTakeMemory, TellsVerdict, format_limits, limits_of, piece_there};
 ghost use Rattle.lp_offsets.specs.declared.enums.Answer.TheVariants as Answer;
@@ -63,43 +62,34 @@ pub extern "C" fn lp_limits_default(limits: &mut Limits)
     };
 }
 
-// The piece of a row, if it has a line and the text has the piece at its place. With this row, so many are asked for.
-fn piece_of<'a>(
-    text: &'a [u8],
-    portion: &mut Portion<'a>,
-    row: &OffsetRow,
-    rows: usize,
-) -> Option<&'a str>
-    requires { IsPortionOf text.now portion.old }
-    ensures portion { IsPortionOf text.now portion.new }
-    ensures piece { IsPieceOf text.now row.now result }
+// The piece of a row, if it has a line and the text has the piece at its place.
+fn piece_of<'a>(portion: &mut Portion<'a>, row: &OffsetRow) -> Option<&'a str>
+    ensures text { portion.new.bytes.now ≡ portion.old.bytes.now }
+    ensures piece { IsPieceOf portion.old.bytes.now row.now result }
 {
     if row.answer != Answer::Line.number() {
         return None;
     }
     let at = row.piece.at as usize;
     let len = row.piece.len as usize;
-    if text.len() < at || text.len() - at < len {
+    if portion.bytes.len() < at || portion.bytes.len() - at < len {
         return None;
     }
-    portion.next_text(text, at, len, rows)
+    portion.next_text(at, len)
 }
 
 // The bits of the clauses that the piece of a row breaks, or 1 if it is no line, by a look at its text.
-fn verdict_by_text<'a>(
+fn verdict_by_text(
     alloc: Global,
     limits: &Most,
-    text: &'a [u8],
-    portion: &mut Portion<'a>,
+    portion: &mut Portion<'_>,
     row: &OffsetRow,
-    rows: usize,
 ) -> Result<u64, AllocError>
-    requires { IsPortionOf text.now portion.old }
-    ensures portion { IsPortionOf text.now portion.new }
-    ensures bits { IfOk result (IsVerdictBy limits.now text.now row.now) }
-    ensures memory { is_light Strict (trimmed (piece_there text.now row.now)) ≡ true → IsOk result }
+    ensures text { portion.new.bytes.now ≡ portion.old.bytes.now }
+    ensures bits { IfOk result (IsVerdictBy limits.now portion.old.bytes.now row.now) }
+    ensures memory { is_light Strict (trimmed (piece_there portion.old.bytes.now row.now)) ≡ true → IsOk result }
 {
-    let Some(piece) = piece_of(text, portion, row, rows) else {
+    let Some(piece) = piece_of(portion, row) else {
         return Ok(1);
     };
     match broken_clauses(alloc, limits, piece)? {
@@ -110,27 +100,24 @@ fn verdict_by_text<'a>(
 
 // The same, from its places if that is sure. The parts are those of the rows, if the strict rules filled them.
 #[inline(always)]
-fn verdict<'a>(
+fn verdict(
     alloc: Global,
     limits: &Most,
-    text: &'a [u8],
-    portion: &mut Portion<'a>,
+    portion: &mut Portion<'_>,
     parts: Option<&[OffsetPart]>,
     row: &OffsetRow,
-    rows: usize,
 ) -> Result<u64, AllocError>
-    requires portion { IsPortionOf text.now portion.old }
-    requires shown { IfSome parts (λ own. IsShownRow text.now own.now row.now) }
-    ensures portion { IsPortionOf text.now portion.new }
-    ensures bits { IfOk result (IsVerdictBy limits.now text.now row.now) }
-    ensures memory { is_light Strict (trimmed (piece_there text.now row.now)) ≡ true → IsOk result }
+    requires { IfSome parts (λ own. IsShownRow portion.old.bytes.now own.now row.now) }
+    ensures text { portion.new.bytes.now ≡ portion.old.bytes.now }
+    ensures bits { IfOk result (IsVerdictBy limits.now portion.old.bytes.now row.now) }
+    ensures memory { is_light Strict (trimmed (piece_there portion.old.bytes.now row.now)) ≡ true → IsOk result }
 {
     if let Some(own) = parts {
-        if let Some(bits) = sure_verdict(limits, text, own, row) {
+        if let Some(bits) = sure_verdict(limits, portion.bytes, own, row) {
             return Ok(bits);
         }
     }
-    verdict_by_text(alloc, limits, text, portion, row, rows)
+    verdict_by_text(alloc, limits, portion, row)
 }
 
 /// Tells rows their verdicts, and gives how many it told: fewer than all if memory was refused for the next one. The parts are those of the
@@ -151,17 +138,9 @@ pub(crate) fn tell_verdicts(
 {
     let most = limits_of(limits);
     let count = rows.len();
-    let mut portion = no_portion(0, 0, 0);
+    let mut portion = no_portion(text, count);
     for at in 0..count {
-        let Ok(bits) = verdict(
-            alloc,
-            &most,
-            text,
-            &mut portion,
-            parts,
-            &rows[at],
-            count - at,
-        ) else {
+        let Ok(bits) = verdict(alloc, &most, &mut portion, parts, &rows[at]) else {
             return at;
         };
         rows[at].verdict = bits;

@@ -1,17 +1,16 @@
 //! Many lines in one call that rows by offsets hold: each is written, if it reads back, into a buffer that the caller lends.
 
-ghost use Rattle.std.specs.Prelude.{◌≡◌, ◌≢◌, ◌↔◌, ◌≤◌, ◌++◌, [], length, map, min, take, drop, IfErr, OnOk};
+ghost use Rattle.std.specs.Prelude.{◌≡◌, ◌≢◌, ◌↔◌, ◌≤◌, ◌<◌, ◌++◌, [], length, map, min, take, drop, IfErr, OnOk};
 ghost use Rattle.std.specs.List.{AllByRecursion};
 ghost use Rattle.influxdb_line_protocol.specs.code.Rules.{rules_of};
 ghost use Rattle.influxdb_line_protocol.specs.format.Points.{IsPoint, built};
 ghost use Rattle.lp_c.specs.HandedRows.{point_there};
 ghost use Rattle.lp_offsets.specs.Numbers.{IsNoDialect, answer_number, dialect_of};
-ghost use Rattle.lp_offsets.specs.Portions.{IsPortionOf};
 ghost use Rattle.lp_c.specs.WritingRows.{AreLinesOf, IsWrittenIn, StopsAt, StopsAtRow, WritesRows};
 ghost use Rattle.lp_offsets.specs.declared.enums.Answer.TheVariants as Answer;
 
 use crate::handed::empty_line;
-use crate::handed_rows::take_row;
+use crate::handed_rows::{Texts, take_row};
 use crate::writing::put_front;
 use influxdb_line_protocol::builder::Unwritten;
 use influxdb_line_protocol::{
@@ -20,7 +19,7 @@ use influxdb_line_protocol::{
 use lp_offsets::enums::{Answer, Dialect};
 use lp_offsets::offsets::OffsetRow;
 use lp_offsets::placed::OffsetPart;
-use lp_offsets::portions::{Portion, no_portion};
+use lp_offsets::portions::no_portion;
 use std::alloc::Global;
 use std::mem;
 
@@ -56,92 +55,103 @@ fn stop_for(answer: Answer) -> Stop
     Stop { answer, need: 0 }
 }
 
-// Writes the line of a row after others, if it reads back and all take no more than so many bytes.
-fn write_row<'a>(
+// Lines that are written: by which rules, and into how many bytes at most.
+#[derive(Drop)]
+pub(crate) struct Writing<'a> {
     alloc: Global,
-    dialect: Rules,
-    text: &'a [u8],
-    room: &'a [u8],
-    portion: &Portion<'a>,
+    rules: Rules,
+    most: usize,
+    // The line of a row, whose memory is used again for the next one.
+    taken: ParsedLine<'a>,
+    lines: Vec<u8>,
+}
+
+// Writes the line of a row after others, if it reads back and all take no more bytes than they may.
+fn write_row<'a>(
+    writing: &mut Writing<'a>,
+    texts: &Texts<'a>,
     row: &OffsetRow,
     parts: &[OffsetPart],
-    most: usize,
-    taken: &mut ParsedLine<'a>,
-    lines: &mut Vec<u8>,
 ) -> Result<(), Stop>
-    requires portion { IsPortionOf text.now portion.now }
-    requires fits { length lines.old.items ≤ most }
-    ensures is { OnOk result (IsWrittenIn (rules_of dialect) text.now room.now parts.now row.now) }
-    ensures point { OnOk result (IsPoint (point_there text.now room.now parts.now row.now)) }
-    ensures put { OnOk result (lines.new.items ≡ lines.old.items ++ built (point_there text.now room.now parts.now row.now)) }
-    ensures fits { length lines.new.items ≤ most }
-    ensures stops { IfErr result (λ stop. StopsAtRow (rules_of dialect) text.now room.now parts.now most (length lines.old.items) stop row.now) }
-    ensures kept { IfErr result (λ stop. lines.new.items ≡ lines.old.items) }
+    requires { length writing.old.lines.items ≤ writing.old.most }
+    ensures same { (writing.new.rules ≡ writing.old.rules) × (writing.new.most ≡ writing.old.most) }
+    ensures is { OnOk result (IsWrittenIn (rules_of writing.old.rules) texts.now.portion.bytes.now texts.now.room.now parts.now row.now) }
+    ensures point { OnOk result (IsPoint (point_there texts.now.portion.bytes.now texts.now.room.now parts.now row.now)) }
+    ensures put { OnOk result (writing.new.lines.items
+        ≡ writing.old.lines.items ++ built (point_there texts.now.portion.bytes.now texts.now.room.now parts.now row.now)) }
+    ensures fits { length writing.new.lines.items ≤ writing.new.most }
+    ensures stops { IfErr result (λ stop. StopsAtRow (rules_of writing.old.rules) texts.now.portion.bytes.now texts.now.room.now parts.now
+        writing.old.most (length writing.old.lines.items) stop row.now) }
+    ensures kept { IfErr result (λ stop. writing.new.lines.items ≡ writing.old.lines.items) }
 {
-    if let Err(answer) = take_row(alloc, text, room, portion, row, parts, taken) {
+    if let Err(answer) = take_row(writing.alloc, texts, row, parts, &mut writing.taken) {
         return Err(stop_for(answer));
     }
-    let used = lines.len();
-    let before = mem::replace(lines, Vec::new(alloc));
-    match write_admitted_line_in(LineProtocolBuilder::new_with(before), dialect, taken) {
+    let used = writing.lines.len();
+    let before = mem::replace(&mut writing.lines, Vec::new(writing.alloc));
+    let builder = LineProtocolBuilder::new_with(before);
+    match write_admitted_line_in(builder, writing.rules, &writing.taken) {
         Ok(longer) => {
-            *lines = longer.build();
-            if lines.len() <= most {
+            writing.lines = longer.build();
+            if writing.lines.len() <= writing.most {
                 return Ok(());
             }
-            let need = lines.len() - used;
-            lines.truncate(used);
+            let need = writing.lines.len() - used;
+            writing.lines.truncate(used);
             Err(Stop {
                 answer: Answer::MoreRoom,
                 need,
             })
         }
         Err(Unwritten::NotAdmitted(builder)) => {
-            *lines = builder.build();
+            writing.lines = builder.build();
             Err(stop_for(Answer::NotAdmitted))
         }
         Err(Unwritten::Refused(refused)) => {
-            *lines = refused.builder.build();
+            writing.lines = refused.builder.build();
             Err(stop_for(Answer::OutOfMemory))
         }
     }
 }
 
-// Whether a row begins in the text a little after another one.
-fn is_next(before: &OffsetRow, row: &OffsetRow) -> bool {
-    let (at, next) = (before.measurement.at, row.measurement.at);
-    before.measurement_copied == 0 && row.measurement_copied == 0 && at <= next && next - at < NEAR
+// Begins the next portion at a row that begins in the bytes a little after the row before it.
+#[inline(always)]
+fn move_near(texts: &mut Texts<'_>, rows: &[OffsetRow], at: usize)
+    requires { at < length rows.now }
+    ensures text { texts.new.portion.bytes.now ≡ texts.old.portion.bytes.now }
+    ensures room { texts.new.room.now ≡ texts.old.room.now }
+{
+    if at == 0 || rows[at - 1].measurement_copied != 0 || rows[at].measurement_copied != 0 {
+        return;
+    }
+    let (before, next) = (rows[at - 1].measurement.at, rows[at].measurement.at);
+    if before <= next && next - before < NEAR {
+        texts.portion.move_to(next as usize, EACH);
+    }
 }
 
-// Writes the lines of rows, as far as each reads back and they take no more than so many bytes. Gives how many rows it wrote, and why
+// Writes the lines of rows, as far as each reads back and they take no more bytes than they may. Gives how many rows it wrote, and why
 // no more.
-fn write_rows(
-    alloc: Global,
-    dialect: Rules,
-    text: &[u8],
-    room: &[u8],
+fn write_rows<'a>(
+    writing: &mut Writing<'a>,
+    texts: Texts<'a>,
     rows: &[OffsetRow],
     parts: &[OffsetPart],
-    most: usize,
-    lines: &mut Vec<u8>,
 ) -> (usize, Stop)
-    requires { lines.old.items ≡ [] }
+    requires { writing.old.lines.items ≡ [] }
     ensures count { result.0 ≤ length rows.now }
-    ensures fits { length lines.new.items ≤ most }
-    ensures lines { AreLinesOf (rules_of dialect) text.now room.now parts.now (take result.0 rows.now) lines.new.items }
-    ensures points { AllByRecursion IsPoint (map (point_there text.now room.now parts.now) (take result.0 rows.now)) }
-    ensures stops { StopsAt (rules_of dialect) text.now room.now parts.now most (length lines.new.items) result.1 (drop result.0 rows.now) }
+    ensures fits { length writing.new.lines.items ≤ writing.old.most }
+    ensures lines { AreLinesOf (rules_of writing.old.rules) texts.entry.portion.bytes.now texts.entry.room.now parts.now (take result.0 rows.now)
+        writing.new.lines.items }
+    ensures points { AllByRecursion IsPoint
+        (map (point_there texts.entry.portion.bytes.now texts.entry.room.now parts.now) (take result.0 rows.now)) }
+    ensures stops { StopsAt (rules_of writing.old.rules) texts.entry.portion.bytes.now texts.entry.room.now parts.now writing.old.most
+        (length writing.new.lines.items) result.1 (drop result.0 rows.now) }
 {
-    let mut taken = empty_line(alloc);
-    let mut portion = no_portion(0, rows.len(), EACH);
+    let mut near = texts;
     for at in 0..rows.len() {
-        let row = &rows[at];
-        if at > 0 && is_next(&rows[at - 1], row) {
-            portion.move_to(text, row.measurement.at as usize);
-        }
-        if let Err(stop) = write_row(
-            alloc, dialect, text, room, &portion, row, parts, most, &mut taken, lines,
-        ) {
+        move_near(&mut near, rows, at);
+        if let Err(stop) = write_row(writing, &near, &rows[at], parts) {
             return (at, stop);
         }
     }
@@ -179,22 +189,23 @@ pub extern "C" fn lp_offsets_write(
     };
     let from = written.row.min(rows.len());
     let (_, rest) = rows.split_at(from);
-    let mut lines = Vec::new(alloc);
-    let (count, stop) = write_rows(
+    let mut writing = Writing {
         alloc,
-        dialect.rules(),
-        text,
+        rules: dialect.rules(),
+        most: out.len(),
+        taken: empty_line(alloc),
+        lines: Vec::new(alloc),
+    };
+    let texts = Texts {
+        portion: no_portion(text, rest.len()),
         room,
-        rest,
-        parts,
-        out.len(),
-        &mut lines,
-    );
-    put_front(lines.as_slice(), out);
+    };
+    let (count, stop) = write_rows(&mut writing, texts, rest, parts);
+    put_front(writing.lines.as_slice(), out);
     laws::admitted_lines_read_back();
     *written = RowsWritten {
         row: from + count,
-        len: lines.len(),
+        len: writing.lines.len(),
         need: stop.need,
     };
     stop.answer.number()

@@ -1,11 +1,12 @@
 -- The bytes of a line after which so many are left, by their place in the text.
-use Rattle.std.proofs.Common.{◌≡◌, ◌∙◌, ◌+◌, ◌-◌, ◌≤◌, ◌<◌, ◌^◌, ℕ, List, ◌++◌, length, length-append, length-drop, take, drop, refl, sym, ap, arith}
+use Rattle.std.proofs.Common.{◌≡◌, ◌∙◌, ◌+◌, ◌-◌, ◌≤◌, ◌<◌, ◌^◌, ℕ, List, ◌++◌, length, length-append, length-drop, take, drop, refl, sym, ap, arith, Bool, inl, inr}
 use Rattle.std.proofs.lemmas.List.{drop-drop, drop-take, drop_at, length-take-le, take-take, take_at}
 use Rattle.lp_format.specs.format.Trimming.{trimmed}
 use Rattle.lp_format.proofs.lemmas.line.TrimLemmas.{trimmed_is_after}
 use Rattle.lp_format.specs.format.Readings.{Text}
 use Rattle.lp_events.specs.code.Places.{AreBefore, EndsBefore}
-use Rattle.lp_offsets.specs.OffsetBlocks.{piece_in}
+use Rattle.lp_format.specs.format.{Dialect}
+use Rattle.lp_offsets.specs.OffsetBlocks.{IsPieceIn, piece_in}
 use Rattle.lp_offsets.specs.Offsets.{IsLineIn}
 use Rattle.lp_offsets.specs.declared.pieces.Piece.{Piece}
 
@@ -69,3 +70,9 @@ line_in_text text line piece within small is =
           ∙ (sym (drop-take k (length line) (drop piece.at text))
           ∙ (ap (λ n. drop k (take n (drop piece.at text))) (sym sizes) ∙ (ap (drop k) parts ∙ drop_at after.0 line k refl))));
     }
+
+-- a piece lies in its text
+pub piece_fits : (dialect : Dialect) (last : Bool) (text : List ℕ) (piece : Piece) → IsPieceIn dialect last text piece
+    → piece.at + piece.len ≤ length text
+piece_fits dialect last text piece (inl (cut, next, fits)) = omega (arith, next, fits)
+piece_fits dialect last text piece (inr (ends, is_last, fits, next, some)) = omega (arith, fits)

@@ -1,6 +1,6 @@
 -- A text that lies in a portion of bytes lies in the bytes.
-use Rattle.std.proofs.Common.{◌≡◌, ◌∙◌, ℕ, ◌+◌, ◌-◌, ◌≤◌, List, length, take, drop, sym, ap, arith}
-use Rattle.std.proofs.lemmas.List.{drop-drop, drop-take, length-take-le, take-take}
+use Rattle.std.proofs.Common.{◌≡◌, ◌∙◌, ℕ, ◌+◌, ◌-◌, ◌≤◌, List, take, drop, sym, ap, arith}
+use Rattle.std.proofs.lemmas.List.{drop-drop, drop-take, take-take}
 
 -- what is cut out of a front of the bytes after a place is cut out of the bytes
 pub cut_out : (bytes front : List ℕ) (from n start len at : ℕ) → front ≡ take n (drop from bytes) → from + start ≡ at
@@ -12,7 +12,3 @@ cut_out bytes front from n start len at is place fits =
     ∙ (ap (take len) (drop-take start (n - start) (drop from bytes))
     ∙ (take-take len (n - start) (drop start (drop from bytes)) within
     ∙ ap (take len) (drop-drop start from bytes ∙ ap (λ k. drop k bytes) place)))
-
--- a front of the bytes is as long as it is
-pub front_long : (bytes front : List ℕ) (n : ℕ) → front ≡ take n bytes → n ≤ length bytes → front ≡ take (length front) bytes
-front_long bytes front n is fits = is ∙ ap (λ k. take k bytes) (sym (ap length is ∙ length-take-le n bytes fits))

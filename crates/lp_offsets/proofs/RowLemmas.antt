@@ -1,11 +1,11 @@
 -- What the rows of a block show by offsets.
-use Rattle.std.proofs.Common.{◌≡◌, ◌∙◌, ℕ, ◌+◌, ◌-◌, ◌≤◌, List, length, map, take, drop, Option, Some, None, Result, Ok, Err}
-use Rattle.std.proofs.Common.{refl, ap, arith, IsUtf8}
+use Rattle.std.proofs.Common.{◌≡◌, ◌∙◌, ℕ, ◌+◌, ◌-◌, ◌≤◌, List, [], length, map, take, drop, Option, Some, None, Result, Ok, Err}
+use Rattle.std.proofs.Common.{refl, sym, ap, subst, arith, IsUtf8}
 use Rattle.std.proofs.lemmas.List.{drop-take, length-take-le, take-take}
 use Rattle.influxdb_line_protocol.specs.format.Lines as format
 use Rattle.influxdb_line_protocol.specs.format.Readings.{Fault}
 use Rattle.influxdb_line_protocol.specs.types.SpelledFault.{SpelledFault}
-use Rattle.lp_offsets.specs.OffsetBlocks.{AnswersRow, BeginsAt, HasNoFault, HasNoLine, HasNoTime, PutsRow, came_number, fault as is_fault, line as is_line, piece_in, timestamp_in}
+use Rattle.lp_offsets.specs.OffsetBlocks.{AnswersRow, BeginsAt, HasNoFault, HasNoLine, HasNoTime, IsNoTextAt, IsPlaced, PutsRow, ShowsItem, came_number, fault as is_fault, line as is_line, no_text as is_no_text, piece_in, timestamp_in}
 use Rattle.lp_format.specs.format.{Dialect, trimmed}
 use Rattle.lp_events.specs.code.Stops.{reading_stop}
 use Rattle.lp_offsets.specs.Offsets.{field_at, tag_at}
@@ -13,6 +13,7 @@ use Rattle.lp_offsets.specs.Placing.{ToldAnswer}
 use Rattle.lp_offsets.specs.declared.offsets.Came.{Came}
 use Rattle.lp_offsets.specs.declared.offsets.OffsetRow.{OffsetRow}
 use Rattle.lp_offsets.specs.declared.placed.OffsetPart.{OffsetPart}
+use Rattle.lp_offsets.specs.declared.placed.Span.{Span}
 use Rattle.lp_offsets.specs.declared.placing.Told.{Told}
 use Rattle.lp_offsets.specs.declared.pieces.Piece.{Piece}
 
@@ -69,3 +70,29 @@ line_puts dialect text piece (Err f) Came.Fault parts room used own all row utf8
 line_puts dialect text piece (Err f) Came.NotUtf8 parts room used own all row utf8 answered is stop numbered line fault begins end = absurd is
 line_puts dialect text piece (Err f) Came.MoreParts parts room used own all row utf8 answered is stop numbered line fault begins end = absurd is
 line_puts dialect text piece (Err f) Came.MoreRoom parts room used own all row utf8 answered is stop numbered line fault begins end = absurd is
+
+-- a row that keeps its place has it
+pub placed_on : (piece : Piece) (line parts : ℕ) (old row : OffsetRow)
+    → (row.piece ≡ old.piece) × (row.line ≡ old.line) × (row.parts_at ≡ old.parts_at) → (row.key ≡ old.key) × (row.verdict ≡ old.verdict)
+    → IsPlaced piece line parts old → IsPlaced piece line parts row
+placed_on piece line parts old row same kept placed = record {
+  at = ap (λ (span : Span). span.at) same.0 ∙ placed.at;
+  len = ap (λ (span : Span). span.len) same.0 ∙ placed.len;
+  line_is = same.1 ∙ placed.line_is;
+  parts_at = same.2 ∙ placed.parts_at;
+  kept = (kept.0 ∙ placed.kept.0, kept.1 ∙ placed.kept.1);
+}
+
+module _ (old row : OffsetRow) (is : row ≡ record old { answer = came_number Came.NotUtf8; stop_at = row.stop_at }) where
+  -- a row of a piece that is not UTF-8 keeps its place
+  pub bare_placed : (piece : Piece) (line parts : ℕ) → IsPlaced piece line parts old → IsPlaced piece line parts row
+  bare_placed piece line parts =
+      placed_on piece line parts old row
+      (ap (λ (r : OffsetRow). r.piece) is, ap (λ (r : OffsetRow). r.line) is, ap (λ (r : OffsetRow). r.parts_at) is)
+      (ap (λ (r : OffsetRow). r.key) is, ap (λ (r : OffsetRow). r.verdict) is)
+
+  -- it shows that the piece is not UTF-8
+  pub bare_shown : (dialect : Dialect) (text : List ℕ) (piece : Piece) (room : List ℕ) (used : ℕ) → HasNoFault old → HasNoLine old
+      → ¬ IsUtf8 (piece_in text piece) → IsNoTextAt text piece row → ShowsItem dialect text piece [] room used row
+  bare_shown dialect text piece room used clear line bare at =
+      is_no_text (ap (λ (r : OffsetRow). r.answer) is) (subst HasNoFault (sym is) clear) (subst HasNoLine (sym is) line) bare at refl

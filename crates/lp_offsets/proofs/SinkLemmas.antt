@@ -5,7 +5,7 @@ use Rattle.std.specs.Prelude.{slice_set}
 use Rattle.std.specs.List.{sum_by}
 use Rattle.std.proofs.lemmas.List.{drop-take, drop_at, length-take-le, take-take, take_at, take_more_set}
 use Rattle.std.proofs.lemmas.List.Sums.{sum_by-append, sum_by-cons}
-use Rattle.influxdb_line_protocol.specs.code.Events.{AreEventsOf, Event, TakesAll, end_of_line, ended, events_of_line, failed, named, tagged, valued}
+use Rattle.influxdb_line_protocol.specs.code.Events.{AreEventsOf, Event, TakesAll, end_of_line, events_of_line, failed, named, tagged, valued}
 use Rattle.influxdb_line_protocol.specs.code.SpelledParts.{spelled_fault}
 use Rattle.influxdb_line_protocol.specs.format.Dialects.{Dialect}
 use Rattle.influxdb_line_protocol.specs.format.Lines as format
@@ -17,8 +17,8 @@ use Rattle.influxdb_line_protocol.specs.types.SpelledFault.{SpelledFault}
 use Rattle.lp_lines.proofs.lemmas.line.AnsweredLines.{line_room}
 use Rattle.lp_lines.proofs.lemmas.line.Filled.{takes_parted}
 use Rattle.lp_lines.specs.code.Filling.{KeepsFault}
-use Rattle.lp_offsets.specs.Rooms.{Grows, Shows, TakesRoom}
-use Rattle.lp_offsets.specs.Sinks.{Keeps, Lent, PutsPart, ShowsAll, TellsAnswer, TellsEnd, TellsName, TellsPart, all_shown, next_place}
+use Rattle.lp_offsets.specs.Rooms.{Shows, TakesRoom}
+use Rattle.lp_offsets.specs.Sinks.{Keeps, Lent, ShowsAll, TellsAnswer, TellsEnd, TellsName, TellsPart, all_shown, next_place}
 use Rattle.lp_offsets.proofs.RoomLemmas.{grows_on, shows_on}
 
 -- what each event keeps, all events keep

@@ -15,7 +15,6 @@ use Rattle.lp_events.specs.code.Stops.{reading_stop}
 use Rattle.lp_split.specs.code.{AreSeen}
 use Rattle.lp_offsets.specs.Numbers.{answer_number, fault_number, fault_seen, side_number}
 use Rattle.lp_offsets.specs.Offsets.{bytes_at, field_at, part_room, tag_at, text_room, texts_len}
-use Rattle.lp_offsets.specs.Portions.{IsPortionOf}
 use Rattle.lp_offsets.specs.Rooms.{Shows}
 use Rattle.lp_offsets.specs.declared.offsets.Block.{Block}
 use Rattle.lp_offsets.specs.declared.offsets.Came.{Came}
@@ -39,9 +38,9 @@ passed_with text piece = take (piece.next - piece.at) (drop piece.at text)
 abbrev pub HasNewlines : List ℕ → Piece → Type 0
 HasNewlines text piece = piece.newlines ≡ newlines_in (passed_with text piece)
 
--- what was seen of a text is so: the portion, and, at a place, the bytes that tell of a cut
+-- what was seen is of this text: a portion of it, and, at a place, the bytes that tell of a cut
 abbrev pub IsSeenOf : Dialect → List ℕ → Seen → Type 0
-IsSeenOf dialect text seen = IsPortionOf text seen.portion × AreSeen dialect (drop seen.at text) seen.marks
+IsSeenOf dialect text seen = (seen.portion.bytes.now ≡ text) × AreSeen dialect (drop seen.at text) seen.marks
 
 -- a piece of the text: a newline ends it, and the next one comes after that; or it is the last one, with which the text ends
 abbrev pub IsPieceIn : Dialect → Bool → List ℕ → Piece → Type 0

@@ -1,12 +1,7 @@
--- Texts that lie in bytes, of which a portion was tested for UTF-8.
+-- Texts that lie in bytes.
 use Rattle.std.specs.Prelude.{◌≡◌, ◌+◌, ◌≤◌, List, ℕ, Option, Some, None, IsUtf8, drop, length, take}
 use Rattle.std.specs.Borrow.{Bor}
 use Rattle.lp_offsets.specs.declared.placed.Span.{Span}
-use Rattle.lp_offsets.specs.declared.portions.Portion.{Portion}
-
--- a portion lies in these bytes, from its place on
-abbrev pub IsPortionOf : List ℕ → Portion → Type 0
-IsPortionOf bytes portion = portion.text.now ≡ take (length portion.text.now) (drop portion.from bytes)
 
 -- the text that these bytes are, if they are UTF-8
 abbrev pub IsTextOf : List ℕ → Option (Bor (List ℕ)) → Type 0

@@ -1,5 +1,5 @@
 -- What a sink of the parts of a line does, whatever a part is: it counts each, puts it at the next place, and its copies into a room.
-use Rattle.std.specs.Prelude.{◌≡◌, ◌<◌, ◌≤◌, ◌+◌, ◌^◌, ℕ, List, [], ◌∷◌, Option, Some, None, Result, Ok, Err, drop, length, slice_set, take}
+use Rattle.std.specs.Prelude.{◌≡◌, ◌<◌, ◌+◌, ◌^◌, ℕ, List, [], ◌∷◌, Option, Some, None, Result, Ok, Err, drop, length, slice_set, take}
 use Rattle.std.specs.List.{sum_by}
 use Rattle.influxdb_line_protocol.specs.code.SpelledParts.{spelled_fault}
 use Rattle.influxdb_line_protocol.specs.format.Lines as format

@@ -6,19 +6,18 @@ ghost use Rattle.influxdb_line_protocol.specs.code.SpelledParts.{spelled_fault};
 ghost use Rattle.influxdb_line_protocol.specs.format.Lines.{answer};
 ghost use Rattle.lp_events.specs.code.Stops.{IsStopOf, reading_stop};
 ghost use Rattle.lp_offsets.specs.Numbers.{IsNoDialect, answer_number, dialect_of, fault_number, fault_seen, side_number};
-ghost use Rattle.lp_offsets.specs.Offsets.{IsLineIn};
-ghost use Rattle.lp_offsets.specs.OffsetBlocks.{AnswersRow, HasNoFault, HasNoLine, HasNoTime, IsItemIn, IsNoTextAt, IsPlaced, IsSeenOf, PutsRow, ReadsOffsets, ReadsRow, ReadsRows, block_answer, came_number, has_row, in_32, is_too_much, own_of, piece_in, timestamp_in};
+ghost use Rattle.lp_offsets.specs.OffsetBlocks.{AnswersRow, HasNoFault, HasNoLine, HasNoTime, IsNoTextAt, IsPlaced, IsSeenOf, ReadsOffsets, ReadsRow, ReadsRows, block_answer, came_number, has_row, in_32, is_too_much, own_of, piece_in, timestamp_in};
 ghost use Rattle.lp_offsets.specs.Rooms.{Grows};
 ghost use Rattle.lp_offsets.specs.declared.offsets.Came.TheVariants as Came;
 ghost use Rattle.lp_offsets.specs.declared.enums.Answer.TheVariants as Answer;
 
-use crate::enums::{Answer, Dialect};
+use crate::enums::{Answer, Dialect, dialect_of};
 use crate::faults::fault_seen;
-use crate::pieces::{Piece, Seen, Spot, next_item, pass};
+use crate::pieces::{Piece, Seen, Source, Spot, next_item, pass};
 use crate::placed::{LineIn, OffsetPart, Span};
 use crate::placing::put_told;
 use crate::portions::no_portion;
-use influxdb_line_protocol::{Dialect as Rules, SpelledFault};
+use influxdb_line_protocol::SpelledFault;
 use lp_events::stops::reading_stop;
 
 /// An item by offsets.
@@ -116,23 +115,15 @@ fn in_32(number: usize) -> u32
     number.min(u32::MAX as usize) as u32
 }
 
-// Shows the fault of a line that ends at this place, and where reading it stopped: if that was not seen, the line is read again.
+// Shows the fault of a line, and where reading it stopped: if that was not seen, the line is read again.
 #[cold]
 #[inline(never)]
-fn show_fault(
-    dialect: Rules,
-    line: &str,
-    end: usize,
-    fault: SpelledFault<'_>,
-    stop: Option<&str>,
-    row: &mut OffsetRow,
-)
-    requires end { end < 2 ^ 32 }
-    requires stop { IsStopOf (rules_of dialect) line.now stop }
+fn show_fault(line: LineIn<'_>, fault: SpelledFault<'_>, stop: Option<&str>, row: &mut OffsetRow)
+    requires { IsStopOf (rules_of line.rules) line.line.now stop }
     ensures { row.new ≡ record row.old {
       fault = fault_number (fault_seen (spelled_fault fault.entry)).kind;
       side = side_number (fault_seen (spelled_fault fault.entry)).side;
-      stop_at = end - length (reading_stop (rules_of dialect) line.now).1;
+      stop_at = line.entry.end - length (reading_stop (rules_of line.entry.rules) line.entry.line.now).1;
     } }
 {
     let (kind, side, _) = fault_seen(fault);
@@ -140,9 +131,9 @@ fn show_fault(
     row.side = side.number();
     let rest = match stop {
         Some(rest) => rest,
-        None => reading_stop(dialect, line).rest,
+        None => reading_stop(line.rules, line.line).rest,
     };
-    row.stop_at = in_32(end.saturating_sub(rest.len()));
+    row.stop_at = in_32(line.end.saturating_sub(rest.len()));
 }
 
 // Shows how much a line takes that takes more than is left.
@@ -175,44 +166,38 @@ fn show_time(row: &mut OffsetRow, timestamp: Option<i64>)
     }
 }
 
-// Puts down a line that ends at this place, and gives what came of it, and how many bytes of the room are in use with it: two numbers,
-// which are given in registers.
+// Puts down a line, and gives what came of it, and how many bytes of the room are in use with it: two numbers, which are given in registers.
 #[inline(never)]
 fn put_line(
-    dialect: Rules,
-    text: &[u8],
-    line: &str,
-    end: usize,
+    line: LineIn<'_>,
     row: &mut OffsetRow,
     parts: &mut [OffsetPart],
     room: &mut [u8],
     used: usize,
 ) -> (Came, usize)
-    requires lies { IsLineIn text.now line.now end }
     requires parts { length parts.old < 2 ^ 32 }
     requires small { length room.old < 2 ^ 32 }
     ensures size { length parts.new ≡ length parts.old }
     ensures grows { Grows room.old used room.new result.1 }
     ensures piece { (row.new.piece ≡ row.old.piece) × (row.new.line ≡ row.old.line) × (row.new.parts_at ≡ row.old.parts_at) }
     ensures kept { (row.new.key ≡ row.old.key) × (row.new.verdict ≡ row.old.verdict) }
-    ensures begins { row.new.line_at ≡ end - length line.now }
+    ensures begins { row.new.line_at ≡ line.entry.end - length line.entry.line.now }
     ensures answer { row.new.answer ≡ came_number result.0 }
-    ensures end { result.0 ≡ Came.Line → row.new.stop_at ≡ end }
+    ensures end { result.0 ≡ Came.Line → row.new.stop_at ≡ line.entry.end }
     ensures line { result.0 ≡ Came.Line → HasNoFault row.old → HasNoFault row.new }
     ensures fault { result.0 ≡ Came.Fault → HasNoLine row.old → HasNoLine row.new }
-    ensures answers { AnswersRow (answer (rules_of dialect) line.now) result.0 text.now parts.new room.new used (own_of result.0 row.new) result.1
-        row.new }
+    ensures answers { AnswersRow (answer (rules_of line.entry.rules) line.entry.line.now) result.0 line.entry.text.now parts.new room.new used
+        (own_of result.0 row.new) result.1 row.new }
     ensures fits { own_of result.0 row.new ≤ length parts.new }
     ensures stays { is_too_much result.0 ≡ true → result.1 ≡ used }
     ensures room { used ≤ length room.old → result.1 ≤ length room.new }
     ensures stop { result.0 ≡ Came.Fault →
-        row.new.stop_at ≡ end - length (reading_stop (rules_of dialect) line.now).1 }
+        row.new.stop_at ≡ line.entry.end - length (reading_stop (rules_of line.entry.rules) line.entry.line.now).1 }
 {
-    row.line_at = (end - line.len()) as u32;
-    let line_in = LineIn { text, line, end };
-    let (told, stop) = put_told(dialect, line_in, parts, room, used);
+    row.line_at = (line.end - line.line.len()) as u32;
+    let (told, stop) = put_told(line, parts, room, used);
     if let Some(fault) = told.fault {
-        show_fault(dialect, line, end, fault, stop, row);
+        show_fault(line, fault, stop, row);
         row.answer = Came::Fault.number();
         return (Came::Fault, used);
     }
@@ -230,7 +215,7 @@ fn put_line(
     row.tags = told.tags as u32;
     row.fields = told.fields as u32;
     row.room_len = needed as u32;
-    row.stop_at = end as u32;
+    row.stop_at = line.end as u32;
     row.measurement = told.name.span;
     row.measurement_copied = told.name.copied;
     row.answer = Came::Line.number();
@@ -298,44 +283,6 @@ fn show_no_text(text: &[u8], piece: Piece, row: &mut OffsetRow)
     }
 }
 
-// Puts the item of a piece down in a row, which so many parts come before, and gives what came of it, how many parts it has, and how
-// many bytes of the room are in use with it.
-#[inline(always)]
-fn put_row(
-    dialect: Rules,
-    text: &[u8],
-    piece: Piece,
-    number: u64,
-    item: Option<&str>,
-    before: usize,
-    row: &mut OffsetRow,
-    parts: &mut [OffsetPart],
-    room: &mut [u8],
-    used: usize,
-) -> (Came, usize, usize)
-    requires item { IsItemIn text.now piece item }
-    requires text { length text.now < 2 ^ 32 }
-    requires piece { piece.at + piece.len ≤ length text.now }
-    requires parts { before + length parts.old < 2 ^ 32 }
-    requires small { length room.old < 2 ^ 32 }
-    ensures size { length parts.new ≡ length parts.old }
-    ensures grows { Grows room.old used room.new result.2 }
-    ensures placed { IsPlaced piece number before row.new }
-    ensures fits { result.1 ≤ length parts.new }
-    ensures stays { is_too_much result.0 ≡ true → (result.1 ≡ 0) × (result.2 ≡ used) }
-    ensures room { used ≤ length room.old → result.2 ≤ length room.new }
-    ensures puts { PutsRow (rules_of dialect) text.now piece result.0 (take result.1 parts.new) (length parts.new) room.new used result.2 row.new }
-{
-    *row = begun_row(piece, number, before);
-    let Some(line) = item else {
-        show_no_text(text, piece, row);
-        return (Came::NotUtf8, 0, used);
-    };
-    let end = piece.at + piece.len;
-    let (came, used) = put_line(dialect, text, line, end, row, parts, room, used);
-    (came, own_of(came, row), used)
-}
-
 // What was filled so far: where the next piece begins, how many parts are filled, and how many bytes of the room are in use.
 #[derive(Clone, Copy)]
 pub(crate) struct Filled {
@@ -344,49 +291,56 @@ pub(crate) struct Filled {
     pub(crate) room: usize,
 }
 
+// How far a text was read: what was seen of it, and what was filled.
+#[derive(Clone, Copy)]
+pub(crate) struct Reading<'a> {
+    pub(crate) seen: Seen<'a>,
+    pub(crate) filled: Filled,
+}
+
 // Puts the next item that is not blank down in a row, with its parts after those that are filled, and says what came of it. `None`: no
 // piece is left.
 #[inline(always)]
 fn read_row<'a>(
-    dialect: Rules,
-    last: bool,
-    text: &'a [u8],
-    seen: &mut Seen<'a>,
-    texts: usize,
+    source: Source<'a>,
+    reading: &mut Reading<'a>,
     row: &mut OffsetRow,
     parts: &mut [OffsetPart],
     room: &mut [u8],
-    filled: &mut Filled,
 ) -> Option<Came>
-    requires text { (length text.now < 2 ^ 32) × (filled.old.spot.at ≤ length text.now) }
-    requires parts { (length parts.old < 2 ^ 32) × (filled.old.parts ≤ length parts.old) }
-    requires room { filled.old.room ≤ length room.old }
+    requires text { (length source.text.now < 2 ^ 32) × (reading.old.filled.spot.at ≤ length source.text.now) }
+    requires parts { (length parts.old < 2 ^ 32) × (reading.old.filled.parts ≤ length parts.old) }
+    requires room { reading.old.filled.room ≤ length room.old }
     requires small { length room.old < 2 ^ 32 }
-    requires seen { IsSeenOf (rules_of dialect) text.now seen.old }
-    ensures seen { IsSeenOf (rules_of dialect) text.now seen.new }
+    requires seen { IsSeenOf (dialect_of source.dialect) source.text.now reading.old.seen }
+    ensures seen { IsSeenOf (dialect_of source.entry.dialect) source.entry.text.now reading.new.seen }
     ensures size { length parts.new ≡ length parts.old }
-    ensures grows { Grows room.old filled.old.room room.new filled.new.room }
-    ensures kept { take filled.old.parts parts.new ≡ take filled.old.parts parts.old }
-    ensures fits { (filled.new.spot.at ≤ length text.now) × (filled.new.parts ≤ length parts.new) × (filled.new.room ≤ length room.new) }
-    ensures reads { ReadsRow (rules_of dialect) last text.now filled.old result row.new parts.new room.new filled.new }
+    ensures grows { Grows room.old reading.old.filled.room room.new reading.new.filled.room }
+    ensures kept { take reading.old.filled.parts parts.new ≡ take reading.old.filled.parts parts.old }
+    ensures fits { (reading.new.filled.spot.at ≤ length source.entry.text.now) × (reading.new.filled.parts ≤ length parts.new)
+        × (reading.new.filled.room ≤ length room.new) }
+    ensures reads { ReadsRow (dialect_of source.entry.dialect) source.entry.last source.entry.text.now reading.old.filled result row.new
+        parts.new room.new reading.new.filled }
 {
-    let (piece, item) = next_item(dialect, last, text, seen, &mut filled.spot, texts)?;
+    let filled = &mut reading.filled;
+    let (piece, item) = next_item(source, &mut reading.seen, &mut filled.spot)?;
+    *row = begun_row(piece, filled.spot.line, filled.parts);
+    let Some(line) = item else {
+        show_no_text(source.text, piece, row);
+        pass(&mut filled.spot, piece);
+        return Some(Came::NotUtf8);
+    };
+    let line_in = LineIn {
+        rules: dialect_of(source.dialect),
+        text: source.text,
+        line,
+        end: piece.at + piece.len,
+    };
     let own_parts = &mut parts[filled.parts..];
-    let (came, own, used) = put_row(
-        dialect,
-        text,
-        piece,
-        filled.spot.line,
-        item,
-        filled.parts,
-        row,
-        own_parts,
-        room,
-        filled.room,
-    );
+    let (came, used) = put_line(line_in, row, own_parts, room, filled.room);
     if !came.is_too_much() {
         pass(&mut filled.spot, piece);
-        filled.parts += own;
+        filled.parts += own_of(came, row);
         filled.room = used;
     }
     Some(came)
@@ -404,41 +358,27 @@ fn has_row(came: Option<Came>) -> bool
 
 // Reads items into rows from a place of a text on, and gives how many rows it filled, and why no more.
 #[inline(always)]
-fn read_rows(
-    dialect: Rules,
-    last: bool,
-    text: &[u8],
+fn read_rows<'a>(
+    source: Source<'a>,
+    reading: &mut Reading<'a>,
     rows: &mut [OffsetRow],
     parts: &mut [OffsetPart],
     room: &mut [u8],
-    filled: &mut Filled,
 ) -> (usize, Option<Came>)
-    requires text { (length text.now < 2 ^ 32) × (filled.old.spot.at ≤ length text.now) }
-    requires none { (filled.old.parts ≡ 0) × (filled.old.room ≡ 0) }
+    requires text { (length source.text.now < 2 ^ 32) × (reading.old.filled.spot.at ≤ length source.text.now) }
+    requires seen { IsSeenOf (dialect_of source.dialect) source.text.now reading.old.seen }
+    requires none { (reading.old.filled.parts ≡ 0) × (reading.old.filled.room ≡ 0) }
     requires parts { length parts.old < 2 ^ 32 }
     requires small { length room.old < 2 ^ 32 }
-    ensures fits { (filled.new.spot.at ≤ length text.now) × (filled.new.parts ≤ length parts.new) × (filled.new.room ≤ length room.new) }
+    ensures fits { (reading.new.filled.spot.at ≤ length source.entry.text.now) × (reading.new.filled.parts ≤ length parts.new)
+        × (reading.new.filled.room ≤ length room.new) }
     ensures count { result.0 ≤ length rows.new }
     ensures size { length rows.new ≡ length rows.old }
-    ensures reads { ReadsRows (rules_of dialect) last text.now filled.old.spot rows.new parts.new room.new filled.new result.0 result.1 }
+    ensures reads { ReadsRows (dialect_of source.entry.dialect) source.entry.last source.entry.text.now reading.old.filled.spot rows.new
+        parts.new room.new reading.new.filled result.0 result.1 }
 {
-    let mut seen = Seen {
-        portion: no_portion(filled.spot.at, 0, 0),
-        at: 0,
-        marks: 0,
-    };
     for at in 0..rows.len() {
-        let came = read_row(
-            dialect,
-            last,
-            text,
-            &mut seen,
-            rows.len() - at,
-            &mut rows[at],
-            parts,
-            room,
-            filled,
-        );
+        let came = read_row(source, reading, &mut rows[at], parts, room);
         if !has_row(came) {
             return (at, came);
         }
@@ -481,32 +421,39 @@ pub fn are_in_32(text: &[u8], rows: &[OffsetRow], parts: &[OffsetPart], room: &[
 /// Fills rows from where a block begins, whose lengths 32 bits hold, and says where it ended. Gives the number of the answer.
 #[inline(always)]
 pub fn fill_block(
-    dialect: Rules,
-    last: bool,
-    text: &[u8],
+    source: Source<'_>,
     block: &mut Block,
     room: &mut [u8],
     rows: &mut [OffsetRow],
     parts: &mut [OffsetPart],
 ) -> u32
-    requires text { length text.now < 2 ^ 32 }
+    requires text { length source.text.now < 2 ^ 32 }
     requires rows { length rows.old < 2 ^ 32 }
     requires parts { length parts.old < 2 ^ 32 }
     requires room { length room.old < 2 ^ 32 }
-    ensures reads { ReadsOffsets (rules_of dialect) last text.now block.old rows.new parts.new room.new block.new result }
+    ensures reads { ReadsOffsets (dialect_of source.entry.dialect) source.entry.last source.entry.text.now block.old rows.new parts.new room.new
+        block.new result }
     ensures known { result ≢ answer_number Answer.NotADialect }
     ensures short { result ≢ answer_number Answer.TooLong }
     ensures memory { result ≢ answer_number Answer.OutOfMemory }
 {
-    let mut filled = Filled {
-        spot: Spot {
-            at: text.len().min(block.at as usize),
-            line: block.line,
+    let mut reading = Reading {
+        seen: Seen {
+            portion: no_portion(source.text, rows.len()),
+            at: 0,
+            marks: 0,
         },
-        parts: 0,
-        room: 0,
+        filled: Filled {
+            spot: Spot {
+                at: source.text.len().min(block.at as usize),
+                line: block.line,
+            },
+            parts: 0,
+            room: 0,
+        },
     };
-    let (count, came) = read_rows(dialect, last, text, rows, parts, room, &mut filled);
+    let (count, came) = read_rows(source, &mut reading, rows, parts, room);
+    let filled = reading.filled;
     *block = Block {
         line: filled.spot.line,
         at: filled.spot.at as u32,
@@ -514,41 +461,40 @@ pub fn fill_block(
         parts: filled.parts as u32,
         room: filled.room as u32,
     };
-    block_answer(came, last)
+    block_answer(came, source.last)
 }
 
-/// Reads items of a text into rows, in order, as long as rows, parts and room last: each by offsets in `text` and in `room`. It asks for
+/// Reads items of a text into rows, in order, as long as rows, parts and room last: each by offsets in its bytes and in `room`. It asks for
 /// no memory, and what was lent before needs to hold nothing.
 ///
 /// `block` says where to begin, and in which line that is; then where to go on, in which line, and how many rows, parts and bytes of
-/// room were filled. The text ends here if `last` is set; else its last piece, which no newline ends, is left.
+/// room were filled. The text ends here if it is the last; else its last piece, which no newline ends, is left.
 ///
 /// Answers `Line`, if each row is filled; `End`, if no item is left; `MoreText`, if what is left is a piece that goes on in the text that
 /// comes. `MoreParts` or `MoreRoom`, if the line of the next piece takes more than is left: the row after the filled ones says how much.
 /// `NotADialect` and `TooLong`, if no dialect has the number, or if 32 bits do not hold a length: then all is as it was.
 pub fn read_block(
-    text: &[u8],
-    dialect: u32,
-    last: bool,
+    source: Source<'_>,
     block: &mut Block,
     room: &mut [u8],
     rows: &mut [OffsetRow],
     parts: &mut [OffsetPart],
 ) -> u32
     ensures reads { result ≢ answer_number Answer.NotADialect → result ≢ answer_number Answer.TooLong
-        → ∥ ReadsOffsets (dialect_of dialect) last text.now block.old rows.new parts.new room.new block.new result ∥₁ }
+        → ∥ ReadsOffsets (dialect_of source.entry.dialect) source.entry.last source.entry.text.now block.old rows.new parts.new room.new
+        block.new result ∥₁ }
     ensures refused { (result ≡ answer_number Answer.NotADialect) ⊎ (result ≡ answer_number Answer.TooLong)
         → (block.new ≡ block.old) × (rows.new ≡ rows.old) × (parts.new ≡ parts.old) × (room.new ≡ room.old) }
-    ensures not_a_dialect { result ≡ answer_number Answer.NotADialect ↔ IsNoDialect dialect }
-    ensures too_long { result ≡ answer_number Answer.TooLong → (2 ^ 32 ≤ length text.now) ⊎ (2 ^ 32 ≤ length rows.new)
+    ensures not_a_dialect { result ≡ answer_number Answer.NotADialect ↔ IsNoDialect source.entry.dialect }
+    ensures too_long { result ≡ answer_number Answer.TooLong → (2 ^ 32 ≤ length source.entry.text.now) ⊎ (2 ^ 32 ≤ length rows.new)
         ⊎ (2 ^ 32 ≤ length parts.new) ⊎ (2 ^ 32 ≤ length room.new) }
     ensures memory { result ≢ answer_number Answer.OutOfMemory }
 {
-    let Some(rules) = Dialect::numbered(dialect) else {
+    if Dialect::numbered(source.dialect).is_none() {
         return Answer::NotADialect.number();
-    };
-    if !are_in_32(text, rows, parts, room) {
+    }
+    if !are_in_32(source.text, rows, parts, room) {
         return Answer::TooLong.number();
     }
-    fill_block(rules.rules(), last, text, block, room, rows, parts)
+    fill_block(source, block, room, rows, parts)
 }

@@ -1,17 +1,28 @@
 //! The pieces of a text by their places, but for blank ones.
 
 ghost use Rattle.std.specs.Prelude.{◌≡◌, ◌≤◌, ◌<◌, ◌+◌, ◌-◌, ◌^◌, drop, length, min, take, true, List, ℕ, MatchOption};
-ghost use Rattle.influxdb_line_protocol.specs.code.Rules.{rules_of};
 ghost use Rattle.influxdb_line_protocol.specs.format.Dialects as dialects;
 ghost use Rattle.lp_format.specs.format.Bytes.{newlines_in};
 ghost use Rattle.lp_split.specs.code.{AreSeen};
+ghost use Rattle.lp_offsets.specs.Numbers.{dialect_of};
 ghost use Rattle.lp_offsets.specs.OffsetBlocks.{HasNewlines, IsItemIn, IsNoPieceAt, IsPieceIn, IsSeenOf, PassesBlanks};
 
+use crate::enums::dialect_of;
 use crate::portions::Portion;
-use influxdb_line_protocol::Dialect;
 use lp_scan::newlines::newlines_in;
 use lp_scan::trim::trimmed;
 use lp_split::split::{Mark, first_cut};
+
+/// A text that is read.
+#[derive(Clone, Copy)]
+pub struct Source<'a> {
+    /// Its bytes.
+    pub text: &'a [u8],
+    /// The number of the [`Dialect`](crate::enums::Dialect) by whose rules it is read.
+    pub dialect: u32,
+    /// Whether it ends here; else its last piece, which no newline ends, goes on in the text that comes.
+    pub last: bool,
+}
 
 /// A piece of a text.
 #[derive(Clone, Copy)]
@@ -65,21 +76,17 @@ fn newlines_before(text: &[u8], cut: Mark) -> usize
 
 // The piece that begins at this place.
 #[inline(always)]
-fn piece_at(
-    dialect: Dialect,
-    last: bool,
-    text: &[u8],
-    at: usize,
-    seen: &mut Seen<'_>,
-) -> Option<Piece>
-    requires at { at ≤ length text.now }
-    requires seen { IsSeenOf (rules_of dialect) text.now seen.old }
-    ensures seen { IsSeenOf (rules_of dialect) text.now seen.new }
-    ensures gives { MatchOption result (IsNoPieceAt (rules_of dialect) last text.now at)
-        (λ piece. (piece.at ≡ at) × IsPieceIn (rules_of dialect) last text.now piece × HasNewlines text.now piece) }
+fn piece_at(source: Source<'_>, at: usize, seen: &mut Seen<'_>) -> Option<Piece>
+    requires at { at ≤ length source.text.now }
+    requires seen { IsSeenOf (dialect_of source.dialect) source.text.now seen.old }
+    ensures seen { IsSeenOf (dialect_of source.entry.dialect) source.entry.text.now seen.new }
+    ensures gives { MatchOption result (IsNoPieceAt (dialect_of source.entry.dialect) source.entry.last source.entry.text.now at)
+        (λ piece. (piece.at ≡ at) × IsPieceIn (dialect_of source.entry.dialect) source.entry.last source.entry.text.now piece
+        × HasNewlines source.entry.text.now piece) }
 {
+    let text = source.text;
     let rest = &text[at..];
-    match first_cut(dialect, rest, marks_at(seen, at)) {
+    match first_cut(dialect_of(source.dialect), rest, marks_at(seen, at)) {
         Some(cut) => {
             let next = at + cut.at + 1;
             seen.at = next;
@@ -91,7 +98,7 @@ fn piece_at(
                 newlines: newlines_before(rest, cut) + 1,
             })
         }
-        None if last && at < text.len() => Some(Piece {
+        None if source.last && at < text.len() => Some(Piece {
             at,
             len: text.len() - at,
             next: text.len(),
@@ -113,30 +120,28 @@ pub(crate) fn pass(spot: &mut Spot, piece: Piece)
     spot.line = spot.line.saturating_add(piece.newlines as u64);
 }
 
-// The next piece that is not blank, and its line, if it is UTF-8. Those before it are passed. With this one, so many are asked for.
+// The next piece that is not blank, and its line, if it is UTF-8. Those before it are passed.
 #[inline(always)]
 pub(crate) fn next_item<'a>(
-    dialect: Dialect,
-    last: bool,
-    text: &'a [u8],
+    source: Source<'a>,
     seen: &mut Seen<'a>,
     spot: &mut Spot,
-    texts: usize,
 ) -> Option<(Piece, Option<&'a str>)>
-    requires at { spot.old.at ≤ length text.now }
-    requires seen { IsSeenOf (rules_of dialect) text.now seen.old }
-    ensures seen { IsSeenOf (rules_of dialect) text.now seen.new }
-    ensures within { spot.new.at ≤ length text.now }
-    ensures passes { PassesBlanks (rules_of dialect) last text.now spot.old spot.new }
-    ensures gives { MatchOption result (IsNoPieceAt (rules_of dialect) last text.now spot.new.at)
-        (λ p. (p.0.at ≡ spot.new.at) × IsPieceIn (rules_of dialect) last text.now p.0 × HasNewlines text.now p.0 × IsItemIn text.now p.0 p.1) }
+    requires at { spot.old.at ≤ length source.text.now }
+    requires seen { IsSeenOf (dialect_of source.dialect) source.text.now seen.old }
+    ensures seen { IsSeenOf (dialect_of source.entry.dialect) source.entry.text.now seen.new }
+    ensures within { spot.new.at ≤ length source.entry.text.now }
+    ensures passes { PassesBlanks (dialect_of source.entry.dialect) source.entry.last source.entry.text.now spot.old spot.new }
+    ensures gives { MatchOption result (IsNoPieceAt (dialect_of source.entry.dialect) source.entry.last source.entry.text.now spot.new.at)
+        (λ p. (p.0.at ≡ spot.new.at) × IsPieceIn (dialect_of source.entry.dialect) source.entry.last source.entry.text.now p.0
+        × HasNewlines source.entry.text.now p.0 × IsItemIn source.entry.text.now p.0 p.1) }
 {
-    while let Some(piece) = piece_at(dialect, last, text, spot.at, seen) {
+    while let Some(piece) = piece_at(source, spot.at, seen) {
         if piece.len == 0 {
             pass(spot, piece);
             continue;
         }
-        let Some(piece_text) = seen.portion.next_text(text, piece.at, piece.len, texts) else {
+        let Some(piece_text) = seen.portion.next_text(piece.at, piece.len) else {
             return Some((piece, None));
         };
         let line = trimmed(piece_text);

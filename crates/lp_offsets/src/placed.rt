@@ -13,7 +13,7 @@ ghost use Rattle.lp_offsets.specs.Rooms.{Grows, Shows, TakesRoom};
 ghost use Rattle.lp_events.specs.code.Places.{AreBefore, EndsBefore, ValueEndsBefore};
 
 use crate::enums::Kind;
-use influxdb_line_protocol::{Spelled, SpelledValue};
+use influxdb_line_protocol::{Dialect, Spelled, SpelledValue};
 use lp_values::spelled::shared;
 
 /// So many bytes from a place on.
@@ -77,19 +77,27 @@ fn span_of(at: usize, len: usize) -> Option<Span>
     Some(Span { at, len })
 }
 
-// A line in a text.
+// A line in a text, and the rules by which it is read.
 #[derive(Clone, Copy)]
-pub(crate) struct LineIn<'l, 'a> {
-    pub(crate) text: &'l [u8],
+pub(crate) struct LineIn<'a> {
+    pub(crate) rules: Dialect,
+    pub(crate) text: &'a [u8],
     pub(crate) line: &'a str,
     // Where the line ends in the text.
     pub(crate) end: usize,
     ghost lies: { IsLineIn text.now line.now end },
 }
 
+// A text or a value of a line as it is spelled, and how many bytes of the line are left after it.
+#[derive(Clone, Copy)]
+pub(crate) struct Stretch<T> {
+    pub(crate) spelled: T,
+    pub(crate) left: usize,
+}
+
 // The place of so many bytes of a line, with so many left after them.
 #[inline(always)]
-fn place_before(line: LineIn<'_, '_>, left: usize, len: usize) -> Placed
+fn place_before(line: LineIn<'_>, left: usize, len: usize) -> Placed
     requires { left + len ≤ length line.line.now }
     ensures copied { result.copied ≡ 0 }
     ensures at { result.span.at ≡ line.entry.end - (left + len) }
@@ -124,56 +132,53 @@ pub(crate) fn place_copy(room: &mut [u8], used: usize, spelled: Spelled<'_>) -> 
     (Placed { span, copied: 1 }, all)
 }
 
-// Where a text with a backslash lies, after which so many bytes are left of a line that ends at this place. It lies in the line, if it is one
-// escape, of which the byte after the backslash is the text. Else it lies in the room, into which it is put.
+// Where a text with a backslash lies. It lies in the line, if it is one escape, of which the byte after the backslash is the text. Else it
+// lies in the room, into which it is put.
 #[cold]
 #[inline(never)]
 fn place_escaped(
-    text: &[u8],
-    line: &str,
-    end: usize,
-    left: usize,
+    line: LineIn<'_>,
     room: &mut [u8],
     used: usize,
-    spelled: Spelled<'_>,
+    text: Stretch<Spelled<'_>>,
 ) -> (Placed, usize)
-    requires lies { IsLineIn text.now line.now end }
-    requires ends { EndsBefore line.now (spelled_text spelled) left }
+    requires { EndsBefore line.line.now (spelled_text text.spelled) text.left }
     ensures grows { Grows room.old used room.new result.1 }
-    ensures bound { length room.old < 2 ^ 32 → result.1 ≤ used + length (spelled_text spelled.entry).bytes }
+    ensures bound { length room.old < 2 ^ 32 → result.1 ≤ used + length (spelled_text text.entry.spelled).bytes }
     ensures takes { TakesRoom room.new used result.1 (text_room result.0.copied result.0.span) }
-    ensures shows { Shows (λ r. bytes_at text.now r result.0.copied result.0.span) room.new result.1 (spelled_text spelled.entry).bytes }
+    ensures shows { Shows (λ r. bytes_at line.entry.text.now r result.0.copied result.0.span) room.new result.1
+        (spelled_text text.entry.spelled).bytes }
 {
-    let Some(shown) = shared(spelled) else {
-        return place_copy(room, used, spelled);
+    let Some(shown) = shared(text.spelled) else {
+        return place_copy(room, used, text.spelled);
     };
-    (
-        place_before(LineIn { text, line, end }, left, shown.len()),
-        used,
-    )
+    (place_before(line, text.left, shown.len()), used)
 }
 
-// Where a text lies after which so many bytes of the line are left: in the line, if it is a part of that, or else in the room, into which
-// it is put. If it reads as it is spelled, it begins where as many bytes were left as before it was read, so its place is a subtraction.
+// Where a text lies: in the line, if it is a part of that, or else in the room, into which it is put. If it reads as it is spelled, it
+// begins where as many bytes were left as before it was read, so its place is a subtraction.
 #[inline(always)]
 pub(crate) fn place_text(
-    line: LineIn<'_, '_>,
-    left: usize,
+    line: LineIn<'_>,
     room: &mut [u8],
     used: usize,
-    spelled: Spelled<'_>,
+    text: Stretch<Spelled<'_>>,
 ) -> (Placed, usize)
-    requires { EndsBefore line.line.now (spelled_text spelled) left }
+    requires { EndsBefore line.line.now (spelled_text text.spelled) text.left }
     ensures grows { Grows room.old used room.new result.1 }
-    ensures bound { length room.old < 2 ^ 32 → result.1 ≤ used + length (spelled_text spelled.entry).bytes }
+    ensures bound { length room.old < 2 ^ 32 → result.1 ≤ used + length (spelled_text text.entry.spelled).bytes }
     ensures takes { TakesRoom room.new used result.1 (text_room result.0.copied result.0.span) }
-    ensures shows { Shows (λ r. bytes_at line.entry.text.now r result.0.copied result.0.span) room.new result.1 (spelled_text spelled.entry).bytes }
+    ensures shows { Shows (λ r. bytes_at line.entry.text.now r result.0.copied result.0.span) room.new result.1
+        (spelled_text text.entry.spelled).bytes }
 {
-    if reads_as_spelled(spelled) {
-        return (place_before(line, left, spelled.spelled().len()), used);
+    if reads_as_spelled(text.spelled) {
+        return (
+            place_before(line, text.left, text.spelled.spelled().len()),
+            used,
+        );
     }
     // Number by number: what a call fills as a whole would be kept in memory, and each place that is told would go there first.
-    let (escaped, used) = place_escaped(line.text, line.line, line.end, left, room, used, spelled);
+    let (escaped, used) = place_escaped(line, room, used, text);
     let span = Span {
         at: escaped.span.at,
         len: escaped.span.len,
@@ -187,26 +192,25 @@ pub(crate) fn place_text(
     )
 }
 
-// Places the texts of a tag, with so many bytes of the line left after its key and after its value.
+// Places the texts of a tag.
 #[inline(always)]
 pub(crate) fn place_tag(
-    line: LineIn<'_, '_>,
-    key_left: usize,
-    left: usize,
+    line: LineIn<'_>,
     room: &mut [u8],
     used: usize,
-    key: Spelled<'_>,
-    value: Spelled<'_>,
+    key: Stretch<Spelled<'_>>,
+    value: Stretch<Spelled<'_>>,
 ) -> (OffsetPart, usize)
-    requires key { EndsBefore line.line.now (spelled_text key) key_left }
-    requires value { EndsBefore line.line.now (spelled_text value) left }
+    requires key { EndsBefore line.line.now (spelled_text key.spelled) key.left }
+    requires value { EndsBefore line.line.now (spelled_text value.spelled) value.left }
     ensures grows { Grows room.old used room.new result.1 }
-    ensures bound { length room.old < 2 ^ 32 → result.1 ≤ used + tag_len (spelled_tag (key.entry, value.entry)) }
+    ensures bound { length room.old < 2 ^ 32 → result.1 ≤ used + tag_len (spelled_tag (key.entry.spelled, value.entry.spelled)) }
     ensures takes { TakesRoom room.new used result.1 (part_room result.0) }
-    ensures shows { Shows (λ r. tag_at line.entry.text.now r result.0) room.new result.1 (Some (logical_tag (spelled_tag (key.entry, value.entry)))) }
+    ensures shows { Shows (λ r. tag_at line.entry.text.now r result.0) room.new result.1
+        (Some (logical_tag (spelled_tag (key.entry.spelled, value.entry.spelled)))) }
 {
-    let (key, used) = place_text(line, key_left, room, used, key);
-    let (value, used) = place_text(line, left, room, used, value);
+    let (key, used) = place_text(line, room, used, key);
+    let (value, used) = place_text(line, room, used, value);
     (part_of(key, value, Kind::Tag, 0), used)
 }
 
@@ -234,7 +238,7 @@ fn part_of(key: Placed, text: Placed, kind: Kind, number: u64) -> OffsetPart
 
 // Places the literal of a float, with so many bytes of the line left after it.
 #[inline(always)]
-fn place_literal(line: LineIn<'_, '_>, left: usize, literal: &str) -> Placed
+fn place_literal(line: LineIn<'_>, left: usize, literal: &str) -> Placed
     requires { AreBefore line.line.now literal.now left }
     ensures copied { result.copied ≡ 0 }
     ensures bytes { take result.span.len (drop result.span.at line.entry.text.now) ≡ literal.now }
@@ -242,38 +246,38 @@ fn place_literal(line: LineIn<'_, '_>, left: usize, literal: &str) -> Placed
     place_before(line, left, literal.len())
 }
 
-// Places the texts of a field, with so many bytes of the line left after its key and after its value.
+// Places the texts of a field.
 #[inline(always)]
 pub(crate) fn place_field(
-    line: LineIn<'_, '_>,
-    key_left: usize,
-    left: usize,
+    line: LineIn<'_>,
     room: &mut [u8],
     used: usize,
-    key: Spelled<'_>,
-    value: SpelledValue<'_>,
+    key: Stretch<Spelled<'_>>,
+    value: Stretch<SpelledValue<'_>>,
 ) -> (OffsetPart, usize)
-    requires key { EndsBefore line.line.now (spelled_text key) key_left }
-    requires value { ValueEndsBefore line.line.now (spelled_value value) left }
+    requires key { EndsBefore line.line.now (spelled_text key.spelled) key.left }
+    requires value { ValueEndsBefore line.line.now (spelled_value value.spelled) value.left }
     ensures grows { Grows room.old used room.new result.1 }
-    ensures bound { length room.old < 2 ^ 32 → result.1 ≤ used + field_len (spelled_field (key.entry, value.entry)) }
+    ensures bound { length room.old < 2 ^ 32 → result.1 ≤ used + field_len (spelled_field (key.entry.spelled, value.entry.spelled)) }
     ensures takes { TakesRoom room.new used result.1 (part_room result.0) }
-    ensures shows { Shows (λ r. field_at line.entry.text.now r result.0) room.new result.1 (Some (logical_field (spelled_field (key.entry, value.entry)))) }
+    ensures shows { Shows (λ r. field_at line.entry.text.now r result.0) room.new result.1
+        (Some (logical_field (spelled_field (key.entry.spelled, value.entry.spelled)))) }
 {
-    let (key, used) = place_text(line, key_left, room, used, key);
-    match value {
+    let (key, used) = place_text(line, room, used, key);
+    match value.spelled {
         SpelledValue::I64(integer) => (
             part_of(key, NOWHERE, Kind::Integer, integer.cast_unsigned()),
             used,
         ),
         SpelledValue::U64(unsigned) => (part_of(key, NOWHERE, Kind::Unsigned, unsigned), used),
         SpelledValue::F64(literal) => {
-            let literal = place_literal(line, left, literal.as_str());
+            let literal = place_literal(line, value.left, literal.as_str());
             (part_of(key, literal, Kind::Float, 0), used)
         }
-        SpelledValue::String(string) => {
+        SpelledValue::String(spelled) => {
             // The quote is left too.
-            let (string, used) = place_text(line, left.wrapping_add(1), room, used, string);
+            let left = value.left.wrapping_add(1);
+            let (string, used) = place_text(line, room, used, Stretch { spelled, left });
             (part_of(key, string, Kind::String, 0), used)
         }
         SpelledValue::Boolean(boolean) => (

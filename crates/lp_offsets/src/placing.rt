@@ -8,8 +8,10 @@ ghost use Rattle.lp_offsets.specs.Offsets.{texts_len};
 ghost use Rattle.lp_offsets.specs.Rooms.{Grows};
 ghost use Rattle.lp_offsets.specs.Placing.{ToldAnswer, told_of};
 
-use crate::placed::{LineIn, NOWHERE, OffsetPart, Placed, place_field, place_tag, place_text};
-use influxdb_line_protocol::{Dialect, Spelled, SpelledFault, SpelledValue};
+use crate::placed::{
+    LineIn, NOWHERE, OffsetPart, Placed, Stretch, place_field, place_tag, place_text,
+};
+use influxdb_line_protocol::{Spelled, SpelledFault, SpelledValue};
 use lp_events::{PlacedSink, read_placed_events};
 
 // What was told of a line: how many tags and fields it has, how many bytes of the room are in use, its measurement and its timestamp;
@@ -27,7 +29,7 @@ pub(crate) struct Told<'a> {
 // A line that is told: where it lies, where it is put, what was counted of it, and its fault, if it has one.
 #[derive(Drop)]
 pub(crate) struct Placing<'l, 'a> {
-    pub(crate) line: LineIn<'l, 'a>,
+    pub(crate) line: LineIn<'a>,
     pub(crate) parts: &'l mut [OffsetPart],
     pub(crate) room: &'l mut [u8],
     pub(crate) used: usize,
@@ -47,7 +49,11 @@ impl<'l, 'a> PlacedSink<'a> for Placing<'l, 'a> {
 
     #[inline(always)]
     fn measurement(&mut self, name: Spelled<'a>, left: usize) {
-        let (name, used) = place_text(self.line, left, self.room, self.used, name);
+        let name = Stretch {
+            spelled: name,
+            left,
+        };
+        let (name, used) = place_text(self.line, self.room, self.used, name);
         self.tags = 0;
         self.fields = 0;
         self.name = name;
@@ -58,7 +64,15 @@ impl<'l, 'a> PlacedSink<'a> for Placing<'l, 'a> {
     fn tag(&mut self, key: Spelled<'a>, value: Spelled<'a>, key_left: usize, left: usize) {
         let place = self.tags.wrapping_add(self.fields);
         self.tags = self.tags.wrapping_add(1);
-        let (part, used) = place_tag(self.line, key_left, left, self.room, self.used, key, value);
+        let key = Stretch {
+            spelled: key,
+            left: key_left,
+        };
+        let value = Stretch {
+            spelled: value,
+            left,
+        };
+        let (part, used) = place_tag(self.line, self.room, self.used, key, value);
         self.used = used;
         if place < self.parts.len() {
             self.parts[place] = part;
@@ -69,7 +83,15 @@ impl<'l, 'a> PlacedSink<'a> for Placing<'l, 'a> {
     fn field(&mut self, key: Spelled<'a>, value: SpelledValue<'a>, key_left: usize, left: usize) {
         let place = self.tags.wrapping_add(self.fields);
         self.fields = self.fields.wrapping_add(1);
-        let (part, used) = place_field(self.line, key_left, left, self.room, self.used, key, value);
+        let key = Stretch {
+            spelled: key,
+            left: key_left,
+        };
+        let value = Stretch {
+            spelled: value,
+            left,
+        };
+        let (part, used) = place_field(self.line, self.room, self.used, key, value);
         self.used = used;
         if place < self.parts.len() {
             self.parts[place] = part;
@@ -89,20 +111,20 @@ impl<'l, 'a> PlacedSink<'a> for Placing<'l, 'a> {
 
 // Tells what the line says, which is a trimmed text, and gives what is left where reading it stops, if it is at fault and that was seen.
 #[inline(always)]
-fn tell_line<'l, 'a>(dialect: Dialect, placing: &mut Placing<'l, 'a>) -> Option<&'a str>
+fn tell_line<'l, 'a>(placing: &mut Placing<'l, 'a>) -> Option<&'a str>
     requires short { length placing.old.line.line.now < 2 ^ 63 }
     requires no_fault { placing.old.fault ≡ None }
     ensures parts { placing.new.parts.ghost_name ≡ placing.old.parts.ghost_name }
     ensures room { placing.new.room.ghost_name ≡ placing.old.room.ghost_name }
     ensures size { length placing.new.parts.now ≡ length placing.old.parts.now }
     ensures grows { Grows placing.old.room.now placing.old.used placing.new.room.now placing.new.used }
-    ensures bound { length placing.old.room.now < 2 ^ 32 → (read : Line) → answer (rules_of dialect) placing.old.line.line.now ≡ Ok read
-        → placing.new.used ≤ placing.old.used + texts_len read }
-    ensures told { ToldAnswer (answer (rules_of dialect) placing.old.line.line.now) placing.new.fault placing.old.line.text.now
+    ensures bound { length placing.old.room.now < 2 ^ 32 → (read : Line) → answer (rules_of placing.old.line.rules) placing.old.line.line.now
+        ≡ Ok read → placing.new.used ≤ placing.old.used + texts_len read }
+    ensures told { ToldAnswer (answer (rules_of placing.old.line.rules) placing.old.line.line.now) placing.new.fault placing.old.line.text.now
         placing.new.parts.now placing.new.room.now placing.old.used (told_of placing.new) }
-    ensures stop { IsStopOf (rules_of dialect) placing.old.line.line.now result }
+    ensures stop { IsStopOf (rules_of placing.old.line.rules) placing.old.line.line.now result }
 {
-    read_placed_events(dialect, placing.line.line, placing)
+    read_placed_events(placing.line.rules, placing.line.line, placing)
 }
 
 // Gives back what was lent. This changes nothing; it is where the loans end, so that the caller knows what they leave.
@@ -116,8 +138,7 @@ fn give_back(parts: &mut [OffsetPart], room: &mut [u8])
 // what was told of it, and what is left where reading it stops, if it is at fault and that was seen.
 #[inline(always)]
 pub(crate) fn put_told<'a>(
-    dialect: Dialect,
-    line: LineIn<'_, 'a>,
+    line: LineIn<'a>,
     parts: &mut [OffsetPart],
     room: &mut [u8],
     used: usize,
@@ -125,10 +146,11 @@ pub(crate) fn put_told<'a>(
     requires { length line.line.now < 2 ^ 63 }
     ensures size { length parts.new ≡ length parts.old }
     ensures grows { Grows room.old used room.new result.0.used }
-    ensures bound { length room.old < 2 ^ 32 → (read : Line) → answer (rules_of dialect) line.entry.line.now ≡ Ok read
+    ensures bound { length room.old < 2 ^ 32 → (read : Line) → answer (rules_of line.entry.rules) line.entry.line.now ≡ Ok read
         → result.0.used ≤ used + texts_len read }
-    ensures told { ToldAnswer (answer (rules_of dialect) line.entry.line.now) result.0.fault line.entry.text.now parts.new room.new used result.0 }
-    ensures stop { IsStopOf (rules_of dialect) line.entry.line.now result.1 }
+    ensures told { ToldAnswer (answer (rules_of line.entry.rules) line.entry.line.now) result.0.fault line.entry.text.now
+        parts.new room.new used result.0 }
+    ensures stop { IsStopOf (rules_of line.entry.rules) line.entry.line.now result.1 }
 {
     let mut placing = Placing {
         line,
@@ -141,7 +163,7 @@ pub(crate) fn put_told<'a>(
         timestamp: None,
         fault: None,
     };
-    let stop = tell_line(dialect, &mut placing);
+    let stop = tell_line(&mut placing);
     let Placing {
         parts,
         room,

@@ -4,8 +4,8 @@
 //! in it is one if it begins and ends between two characters. It costs a test of bytes of which no text is taken: fewer than 4 KiB
 //! after the last one, and few if a call is for few rows. If a portion is not UTF-8, each text in it is tested again, alone.
 
-ghost use Rattle.std.specs.Prelude.{◌≡◌, ◌+◌, ◌≤◌, ◌<◌, ◌^◌, List, ℕ, IfSome, Some, drop, length, take};
-ghost use Rattle.lp_offsets.specs.Portions.{IsPortionOf, IsTextOf};
+ghost use Rattle.std.specs.Prelude.{◌≡◌, ◌+◌, ◌≤◌, ◌<◌, ◌^◌, IfSome, Some, drop, length, take};
+ghost use Rattle.lp_offsets.specs.Portions.{IsTextOf};
 
 /// How many bytes are tested at once, at most, but for a text that is longer.
 const MOST: usize = 4096;
@@ -19,29 +19,28 @@ const LONG: usize = 1024;
 /// A portion of bytes that was tested.
 #[derive(Clone, Copy)]
 pub struct Portion<'a> {
+    /// The bytes.
+    pub bytes: &'a [u8],
     /// Where it begins.
     pub from: usize,
     /// What it says.
     pub text: &'a str,
-    /// How many bytes the next one has.
-    pub size: usize,
+    /// For how many texts the next one is, at most.
+    pub texts: usize,
+    pub ghost lies: { text.now ≡ take (length text.now) (drop from bytes.now) },
 }
 
-/// A portion of no bytes, at this place. If the next one is for so many rows, it has so many bytes for each.
+/// A portion of none of these bytes. The next one is for so many texts.
 #[inline]
-pub fn no_portion<'a>(at: usize, rows: usize, each: usize) -> Portion<'a>
-    ensures { (bytes : List ℕ) → IsPortionOf bytes result }
+pub fn no_portion<'a>(bytes: &'a [u8], texts: usize) -> Portion<'a>
+    ensures { result.bytes.now ≡ bytes.now }
 {
     Portion {
-        from: at,
+        bytes,
+        from: 0,
         text: "",
-        size: portion_size(rows, each),
+        texts,
     }
-}
-
-// How many bytes a portion has for so many texts of so many bytes.
-fn portion_size(texts: usize, each: usize) -> usize {
-    texts.saturating_mul(each).min(MOST)
 }
 
 // The text that bytes are, if they are UTF-8. Std's test of a short text is made without a call of the other one.
@@ -82,18 +81,32 @@ fn end_before(bytes: &[u8], least: usize, most: usize) -> usize
     end
 }
 
-// The portion from a place on, as far as the least end and some bytes further. If it is not UTF-8, it is none, at its end.
+// The portion after another one from a place on, as far as the least end and some bytes further: for texts of so many bytes. If it is not
+// UTF-8, it is none, at its end.
 #[inline(never)]
-fn portion_from(bytes: &[u8], from: usize, least: usize, size: usize) -> Portion<'_>
-    requires { (from ≤ least) × (least ≤ length bytes.now) }
-    ensures { IsPortionOf bytes.now result }
+fn portion_from<'a>(before: &Portion<'a>, from: usize, least: usize, each: usize) -> Portion<'a>
+    requires { (from ≤ least) × (least ≤ length before.now.bytes.now) }
+    ensures { result.bytes.now ≡ before.now.bytes.now }
 {
+    let bytes = before.bytes;
+    let texts = before.texts;
+    let size = texts.saturating_mul(each).min(MOST);
     let most = from.saturating_add(size).max(least).min(bytes.len());
     let until = end_before(bytes, least, most);
     let Some(text) = text_of(&bytes[from..until]) else {
-        return no_portion(until, size, 1);
+        return Portion {
+            bytes,
+            from: until,
+            text: "",
+            texts,
+        };
     };
-    Portion { from, text, size }
+    Portion {
+        bytes,
+        from,
+        text,
+        texts,
+    }
 }
 
 impl<'a> Portion<'a> {
@@ -107,7 +120,7 @@ impl<'a> Portion<'a> {
     #[inline(always)]
     fn text_in(&self, at: usize, len: usize) -> Option<&'a str>
         requires { at + len < 2 ^ 64 }
-        ensures { (bytes : List ℕ) → IsPortionOf bytes self.now → IfSome result (λ text. IsTextOf (take len (drop at bytes)) (Some text)) }
+        ensures { IfSome result (λ text. IsTextOf (take len (drop at self.now.bytes.now)) (Some text)) }
     {
         if at < self.from {
             return None;
@@ -121,61 +134,51 @@ impl<'a> Portion<'a> {
 
     /// The text of so many bytes at a place, if they are UTF-8.
     #[inline(always)]
-    pub fn text_at(&self, bytes: &'a [u8], at: usize, len: usize) -> Option<&'a str>
-        requires portion { IsPortionOf bytes.now self.now }
-        requires within { at + len ≤ length bytes.now }
-        ensures { IsTextOf (take len (drop at bytes.now)) result }
+    pub fn text_at(&self, at: usize, len: usize) -> Option<&'a str>
+        requires { at + len ≤ length self.now.bytes.now }
+        ensures { IsTextOf (take len (drop at self.now.bytes.now)) result }
     {
         match self.text_in(at, len) {
             Some(text) => Some(text),
-            None => text_alone(bytes, at, len),
+            None => text_alone(self.bytes, at, len),
         }
     }
 
     // The same of a text that does not lie in this portion. If it ends after it, the next portion begins with it, unless it is long: for
-    // so many texts as long as this one.
+    // texts as long as this one.
     #[inline(never)]
-    fn text_past(&mut self, bytes: &'a [u8], at: usize, len: usize, texts: usize) -> Option<&'a str>
-        requires portion { IsPortionOf bytes.now self.old }
-        requires within { at + len ≤ length bytes.now }
-        ensures portion { IsPortionOf bytes.now self.new }
-        ensures text { IsTextOf (take len (drop at bytes.now)) result }
+    fn text_past(&mut self, at: usize, len: usize) -> Option<&'a str>
+        requires { at + len ≤ length self.old.bytes.now }
+        ensures bytes { self.new.bytes.now ≡ self.old.bytes.now }
+        ensures text { IsTextOf (take len (drop at self.old.bytes.now)) result }
     {
         if LONG <= len || at + len <= self.end() {
-            return text_alone(bytes, at, len);
+            return text_alone(self.bytes, at, len);
         }
-        *self = portion_from(bytes, at, at + len, portion_size(texts, len + 1));
-        self.text_at(bytes, at, len)
+        *self = portion_from(self, at, at + len, len + 1);
+        self.text_at(at, len)
     }
 
-    /// The same of the next text, with which so many are asked for.
+    /// The same of the next text.
     #[inline(always)]
-    pub fn next_text(
-        &mut self,
-        bytes: &'a [u8],
-        at: usize,
-        len: usize,
-        texts: usize,
-    ) -> Option<&'a str>
-        requires portion { IsPortionOf bytes.now self.old }
-        requires within { at + len ≤ length bytes.now }
-        ensures portion { IsPortionOf bytes.now self.new }
-        ensures text { IsTextOf (take len (drop at bytes.now)) result }
+    pub fn next_text(&mut self, at: usize, len: usize) -> Option<&'a str>
+        requires { at + len ≤ length self.old.bytes.now }
+        ensures bytes { self.new.bytes.now ≡ self.old.bytes.now }
+        ensures text { IsTextOf (take len (drop at self.old.bytes.now)) result }
     {
         match self.text_in(at, len) {
             Some(text) => Some(text),
-            None => self.text_past(bytes, at, len, texts),
+            None => self.text_past(at, len),
         }
     }
 
-    /// Begins the next portion at a place that this one does not reach.
+    /// Begins the next portion at a place that this one does not reach, for texts of so many bytes.
     #[inline]
-    pub fn move_to(&mut self, bytes: &'a [u8], at: usize)
-        requires { IsPortionOf bytes.now self.old }
-        ensures { IsPortionOf bytes.now self.new }
+    pub fn move_to(&mut self, at: usize, each: usize)
+        ensures { self.new.bytes.now ≡ self.old.bytes.now }
     {
-        if self.end() <= at && at <= bytes.len() {
-            *self = portion_from(bytes, at, at, self.size);
+        if self.end() <= at && at <= self.bytes.len() {
+            *self = portion_from(self, at, at, each);
         }
     }
 }

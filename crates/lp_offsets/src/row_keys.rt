@@ -2,7 +2,6 @@
 
 ghost use Rattle.std.specs.Prelude.{◌≡◌};
 ghost use Rattle.std.specs.List.{AllByRecursion, AllZip};
-ghost use Rattle.lp_offsets.specs.Portions.{IsPortionOf};
 ghost use Rattle.lp_offsets.specs.RowKeys.{IsKeyLen, IsLineOf, TellsKey, TellsSeries};
 
 use crate::enums::Answer;
@@ -10,37 +9,30 @@ use crate::offsets::OffsetRow;
 use crate::portions::{Portion, no_portion};
 use influxdb_line_protocol::{key_of_text, laws};
 
-// The line of a row, if it has one and the text does at its place. With this row, so many are asked for.
+// The line of a row, if it has one and the text does at its place.
 #[inline(always)]
-fn line_of<'a>(
-    text: &'a [u8],
-    portion: &mut Portion<'a>,
-    row: &OffsetRow,
-    rows: usize,
-) -> Option<&'a str>
-    requires { IsPortionOf text.now portion.old }
-    ensures portion { IsPortionOf text.now portion.new }
-    ensures line { IsLineOf text.now row.now result }
+fn line_of<'a>(portion: &mut Portion<'a>, row: &OffsetRow) -> Option<&'a str>
+    ensures text { portion.new.bytes.now ≡ portion.old.bytes.now }
+    ensures line { IsLineOf portion.old.bytes.now row.now result }
 {
     if row.answer != Answer::Line.number() {
         return None;
     }
     let at = row.line_at as usize;
     let end = row.stop_at as usize;
-    if end < at || text.len() < end {
+    if end < at || portion.bytes.len() < end {
         return None;
     }
-    portion.next_text(text, at, end - at, rows)
+    portion.next_text(at, end - at)
 }
 
 // How many bytes at the start of the line of a row are the key of its series, if it begins with that.
 #[inline(always)]
-fn key_len<'a>(text: &'a [u8], portion: &mut Portion<'a>, row: &OffsetRow, rows: usize) -> u64
-    requires { IsPortionOf text.now portion.old }
-    ensures portion { IsPortionOf text.now portion.new }
-    ensures len { IsKeyLen text.now row.now result }
+fn key_len(portion: &mut Portion<'_>, row: &OffsetRow) -> u64
+    ensures text { portion.new.bytes.now ≡ portion.old.bytes.now }
+    ensures len { IsKeyLen portion.old.bytes.now row.now result }
 {
-    let Some(line) = line_of(text, portion, row, rows) else {
+    let Some(line) = line_of(portion, row) else {
         return 0;
     };
     match key_of_text(line) {
@@ -67,9 +59,9 @@ pub fn tell_keys(text: &[u8], rows: &mut [OffsetRow])
     laws::keys_tell_series();
     laws::bases_tell_series();
     let count = rows.len();
-    let mut portion = no_portion(0, 0, 0);
+    let mut portion = no_portion(text, count);
     for at in 0..count {
-        let len = key_len(text, &mut portion, &rows[at], count - at);
+        let len = key_len(&mut portion, &rows[at]);
         rows[at].key = len;
     }
 }

@@ -13,14 +13,14 @@ returns-clause-writes c = λ known.
     let rest : c.split_at.result.1.now ≡ drop c.min-from.result c.args.rows.now = search (rules) in
     record {
       count = wrote.result.0;
-      lines = wrote.new.lines.items;
+      lines = wrote.new.writing.lines.items;
       stop = wrote.result.1;
-      are = rw (← dialect, ← begins, ← rest) wrote.ensures.lines;
-      reads_back = rw (← begins, ← rest) (reads_as_all _ wrote.new.lines.items c.admitted_lines_read_back.ensures.empty
+      are = rw (← dialect, ← begins, ← rest, ← c.no_portion.ensures) wrote.ensures.lines;
+      reads_back = rw (← begins, ← rest, ← c.no_portion.ensures) (reads_as_all _ wrote.new.writing.lines.items c.admitted_lines_read_back.ensures.empty
           c.admitted_lines_read_back.ensures.points wrote.ensures.points wrote.ensures.lines.1);
       put = rw (← c.as_slice.ensures.value) c.put_front.ensures;
       fits = wrote.ensures.fits;
-      stops = rw (← dialect, ← begins, ← rest) wrote.ensures.stops;
+      stops = rw (← dialect, ← begins, ← rest, ← c.no_portion.ensures) wrote.ensures.stops;
       row = grind arith;
       within = grind arith;
       len = grind arith;

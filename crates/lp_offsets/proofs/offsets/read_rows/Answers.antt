@@ -1,6 +1,5 @@
 use Rattle.std.proofs.Common.{◌∙◌, ◌<◌, ◌≤◌, arith, length, sym}
-use Rattle.influxdb_line_protocol.specs.code.Rules.{rules_of}
-use Rattle.lp_split.proofs.lemmas.split.FirstMarks.{none_are_seen}
+use Rattle.lp_offsets.specs.Numbers.{dialect_of}
 use Rattle.lp_offsets.specs.OffsetBlocks.{none}
 use Rattle.lp_offsets.proofs.RowsLemmas.{all_filled, row_more, row_none}
 use Rattle.lp_offsets.proofs.offsets.read_rows.Goals as goal
@@ -10,7 +9,7 @@ loop-at-init c = record {
   within = c.requires.text.1;
   parts = omega (arith, c.requires.none.0);
   room = omega (arith, c.requires.none.1);
-  seen = (c.no_portion.ensures c.args.text.now, none_are_seen _ _);
+  seen = c.requires.seen;
   reads = rw (c.requires.none.0, c.requires.none.1) none;
 }
 
@@ -19,8 +18,8 @@ returns-then-not-has_row-clause-reads c =
     let next = c.read_row-came in
     let was = c.loop-at in
     let here : was.at < length was.rows = omega (arith, c.loop-at-test.true, was.auto.rows) in
-    row_none (rules_of c.args.dialect) c.args.last c.args.text.now c.args.filled.now.spot was.room next.new.room was.rows was.parts next.new.parts
-    was.filled next.new.filled was.at next.new.row next.result here next.ensures.grows next.ensures.kept
+    row_none (dialect_of c.args.source.dialect) c.args.source.last c.args.source.text.now c.args.reading.now.filled.spot was.room next.new.room was.rows was.parts next.new.parts
+    was.reading.filled next.new.reading.filled was.at next.new.row next.result here next.ensures.grows next.ensures.kept
     (omega (arith, was.invariant.parts, next.ensures.size)) was.invariant.parts was.invariant.reads next.ensures.reads
     (sym c.has_row.ensures ∙ c.if-not-has_row.true)
 
@@ -34,8 +33,8 @@ loop-at-preserved c =
       parts = next.ensures.fits.1;
       room = next.ensures.fits.2;
       seen = next.ensures.seen;
-      reads = row_more (rules_of c.args.dialect) c.args.last c.args.text.now c.args.filled.now.spot was.room next.new.room was.rows was.parts
-          next.new.parts was.filled next.new.filled was.at next.new.row next.result here next.ensures.grows next.ensures.kept
+      reads = row_more (dialect_of c.args.source.dialect) c.args.source.last c.args.source.text.now c.args.reading.now.filled.spot was.room next.new.room was.rows was.parts
+          next.new.parts was.reading.filled next.new.reading.filled was.at next.new.row next.result here next.ensures.grows next.ensures.kept
           (omega (arith, was.invariant.parts, next.ensures.size)) was.invariant.parts was.invariant.reads next.ensures.reads
           (sym c.has_row.ensures ∙ c.if-not-has_row.false);
     }
@@ -44,5 +43,5 @@ pub returns-clause-reads : goal.returns-clause-reads
 returns-clause-reads c =
     let was = c.loop-at in
     let past : length was.rows ≤ was.at = omega (arith, c.loop-at-test.false, was.auto.rows) in
-    all_filled (rules_of c.args.dialect) c.args.last c.args.text.now c.args.filled.now.spot was.rows was.parts was.room was.filled was.at past
+    all_filled (dialect_of c.args.source.dialect) c.args.source.last c.args.source.text.now c.args.reading.now.filled.spot was.rows was.parts was.room was.reading.filled was.at past
     was.invariant.reads

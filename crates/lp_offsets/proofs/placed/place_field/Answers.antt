@@ -9,7 +9,7 @@ use Rattle.lp_offsets.proofs.placed.place_field.Goals as goal
 pub place_text-used-requires-in-String : goal.place_text-used-requires-in-String
 place_text-used-requires-in-String c =
     let line = c.args.line in
-    one_more_left line.text.now line.line.now line.end _ c.args.left _ line.lies (λ fits. grind arith) (rw c.in-String.is at c.requires.value)
+    one_more_left line.text.now line.line.now line.end _ c.args.value.left _ line.lies (λ fits. grind arith) (rw c.in-String.is at c.requires.value)
 
 pub returns-in-String-clause-grows : goal.returns-in-String-clause-grows
 returns-in-String-clause-grows c = grows_on _ _ _ _ _ _ c.place_text-used.ensures.grows c.place_text-used-in-String.ensures.grows

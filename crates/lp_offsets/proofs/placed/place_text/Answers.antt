@@ -11,7 +11,7 @@ place_before-requires c =
     let size = ap (λ (t : Text). length t.bytes) is in
     omega (
       arith,
-      before_fits c.args.line.line.now (spelled_text c.args.spelled).bytes c.args.left there,
+      before_fits c.args.line.line.now (spelled_text c.args.text.spelled).bytes c.args.text.left there,
       size,
       ap length c.spelled.ensures,
     )
@@ -19,9 +19,9 @@ place_before-requires c =
 pub returns-then-reads_as_spelled-clause-shows : goal.returns-then-reads_as_spelled-clause-shows
 returns-then-reads_as_spelled-clause-shows c = λ enough r same.
     let line = c.args.line in
-    let spelled = c.args.spelled in
+    let spelled = c.args.text.spelled in
     let is = c.reads_as_spelled.ensures c.if-reads_as_spelled.true in
     let there = c.requires (ap (λ (t : Text). t.is_single) is) in
     rw c.place_before.ensures.copied
-    (shown_there line.text.now line.line.now (spelled_text spelled).bytes line.end c.args.left _ _ _ line.lies there
+    (shown_there line.text.now line.line.now (spelled_text spelled).bytes line.end c.args.text.left _ _ _ line.lies there
     (ap length c.spelled.ensures ∙ ap (λ (t : Text). length t.bytes) (sym is)) c.place_before.ensures.at c.place_before.ensures.len)

@@ -23,9 +23,9 @@ returns-clause-grows c = let was = c.read_placed_events.ensures.told in (all_pla
 pub returns-clause-told : goal.returns-clause-told
 returns-clause-told c =
     let was = c.read_placed_events.ensures.told in
-    answer_placed (rules_of c.args.dialect) _ _ _ was.events c.requires.short c.requires.no_fault was.are was.told
+    answer_placed (rules_of c.args.placing.now.line.rules) _ _ _ was.events c.requires.short c.requires.no_fault was.are was.told
 
 pub returns-clause-bound : goal.returns-clause-bound
 returns-clause-bound c = λ small read is.
     let was = c.read_placed_events.ensures.told in
-    room_bound (rules_of c.args.dialect) _ _ _ was.events small was.are was.told read is
+    room_bound (rules_of c.args.placing.now.line.rules) _ _ _ was.events small was.are was.told read is

@@ -1,4 +1,4 @@
-use Rattle.std.proofs.Common.{◌<◌, List, arith, length, subst, take, take_all}
+use Rattle.std.proofs.Common.{◌∙◌, ◌<◌, List, arith, length, subst, take, take_all}
 use Rattle.std.specs.List.{AllZip}
 use Rattle.lp_offsets.specs.RowKeys.{TellsKey}
 use Rattle.lp_offsets.specs.declared.offsets.OffsetRow.{OffsetRow}
@@ -12,9 +12,9 @@ loop-at-preserved c =
     let old = c.args.rows.now in
     let here : was.at < length was.rows = omega (arith, c.loop-at-test.true, was.auto.rows) in
     let step = was.invariant in
-    let tells = tells_len text _ _ c.key_len-len.ensures.len in
+    let tells = tells_len text _ _ (rw step.text at c.key_len-len.ensures.len) in
     record {
-      portion = c.key_len-len.ensures.portion;
+      text = c.key_len-len.ensures.text ∙ step.text;
       told = tell_more (TellsKey text) old was.rows was.at _ _ here was.auto.rows step.others step.told tells;
       others = others_stay (TellsKey text) old was.rows was.at _ _ here was.auto.rows step.others step.told tells;
     }

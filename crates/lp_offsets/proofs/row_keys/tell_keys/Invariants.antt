@@ -1,13 +1,12 @@
 use Rattle.std.proofs.Common.{◌≡◌, drop, take}
 use Rattle.std.specs.List.{AllZip}
-use Rattle.lp_offsets.specs.Portions.{IsPortionOf}
 use Rattle.lp_offsets.specs.RowKeys.{TellsKey}
 use Rattle.lp_offsets.proofs.row_keys.tell_keys.Given as goal
 
 -- the rows so far tell their keys, and the others are as they were
 abbrev pub invariant-loop-at : goal.invariant-loop-at
 invariant-loop-at l = record {
-  portion : IsPortionOf l.text l.portion;
+  text : l.portion.bytes.now ≡ l.text;
   told : AllZip (TellsKey l.text) (take l.at l.fn.rows) (take l.at l.rows);
   others : drop l.at l.rows ≡ drop l.at l.fn.rows;
 }
