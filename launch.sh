@@ -239,6 +239,6 @@ launch() {
 # The version of this state: the newest that CHANGELOG.md names.
 version() { sed -n '/^## [0-9]*\.[0-9]*\.[0-9]*$/ { s/^## //p; q; }' "$top/CHANGELOG.md"; }
 # The sum of the logic that the programs tell they are proved by.
-told_logic() { sed -n 's/^pub const LOGIC: &str = "\(.*\)";$/\1/p' "$top/crates/lp_programs/src/version.rt"; }
+told_logic() { sed -n 's/^pub const LOGIC: &str = "\(.*\)";$/\1/p' "$top/crates/lp_endings/src/version.rt"; }
 # The commit of these sources, with `-dirty` if a file was changed since.
 commit() { printf '%s' "${SOURCE_COMMIT:-$(git -C "$top" describe --always --dirty --abbrev=40 --exclude '*' 2>/dev/null || echo unknown)}"; }

@@ -15,7 +15,7 @@ import sys
 from typing import NamedTuple
 
 from clauses import bare, closing, function, members, one_line, surface
-from documents import CALLS, LIBRARIES, PROGRAMS, TOP, Tree, handed_on
+from documents import CALLS, LIBRARIES, PROGRAMS, RELAY, SHARED, TOP, Tree, handed_on
 from reading import Definitions, worked
 
 TRUST = "docs/TRUST.md"
@@ -24,14 +24,14 @@ CONDITIONS = "## Conditions"
 ROOTS = {
     "influxdb_line_protocol": (LIBRARIES[:LIBRARIES.index("influxdb_line_protocol") + 1], "The library"),
     "lp_rebuild": (["lp_rebuild"], "Rebuilding whole texts"),
-    "lp_relay": (["lp_relay"], "Relaying lines as they come"),
+    "lp_relay": (RELAY, "Relaying lines as they come"),
     "lp_series": (["lp_series"], "Counting series"),
     "lp_c": (["lp_c"], "Callers in C"),
     "lp_page": (["lp_page"], "Callers in JavaScript"),
 }
 FOREIGN = ["lp_c", "lp_page"]
 # Crates whose public functions the page has too, though no library hands them on.
-BESIDE = {"lp_influx": "A reader that reads as InfluxDB 1.x does", "lp_programs": "What the programs share",
+BESIDE = {"lp_influx": "A reader that reads as InfluxDB 1.x does", **dict.fromkeys(SHARED, "What the programs share"),
           "lp_relay_program": "The program of the relay", "lp_series_program": "The program that counts series"}
 MOST_SILENT = 6  # so many public calls may lack a first sentence that can be read alone
 GOES_ON = re.compile(r"(?:The same|So|And)\b")

@@ -82,7 +82,7 @@ class Tree:
 # Versions
 
 VERSIONS = {
-    "crates/lp_programs/src/version.rt": r'^pub const VERSION: &str = "(.*)";$',
+    "crates/lp_endings/src/version.rt": r'^pub const VERSION: &str = "(.*)";$',
     "bindings/rust/Cargo.toml": r'^version = "(.*)"$',
     "bindings/js/package.json": r'^ *"version": "(.*)",$',
 }
@@ -108,7 +108,7 @@ def check_versions(tree):
     if not (rt := shutil.which("rt", path=f"{os.environ.get('PATH', '')}:/opt/rattle/bin")):
         return left_out("the sum of the logic that lp_relay --version tells", "there is no rt, for checks/documents.py")
     kit = subprocess.run([rt, "version"], capture_output=True, text=True).stdout.partition("\n")[0]
-    told = re.search(r'^pub const LOGIC: &str = "(.*)";$', tree.text("crates/lp_programs/src/version.rt"), re.M)[1]
+    told = re.search(r'^pub const LOGIC: &str = "(.*)";$', tree.text("crates/lp_endings/src/version.rt"), re.M)[1]
     if kit.rpartition(" logic ")[2] != told:
         yield f"lp_relay --version tells the logic {told}, but the kit here is {kit}"
 
@@ -117,10 +117,12 @@ def check_versions(tree):
 
 LIBRARIES = [
     "lp_format", "lp_scan", "lp_split", "lp_values", "lp_events", "lp_lines", "lp_build", "lp_written", "lp_portable", "lp_influx",
-    "influxdb_line_protocol", "lp_rebuild", "lp_relay", "lp_series", "lp_programs", "lp_relay_program", "lp_series_program", "lp_offsets",
-    "lp_c",
+    "influxdb_line_protocol", "lp_rebuild", "lp_escapes", "lp_conditions", "lp_cuts", "lp_faults", "lp_relay", "lp_series", "lp_words",
+    "lp_places", "lp_endings", "lp_files", "lp_inputs", "lp_programs", "lp_relay_program", "lp_series_program", "lp_offsets", "lp_c",
 ]
-PROGRAMS = ["lp_programs", "lp_relay_program", "lp_series_program"]
+RELAY = LIBRARIES[LIBRARIES.index("lp_escapes"):LIBRARIES.index("lp_series")]  # of which the root of the last one hands names on
+SHARED = LIBRARIES[LIBRARIES.index("lp_words"):LIBRARIES.index("lp_relay_program")]  # by programs
+PROGRAMS = [*SHARED, "lp_relay_program", "lp_series_program"]
 # Crates of which a caller names what their roots hand on, and crates all of whose public functions are for callers.
 HANDED_ON = ["influxdb_line_protocol", "lp_rebuild", "lp_relay", "lp_series"]
 PUBLIC = ["influxdb_line_protocol", "lp_c", *PROGRAMS]
@@ -141,9 +143,9 @@ ROOMS = {
     "code": ("What the code holds, finds and returns", "These definitions tie the code's types and searches to the format."),
     "laws": ("The laws", "What the definitions say of one another, and the words of these statements."),
     "lp_rebuild": ("Rebuilt texts", "The definitions of `lp_rebuild`."),
-    "lp_relay": ("The relay", "The definitions of `lp_relay`."),
+    "lp_relay": ("The relay", "The definitions of `lp_relay` and of the crates that are cut off it."),
     "lp_series": ("Series", "The definitions of `lp_series`."),
-    "programs": ("The programs", "The definitions of `lp_programs`, `lp_relay_program` and `lp_series_program`."),
+    "programs": ("The programs", "The definitions of the programs, and of the crates that they share."),
     "lp_offsets": ("Rows by offsets", "The definitions of `lp_offsets`."),
     "lp_c": ("Callers in C", "The definitions of `lp_c`."),
 }
@@ -169,7 +171,7 @@ class Subject(NamedTuple):
 
     def room(self):
         """Which part of the page has this subject."""
-        room = "programs" if self.crate in PROGRAMS else Path(self.path).parent.name
+        room = "programs" if self.crate in PROGRAMS else "lp_relay" if self.crate in RELAY else Path(self.path).parent.name
         return self.crate if room == "specs" else room
 
 
@@ -295,7 +297,7 @@ def check_definitions(tree):
 
 # Settings of a relay
 
-SETTINGS = "crates/lp_relay/src/taking.rt"
+SETTINGS = "crates/lp_conditions/src/settings.rt"
 # Settings whose rules are under other words: the limit, what fault lines name, how they are told, the name of the input.
 RULED_BEFORE = "dialect", "limit", "numbering", "faults", "file"
 

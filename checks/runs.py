@@ -62,7 +62,7 @@ SERIES_FLAGS, SERIES_VALUED = options("tables/series_options.txt", VALUED)
 # What expressions can name: the options, the version, and the sum of the logic that the programs are proved by.
 NAMES = {"read": read, "flags": FLAGS, "valued": VALUED, "series_flags": SERIES_FLAGS, "series_valued": SERIES_VALUED,
          "version": re.search(r"^## (\d+\.\d+\.\d+)$", read("CHANGELOG.md"), re.M)[1],
-         "logic": re.search(r'^pub const LOGIC: &str = "(.*)";$', read("crates/lp_programs/src/version.rt"), re.M)[1]}
+         "logic": re.search(r'^pub const LOGIC: &str = "(.*)";$', read("crates/lp_endings/src/version.rt"), re.M)[1]}
 
 
 def as_bytes(value):

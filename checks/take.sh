@@ -59,7 +59,7 @@ done
 [ ! -e "$made/to/crates/lp_relay" ]
 # A program, with the crates that another program shares with it.
 take 0 --update "$made/to" lp_series_program
-compare "${library[@]}" lp_rebuild lp_relay lp_series lp_programs lp_series_program
+compare "${library[@]}" lp_rebuild lp_{escapes,conditions,cuts,faults,relay,series,words,places,endings,files,inputs,programs,series_program}
 [ ! -e "$made/to/crates/lp_relay_program" ]
 # A copy that fails, after three that do not.
 mkdir "$made/broken" "$made/half"

@@ -76,9 +76,9 @@ def of_lp_portable():
 
 
 def of_messages():
-    """The stretches of the crates that say a clause in words: lp_relay and lp_c."""
-    yield Place("crates/lp_relay/specs/Portables.antt", ("abbrev pub clause_text",), "", each(lambda c: f'clause_text Clause.{c.name} = codes "{c.fault}"'))
-    yield Place("crates/lp_relay/src/portable.rt", ("fn clause_text", "    match"), "    }", each(lambda c: f'        Clause::{c.name} => "{c.fault}",'))
+    """The stretches of the crates that say a clause in words: lp_conditions and lp_c."""
+    yield Place("crates/lp_conditions/specs/Portables.antt", ("abbrev pub clause_text",), "", each(lambda c: f'clause_text Clause.{c.name} = codes "{c.fault}"'))
+    yield Place("crates/lp_conditions/src/portable.rt", ("fn clause_text", "    match"), "    }", each(lambda c: f'        Clause::{c.name} => "{c.fault}",'))
     yield Place("crates/lp_c/src/clause_messages.rt", ("fn message_by", "    match"), "        _", each(lambda c: f'        0x{c.bit:x} => Some("{c.text}"),', ALL))
     yield Place("crates/lp_c/specs/ClauseMessages.antt", ("clause_message bit =", "    if"), "    else []",
                 each(lambda c: f'    else if bit == clause_bit Clause.{c.name} then codes "{c.text}"'))
@@ -122,8 +122,8 @@ def problems():
                        ("checks/portable.py", 'yield "{0.name}", ')):
         text = read(path)
         yield from (f"{path} lacks the clause {clause.name}" for clause in CLAUSES if name.format(clause) not in text)
-    for path, text in (("crates/lp_relay/specs/Portables.antt", f'told_text told.NoLine = codes "{ALL[0].fault}"'),
-                       ("crates/lp_relay/src/portable.rt", f'Verdict::NoLine => "{ALL[0].fault}"'),
+    for path, text in (("crates/lp_conditions/specs/Portables.antt", f'told_text told.NoLine = codes "{ALL[0].fault}"'),
+                       ("crates/lp_conditions/src/portable.rt", f'Verdict::NoLine => "{ALL[0].fault}"'),
                        ("crates/lp_c/specs/ClauseMessages.antt", f'if bit == no_line_bit then codes "{ALL[0].text}"'),
                        ("docs/FORMAT.md", f"the fault says `{ALL[0].fault}`")):
         if text not in read(path):

@@ -5,6 +5,7 @@ import textwrap
 
 from records import TOP, Place, read, records
 
+OBJECTS, COUNTS = "crates/lp_faults/specs/Objects.antt", "crates/lp_conditions/specs/KindCounts.antt"
 FIELDS = ["name", "variant", "kind", "number", "reader", "carries", "text", "meaning", "where", "carried", "hint", "example", "words"]
 
 
@@ -78,7 +79,7 @@ def of_imports():
     readings = "use Rattle.influxdb_line_protocol.specs.format.Readings.{"
     names, kinds = [fault.name for fault in OF_LINES], [fault.camel for fault in KINDS]
     for path, front, wanted in (("crates/lp_offsets/specs/Numbers.antt", readings, names), ("crates/lp_c/specs/Messages.antt", readings, names),
-                                ("crates/lp_relay/specs/Objects.antt", "use Rattle.lp_relay.specs.declared.kinds.Kind.TheVariants.{", kinds)):
+                                *((path, "use Rattle.lp_conditions.specs.declared.kinds.Kind.TheVariants.{", kinds) for path in (OBJECTS, COUNTS))):
         lines = read(path).split("\n")
         *others, last = (number for number, line in enumerate(lines) if line.startswith(front))
         known = re.findall(r"\w+", " ".join(lines[number] for number in others))
@@ -108,9 +109,8 @@ def of_specs():
         "spelled_fault fault.{variant} = format.{name}", kind="spelled_fault (fault.{variant} kind) = format.{name}",
         number="spelled_fault (fault.{variant} source value) = format.{name} (side source) value.now",
         rest="spelled_fault (fault.{variant} rest) = format.{name} rest.now"))
-    objects = "crates/lp_relay/specs/Objects.antt"
-    yield Place(objects, ("abbrev pub kind_name",), "", each_kind('kind_name {camel} = codes "{kind}"'))
-    yield Place(objects, ("abbrev pub fault_kind",), "", each(
+    yield Place(COUNTS, ("abbrev pub kind_name",), "", each_kind('kind_name {camel} = codes "{kind}"'))
+    yield Place(OBJECTS, ("abbrev pub fault_kind",), "", each(
         "fault_kind fault.{name} = {camel}", number="fault_kind (fault.{name} side value) = {camel}", rest="fault_kind (fault.{name} rest) = {camel}"))
     numbers = "crates/lp_offsets/specs/Numbers.antt"
     yield Place(numbers, ("abbrev pub fault_number", "fault_number FaultKind.None"), "", each("fault_number FaultKind.{variant} = {number}", NUMBERED))
@@ -127,7 +127,7 @@ def of_specs():
 def of_reading():
     """The stretches of the code that reads and counts: lp_values and lp_relay."""
     errors, spelled, texts, kinds = ("crates/lp_values/src/error.rt", "crates/lp_values/src/spelled.rt", "crates/lp_values/src/fault_texts.rt",
-                                     "crates/lp_relay/src/kinds.rt")
+                                     "crates/lp_conditions/src/kinds.rt")
     for path, marks, end, text in ((errors, ("pub enum Error {", "    DuplicateTag"), "    /// A request for memory", "String"),
                                    (spelled, ("pub enum SpelledFault",), "}", "&'a str")):
         yield Place(path, marks, end, each(
@@ -164,7 +164,7 @@ def of_reading():
     yield Place(kinds, ("pub const KINDS",), "]", each_kind("    Kind::{camel},"))
     yield Place(kinds, ("    pub fn name", "        match self {"), "        }", each_kind('            Kind::{camel} => "{kind}",'))
     held = "        SpelledFault::{variant} {{ .. }} => Kind::{camel},"
-    yield Place("crates/lp_relay/src/refusals.rt", ("fn kind_of", "    match fault {"), "    }",
+    yield Place("crates/lp_faults/src/refusals.rt", ("fn kind_of", "    match fault {"), "    }",
                 each("        SpelledFault::{variant} => Kind::{camel},", kind=held, number=held, rest=held))
 
 
@@ -317,8 +317,8 @@ BY_HAND = {
         "crates/lp_values/specs/code/Faults.antt": 'codes "{front}" ++ string_bytes key ++ codes "{back}"', "crates/lp_values/src/fault_texts.rt": "{front}{{tag_key}}{back}",
         "crates/lp_c/specs/Messages.antt": 'codes "{front}" ++ key ++ codes "{back}"', "bindings/rust/src/error.rs": "{front}{{tag_key}}{back}",
         "docs/FORMAT.md": "`{front}K{back}`"},
-    "not_utf8": {"crates/lp_relay/specs/Objects.antt": 'codes "{front}"', "bindings/go/errors.go": '= "{front}"'},
-    "too_long": {"crates/lp_relay/specs/Relaying.antt": 'codes "{front}', "bindings/go/errors.go": '= "{front}"'},
+    "not_utf8": {OBJECTS: 'codes "{front}"', "bindings/go/errors.go": '= "{front}"'},
+    "too_long": {"crates/lp_faults/specs/Relaying.antt": 'codes "{front}', "bindings/go/errors.go": '= "{front}"'},
     "name_not_admitted": {"crates/lp_rebuild/specs/Rebuilding.antt": 'codes "{front}"', "bindings/js/core.js": '"{front}"'},
 }
 

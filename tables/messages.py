@@ -18,13 +18,15 @@ STATUSES = {"refused": "2, nothing is read", "failed": "2", "notice": "no failur
 NAME = r"\{\w*\}"
 # Where the variants of an enumeration are displayed: the file, and the functions or the `impl`; and the definition of their texts.
 WRONG, REFUSALS, NOTICES, RUNS = (f"crates/{path}.rt" for path in (
-    "lp_programs/src/wrong", "lp_programs/src/refusals", "lp_programs/src/speaking", "lp_rebuild/src/program"))
+    "lp_words/src/wrong", "lp_words/src/refusals", "lp_endings/src/speaking", "lp_rebuild/src/program"))
 DISPLAYED = {"Wrong": (WRONG, r"fn show_one<|impl<'a> fmt::Display for Wrong<"),
              "Refusal": (REFUSALS, r"impl<'a> fmt::Display for Refusal<"),
              "Notice": (NOTICES, r"impl<'a> fmt::Display for Notice<"), "RunFault": (RUNS, r"impl fmt::Display for RunFault ")}
-DEFINED = {"Refusal": ("crates/lp_programs/specs/Refusals.antt", "refusal_text"),
+DEFINED = {"Refusal": ("crates/lp_words/specs/Refusals.antt", "refusal_text"),
            "RunFault": ("crates/lp_rebuild/specs/Running.antt", "run_fault_text")}
 LAST_LINE = "crates/lp_programs/src/relays.rt"
+# The crates that programs share.
+SHARED = "lp_words", "lp_places", "lp_endings", "lp_files", "lp_inputs", "lp_programs"
 # What quotes messages: checks whole ones, and these files also parts of so many words at least.
 CHECKS = ("checks/runs/*.txt", "checks/program_cases.py", "checks/batch_files.py", "checks/ranges.py", "checks/posting.sh",
           "checks/tables.py", "checks/tables/relays.tsv")
@@ -95,7 +97,7 @@ def defined(name):
 
 def errors():
     """The texts of errors that the code makes, and the last line of a run of which some faults were not told."""
-    for path in sorted(str(path.relative_to(TOP)) for path in TOP.glob("crates/lp_programs/src/*.rt")):
+    for path in sorted(str(path.relative_to(TOP)) for crate in SHARED for path in TOP.glob(f"crates/{crate}/src/*.rt")):
         code = read(path)
         for made in re.finditer(r"(?:\bpacked|Error::new)\(\s*(?:ErrorKind::\w+,\s*)?(\"[^\"]*\"|\w+)", code):
             if made[1].isupper():

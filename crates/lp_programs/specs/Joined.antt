@@ -2,7 +2,7 @@
 use Rattle.std.specs.Prelude.{◌≡◌, List, ℕ, [], ◌∷◌, ◌++◌, drop, Option, Some, IfSome, if◌then◌else◌}
 use Rattle.influxdb_line_protocol.specs.format.Bytes.{newline}
 use Rattle.lp_relay.specs.Inputs.{Input, next_text}
-use Rattle.lp_programs.specs.Counted.{ends_in_line}
+use Rattle.lp_inputs.specs.Counted.{ends_in_line}
 
 -- a text with a newline after it, if it ends within a line
 abbrev pub ended : List ℕ → List ℕ

@@ -1,15 +1,1 @@
-pub mod Batches
-pub mod Counted
-pub mod Destinations
-pub mod Endings
-pub mod Files
-pub mod Inputs
 pub mod Joined
-pub mod Options
-pub mod Places
-pub mod Plain
-pub mod Refusals
-pub mod RunErrors
-pub mod Starts
-pub mod Summaries
-pub mod WholeLines

@@ -3,16 +3,16 @@ ghost use Rattle.std.specs.Prelude.{◌≡◌, None, IfOk, IfSome, OnOk};
 ghost use Rattle.std.specs.Io.KnownBytes.{Consumes, IsAtEnd, prepend_known};
 ghost use Rattle.std.specs.Result.{result_map_both};
 ghost use Rattle.influxdb_line_protocol.specs.code.Rules.{rules_of};
-ghost use Rattle.lp_relay.specs.Cuts.{ArePartEnds};
+ghost use Rattle.lp_cuts.specs.Cuts.{ArePartEnds};
 ghost use Rattle.lp_relay.specs.Inputs.{RelaysInputs, inputs_of, inputs_told};
 ghost use Rattle.lp_rebuild.specs.Running.{CountsReadFault, reader_told};
 ghost use Rattle.lp_relay.specs.Reads.{RelaysNow};
-ghost use Rattle.lp_programs.specs.Counted.{totals_of};
+ghost use Rattle.lp_inputs.specs.Counted.{totals_of};
 ghost use Rattle.lp_programs.specs.Joined.{JoinsNext, ended, joined};
 
-use crate::counted::{CountedSource, ends_in_line};
-use crate::summary::Totals;
 use influxdb_line_protocol::Dialect;
+use lp_endings::summary::Totals;
+use lp_inputs::counted::{CountedSource, ends_in_line};
 use lp_rebuild::program::read_block;
 use lp_rebuild::{DeviceFault, RunFault, Source};
 use lp_relay::{

@@ -1,32 +1,34 @@
 //! Relays what words ask for, and says how that ends.
 ghost use Rattle.std.specs.Prelude.{◌≡◌, None, IfOk, IfSome, IsOk};
-ghost use Rattle.lp_programs.specs.Endings.{IsLastStatus};
-ghost use Rattle.lp_programs.specs.Files.{Each, IsBeside};
+ghost use Rattle.lp_endings.specs.Endings.{IsLastStatus};
+ghost use Rattle.lp_files.specs.Files.{Each, IsBeside};
 
 use crate::asked::{ReadsOn, relay_by_clock, relay_each};
-use crate::batch_names::batch_names_of;
-use crate::batches::{Batches, Limits};
-use crate::beside::{Destination, Destinations, FileBeside, System};
 use crate::clock::SystemClock;
-use crate::counted::CountedSource;
-use crate::endings::{Device, Devices, Ending, Failure, ending_of_relay, ending_once_told};
-use crate::errors::{LastErrors, Watched};
-use crate::files::{Files, failure_of, failure_of_batch};
-use crate::inputs::{Inputs, SystemOpener};
-use crate::locks::{names_beside, remove_left};
-use crate::marks::{MarkedSource, Marks};
-use crate::meter::{Counted, Meter, MeteredSink, MeteredSource};
-use crate::options::Range;
-use crate::places::{
+use lp_endings::endings::{
+    Device, Devices, Ending, Failure, LastErrors, ending_of_relay, ending_once_told,
+};
+use lp_endings::speaking::{Notice, Speaker, fault_name};
+use lp_endings::summary::{AsObject, Totals};
+use lp_files::batches::{Batches, Limits};
+use lp_files::beside::{Destination, Destinations, FileBeside, System};
+use lp_files::files::{Files, failure_of, failure_of_batch};
+use lp_inputs::counted::CountedSource;
+use lp_inputs::errors::Watched;
+use lp_inputs::inputs::{Inputs, SystemOpener};
+use lp_inputs::marks::{MarkedSource, Marks};
+use lp_inputs::meter::{Counted, Meter, MeteredSink, MeteredSource};
+use lp_inputs::watched::{Unwatched, WatchedSource, Watcher};
+use lp_places::locks::{names_beside, remove_left};
+use lp_places::places::{
     are_read_once, batch_at, old_refusal_at, place_of, range_refusal_at, refusal_at, relayed_len,
 };
-use crate::refusals::{OldPieces, Refusal, refusal_of_batches};
-use crate::speaking::{Notice, Speaker, fault_name};
-use crate::streams::{Stream, stream_of};
-use crate::summary::{AsObject, Totals};
-use crate::watched::{Unwatched, WatchedSource, Watcher};
+use lp_places::streams::{Stream, stream_of};
 use lp_rebuild::{Reading, RunFault, Source, Writing};
 use lp_relay::{Outputs, Settings, ThreeWriters};
+use lp_words::batch_names::batch_names_of;
+use lp_words::options::Range;
+use lp_words::refusals::{OldPieces, Refusal, refusal_of_batches};
 use std::alloc::Global;
 use std::cell::Cell;
 use std::io::{self, ErrorKind, IsTerminal, Write};

@@ -10,16 +10,16 @@ use Rattle.influxdb_line_protocol.specs.format.Bytes.{newline}
 use Rattle.influxdb_line_protocol.specs.format.Dialects.{Dialect}
 use Rattle.influxdb_line_protocol.specs.format.Pieces.{IsLastPiece, Pieces, Pieces.cut, Pieces.last}
 use Rattle.influxdb_line_protocol.specs.laws.Laws.{PiecesAreUnique, PiecesExist}
-use Rattle.lp_relay.specs.declared.taking.Settings.{Settings}
-use Rattle.lp_relay.specs.declared.telling.Place.{Place}
-use Rattle.lp_relay.specs.FieldTypes.{Types}
-use Rattle.lp_relay.specs.FaultsTold.{first_place, told_faults, told_items, told_piece}
-use Rattle.lp_relay.specs.Objects.{seen_line, seen_of_piece}
-use Rattle.lp_relay.specs.Relaying.{items_of, items_of_piece, kept_bytes, kept_of, refused_lines, refused_piece, refused_pieces, too_long, types_past}
+use Rattle.lp_conditions.specs.declared.settings.Settings.{Settings}
+use Rattle.lp_faults.specs.declared.telling.Place.{Place}
+use Rattle.lp_conditions.specs.FieldTypes.{Types}
+use Rattle.lp_faults.specs.FaultsTold.{first_place, told_faults, told_items, told_piece}
+use Rattle.lp_faults.specs.Objects.{seen_line, seen_of_piece}
+use Rattle.lp_faults.specs.Relaying.{items_of, items_of_piece, kept_bytes, kept_of, refused_lines, refused_piece, refused_pieces, too_long, types_past}
 use Rattle.lp_relay.specs.RelaySteps.{IsAhead, place_past}
-use Rattle.lp_relay.proofs.CutLemmas.{cut_nowhere}
+use Rattle.lp_cuts.proofs.CutLemmas.{cut_nowhere}
 use Rattle.lp_relay.proofs.FaultLines.{told_append}
-use Rattle.lp_relay.proofs.ItemLemmas.{item_of_long, items_push, kept_long, line_long, over_long, put_append, refused_long, stop_long, types_append, types_of_long}
+use Rattle.lp_faults.proofs.ItemLemmas.{item_of_long, items_push, kept_long, line_long, over_long, put_append, refused_long, stop_long, types_append, types_of_long}
 
 -- two lists of pieces make the same
 abbrev pub MakesSame : Settings → Types → (pieces others : List (List ℕ)) → Type 0

@@ -8,20 +8,20 @@ use Rattle.influxdb_line_protocol.specs.format.Items.{answers_of_piece}
 use Rattle.influxdb_line_protocol.specs.format.Trimming.{trimmed}
 use Rattle.influxdb_line_protocol.specs.code.Rules.{rules_of}
 use Rattle.influxdb_line_protocol.specs.laws.Laws.{PiecesAreUnique}
-use Rattle.lp_relay.specs.declared.taking.Settings.{Settings}
-use Rattle.lp_relay.specs.Cuts.{HavePieces}
-use Rattle.lp_relay.specs.declared.field_types.StrictTypes.{StrictTypes}
-use Rattle.lp_relay.specs.FieldTypes.{Types}
-use Rattle.lp_relay.specs.LineTimes.{Timed, relayed, time_fault, timed}
+use Rattle.lp_conditions.specs.declared.settings.Settings.{Settings}
+use Rattle.lp_cuts.specs.Cuts.{HavePieces}
+use Rattle.lp_conditions.specs.declared.field_types.StrictTypes.{StrictTypes}
+use Rattle.lp_conditions.specs.FieldTypes.{Types}
+use Rattle.lp_conditions.specs.LineTimes.{Timed, relayed, time_fault, timed}
 use Rattle.lp_relay.specs.Parts.{FaultsChangeNoLine, HaveEach, PartsGiveLines, PartsGiveRefused}
-use Rattle.lp_relay.specs.Relaying.{after_item, is_too_long, item_by, item_line, items_batch, items_of, items_of_bytes, items_of_piece, limit_of, line_of}
-use Rattle.lp_relay.specs.Relaying.{refused_lines, refused_piece, refused_pieces, types_after, types_after_timed, types_in_after, types_of_bytes}
+use Rattle.lp_faults.specs.Relaying.{after_item, is_too_long, item_by, item_line, items_batch, items_of, items_of_bytes, items_of_piece, limit_of, line_of}
+use Rattle.lp_faults.specs.Relaying.{refused_lines, refused_piece, refused_pieces, types_after, types_after_timed, types_in_after, types_of_bytes}
 use Rattle.std.proofs.Common.{Option, Some, None, Bool, false, Result, fold, inl, inr}
 use Rattle.std.specs.Result.{result_unwrap_or}
 use Rattle.std.proofs.lemmas.Bool.{cases_Bool}
 use Rattle.influxdb_line_protocol.specs.format.Lines.{Line}
 use Rattle.influxdb_line_protocol.specs.format.Readings.{Fault}
-use Rattle.lp_relay.proofs.ReturnLemmas.{empty_line}
+use Rattle.lp_faults.proofs.ReturnLemmas.{empty_line}
 
 -- no bytes are not too long
 short_enough : (limit : Option ℕ) → is_too_long limit [] ≡ false

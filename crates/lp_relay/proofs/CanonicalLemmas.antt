@@ -16,14 +16,15 @@ use Rattle.lp_rebuild.specs.declared.refusals.LineRefusal.{LineRefusal}
 use Rattle.lp_rebuild.specs.declared.refusals.LineRefusal.TheVariants as line
 use Rattle.lp_rebuild.specs.RebuildSteps.{IsRefusedFor, TakesLine}
 use Rattle.lp_rebuild.specs.Rebuilding.{carried_point}
-use Rattle.lp_relay.specs.declared.taking.LineForm.{LineForm}
-use Rattle.lp_relay.specs.declared.taking.LineForm.TheVariants.{Rebuilt, Verbatim, Canonical, Keyed, OfShard}
+use Rattle.lp_conditions.specs.declared.settings.LineForm.{LineForm}
+use Rattle.lp_conditions.specs.declared.settings.LineForm.TheVariants.{Rebuilt, Verbatim, Canonical, Keyed, OfShard}
 use Rattle.lp_relay.specs.declared.taking.Taken.TheVariants as took
-use Rattle.lp_relay.specs.declared.refusals.Refusal.TheVariants as why
-use Rattle.lp_relay.specs.declared.differing.Part.{Part}
-use Rattle.lp_relay.specs.Differing.{differing_part, part_text}
-use Rattle.lp_relay.specs.Refusals.{TakesItem}
-use Rattle.lp_relay.specs.Relaying.{Item, answered, put_out, not_as_written, canonical_item, copies, front_of, item_of}
+use Rattle.lp_faults.specs.declared.refusals.Refusal.TheVariants as why
+use Rattle.lp_conditions.specs.declared.differing.Part.{Part}
+use Rattle.lp_conditions.specs.Differing.{differing_part, part_text}
+use Rattle.lp_relay.specs.Taking.{TakesItem}
+use Rattle.lp_faults.specs.Relaying.{Item, answered, put_out, not_as_written, canonical_item, copies, item_of}
+use Rattle.lp_conditions.specs.LineTimes.{front_of}
 use Rattle.lp_relay.proofs.RefusalLemmas.{a_line, refuses_answer, same_batch}
 
 -- what the builder writes for a line that goes out as it came

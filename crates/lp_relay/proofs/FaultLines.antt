@@ -1,12 +1,12 @@
 -- What is told of the pieces of a relay, one after another.
 use Rattle.std.proofs.Common.{◌≡◌, ℕ, ◌+◌, List, [], ◌∷◌, ◌++◌, refl, sym, ap, ◌∙◌, arith, append_assoc}
-use Rattle.lp_relay.specs.declared.taking.Numbering.{Numbering}
-use Rattle.lp_relay.specs.declared.taking.Numbering.TheVariants as named
-use Rattle.lp_relay.specs.declared.taking.Settings.{Settings}
-use Rattle.lp_relay.specs.declared.telling.Place.{Place}
-use Rattle.lp_relay.specs.FaultsTold.{after_piece, first_item, first_place, told_from, told_piece}
-use Rattle.lp_relay.specs.FieldTypes.{Types}
-use Rattle.lp_relay.specs.Relaying.{types_after, types_past}
+use Rattle.lp_conditions.specs.declared.settings.Numbering.{Numbering}
+use Rattle.lp_conditions.specs.declared.settings.Numbering.TheVariants as named
+use Rattle.lp_conditions.specs.declared.settings.Settings.{Settings}
+use Rattle.lp_faults.specs.declared.telling.Place.{Place}
+use Rattle.lp_faults.specs.FaultsTold.{after_piece, first_item, first_place, told_from, told_piece}
+use Rattle.lp_conditions.specs.FieldTypes.{Types}
+use Rattle.lp_faults.specs.Relaying.{types_after, types_past}
 use Rattle.lp_relay.specs.RelaySteps.{items_before, next_place, place_past, unwritten_of_none}
 
 -- the place after pieces and others

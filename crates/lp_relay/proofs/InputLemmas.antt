@@ -8,11 +8,11 @@ use Rattle.influxdb_line_protocol.specs.laws.Laws.{PiecesExist}
 use Rattle.influxdb_line_protocol.specs.code.Rules.{rules_of}
 use Rattle.lp_rebuild.specs.declared.program.RunFault.{RunFault}
 use Rattle.lp_rebuild.specs.declared.program.RunFault.TheVariants.{Read}
-use Rattle.lp_relay.specs.declared.relaying.Relayed.{Relayed}
-use Rattle.lp_relay.specs.declared.taking.Settings.{Settings}
+use Rattle.lp_conditions.specs.declared.kinds.Relayed.{Relayed}
+use Rattle.lp_conditions.specs.declared.settings.Settings.{Settings}
 use Rattle.lp_relay.specs.Inputs.{AddsUp, Input, InputsTold, RelaysEach, RelaysEach.none, RelaysEach.more, RelaysInputs, RelaysNext, TellsFaults}
 use Rattle.lp_relay.specs.Inputs.{are_several, inputs_of, next_text, nothing_relayed, settings_after, settings_for, settings_past}
-use Rattle.lp_relay.specs.FieldTypes.{Types, no_types}
+use Rattle.lp_conditions.specs.FieldTypes.{Types, no_types}
 use Rattle.lp_relay.specs.Relays.{RelaysAll, RelaysFronts, TypesAfter}
 use Rattle.lp_relay.specs.Writers.{AreFlushed, CountsNone, Known, Told, bytes_of, failures_of}
 use Rattle.lp_relay.proofs.PassLemmas.{front_none}

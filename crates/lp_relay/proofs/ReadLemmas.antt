@@ -14,13 +14,13 @@ use Rattle.influxdb_line_protocol.specs.laws.StreamLaws.{Run.begun, RunsGivePiec
 use Rattle.lp_rebuild.specs.declared.program.RunFault.{RunFault}
 use Rattle.lp_rebuild.specs.Running.{ReaderTold}
 use Rattle.lp_relay.specs.declared.reads.ReadEnd.{ReadEnd}
-use Rattle.lp_relay.specs.declared.relaying.Relayed.{Relayed}
-use Rattle.lp_relay.specs.declared.taking.Settings.{Settings}
-use Rattle.lp_relay.specs.FieldTypes.{Types, no_types}
+use Rattle.lp_conditions.specs.declared.kinds.Relayed.{Relayed}
+use Rattle.lp_conditions.specs.declared.settings.Settings.{Settings}
+use Rattle.lp_conditions.specs.FieldTypes.{Types, no_types}
 use Rattle.lp_relay.specs.Inputs.{AddsUp, TellsFaults, nothing_relayed}
 use Rattle.lp_relay.specs.Reads.{EndsRead, GivesPieces, Read, RelaysByReads, RelaysNow, RelaysReads, RelaysReads.none, RelaysReads.more, RelaysReadsFront}
 use Rattle.lp_relay.specs.Reads.{TellsTimes, pieces_of, settings_at, settings_then, times_of}
-use Rattle.lp_relay.specs.Relaying.{types_past}
+use Rattle.lp_faults.specs.Relaying.{types_past}
 use Rattle.lp_relay.specs.Relays.{RelaysFronts, RelaysPieces, RelaysPiecesFronts}
 use Rattle.lp_relay.specs.RelaySteps.{SoFar, SoFarBy, SomeSoFar, Start, Unwritten, unwritten_of_none}
 use Rattle.lp_relay.specs.Writers.{AreFlushed, Known, Told, bytes_of}

@@ -19,25 +19,27 @@ use Rattle.lp_rebuild.specs.declared.refusals.LineRefusal.TheVariants as line
 use Rattle.lp_rebuild.specs.RebuildSteps.{IsRefusedFor, TakesLine}
 use Rattle.lp_values.specs.code.SpelledParts.{spelled_fault}
 use Rattle.lp_values.specs.declared.spelled.SpelledFault.{SpelledFault}
-use Rattle.lp_relay.specs.declared.pieces.Piece.{TheVariants.Text, TheVariants.NoText, TheVariants.TooLong}
-use Rattle.lp_relay.specs.declared.refusals.Refusal.TheVariants as why
-use Rattle.lp_relay.specs.declared.taking.LineForm.{LineForm}
-use Rattle.lp_relay.specs.declared.taking.LineForm.TheVariants.{Rebuilt, Verbatim, Canonical, Keyed, OfShard}
-use Rattle.lp_relay.specs.declared.taking.Settings.{Settings}
+use Rattle.lp_faults.specs.declared.pieces.Piece.{TheVariants.Text, TheVariants.NoText, TheVariants.TooLong}
+use Rattle.lp_faults.specs.declared.refusals.Refusal.TheVariants as why
+use Rattle.lp_conditions.specs.declared.settings.LineForm.{LineForm}
+use Rattle.lp_conditions.specs.declared.settings.LineForm.TheVariants.{Rebuilt, Verbatim, Canonical, Keyed, OfShard}
+use Rattle.lp_conditions.specs.declared.settings.Settings.{Settings}
 use Rattle.lp_relay.specs.declared.taking.Taken.{Taken}
 use Rattle.lp_relay.specs.declared.taking.Taken.TheVariants as took
-use Rattle.lp_relay.specs.declared.field_types.{StrictTypes.StrictTypes, TypeFault.TypeFault}
-use Rattle.lp_relay.specs.FieldTypes.{Types, after_point}
-use Rattle.lp_relay.specs.Objects.{item_front, stop_given}
-use Rattle.lp_relay.specs.Refusals.{IsRefusal, TakesItem, TakesPiece, has_fault, is_fault, line_piece, stop_in}
-use Rattle.lp_relay.specs.Relaying.{Item, after_item, allowed, answered, canonical_item, front_of, goes_out, if_portable, if_typed, is_carried_item, item_by, item_line, item_of}
-use Rattle.lp_relay.specs.Relaying.{items_of_bytes, kept_of, keyed_item, line_in, line_of, timed_item, too_long, typed_item}
-use Rattle.lp_relay.specs.Portables.{is_shown_portable, told_of_bytes}
-use Rattle.lp_relay.specs.declared.portable.Portable.{Portable}
-use Rattle.lp_relay.specs.Verdicts.{fault_in}
-use Rattle.lp_relay.proofs.ItemLemmas.{item_of_no_text}
+use Rattle.lp_conditions.specs.declared.field_types.{StrictTypes.StrictTypes, TypeFault.TypeFault}
+use Rattle.lp_conditions.specs.FieldTypes.{Types, after_point}
+use Rattle.lp_faults.specs.Objects.{item_front, stop_given}
+use Rattle.lp_faults.specs.Refusals.{IsRefusal, has_fault, is_fault, line_piece, stop_in}
+use Rattle.lp_relay.specs.Taking.{TakesItem, TakesPiece}
+use Rattle.lp_faults.specs.Relaying.{Item, after_item, allowed, answered, canonical_item, goes_out, if_portable, if_typed, is_carried_item, item_by, item_line, item_of}
+use Rattle.lp_conditions.specs.LineTimes.{front_of}
+use Rattle.lp_faults.specs.Relaying.{items_of_bytes, kept_of, keyed_item, line_in, line_of, timed_item, too_long, typed_item}
+use Rattle.lp_conditions.specs.Portables.{is_shown_portable, told_of_bytes}
+use Rattle.lp_conditions.specs.declared.portable.Portable.{Portable}
+use Rattle.lp_conditions.specs.Verdicts.{fault_in}
+use Rattle.lp_faults.proofs.ItemLemmas.{item_of_no_text}
 use Rattle.lp_relay.proofs.RelayLemmas.{blank_items, text_item}
-use Rattle.lp_relay.proofs.ReturnLemmas.{piece_utf8}
+use Rattle.lp_faults.proofs.ReturnLemmas.{piece_utf8}
 
 -- an answer that a rebuild refuses is refused for this
 pub refuses_answer : (front : List ℕ) (refusal : LineRefusal) (a : Result Line Fault) → IsRefusedFor (Some refusal) a

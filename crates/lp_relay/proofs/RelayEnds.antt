@@ -3,11 +3,11 @@ use Rattle.std.proofs.Common.{◌≡◌, ℕ, ◌<◌, ◌⊎◌, ◌≤◌, [],
 use Rattle.std.proofs.Common.{arith, ◌∙◌}
 use Rattle.std.proofs.lemmas.Option.{IfSome_then}
 use Rattle.lp_rebuild.specs.declared.program.RunFault.{RunFault}
-use Rattle.lp_relay.specs.declared.taking.Settings.{Settings}
-use Rattle.lp_relay.specs.declared.relaying.Relayed.{Relayed}
+use Rattle.lp_conditions.specs.declared.settings.Settings.{Settings}
+use Rattle.lp_conditions.specs.declared.kinds.Relayed.{Relayed}
 use Rattle.lp_rebuild.specs.Running.{CountsReadFault, ReaderTold}
 use Rattle.lp_relay.specs.Writers.{AreFlushed, CountsNone, CountsOne, CountsWriteFault, Told, Writers, bytes_of, failures_of}
-use Rattle.lp_relay.specs.FieldTypes.{Types}
+use Rattle.lp_conditions.specs.FieldTypes.{Types}
 use Rattle.lp_relay.specs.Inputs.{TellsFaults}
 use Rattle.lp_relay.specs.Relays.{Relays, RelaysAll, RelaysFronts}
 use Rattle.influxdb_line_protocol.specs.laws.Laws.{PiecesAreUnique}

@@ -13,26 +13,27 @@ use Rattle.influxdb_line_protocol.specs.format.Trimming.{trimmed}
 use Rattle.influxdb_line_protocol.specs.code.Bounded.{IsLastOf, IsTooLong}
 use Rattle.influxdb_line_protocol.specs.code.Rules.{rules_of}
 use Rattle.influxdb_line_protocol.specs.types.PieceTooLong.{PieceTooLong}
-use Rattle.lp_relay.specs.declared.taking.Settings.{Settings}
-use Rattle.lp_relay.specs.Kinds.{kinds_after, kinds_of_none}
-use Rattle.lp_relay.specs.Objects.{bytes_given, seen_line, line_given, over_given, over_of_piece, seen_given, seen_of_piece, stop_given, stop_of_piece}
-use Rattle.lp_relay.specs.FieldTypes.{Types}
-use Rattle.lp_relay.specs.Relaying.{Item, items_batch, items_of, items_of_bytes, items_of_piece, kept_bytes, refused_piece, refused_pieces, timed_item}
-use Rattle.lp_relay.specs.Relaying.{carried_items, refused_items, types_after, types_after_timed, types_of_bytes, types_past}
-use Rattle.lp_relay.specs.declared.telling.Place.{Place}
-use Rattle.lp_relay.specs.FaultsTold.{after_piece, first_place, line_after, place_after, told_faults, told_items, told_piece}
+use Rattle.lp_conditions.specs.declared.settings.Settings.{Settings}
+use Rattle.lp_faults.specs.Kinds.{kinds_after, kinds_of_none}
+use Rattle.lp_faults.specs.Objects.{bytes_given, seen_line, line_given, over_given, over_of_piece, seen_given, seen_of_piece, stop_given, stop_of_piece}
+use Rattle.lp_conditions.specs.FieldTypes.{Types}
+use Rattle.lp_faults.specs.Relaying.{Item, items_batch, items_of, items_of_bytes, items_of_piece, kept_bytes, refused_piece, refused_pieces, timed_item}
+use Rattle.lp_faults.specs.Relaying.{carried_items, refused_items, types_after, types_after_timed, types_of_bytes, types_past}
+use Rattle.lp_faults.specs.declared.telling.Place.{Place}
+use Rattle.lp_faults.specs.FaultsTold.{after_piece, first_place, line_after, place_after, told_faults, told_items, told_piece}
 use Rattle.lp_relay.specs.RelaySteps.{EndsAhead, GainsBut, HasMade, HasTaken, HasWritten, IsAhead, Stage, Start, TakesAhead, TakesBy, TakesGiven}
-use Rattle.lp_relay.specs.RelaySteps.{Unwritten, after_given, items_before, items_given, len_given, made_of, newlines_given, next_place}
+use Rattle.lp_relay.specs.RelaySteps.{Unwritten, after_given, items_before, items_given, made_of, next_place}
+use Rattle.lp_faults.specs.Objects.{len_given, newlines_given}
 use Rattle.lp_relay.specs.RelaySteps.{place_by, place_past, refused_given, told_given, types_given, unwritten_of_none}
 use Rattle.lp_relay.specs.Writers.{GainsFronts, KeepsBytes, Told}
 use Rattle.lp_rebuild.proofs.RebuildLemmas.{blank_answers, piece_answers}
 use Rattle.lp_relay.proofs.AheadLemmas.{MakesSame, front_makes, long_more}
 use Rattle.lp_relay.proofs.PassLemmas.{but_front, but_more, front_none}
-use Rattle.lp_relay.proofs.ItemLemmas.{batch_append, carried_append, item_of_long, items_of_short, items_of_text, items_push}
-use Rattle.lp_relay.proofs.ItemLemmas.{kept_long, kept_short, line_long, line_short, over_long, over_short, put_append, refused_append, refused_long, refused_short, stop_long, stop_short}
-use Rattle.lp_relay.proofs.ItemLemmas.{types_append, types_of_long, types_of_short, types_of_text}
+use Rattle.lp_faults.proofs.ItemLemmas.{batch_append, carried_append, item_of_long, items_of_short, items_of_text, items_push}
+use Rattle.lp_faults.proofs.ItemLemmas.{kept_long, kept_short, line_long, line_short, over_long, over_short, put_append, refused_append, refused_long, refused_short, stop_long, stop_short}
+use Rattle.lp_faults.proofs.ItemLemmas.{types_append, types_of_long, types_of_short, types_of_text}
 use Rattle.lp_relay.proofs.FaultLines.{first_is, place_append, told_append}
-use Rattle.lp_relay.proofs.KindLemmas.{kinds_of_more, kinds_of_nothing}
+use Rattle.lp_faults.proofs.KindLemmas.{kinds_of_more, kinds_of_nothing}
 
 -- a blank text has no item
 pub blank_items : (s : Settings) (types : Types) (piece : List ℕ) → IsUtf8 piece → length (trimmed piece) ≡ 0

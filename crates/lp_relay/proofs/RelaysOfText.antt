@@ -18,28 +18,29 @@ use Rattle.influxdb_line_protocol.specs.format.Items.{answers_of}
 use Rattle.influxdb_line_protocol.specs.laws.Laws.{PiecesAreUnique}
 use Rattle.influxdb_line_protocol.specs.laws.StreamLaws.{Utf8ByPieces}
 use Rattle.lp_rebuild.specs.declared.batch.Rebuilt.{Rebuilt}
-use Rattle.lp_relay.specs.declared.relaying.Relayed.{Relayed}
+use Rattle.lp_conditions.specs.declared.kinds.Relayed.{Relayed}
 use Rattle.lp_rebuild.specs.Rebuilding.{RebuildsIn, batch_of, carried_of, carried_point, fault_of, faults_from, is_carried_answer, refused_of}
 use Rattle.lp_rebuild.specs.Running.{AppendsFront}
-use Rattle.lp_relay.specs.declared.portable.Portable.{Portable}
-use Rattle.lp_relay.specs.declared.field_types.StrictTypes.{StrictTypes}
-use Rattle.lp_relay.specs.FieldTypes.{Types}
-use Rattle.lp_relay.specs.Relaying.{Item, after_item, allowed, answered, first_of, front_of, if_typed, is_too_long, item_by, item_of, limit_of, items_of, items_of_bytes, items_of_piece, items_batch, types_after}
-use Rattle.lp_relay.specs.Relaying.{carried_items, refused_items}
+use Rattle.lp_conditions.specs.declared.portable.Portable.{Portable}
+use Rattle.lp_conditions.specs.declared.field_types.StrictTypes.{StrictTypes}
+use Rattle.lp_conditions.specs.FieldTypes.{Types}
+use Rattle.lp_faults.specs.Relaying.{Item, after_item, allowed, answered, first_of, if_typed, is_too_long, item_by, item_of, limit_of, items_of, items_of_bytes, items_of_piece, items_batch, types_after}
+use Rattle.lp_conditions.specs.LineTimes.{front_of}
+use Rattle.lp_faults.specs.Relaying.{carried_items, refused_items}
 use Rattle.lp_relay.specs.Writers.{Known}
-use Rattle.lp_relay.specs.FaultsTold.{after_piece, first_item, first_line, first_named, first_place, line_after, told_faults, told_from, told_item, told_items}
-use Rattle.lp_relay.specs.Objects.{Seen, seen_of_piece}
+use Rattle.lp_faults.specs.FaultsTold.{after_piece, first_item, first_line, first_named, first_place, line_after, told_faults, told_from, told_item, told_items}
+use Rattle.lp_faults.specs.Objects.{Seen, seen_of_piece}
 use Rattle.lp_relay.specs.Relays.{IfRebuilt, RelaysAll, RelaysFronts, RelaysRebuilt, RelaysRebuiltFronts}
-use Rattle.lp_relay.specs.declared.taking.LineForm.TheVariants as going
-use Rattle.lp_relay.specs.declared.taking.Numbering.TheVariants as named
-use Rattle.lp_relay.specs.declared.taking.Settings.{Settings}
-use Rattle.lp_relay.specs.declared.telling.{Faults.TheVariants.Raw, Place.Place}
+use Rattle.lp_conditions.specs.declared.settings.LineForm.TheVariants as going
+use Rattle.lp_conditions.specs.declared.settings.Numbering.TheVariants as named
+use Rattle.lp_conditions.specs.declared.settings.Settings.{Settings}
+use Rattle.lp_escapes.specs.declared.forms.{Faults.TheVariants.Raw}
+use Rattle.lp_faults.specs.declared.telling.{Place.Place}
 use Rattle.influxdb_line_protocol.specs.code.Rules.{rules_of}
 use Rattle.lp_rebuild.proofs.RebuildLemmas.{blank_answers, carried_cons, piece_answers, refused_cons}
-use Rattle.lp_relay.proofs.ItemLemmas.{carried_first, refused_first, items_of_fitting}
+use Rattle.lp_faults.proofs.ItemLemmas.{carried_first, refused_first, items_of_fitting, untimed_item}
 use Rattle.lp_relay.proofs.RelayLemmas.{blank_items, text_item}
-use Rattle.lp_relay.proofs.ReturnLemmas.{whole_line}
-use Rattle.lp_relay.proofs.TimeLemmas.{untimed_item}
+use Rattle.lp_faults.proofs.ReturnLemmas.{whole_line}
 use Rattle.std.proofs.Math.Nat.{eq-zero-or-pos}
 use Rattle.influxdb_line_protocol.specs.format.Trimming.{trimmed}
 

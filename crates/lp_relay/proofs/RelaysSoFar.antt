@@ -16,19 +16,19 @@ use Rattle.influxdb_line_protocol.specs.code.Rules.{rules_of}
 use Rattle.influxdb_line_protocol.specs.laws.Laws.{PiecesAreUnique, PiecesExist}
 use Rattle.influxdb_line_protocol.specs.laws.StreamLaws.{Run, Run.begun, Run.pushed, Run.taken, RunsGivePieces}
 use Rattle.influxdb_line_protocol.specs.types.PieceTooLong.{PieceTooLong}
-use Rattle.lp_relay.specs.declared.taking.Settings.{Settings}
-use Rattle.lp_relay.specs.declared.relaying.Relayed.{Relayed}
-use Rattle.lp_relay.specs.Kinds.{counts_if}
+use Rattle.lp_conditions.specs.declared.settings.Settings.{Settings}
+use Rattle.lp_conditions.specs.declared.kinds.Relayed.{Relayed}
+use Rattle.lp_conditions.specs.KindCounts.{counts_if}
 use Rattle.lp_relay.specs.Relays.{RelaysAll, RelaysFronts, RelaysPieces, TypesAfter}
-use Rattle.lp_relay.specs.Relaying.{items_of, items_batch, refused_pieces, types_past}
+use Rattle.lp_faults.specs.Relaying.{items_of, items_batch, refused_pieces, types_past}
 use Rattle.lp_relay.specs.RelaySteps.{HasRules, HasTaken, HasWritten, SoFar, SoFarBy, SomeSoFar, Stage, Start, TakesAhead, TakesBy, Unwritten}
 use Rattle.lp_relay.specs.RelaySteps.{Writes, items_before, made_of, place_past, unwritten_of_none}
-use Rattle.lp_relay.specs.FaultsTold.{first_place, told_from}
+use Rattle.lp_faults.specs.FaultsTold.{first_place, told_from}
 use Rattle.lp_relay.specs.Writers.{Told, bytes_of}
-use Rattle.lp_relay.proofs.CutLemmas.{none_is_last}
-use Rattle.lp_relay.proofs.KindLemmas.{counts_add_up, kinds_of_all}
+use Rattle.lp_cuts.proofs.CutLemmas.{none_is_last}
+use Rattle.lp_faults.proofs.KindLemmas.{counts_add_up, kinds_of_all}
 use Rattle.lp_relay.proofs.PassLemmas.{but_none, front_more}
-use Rattle.lp_relay.proofs.ItemLemmas.{batch_append, items_append, put_append}
+use Rattle.lp_faults.proofs.ItemLemmas.{batch_append, items_append, put_append}
 use Rattle.lp_relay.proofs.FaultLines.{told_append}
 use Rattle.lp_relay.proofs.AheadLemmas.{BeginsAhead, ahead_of_first, ahead_of_more, front_makes, none_ahead, pieces_ahead}
 use Rattle.lp_relay.proofs.RelayLemmas.{taken_ahead, taken_next, taken_none, taken_so_far}

@@ -6,12 +6,14 @@ use Rattle.influxdb_line_protocol.specs.code.Rules.{rules_of}
 use Rattle.influxdb_line_protocol.specs.format.Lines.{Line, answer}
 use Rattle.influxdb_line_protocol.specs.format.Readings.{Fault}
 use Rattle.influxdb_line_protocol.specs.format.Trimming.{trimmed}
-use Rattle.lp_relay.specs.declared.pieces.Piece.{TheVariants.Text}
-use Rattle.lp_relay.specs.declared.refusals.Refusal.TheVariants as why
-use Rattle.lp_relay.specs.declared.taking.Settings.{Settings}
-use Rattle.lp_relay.specs.declared.{field_types.StrictTypes.StrictTypes, portable.Portable.Portable, times.Times.Times}
-use Rattle.lp_relay.specs.declared.taking.LineForm.{LineForm}
-use Rattle.lp_relay.specs.declared.taking.LineForm.TheVariants.{Rebuilt, Verbatim, Canonical, Keyed, OfShard}
+use Rattle.lp_faults.specs.declared.pieces.Piece.{TheVariants.Text}
+use Rattle.lp_faults.specs.declared.refusals.Refusal.TheVariants as why
+use Rattle.lp_conditions.specs.declared.settings.Settings.{Settings}
+use Rattle.lp_conditions.specs.declared.field_types.{StrictTypes.StrictTypes}
+use Rattle.lp_conditions.specs.declared.portable.{Portable.Portable}
+use Rattle.lp_conditions.specs.declared.times.{Times.Times}
+use Rattle.lp_conditions.specs.declared.settings.LineForm.{LineForm}
+use Rattle.lp_conditions.specs.declared.settings.LineForm.TheVariants.{Rebuilt, Verbatim, Canonical, Keyed, OfShard}
 use Rattle.influxdb_line_protocol.specs.{code.Parsed.line_read, types.ParsedLine.ParsedLine}
 use Rattle.lp_rebuild.specs.RebuildSteps.{IsReadAs}
 use Rattle.lp_rebuild.specs.declared.refusals.LineRefusal.TheVariants as line
@@ -19,15 +21,15 @@ use Rattle.lp_values.specs.code.SpelledParts.{spelled_fault}
 use Rattle.lp_values.specs.declared.spelled.SpelledFault.{SpelledFault}
 use Rattle.lp_relay.specs.declared.taking.Taken.{Taken}
 use Rattle.lp_relay.specs.declared.taking.Taken.TheVariants as took
-use Rattle.lp_relay.specs.declared.times.TimeFault.{TimeFault}
-use Rattle.lp_relay.specs.declared.times.TimeChange.TheVariants.{Wrong}
-use Rattle.lp_relay.specs.FieldTypes.{Types}
-use Rattle.lp_relay.specs.LineTimes.{change_of, relayed, time_fault, timed}
-use Rattle.lp_relay.specs.Refusals.{TakesItem, TakesPiece}
-use Rattle.lp_relay.specs.Relaying.{Item, after_item, allowed, answered, front_of, if_typed, is_carried_item, item_by, item_of}
-use Rattle.lp_relay.specs.Relaying.{item_in, line_of, not_of_time, timed_item, typed_item, types_after_answer, types_in_after, types_of_bytes}
+use Rattle.lp_conditions.specs.declared.times.TimeFault.{TimeFault}
+use Rattle.lp_conditions.specs.declared.times.TimeChange.TheVariants.{Wrong}
+use Rattle.lp_conditions.specs.FieldTypes.{Types}
+use Rattle.lp_conditions.specs.LineTimes.{change_of, relayed, time_fault, timed, front_of}
+use Rattle.lp_relay.specs.Taking.{TakesItem, TakesPiece}
+use Rattle.lp_faults.specs.Relaying.{Item, after_item, allowed, answered, if_typed, is_carried_item, item_by, item_of}
+use Rattle.lp_faults.specs.Relaying.{item_in, line_of, not_of_time, timed_item, typed_item, types_after_answer, types_in_after, types_of_bytes}
 use Rattle.lp_relay.proofs.RefusalLemmas.{IsOf, by_is_of, refuses_answer, takes_text}
-use Rattle.lp_relay.proofs.TimeLemmas.{untimed_item, untimed_types}
+use Rattle.lp_faults.proofs.ItemLemmas.{untimed_item, untimed_types}
 use Rattle.lp_relay.proofs.TypeLemmas.{types_kept}
 
 -- the item of a fault, however lines go out

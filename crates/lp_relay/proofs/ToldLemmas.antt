@@ -6,22 +6,22 @@ use Rattle.std.specs.Prelude.{if◌then◌else◌}
 use Rattle.influxdb_line_protocol.specs.code.Rules.{rules_of}
 use Rattle.influxdb_line_protocol.specs.format.Bytes.{newline, newlines_in}
 use Rattle.influxdb_line_protocol.specs.types.PieceTooLong.{PieceTooLong}
-use Rattle.lp_relay.specs.declared.pieces.Piece.{Piece}
-use Rattle.lp_relay.specs.declared.pieces.Piece.TheVariants.{Text, NoText, TooLong}
-use Rattle.lp_relay.specs.declared.refusals.Refusal.{Refusal}
-use Rattle.lp_relay.specs.declared.telling.Place.{Place}
-use Rattle.lp_relay.specs.declared.taking.Settings.{Settings}
+use Rattle.lp_faults.specs.declared.pieces.Piece.{Piece}
+use Rattle.lp_faults.specs.declared.pieces.Piece.TheVariants.{Text, NoText, TooLong}
+use Rattle.lp_faults.specs.declared.refusals.Refusal.{Refusal}
+use Rattle.lp_faults.specs.declared.telling.Place.{Place}
+use Rattle.lp_conditions.specs.declared.settings.Settings.{Settings}
 use Rattle.lp_relay.specs.declared.taking.Taken.TheVariants as took
-use Rattle.lp_relay.specs.FaultsTold.{is_told, line_after, told_at, told_fault, told_item}
-use Rattle.lp_relay.specs.Kinds.{with_fault}
-use Rattle.lp_relay.specs.Objects.{Reason, bytes_given, item_front, line_given, over_given, stop_given}
-use Rattle.lp_relay.specs.Refusals.{EndsPiece, GaveSame, IsRefusal, RefusesPiece, front_in, given_of, is_fault, line_piece, reason_of, refusal_kind, stop_in}
-use Rattle.lp_relay.specs.FieldTypes.{Types}
-use Rattle.lp_relay.specs.Relaying.{Item, answered, put_out, not_as_written, not_portable, not_of_type, not_of_time, not_utf8, too_long, is_carried_item, item_line, refused_lines}
-use Rattle.lp_relay.specs.RelaySteps.{EndsAhead, TakesAhead, TakesBy, TakesGiven, Unwritten, after_given, items_given}
-use Rattle.lp_relay.specs.RelaySteps.{len_given, newlines_given, next_place, types_given}
-use Rattle.lp_relay.proofs.ItemLemmas.{items_add_up}
-use Rattle.lp_relay.proofs.KindLemmas.{kinds_of_carried, kinds_of_nothing, kinds_of_refused, no_kind}
+use Rattle.lp_faults.specs.FaultsTold.{is_told, line_after, told_at, told_fault, told_item}
+use Rattle.lp_conditions.specs.KindCounts.{with_fault}
+use Rattle.lp_faults.specs.Objects.{Reason, bytes_given, item_front, line_given, over_given, stop_given, len_given, newlines_given}
+use Rattle.lp_relay.specs.Taking.{EndsPiece, RefusesPiece}
+use Rattle.lp_faults.specs.Refusals.{GaveSame, IsRefusal, front_in, given_of, is_fault, line_piece, reason_of, refusal_kind, stop_in}
+use Rattle.lp_conditions.specs.FieldTypes.{Types}
+use Rattle.lp_faults.specs.Relaying.{Item, answered, put_out, not_as_written, not_portable, not_of_type, not_of_time, not_utf8, too_long, is_carried_item, item_line, refused_lines}
+use Rattle.lp_relay.specs.RelaySteps.{EndsAhead, TakesAhead, TakesBy, TakesGiven, Unwritten, after_given, items_given, next_place, types_given}
+use Rattle.lp_faults.proofs.ItemLemmas.{items_add_up}
+use Rattle.lp_faults.proofs.KindLemmas.{kinds_of_carried, kinds_of_nothing, kinds_of_refused, no_kind}
 
 -- nothing goes out, whether refused pieces do or not
 nothing_put : (goes_out : Bool) (pieces : List ℕ) → pieces ≡ pieces ++ (if goes_out then [] else [])

@@ -6,13 +6,13 @@ use Rattle.influxdb_line_protocol.specs.types.Dialect.{Dialect as TheDialect}
 use Rattle.influxdb_line_protocol.specs.format.Lines.{Line, answer}
 use Rattle.influxdb_line_protocol.specs.format.Readings.{Fault}
 use Rattle.influxdb_line_protocol.specs.format.Trimming.{trimmed}
-use Rattle.lp_relay.specs.declared.taking.Settings.{Settings}
-use Rattle.lp_relay.specs.declared.field_types.StrictTypes.{StrictTypes}
+use Rattle.lp_conditions.specs.declared.settings.Settings.{Settings}
+use Rattle.lp_conditions.specs.declared.field_types.StrictTypes.{StrictTypes}
 use Rattle.lp_relay.specs.declared.taking.Taken.{Taken}
 use Rattle.lp_relay.specs.declared.taking.Taken.TheVariants as took
-use Rattle.lp_relay.specs.FieldTypes.{Types}
-use Rattle.lp_relay.specs.Refusals.{KeepsItem, TakesItem}
-use Rattle.lp_relay.specs.Relaying.{item_by, line_of, typed_item, types_after_answer, types_after_timed, types_of_bytes}
+use Rattle.lp_conditions.specs.FieldTypes.{Types}
+use Rattle.lp_relay.specs.Taking.{KeepsItem, TakesItem}
+use Rattle.lp_faults.specs.Relaying.{item_by, line_of, typed_item, types_after_answer, types_after_timed, types_of_bytes}
 use Rattle.lp_relay.proofs.RelayLemmas.{text_types}
 
 -- what came of the item of a line once its types were kept

@@ -13,9 +13,9 @@ use Rattle.influxdb_line_protocol.specs.format.Pieces.{PiecesLeft}
 use Rattle.influxdb_line_protocol.specs.code.Bounded.{CutsTo, HeldWithin, Holds}
 use Rattle.influxdb_line_protocol.specs.code.Rules.{rules_of}
 use Rattle.influxdb_line_protocol.specs.laws.Laws.{PiecesAreTheText, PiecesAreUnique, PiecesExist}
-use Rattle.lp_relay.specs.declared.taking.Settings.{Settings}
+use Rattle.lp_conditions.specs.declared.settings.Settings.{Settings}
 use Rattle.lp_relay.specs.RelaySteps.{SoFar, Stage, Start, TakesBy, TakesFirst, TakesGiven, Unwritten, after_given, next_place}
-use Rattle.lp_relay.proofs.CutLemmas.{cut_nowhere, no_newline, some_piece}
+use Rattle.lp_cuts.proofs.CutLemmas.{cut_nowhere, no_newline, some_piece}
 use Rattle.lp_relay.proofs.RelaysSoFar.{so_far_ended, so_far_given, so_far_more}
 
 -- if a newline comes only at the end, a text is cut there

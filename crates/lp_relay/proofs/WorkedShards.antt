@@ -1,7 +1,7 @@
 -- Worked points of shards.
 use Rattle.std.proofs.Common.{◌≡◌, false, true, List, [], ◌∷◌, None, codes, refl}
 use Rattle.influxdb_line_protocol.specs.{code.Keys.hash_of, code.Keys.series_key, format.Escapes.escaped, format.Points.Point, format.Points.Tag}
-use Rattle.lp_relay.specs.Relaying.{is_of_shard, shard_of}
+use Rattle.lp_faults.specs.Relaying.{is_of_shard, shard_of}
 
 -- a point with these tags
 abbrev point : List Tag → Point

@@ -4,15 +4,15 @@ use Rattle.std.specs.Prelude.{Option, Some, None, Result, Err, IfOk, IfSome, OnO
 use Rattle.std.specs.Borrow.{Bor}
 use Rattle.lp_rebuild.specs.declared.program.RunFault.{RunFault}
 use Rattle.lp_rebuild.specs.declared.program.RunFault.TheVariants.{Read, NotUtf8, Write}
-use Rattle.lp_relay.specs.declared.relaying.Relayed.{Relayed}
-use Rattle.lp_relay.specs.declared.taking.Numbering.{Numbering}
-use Rattle.lp_relay.specs.declared.taking.Numbering.TheVariants as named
-use Rattle.lp_relay.specs.declared.taking.Settings.{Settings}
-use Rattle.lp_relay.specs.declared.telling.Faults.{Faults}
-use Rattle.lp_relay.specs.declared.telling.Faults.TheVariants.{Raw, OneLine, Json, Editor}
-use Rattle.lp_relay.specs.Kinds.{Counts, counts_if}
-use Rattle.lp_relay.specs.Relaying.{first_of}
-use Rattle.lp_relay.specs.FieldTypes.{Types, no_types}
+use Rattle.lp_conditions.specs.declared.kinds.Relayed.{Relayed}
+use Rattle.lp_conditions.specs.declared.settings.Numbering.{Numbering}
+use Rattle.lp_conditions.specs.declared.settings.Numbering.TheVariants as named
+use Rattle.lp_conditions.specs.declared.settings.Settings.{Settings}
+use Rattle.lp_escapes.specs.declared.forms.Faults.{Faults}
+use Rattle.lp_escapes.specs.declared.forms.Faults.TheVariants.{Raw, OneLine, Json, Editor}
+use Rattle.lp_conditions.specs.KindCounts.{Counts, counts_if}
+use Rattle.lp_faults.specs.Relaying.{first_of}
+use Rattle.lp_conditions.specs.FieldTypes.{Types, no_types}
 use Rattle.lp_relay.specs.Relays.{RelaysAll, RelaysFronts, TypesAfter}
 use Rattle.lp_relay.specs.Writers.{AreFlushed, Known, Told, bytes_of}
 

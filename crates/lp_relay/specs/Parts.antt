@@ -5,11 +5,11 @@ use Rattle.std.specs.List.{flat_map}
 use Rattle.influxdb_line_protocol.specs.format.Dialects.{Dialect}
 use Rattle.influxdb_line_protocol.specs.format.Pieces.{Pieces}
 use Rattle.influxdb_line_protocol.specs.code.Rules.{rules_of}
-use Rattle.lp_relay.specs.declared.taking.Settings.{Settings}
-use Rattle.lp_relay.specs.declared.telling.Faults.{Faults}
-use Rattle.lp_relay.specs.Cuts.{HavePieces}
-use Rattle.lp_relay.specs.FieldTypes.{Types}
-use Rattle.lp_relay.specs.Relaying.{items_batch, items_of, items_of_piece, refused_piece, refused_pieces}
+use Rattle.lp_conditions.specs.declared.settings.Settings.{Settings}
+use Rattle.lp_escapes.specs.declared.forms.Faults.{Faults}
+use Rattle.lp_cuts.specs.Cuts.{HavePieces}
+use Rattle.lp_conditions.specs.FieldTypes.{Types}
+use Rattle.lp_faults.specs.Relaying.{items_batch, items_of, items_of_piece, refused_piece, refused_pieces}
 
 -- each of these texts has these pieces
 abbrev pub HaveEach : Dialect → List (List ℕ) → List (List (List ℕ)) → Type 0

@@ -8,16 +8,20 @@ use Rattle.influxdb_line_protocol.specs.code.Bounded.{HeldWithin, Holds}
 use Rattle.influxdb_line_protocol.specs.code.Rules.{rules_of}
 use Rattle.lp_rebuild.specs.declared.program.RunFault.{RunFault}
 use Rattle.lp_rebuild.specs.Running.{ReaderTold}
-use Rattle.lp_relay.specs.declared.{reads.ReadEnd.ReadEnd, relaying.Relayed.Relayed, taking.Settings.Settings, telling.Place.Place, times.Times.Times}
-use Rattle.lp_relay.specs.declared.{taking.Numbering.Numbering, telling.Faults.Faults}
-use Rattle.lp_relay.specs.declared.taking.Numbering.TheVariants as named
-use Rattle.lp_relay.specs.declared.telling.Faults.TheVariants.{Raw, OneLine, Json, Editor}
-use Rattle.lp_relay.specs.declared.times.TimeUnit.TheVariants.{Nanos}
-use Rattle.lp_relay.specs.FaultsTold.{first_place}
-use Rattle.lp_relay.specs.FieldTypes.{Types, no_types}
+use Rattle.lp_relay.specs.declared.reads.{ReadEnd.ReadEnd}
+use Rattle.lp_conditions.specs.declared.kinds.{Relayed.Relayed}
+use Rattle.lp_conditions.specs.declared.settings.{Settings.Settings, Numbering.Numbering}
+use Rattle.lp_faults.specs.declared.telling.{Place.Place}
+use Rattle.lp_conditions.specs.declared.times.{Times.Times}
+use Rattle.lp_escapes.specs.declared.forms.{Faults.Faults}
+use Rattle.lp_conditions.specs.declared.settings.Numbering.TheVariants as named
+use Rattle.lp_escapes.specs.declared.forms.Faults.TheVariants.{Raw, OneLine, Json, Editor}
+use Rattle.lp_conditions.specs.declared.times.TimeUnit.TheVariants.{Nanos}
+use Rattle.lp_faults.specs.FaultsTold.{first_place}
+use Rattle.lp_conditions.specs.FieldTypes.{Types, no_types}
 use Rattle.lp_relay.specs.Inputs.{AddsUp, TellsFaults, most_after, nothing_relayed}
-use Rattle.lp_relay.specs.Objects.{line_or_none}
-use Rattle.lp_relay.specs.Relaying.{types_past}
+use Rattle.lp_faults.specs.Objects.{line_or_none}
+use Rattle.lp_faults.specs.Relaying.{types_past}
 use Rattle.lp_relay.specs.Relays.{RelaysFronts, RelaysPieces, RelaysPiecesFronts}
 use Rattle.lp_relay.specs.RelaySteps.{place_past}
 use Rattle.lp_relay.specs.Writers.{AreFlushed, Known, Told, bytes_of}

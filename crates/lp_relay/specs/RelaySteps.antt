@@ -4,7 +4,6 @@ use Rattle.std.specs.Prelude.{Bool, true, false, None, Some, is_some, Result, Ok
 use Rattle.std.specs.Borrow.{Bor}
 use Rattle.std.specs.Io.KnownBytes.{Appends}
 use Rattle.influxdb_line_protocol.specs.format.Dialects.{Dialect}
-use Rattle.influxdb_line_protocol.specs.format.Bytes.{newlines_in}
 use Rattle.influxdb_line_protocol.specs.format.Pieces.{IsLastPiece, Pieces}
 use Rattle.influxdb_line_protocol.specs.types.PieceTooLong.{PieceTooLong}
 use Rattle.influxdb_line_protocol.specs.code.Bounded.{CutsTo, HeldWithin, Holds, IsTooLong}
@@ -12,16 +11,17 @@ use Rattle.influxdb_line_protocol.specs.laws.StreamLaws.{Run}
 use Rattle.influxdb_line_protocol.specs.code.Rules.{rules_of}
 use Rattle.lp_relay.specs.declared.taking.Progress.{Progress}
 use Rattle.lp_relay.specs.declared.taking.Pending.{Pending}
-use Rattle.lp_relay.specs.declared.taking.Numbering.{Numbering}
-use Rattle.lp_relay.specs.declared.taking.Numbering.TheVariants as named
-use Rattle.lp_relay.specs.declared.taking.Settings.{Settings}
-use Rattle.lp_relay.specs.declared.telling.Place.{Place}
-use Rattle.lp_relay.specs.FieldTypes.{Types, types_of}
-use Rattle.lp_relay.specs.FaultsTold.{after_piece, first_line, first_place, line_after, place_after, told_faults, told_items}
-use Rattle.lp_relay.specs.Kinds.{Counts, counts_if, kinds_after, kinds_of_none}
-use Rattle.lp_relay.specs.Objects.{bytes_given, seen_given}
-use Rattle.lp_relay.specs.Relaying.{Item, kept_of, line_of, too_long, items_of_bytes, items_of, items_batch, carried_items}
-use Rattle.lp_relay.specs.Relaying.{refused_items, refused_lines, refused_pieces, types_after, types_of_bytes, types_past}
+use Rattle.lp_conditions.specs.declared.settings.Numbering.{Numbering}
+use Rattle.lp_conditions.specs.declared.settings.Numbering.TheVariants as named
+use Rattle.lp_conditions.specs.declared.settings.Settings.{Settings}
+use Rattle.lp_faults.specs.declared.telling.Place.{Place}
+use Rattle.lp_conditions.specs.FieldTypes.{Types, types_of}
+use Rattle.lp_faults.specs.FaultsTold.{after_piece, first_line, first_place, line_after, place_after, told_faults, told_items}
+use Rattle.lp_conditions.specs.KindCounts.{Counts, counts_if}
+use Rattle.lp_faults.specs.Kinds.{kinds_after, kinds_of_none}
+use Rattle.lp_faults.specs.Objects.{bytes_given, seen_given, newlines_given, len_given}
+use Rattle.lp_faults.specs.Relaying.{Item, kept_of, line_of, too_long, items_of_bytes, items_of, items_batch, carried_items}
+use Rattle.lp_faults.specs.Relaying.{refused_items, refused_lines, refused_pieces, types_after, types_of_bytes, types_past}
 use Rattle.lp_rebuild.specs.declared.program.RunFault.{RunFault}
 use Rattle.lp_relay.specs.Relays.{RelaysFronts}
 use Rattle.lp_relay.specs.Writers.{GainsFronts, Told, bytes_of}
@@ -35,16 +35,6 @@ items_given s types (Err _) = too_long (kept_of s) ∷ []
 abbrev pub types_given : Settings → Types → Result (Bor (List ℕ)) PieceTooLong → Types
 types_given s types (Ok piece) = types_of_bytes s types (line_of s piece.now)
 types_given s types (Err _) = types
-
--- the newlines of what a call gave
-abbrev pub newlines_given : Result (Bor (List ℕ)) PieceTooLong → ℕ
-newlines_given (Ok piece) = newlines_in piece.now
-newlines_given (Err fault) = fault.newlines
-
--- the length of what a call gave
-abbrev pub len_given : Result (Bor (List ℕ)) PieceTooLong → ℕ
-len_given (Ok piece) = length piece.now
-len_given (Err fault) = fault.len
 
 -- what goes out as refused of what a call gave, if refused pieces go out
 abbrev pub refused_given : Settings → Types → Result (Bor (List ℕ)) PieceTooLong → List ℕ

@@ -9,20 +9,20 @@ use Rattle.influxdb_line_protocol.specs.format.Pieces.{Pieces}
 use Rattle.influxdb_line_protocol.specs.code.Rules.{rules_of}
 use Rattle.lp_rebuild.specs.declared.program.RunFault.{RunFault}
 use Rattle.lp_rebuild.specs.declared.program.RunFault.TheVariants.{Read, NotUtf8, Write}
-use Rattle.lp_relay.specs.declared.relaying.Relayed.{Relayed}
+use Rattle.lp_conditions.specs.declared.kinds.Relayed.{Relayed}
 use Rattle.lp_rebuild.specs.declared.batch.Rebuilt.{Rebuilt}
 use Rattle.lp_rebuild.specs.Rebuilding.{RebuildsIn}
 use Rattle.lp_rebuild.specs.Running.{AppendsFront, ReaderTold, WriterTold}
-use Rattle.lp_relay.specs.Relaying.{first_of, limit_of, items_of, items_batch, carried_items, refused_items}
-use Rattle.lp_relay.specs.Relaying.{refused_pieces, types_past}
-use Rattle.lp_relay.specs.FieldTypes.{Types}
-use Rattle.lp_relay.specs.Kinds.{counts_if, counts_of, refused_kinds, sum_of}
+use Rattle.lp_faults.specs.Relaying.{first_of, limit_of, items_of, items_batch, carried_items, refused_items, refused_pieces, types_past}
+use Rattle.lp_conditions.specs.FieldTypes.{Types}
+use Rattle.lp_conditions.specs.KindCounts.{counts_if, counts_of, sum_of}
+use Rattle.lp_faults.specs.Kinds.{refused_kinds}
 use Rattle.lp_relay.specs.Writers.{Known, Writers, bytes_of}
-use Rattle.lp_relay.specs.FaultsTold.{told_faults}
-use Rattle.lp_relay.specs.declared.taking.LineForm.TheVariants as going
-use Rattle.lp_relay.specs.declared.taking.Numbering.TheVariants as named
-use Rattle.lp_relay.specs.declared.taking.Settings.{Settings}
-use Rattle.lp_relay.specs.declared.telling.Faults.TheVariants.{Raw}
+use Rattle.lp_faults.specs.FaultsTold.{told_faults}
+use Rattle.lp_conditions.specs.declared.settings.LineForm.TheVariants as going
+use Rattle.lp_conditions.specs.declared.settings.Numbering.TheVariants as named
+use Rattle.lp_conditions.specs.declared.settings.Settings.{Settings}
+use Rattle.lp_escapes.specs.declared.forms.Faults.TheVariants.{Raw}
 
 -- the first writer gained the batch of the items of these pieces, before which fields have these types, the second one their faults, and
 -- the third one the refused pieces, if these go out, and these are their counts

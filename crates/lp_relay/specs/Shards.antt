@@ -1,7 +1,8 @@
 -- What shards tell of their points.
 use Rattle.std.specs.Prelude.{◌≡◌, ◌↔◌, ◌<◌, ℕ, max, true}
 use Rattle.influxdb_line_protocol.specs.format.Points.{Point}
-use Rattle.lp_relay.specs.{Relaying.is_of_shard, Relaying.key_of, declared.taking.Shard.Shard}
+use Rattle.lp_faults.specs.Relaying.{is_of_shard, key_of}
+use Rattle.lp_conditions.specs.declared.settings.Shard.{Shard}
 
 -- Of the shards of one count, each point is of exactly one.
 abbrev pub PointsHaveOneShard : Type 0

@@ -4,15 +4,16 @@
 //! put there once.
 ghost use Rattle.std.specs.Prelude.{◌≡◌, Option, Some, List, ℕ, map, OnOk};
 ghost use Rattle.lp_rebuild.specs.Devices.{CountsFailure};
-ghost use Rattle.lp_relay.specs.FieldTypes.{types_of};
+ghost use Rattle.lp_conditions.specs.FieldTypes.{types_of};
 ghost use Rattle.lp_relay.specs.Inputs.{AddsUp, Opens, RelaysInputs, RelaysNext, inputs_told, settings_after, settings_for};
 
-use crate::field_types::KnownTypes;
 use crate::outputs::ThreeWriters;
-use crate::relaying::{Relayed, relay_on};
-use crate::taking::{Numbering, Settings};
-use crate::telling::Faults;
+use crate::relaying::relay_on;
 use influxdb_line_protocol::laws;
+use lp_conditions::field_types::KnownTypes;
+use lp_conditions::kinds::Relayed;
+use lp_conditions::settings::{Numbering, Settings};
+use lp_escapes::forms::Faults;
 use lp_rebuild::{DeviceFault, RunFault, Source};
 use std::alloc::Global;
 

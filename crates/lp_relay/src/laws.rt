@@ -1,5 +1,5 @@
 //! Laws of the definitions, each the contract of a function that does nothing.
-ghost use Rattle.lp_relay.specs.Differing.{FrontsStopInThePart};
+ghost use Rattle.lp_conditions.specs.Differing.{FrontsStopInThePart};
 ghost use Rattle.lp_relay.specs.Parts.{FaultsChangeNoLine, PartsGiveLines, PartsGiveRefused};
 ghost use Rattle.lp_relay.specs.Shards.{PointsHaveOneShard, SeriesHaveOneShard};
 

@@ -8,40 +8,27 @@
 //! It takes each item as `lp_rebuild` does. It is a crate of its own, since the program `lp_rebuild` needs none of it.
 #![tactic(auto)]
 
-mod cuts;
-mod differing;
-mod editors;
-mod field_types;
 mod inputs;
-mod kinds;
 pub mod laws;
 mod nowhere;
-mod objects;
 mod outputs;
-mod pieces;
-mod portable;
 mod reads;
-mod refusals;
 mod relaying;
 mod taking;
-mod telling;
-mod texts;
-mod times;
-mod verdict;
-mod windows;
 
-pub use cuts::{part_ends, part_ends_at};
-pub use field_types::StrictTypes;
 pub use inputs::{Inputs, NextInput, relay_inputs};
-pub use kinds::{KINDS, Kind, KindCounts};
+pub use lp_conditions::field_types::StrictTypes;
+pub use lp_conditions::kinds::{KINDS, Kind, KindCounts, Relayed};
+pub use lp_conditions::portable::Portable;
+pub use lp_conditions::settings::{LineForm, Numbering, Settings, Shard};
+pub use lp_conditions::times::{TimeUnit, Times};
+pub use lp_cuts::cuts::{part_ends, part_ends_at};
+pub use lp_cuts::windows::ReadAt;
+pub use lp_escapes::forms::Faults;
+pub use lp_escapes::json::put_json_text;
+pub use lp_escapes::one_line::tell_bytes;
 pub use lp_scan::newlines::newlines_in;
 pub use nowhere::Nowhere;
-pub use objects::put_json_text;
 pub use outputs::{Outputs, ThreeWriters};
-pub use portable::Portable;
 pub use reads::{Clock, relay_now};
-pub use relaying::{Relayed, relay};
-pub use taking::{LineForm, Numbering, Settings, Shard};
-pub use telling::{Faults, tell_bytes};
-pub use times::{TimeUnit, Times};
-pub use windows::ReadAt;
+pub use relaying::relay;

@@ -4,21 +4,23 @@
 //! not ended yet, is handed on. So nothing else needs to know of times that change, and each read takes memory for its outputs anew.
 ghost use Rattle.std.specs.Prelude.{◌≡◌, ◌∷◌, ◌++◌, ◌≤◌, [], List, ℤ, Option, Some, IfOk, IfSome, OnOk, length};
 ghost use Rattle.lp_rebuild.specs.Running.{reader_told};
-ghost use Rattle.lp_relay.specs.FaultsTold.{first_place};
-ghost use Rattle.lp_relay.specs.FieldTypes.{types_of};
-ghost use Rattle.lp_relay.specs.Objects.{line_or_none};
+ghost use Rattle.lp_faults.specs.FaultsTold.{first_place};
+ghost use Rattle.lp_conditions.specs.FieldTypes.{types_of};
+ghost use Rattle.lp_faults.specs.Objects.{line_or_none};
 ghost use Rattle.lp_relay.specs.Reads.{RelaysNow, RelaysRead, RelaysRest, faults_from, first_from, numbering_from, settings_at, settings_from};
 ghost use Rattle.lp_relay.specs.RelaySteps.{HasRules, next_place, unwritten_of};
 ghost use Rattle.lp_relay.specs.Writers.{AreFlushed, CountsWriteFault};
 
-use crate::field_types::KnownTypes;
 use crate::inputs::sum_of;
 use crate::outputs::ThreeWriters;
-use crate::relaying::{Relayed, counts_of, finish, pour_and_flush, relay_complete};
-use crate::taking::{Numbering, Pending, Settings, nothing_made};
-use crate::telling::Faults;
-use crate::times::{TimeUnit, Times};
+use crate::relaying::{counts_of, finish, pour_and_flush, relay_complete};
+use crate::taking::{Pending, nothing_made};
 use influxdb_line_protocol::{BoundedLineStream, laws};
+use lp_conditions::field_types::KnownTypes;
+use lp_conditions::kinds::Relayed;
+use lp_conditions::settings::{Numbering, Settings};
+use lp_conditions::times::{TimeUnit, Times};
+use lp_escapes::forms::Faults;
 use lp_rebuild::program::{BLOCK, read_block};
 use lp_rebuild::{RunFault, Source};
 use std::alloc::Global;

@@ -5,37 +5,25 @@ ghost use Rattle.influxdb_line_protocol.specs.format.Bytes.{newline};
 ghost use Rattle.influxdb_line_protocol.specs.code.Bounded.{most_given};
 ghost use Rattle.lp_relay.specs.RelaySteps.{HoldsLess, HoldsNone, IsReady, IsToldAhead, RelaysAhead, RelaysFirst, RelaysLast, RelaysLines};
 ghost use Rattle.lp_relay.specs.RelaySteps.{RelaysPart, Writes, counted, items_before, stage_of, unwritten_of};
-ghost use Rattle.lp_relay.specs.FieldTypes.{no_types, types_of};
+ghost use Rattle.lp_conditions.specs.FieldTypes.{no_types, types_of};
 ghost use Rattle.lp_relay.specs.Relays.{Relays, TypesAfter};
 ghost use Rattle.lp_relay.specs.Writers.{AreFlushed, CountsWriteFault};
 ghost use Rattle.lp_rebuild.specs.Running.{reader_told};
 
-use crate::field_types::KnownTypes;
-use crate::kinds::KindCounts;
 use crate::outputs::ThreeWriters;
-use crate::pieces::Piece;
-use crate::taking::{
-    Pending, Settings, items_before, nothing_made, take_ahead, take_given, take_piece,
-};
-use crate::texts::text_of;
+use crate::taking::{Pending, items_before, nothing_made, take_ahead, take_given, take_piece};
 use influxdb_line_protocol::{BoundedLineStream, laws, split_lines_in};
+use lp_conditions::field_types::KnownTypes;
+use lp_conditions::kinds::{KindCounts, Relayed};
+use lp_conditions::settings::Settings;
+use lp_escapes::texts::text_of;
+use lp_faults::pieces::Piece;
 use lp_rebuild::batch::LineReader;
 use lp_rebuild::program::{BLOCK, read_block};
 use lp_rebuild::{RunFault, Source};
 use memchr::{memchr, memrchr};
 use std::alloc::{AllocError, Global};
 use std::mem;
-
-/// How many items a relay carried, and how many it refused.
-#[derive(Clone, Copy, Debug, PartialEq, Eq)]
-pub struct Relayed {
-    /// How many items were read and not refused: they went out, but for the lines of other shards.
-    pub carried: usize,
-    /// How many items were refused: each has a fault line, if it is one of those that are told.
-    pub refused: usize,
-    /// How many items were refused for each kind of fault, if the settings ask for that.
-    pub kinds: Option<KindCounts>,
-}
 
 // Writes all that is held.
 fn pour<O: ThreeWriters>(pending: &mut Pending, outputs: &mut O) -> Result<(), RunFault>

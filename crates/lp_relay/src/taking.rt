@@ -7,156 +7,39 @@ ghost use Rattle.influxdb_line_protocol.specs.format.Bytes.{newline, tab};
 ghost use Rattle.influxdb_line_protocol.specs.code.Parsed.{line_read, parsed_point};
 ghost use Rattle.influxdb_line_protocol.specs.format.Points.{IsAsWritten};
 ghost use Rattle.influxdb_line_protocol.specs.format.Trimming.{trimmed};
-ghost use Rattle.lp_relay.specs.Kinds.{counts_if, with_fault};
-ghost use Rattle.lp_relay.specs.LineTimes.{relayed, timed};
-ghost use Rattle.lp_relay.specs.FieldTypes.{Types, types_of};
-ghost use Rattle.lp_relay.specs.Refusals.{EndsPiece, GaveSame, IsKnown, IsLineOf, KeepsItem, RefusesPiece, TakesItem, TakesPiece, given_of, line_piece, reason_of, refusal_kind};
-ghost use Rattle.lp_relay.specs.Relaying.{Item, allowed, canonical_item, copies, front_of, if_portable, is_of_shard, item_line, item_of, keyed_item, kept_of, line_in, line_of};
-ghost use Rattle.lp_relay.specs.FaultsTold.{first_line, is_told, line_after, told_at, told_fault};
-ghost use Rattle.lp_relay.specs.RelaySteps.{EndsAhead, HoldsLess, TakesAhead, TakesBy, TakesGiven, after_given, items_before, len_given, made};
-ghost use Rattle.lp_relay.specs.RelaySteps.{newlines_given, next_place, types_given};
+ghost use Rattle.lp_conditions.specs.KindCounts.{counts_if, with_fault};
+ghost use Rattle.lp_conditions.specs.LineTimes.{relayed, timed, front_of};
+ghost use Rattle.lp_conditions.specs.FieldTypes.{Types, types_of};
+ghost use Rattle.lp_relay.specs.Taking.{EndsPiece, KeepsItem, RefusesPiece, TakesItem, TakesPiece};
+ghost use Rattle.lp_faults.specs.Refusals.{GaveSame, IsKnown, IsLineOf, given_of, line_piece, reason_of, refusal_kind};
+ghost use Rattle.lp_faults.specs.Relaying.{Item, allowed, canonical_item, copies, if_portable, is_of_shard, item_line, item_of, keyed_item, kept_of, line_in, line_of};
+ghost use Rattle.lp_faults.specs.FaultsTold.{first_line, is_told, line_after, told_at, told_fault};
+ghost use Rattle.lp_relay.specs.RelaySteps.{EndsAhead, HoldsLess, TakesAhead, TakesBy, TakesGiven, after_given, items_before, made};
+ghost use Rattle.lp_faults.specs.Objects.{len_given, newlines_given};
+ghost use Rattle.lp_relay.specs.RelaySteps.{next_place, types_given};
 ghost use Rattle.lp_relay.specs.RelaySteps.{unwritten_of, unwritten_of_none};
 
-use crate::differing::{differing_part, part_text};
-use crate::editors::tell_for_editors;
-use crate::field_types::{KnownTypes, StrictTypes};
-use crate::kinds::{Kind, KindCounts};
-use crate::objects::{Telling, tell_as_object};
-use crate::pieces::{Piece, bytes_without_return, piece_of, without_return};
-use crate::portable::{Portable, is_shown_portable, told_of_bytes};
-use crate::refusals::Refusal;
-use crate::telling::{Faults, Place, put_fault_line, put_on_one_line};
-use crate::times::{TimeChange, Times, change_of, piece_at};
-use crate::verdict::fault_of;
 use influxdb_line_protocol::{
     Dialect, ParsedLine, PieceTooLong, hash_series, is_admitted, is_as_written, laws,
 };
+use lp_conditions::differing::{differing_part, part_text};
+use lp_conditions::field_types::{KnownTypes, StrictTypes};
+use lp_conditions::kinds::{Kind, KindCounts};
+use lp_conditions::portable::{Portable, is_shown_portable, told_of_bytes};
+use lp_conditions::settings::{LineForm, Numbering, Settings, Shard};
+use lp_conditions::times::{TimeChange, Times, change_of, piece_at};
+use lp_conditions::verdict::fault_of;
+use lp_escapes::forms::Faults;
+use lp_faults::editors::tell_for_editors;
+use lp_faults::objects::{Telling, tell_as_object};
+use lp_faults::pieces::{Piece, bytes_without_return, piece_of, without_return};
+use lp_faults::refusals::Refusal;
+use lp_faults::telling::{Place, put_fault_line, put_on_one_line};
 use lp_rebuild::LineRefusal;
 use lp_rebuild::batch::{self, LineReader, copy_line};
 use lp_rebuild::program::BLOCK;
 use lp_scan::trim::trimmed;
 use std::alloc::{AllocError, Global};
-
-/// How the lines of a relay go out.
-#[derive(Clone, Copy, Debug, PartialEq, Eq)]
-pub enum LineForm {
-    /// A line is written again, in one spelling, if its names are admitted, and else it is refused.
-    Rebuilt,
-    /// A line goes out byte for byte as it came, whatever its names are, with what its piece has before it, and a newline.
-    Verbatim,
-    /// A line goes out byte for byte as it came, without what its piece has before it, if it is as it would be written again.
-    /// Else it is refused: for a name that is not admitted, or with the first part of it that is not so, as in
-    /// `not as written: the value of tag 2`.
-    Canonical,
-    /// A line goes out byte for byte as it came, without what its piece has before it, after the key of its series and a tab, if its names
-    /// are admitted, and else it is refused.
-    Keyed,
-    /// A line goes out as by `Verbatim` if its series is of this shard. Of a line of another shard nothing goes out; it counts as carried.
-    OfShard(Shard),
-}
-
-/// A part of all series: those whose [`hash`](influxdb_line_protocol::hash_series), modulo `count`, is `number`. A count of 0 is taken as 1.
-///
-/// So each line is of one shard of so many, and all lines of a series are of the same; `laws::shards_part_the_series` says so.
-#[derive(Clone, Copy, Debug, PartialEq, Eq)]
-pub struct Shard {
-    /// Which shard it is, from 0 on.
-    pub number: u64,
-    /// How many shards there are.
-    pub count: u64,
-}
-
-/// What the fault lines of a relay name.
-#[derive(Clone, Copy, Debug, PartialEq, Eq)]
-pub enum Numbering {
-    /// The number of the item, as in `item 5: ..`. Items are counted from `first` of the settings.
-    Items,
-    /// The line of the input on which the piece of the item begins, as in `line 17: ..`. Lines are counted from `first`
-    /// of the settings, one after each newline, also after those within strings and within pieces that are too long or not UTF-8.
-    Lines,
-}
-
-/// How a relay reads lines and puts them out, and what its fault lines name. By default, it reads them by the rules of the crate,
-/// however long they are, writes them again, and names items from 1 on, in fault lines as they are.
-#[derive(Clone, Copy, Debug, PartialEq, Eq)]
-pub struct Settings<'n> {
-    /// The dialect whose rules hold.
-    pub dialect: Dialect,
-    /// How many bytes a line may have, those of the newlines within its strings too, but without the one that ends it.
-    /// `usize::MAX` is no limit.
-    pub limit: usize,
-    /// What the fault lines name.
-    pub numbering: Numbering,
-    /// Whether a carriage return at the end of a piece is no byte of its line, as of lines that end with a carriage return and a newline: it
-    /// is not read, and does not go out with the line. It counts for the limit, and refused pieces go out with it.
-    pub drops_returns: bool,
-    /// How lines go out.
-    pub lines: LineForm,
-    /// To which servers each line that goes out is portable, if it is to be: a line that is not, as it would go out, is refused.
-    pub portable: Option<Portable>,
-    /// Whether the first type of each field stays: then a line that would go out, and gives a field another type, is refused, and so is one
-    /// with a new field beyond the limit. A refused line gives no field a type.
-    pub types: Option<StrictTypes>,
-    /// With which time each line goes out, if the times of lines are looked at: else each goes out with its own, and one without a time has none.
-    pub times: Option<Times>,
-    /// The number of the first item, or of the first line, that fault lines name: 2,001 if the input comes after 2,000 others. 0 is
-    /// taken as 1.
-    pub first: usize,
-    /// How fault lines are told.
-    pub faults: Faults,
-    /// How many faults are told at most, if not all are: the others are counted, and go out as refused, but are not told.
-    pub max_faults: Option<usize>,
-    /// Whether each piece that is refused goes out too, to a writer of its own: of one that is too long its first bytes, as many as
-    /// the limit.
-    pub puts_refused: bool,
-    /// Whether it is counted for which kind of fault each item is refused.
-    pub counts_kinds: bool,
-    /// The name of the input, if its faults are to name it: by `Faults::OneLine` before a fault line, as in `a.lp: item 7: ..`, and by
-    /// `Faults::Json` as the first member of an object, as in `{"file":"a.lp","item":7,..`. Raw fault lines name none.
-    pub file: Option<&'n str>,
-    /// Where the input begins in its file, from whose start objects count `offset`: 0 unless it is a part of the file.
-    pub first_offset: usize,
-}
-
-impl<'n> Default for Settings<'n> {
-    fn default() -> Self
-        ensures { result ≡ record {
-          dialect = Dialect.Crate;
-          limit = usize.MAX;
-          numbering = Numbering.Items;
-          drops_returns = false;
-          lines = LineForm.Rebuilt;
-          portable = None;
-          types = None;
-          times = None;
-          first = 1;
-          faults = Faults.Raw;
-          max_faults = None;
-          puts_refused = false;
-          counts_kinds = false;
-          file = None;
-          first_offset = 0;
-        } }
-    {
-        Settings {
-            dialect: Dialect::Crate,
-            limit: usize::MAX,
-            numbering: Numbering::Items,
-            drops_returns: false,
-            lines: LineForm::Rebuilt,
-            portable: None,
-            types: None,
-            times: None,
-            first: 1,
-            faults: Faults::Raw,
-            max_faults: None,
-            puts_refused: false,
-            counts_kinds: false,
-            file: None,
-            first_offset: 0,
-        }
-    }
-}
 
 /// What was made so far, and what the fault line of the next item names.
 #[derive(Drop)]

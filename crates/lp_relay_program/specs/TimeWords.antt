@@ -2,9 +2,9 @@
 use Rattle.std.specs.Prelude.{ℕ, ℤ, pos, neg_ℤ, ◌+◌, ◌^◌, ◌==◌, ◌&&◌, nat_lt, List, [], ◌∷◌, length, take, drop, slice_index, bytes_eq, codes}
 use Rattle.std.specs.Prelude.{Option, Some, None, is_none, option_map, if◌then◌else◌}
 use Rattle.std.specs.{List.position, Option.option_and_then}
-use Rattle.lp_programs.specs.Options.{decimal}
-use Rattle.lp_relay.specs.declared.times.TimeUnit.{TimeUnit}
-use Rattle.lp_relay.specs.declared.times.TimeUnit.TheVariants.{Seconds, Millis, Micros, Nanos}
+use Rattle.lp_words.specs.Options.{decimal}
+use Rattle.lp_conditions.specs.declared.times.TimeUnit.{TimeUnit}
+use Rattle.lp_conditions.specs.declared.times.TimeUnit.TheVariants.{Seconds, Millis, Micros, Nanos}
 use Rattle.lp_relay_program.specs.declared.time_words.TimeRange.{TimeRange}
 
 -- the unit that a word names

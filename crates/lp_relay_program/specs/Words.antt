@@ -8,19 +8,22 @@ use Rattle.influxdb_line_protocol.specs.types.Dialect.{Dialect}
 use Rattle.influxdb_line_protocol.specs.types.Dialect.TheVariants.{Crate, Strict, NewlineDelimited}
 use Rattle.influxdb_line_protocol.specs.types.{Limits.Limits as Most, Servers.Servers}
 use Rattle.influxdb_line_protocol.specs.types.Servers.TheVariants.{Influx1, Victoria, All}
-use Rattle.lp_relay.specs.declared.{field_types.StrictTypes.StrictTypes, portable.Portable.Portable}
-use Rattle.lp_relay.specs.declared.telling.Faults.{Faults}
-use Rattle.lp_relay.specs.declared.telling.Faults.TheVariants.{Raw, OneLine, Json, Editor}
-use Rattle.lp_relay.specs.declared.taking.LineForm.{LineForm}
-use Rattle.lp_relay.specs.declared.taking.LineForm.TheVariants.{Rebuilt, Verbatim, Canonical}
-use Rattle.lp_relay.specs.declared.taking.Numbering.TheVariants as named
-use Rattle.lp_relay.specs.declared.taking.Settings.{Settings}
-use Rattle.lp_relay.specs.declared.times.{Times.Times, TimeUnit.TheVariants.Nanos}
+use Rattle.lp_conditions.specs.declared.field_types.{StrictTypes.StrictTypes}
+use Rattle.lp_conditions.specs.declared.portable.{Portable.Portable}
+use Rattle.lp_escapes.specs.declared.forms.Faults.{Faults}
+use Rattle.lp_escapes.specs.declared.forms.Faults.TheVariants.{Raw, OneLine, Json, Editor}
+use Rattle.lp_conditions.specs.declared.settings.LineForm.{LineForm}
+use Rattle.lp_conditions.specs.declared.settings.LineForm.TheVariants.{Rebuilt, Verbatim, Canonical}
+use Rattle.lp_conditions.specs.declared.settings.Numbering.TheVariants as named
+use Rattle.lp_conditions.specs.declared.settings.Settings.{Settings}
+use Rattle.lp_conditions.specs.declared.times.{Times.Times, TimeUnit.TheVariants.Nanos}
 use Rattle.lp_relay_program.specs.declared.words.Given.{Given}
 use Rattle.lp_relay_program.specs.TimeWords.{asked_time, asked_times, unit_named}
-use Rattle.lp_programs.specs.declared.{relays.Request.Request, batches.Limits.Limits, refusals.OldPieces.OldPieces}
-use Rattle.lp_programs.specs.declared.refusals.OldPieces.TheVariants.{Refuse, Append, Replace}
-use Rattle.lp_programs.specs.Options.{asked_range, decimal, default_max_line, faults_form, first_number, is_one_if, named_inputs, names_file, names_input, told_file}
+use Rattle.lp_programs.specs.declared.relays.{Request.Request}
+use Rattle.lp_files.specs.declared.batches.{Limits.Limits}
+use Rattle.lp_words.specs.declared.refusals.{OldPieces.OldPieces}
+use Rattle.lp_words.specs.declared.refusals.OldPieces.TheVariants.{Refuse, Append, Replace}
+use Rattle.lp_words.specs.Options.{asked_range, decimal, default_max_line, faults_form, first_number, is_one_if, named_inputs, names_file, names_input, told_file}
 use Rattle.lp_relay_program.specs.declared.words.Task.{Task}
 use Rattle.lp_relay_program.specs.declared.words.Task.TheVariants.{Relay, Cut, Help, Version}
 

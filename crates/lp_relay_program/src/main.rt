@@ -6,9 +6,9 @@ mod runs;
 mod time_words;
 mod words;
 
-use lp_programs::arguments::{arguments_of, refuse_memory};
-use lp_programs::places::Closed;
-use lp_programs::plain::words_in_order;
+use lp_endings::arguments::{arguments_of, refuse_memory};
+use lp_places::places::Closed;
+use lp_words::plain::words_in_order;
 use runs::{NAME, run_words};
 use std::process::ExitCode;
 use words::VALUED;

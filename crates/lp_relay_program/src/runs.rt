@@ -4,19 +4,19 @@ ghost use Rattle.lp_relay_program.specs.Words.{asked_task};
 
 use crate::words::{HELP, MANUAL, Task, USAGE, options_in, task_of};
 use influxdb_line_protocol::Dialect;
-use lp_programs::arguments::refuse_words;
+use lp_endings::arguments::refuse_words;
+use lp_endings::endings::{Device, LastErrors, ending_of_cut, status_of_print};
+use lp_endings::speaking::Speaker;
+use lp_endings::version::print_version;
+use lp_inputs::errors::Watched;
+use lp_inputs::inputs::{Inputs, SystemOpener};
+use lp_places::opens::open_to_read;
+use lp_places::places::file_len;
 use lp_programs::asked::{ReadsOn, part_ends_of};
-use lp_programs::endings::{Device, ending_of_cut, status_of_print};
-use lp_programs::errors::{LastErrors, Watched};
-use lp_programs::inputs::{Inputs, SystemOpener};
-use lp_programs::opens::open_to_read;
-use lp_programs::places::file_len;
-use lp_programs::refusals::{names_of, refusal_of_parts};
 use lp_programs::relays::{end, refuse, refuse_files, relay};
-use lp_programs::speaking::Speaker;
-use lp_programs::version::print_version;
 use lp_rebuild::{Reading, RunFault};
 use lp_relay::part_ends_at;
+use lp_words::refusals::{names_of, refusal_of_parts};
 use std::cell::Cell;
 
 /// The name of the program.

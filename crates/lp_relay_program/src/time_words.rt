@@ -2,8 +2,8 @@
 ghost use Rattle.std.specs.Prelude.{◌≡◌, ◌+◌, ◌^◌, neg_ℤ, option_map, pos};
 ghost use Rattle.lp_relay_program.specs.TimeWords.{asked_time, asked_times, number_below, range_with, time_end, times_between, unit_named};
 
-use lp_programs::options::{decimal_of, place_of};
 use lp_relay::TimeUnit;
+use lp_words::options::{decimal_of, place_of};
 
 /// The times from one on, and before another; one of the two may be missing.
 #[derive(Clone, Copy)]

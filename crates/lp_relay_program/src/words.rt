@@ -7,15 +7,15 @@ ghost use Rattle.lp_relay_program.specs.Words.{nothing_given, portable_form, req
 use crate::time_words::{TimeRange, time_of, times_of, unit_of};
 use influxdb_line_protocol::Dialect;
 use influxdb_line_protocol::portable::{Limits as Most, Servers};
-use lp_programs::batches::Limits;
-use lp_programs::options::{
+use lp_files::batches::Limits;
+use lp_programs::relays::Request;
+use lp_relay::{Faults, LineForm, Numbering, Portable, Settings, StrictTypes, TimeUnit, Times};
+use lp_words::options::{
     DEFAULT_MAX_LINE, Range, decimal_of, faults_form_of, first_number_of, inputs_of, is_file,
     is_input, is_one_if, range_of, told_file,
 };
-use lp_programs::refusals::OldPieces;
-use lp_programs::relays::Request;
-use lp_programs::wrong::Manual;
-use lp_relay::{Faults, LineForm, Numbering, Portable, Settings, StrictTypes, TimeUnit, Times};
+use lp_words::refusals::OldPieces;
+use lp_words::wrong::Manual;
 
 /// How the program is called: the lines that it prints if its words ask for nothing, without the last newline.
 pub const USAGE: &str = "usage: lp_relay [--strict | --newline-delimited] [--whole-lines] [--crlf]
@@ -777,7 +777,7 @@ fn alone_of<'a>(words: &[&str]) -> Option<Task<'a>>
 }
 
 /// What words in order ask for, or `None` if they are not as [`USAGE`] says: options, the mark `--`, and names of inputs, as
-/// `plain_words` of `lp_programs` gives them.
+/// `plain_words` of `lp_words` gives them.
 ///
 /// A number, as after `--max-line`, is a decimal one that a `usize` holds: digits alone, of which the first may be zeros. A word with
 /// no byte names no file, and `-` alone names standard input. It takes no memory.

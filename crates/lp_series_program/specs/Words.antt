@@ -3,12 +3,13 @@ use Rattle.std.specs.Prelude.{ℕ, ◌+◌, nat_lt, take, drop, Bool, true, fals
 use Rattle.std.specs.Prelude.{Option, Some, None, is_none, is_some, option_map, option_and_then, unwrap_or, if◌then◌else◌}
 use Rattle.std.specs.{Borrow.Bor, List.position, Option.option_map_or}
 use Rattle.influxdb_line_protocol.specs.types.Dialect.{Dialect, TheVariants.Crate, TheVariants.Strict, TheVariants.NewlineDelimited}
-use Rattle.lp_relay.specs.declared.{taking.LineForm.LineForm, taking.Shard.Shard, telling.Faults.TheVariants.OneLine}
-use Rattle.lp_relay.specs.declared.taking.LineForm.TheVariants.{Verbatim, Keyed, OfShard}
-use Rattle.lp_relay.specs.declared.taking.Numbering.TheVariants as named
-use Rattle.lp_programs.specs.Options.{decimal, default_max_line, faults_form, first_number, named_inputs, names_file, told_file}
+use Rattle.lp_conditions.specs.declared.settings.{LineForm.LineForm, Shard.Shard}
+use Rattle.lp_escapes.specs.declared.forms.{Faults.TheVariants.OneLine}
+use Rattle.lp_conditions.specs.declared.settings.LineForm.TheVariants.{Verbatim, Keyed, OfShard}
+use Rattle.lp_conditions.specs.declared.settings.Numbering.TheVariants as named
+use Rattle.lp_words.specs.Options.{decimal, default_max_line, faults_form, first_number, named_inputs, names_file, told_file}
 use Rattle.lp_programs.specs.declared.relays.Request.{Request}
-use Rattle.lp_programs.specs.declared.refusals.OldPieces.TheVariants.{Refuse}
+use Rattle.lp_words.specs.declared.refusals.OldPieces.TheVariants.{Refuse}
 use Rattle.lp_series_program.specs.declared.words.{Given.Given, Report.Report, Task.Task, Task.TheVariants.Relay, Task.TheVariants.Count, Task.TheVariants.Help, Task.TheVariants.Version}
 
 -- no option was given

@@ -5,10 +5,10 @@
 use crate::report::{Counted, tell};
 use crate::words::Report;
 use influxdb_line_protocol::Dialect;
-use lp_programs::Counts;
-use lp_programs::endings::Failure;
-use lp_programs::speaking::Speaker;
-use lp_programs::watched::Watcher;
+use lp_endings::endings::Failure;
+use lp_endings::speaking::Speaker;
+use lp_inputs::counted::Counts;
+use lp_inputs::watched::Watcher;
 use lp_relay::KindCounts;
 use lp_series::SeriesCounter;
 use std::alloc::AllocError;

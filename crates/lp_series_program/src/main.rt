@@ -6,9 +6,9 @@ mod report;
 mod runs;
 mod words;
 
-use lp_programs::arguments::{arguments_of, refuse_memory};
-use lp_programs::places::Closed;
-use lp_programs::plain::words_in_order;
+use lp_endings::arguments::{arguments_of, refuse_memory};
+use lp_places::places::Closed;
+use lp_words::plain::words_in_order;
 use runs::run_words;
 use std::process::ExitCode;
 use words::{NAME, VALUED};

@@ -3,10 +3,10 @@
 //! Names are escaped in each form as it asks for, so that no name makes a line of its own.
 
 use crate::words::Report;
-use lp_programs::Counts;
-use lp_programs::endings::{Device, Failure};
+use lp_endings::endings::{Device, Failure};
+use lp_endings::speaking::Speaker;
+use lp_inputs::counted::Counts;
 use lp_programs::relays::put_text;
-use lp_programs::speaking::Speaker;
 use lp_rebuild::RunFault;
 use lp_relay::{KINDS, KindCounts, put_json_text, tell_bytes};
 use lp_series::{FieldKinds, MeasurementCounts, SeriesCounts};

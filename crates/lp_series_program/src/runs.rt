@@ -4,14 +4,14 @@ ghost use Rattle.lp_series_program.specs.Words.{asked_task};
 
 use crate::counting::Counting;
 use crate::words::{HELP, MANUAL, NAME, Report, Task, USAGE, options_in, task_of};
-use lp_programs::Totals;
-use lp_programs::arguments::refuse_words;
-use lp_programs::endings::{Failure, ending_of_relay, status_of_print};
-use lp_programs::refusals::names_of;
+use lp_endings::arguments::refuse_words;
+use lp_endings::endings::{Failure, ending_of_relay, status_of_print};
+use lp_endings::speaking::Speaker;
+use lp_endings::summary::Totals;
+use lp_endings::version::print_version;
 use lp_programs::relays::{Request, end, refuse_files, relay, relay_to_files, remove_all_left};
-use lp_programs::speaking::Speaker;
-use lp_programs::version::print_version;
 use lp_rebuild::RunFault;
+use lp_words::refusals::names_of;
 
 // How a count ended that a relay answered so: if memory was refused for it, or it could not be told, that is why.
 fn answer_of<'n>(

@@ -4,14 +4,14 @@ ghost use Rattle.lp_series_program.specs.Words.{asked_alone, are_at_odds, asked_
 ghost use Rattle.lp_series_program.specs.Words.{given_relay, given_report, is_relay, lines_form, nothing_given, shard_between, task_given, with_flag, with_value};
 
 use influxdb_line_protocol::Dialect;
-use lp_programs::options::{
+use lp_programs::relays::Request;
+use lp_relay::{Faults, LineForm, Numbering, Settings, Shard};
+use lp_words::options::{
     DEFAULT_MAX_LINE, decimal_of, faults_form_of, first_number_of, inputs_of, is_file, place_of,
     told_file,
 };
-use lp_programs::refusals::OldPieces;
-use lp_programs::relays::Request;
-use lp_programs::wrong::Manual;
-use lp_relay::{Faults, LineForm, Numbering, Settings, Shard};
+use lp_words::refusals::OldPieces;
+use lp_words::wrong::Manual;
 
 /// The name of the program.
 pub(crate) const NAME: &str = "lp_series";
@@ -402,7 +402,7 @@ fn alone_of<'a>(words: &[&str]) -> Option<Task<'a>>
 }
 
 /// What words in order ask for, or `None` if they are not as [`USAGE`] says: options, the mark `--`, and names of inputs, as
-/// `plain_words` of `lp_programs` gives them. It takes no memory.
+/// `plain_words` of `lp_words` gives them. It takes no memory.
 ///
 /// ```text
 /// task_of(&["--"])                          gives  a count of standard input, which keeps a million series

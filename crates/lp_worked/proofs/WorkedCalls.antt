@@ -4,14 +4,14 @@ use Rattle.std.specs.Borrow.{Bor}
 use Rattle.lp_format.specs.format.{Strict, NewlineDelimited, integer, GivesPiece, IsAsWrittenIn, IsLastPiece, field_set_missing, Pieces.Pieces, Pieces.cut}
 use Rattle.lp_format.proofs.lemmas.split.SplitPieces.{Pieces-nil, IsLastPiece-cut, same_pieces}
 use Rattle.lp_lines.specs.code.Bases.{GivesBase, borrowed}
-use Rattle.lp_relay.specs.Windows.{HasReadAt}
+use Rattle.lp_cuts.specs.Windows.{HasReadAt}
 use Rattle.lp_split.specs.declared.stream.bounded.Skipped.TheVariants.{Nothing}
 use Rattle.lp_split.specs.code.{HeldWithin, Holds, KeepsRules, GivesCut, GivesCutText, GivesLast}
 use Rattle.lp_events.specs.code.Events.{AreEventsOfAll, TakesAll, AreEventsOf, AreEventsOfText, Event, WasTold, ended, named, valued}
 use Rattle.lp_values.specs.declared.error.Error.TheVariants as error
 use Rattle.lp_values.specs.code.Outcomes.{IsFault, IsNotOutOfMemory}
 use Rattle.lp_written.specs.code.WrittenKeys.{IsAdmittedKey, LendsKey}
-use Rattle.lp_relay.specs.Cuts.{JoinsPieces}
+use Rattle.lp_cuts.specs.Cuts.{JoinsPieces}
 use Rattle.lp_lines.specs.code.Keys.{series_key}
 use Rattle.lp_worked.proofs.WorkedTexts.{on_texts, one_line, m_is_cut, part, tag_of}
 use Rattle.lp_worked.proofs.WorkedPieces.{two_pieces, two_lines_are_not_last}

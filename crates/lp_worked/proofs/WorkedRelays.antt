@@ -2,7 +2,7 @@
 use Rattle.std.proofs.Common.{[], ◌∷◌, length, refl, ap, codes, arith, pos}
 use Rattle.lp_format.specs.format.{Strict, integer, Pieces.Pieces, Pieces.last, Pieces.cut}
 use Rattle.lp_format.proofs.lemmas.split.SplitPieces.{same_pieces, IsLastPiece-nil}
-use Rattle.lp_relay.specs.Cuts.{HavePieces}
+use Rattle.lp_cuts.specs.Cuts.{HavePieces}
 use Rattle.lp_relay.specs.Parts.{HaveEach}
 use Rattle.lp_worked.proofs.{WorkedStreams.one_alone, WorkedTexts.on_texts, WorkedTexts.m_is_cut}
 

@@ -8,7 +8,7 @@ use Rattle.lp_events.specs.code.OwnBases.{keys_of}
 use Rattle.lp_lines.specs.code.Bases.{by_key, first_repeated}
 use Rattle.lp_build.specs.code.Built.{Writes, buffer_of}
 use Rattle.lp_build.specs.declared.builder.LineProtocolBuilder.{LineProtocolBuilder}
-use Rattle.lp_relay.specs.Differing.{differing_part, part_text}
+use Rattle.lp_conditions.specs.Differing.{differing_part, part_text}
 use Rattle.lp_worked.proofs.WorkedTexts.{never, on_texts, read_tag}
 
 -- A boolean is read by its longest word: of `true,` all four letters.

@@ -1,4 +1,4 @@
-use Rattle.lp_relay.specs.FieldTypes.{types_of}
+use Rattle.lp_conditions.specs.FieldTypes.{types_of}
 use Rattle.lp_relay.specs.Inputs.{inputs_told}
 use Rattle.lp_relay.proofs.InputLemmas.{RelayedSoFar}
 use Rattle.lp_relay.proofs.inputs.relay_inputs.Given as goal

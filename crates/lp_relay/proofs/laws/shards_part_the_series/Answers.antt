@@ -2,7 +2,7 @@ use Rattle.std.proofs.Common.{◌%◌, ◌==◌, ℕ, List, ap, arith, max, sym}
 use Rattle.std.proofs.Math.Nat.{mod-lt}
 use Rattle.std.proofs.lemmas.Bool.{eq-eqb, eqb-true}
 use Rattle.influxdb_line_protocol.specs.code.Keys.{hash_of}
-use Rattle.lp_relay.specs.Relaying.{key_of, shard_of}
+use Rattle.lp_faults.specs.Relaying.{key_of, shard_of}
 use Rattle.lp_relay.proofs.laws.shards_part_the_series.Goals as goal
 
 pub returns-clause-one : goal.returns-clause-one

@@ -4,7 +4,7 @@ use Rattle.std.proofs.KnownBytes.{Consumes-nil, Consumes-trans}
 use Rattle.influxdb_line_protocol.specs.code.Rules.{rules_of}
 use Rattle.lp_rebuild.specs.declared.program.RunFault.TheVariants.{OutOfMemory}
 use Rattle.lp_relay.specs.Reads.{settings_at}
-use Rattle.lp_relay.proofs.CutLemmas.{none_is_last}
+use Rattle.lp_cuts.proofs.CutLemmas.{none_is_last}
 use Rattle.lp_relay.proofs.InputLemmas.{none_fail}
 use Rattle.lp_relay.proofs.ReadLemmas.{front_after_read, front_at_end, front_of_reads, held_last, now_ended, now_failed, reads_all, reads_more, reads_none}
 use Rattle.lp_relay.proofs.RelaysSoFar.{read_none}

@@ -1,5 +1,5 @@
 use Rattle.std.proofs.Common.{◌≡◌, ◌≤◌, length}
-use Rattle.lp_relay.specs.FieldTypes.{types_of}
+use Rattle.lp_conditions.specs.FieldTypes.{types_of}
 use Rattle.lp_relay.specs.RelaySteps.{HasRules}
 use Rattle.lp_relay.specs.Writers.{CountsNone, bytes_of, failures_of}
 use Rattle.lp_relay.proofs.ReadLemmas.{ReadSoFar}

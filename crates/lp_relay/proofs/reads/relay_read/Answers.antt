@@ -1,6 +1,6 @@
 use Rattle.std.proofs.Common.{◌≡◌, ◌+◌, ◌++◌, ◌∙◌, Err, Ok, ap, arith}
-use Rattle.lp_relay.specs.FieldTypes.{types_of}
-use Rattle.lp_relay.specs.Kinds.{counts_if}
+use Rattle.lp_conditions.specs.FieldTypes.{types_of}
+use Rattle.lp_conditions.specs.KindCounts.{counts_if}
 use Rattle.lp_relay.specs.Reads.{settings_from}
 use Rattle.lp_relay.specs.RelaySteps.{Start, Unwritten, items_before, stage_of, unwritten_of_none}
 use Rattle.lp_relay.proofs.ReadLemmas.{fronts_and_more, so_far_held}

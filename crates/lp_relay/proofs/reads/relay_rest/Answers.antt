@@ -1,6 +1,6 @@
 use Rattle.std.proofs.Common.{◌≡◌, ◌+◌, ◌∙◌, ap, arith}
-use Rattle.lp_relay.specs.FieldTypes.{types_of}
-use Rattle.lp_relay.specs.Kinds.{counts_if}
+use Rattle.lp_conditions.specs.FieldTypes.{types_of}
+use Rattle.lp_conditions.specs.KindCounts.{counts_if}
 use Rattle.lp_relay.specs.RelaySteps.{Start, items_before, stage_of, unwritten_of_none}
 use Rattle.lp_relay.proofs.ReadLemmas.{so_far_held}
 use Rattle.lp_relay.proofs.RelayLemmas.{at_fault}

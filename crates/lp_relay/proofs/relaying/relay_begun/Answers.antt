@@ -2,10 +2,9 @@ use Rattle.influxdb_line_protocol.specs.code.Rules.{rules_of}
 use Rattle.std.proofs.Common.{◌+◌, ◌++◌, [], subst, take}
 use Rattle.lp_relay.specs.RelaySteps.{SoFar, SomeSoFar, TakesFirst, stage_of}
 use Rattle.lp_rebuild.proofs.Parts.{at_no_fault}
-use Rattle.lp_relay.proofs.CutLemmas.{none_is_last}
+use Rattle.lp_cuts.proofs.CutLemmas.{none_is_last}
 use Rattle.lp_relay.proofs.RelayLemmas.{at_fault}
-use Rattle.lp_relay.proofs.RelaysSoFar.{front_is, nothing_given, rest_is, so_far_given, some_given, some_of_front}
-use Rattle.lp_relay.proofs.RelaysSoFar.{some_so_far}
+use Rattle.lp_relay.proofs.RelaysSoFar.{front_is, nothing_given, rest_is, so_far_given, some_given, some_of_front, some_so_far}
 use Rattle.lp_relay.proofs.WholeLines.{line_ended}
 use Rattle.lp_relay.proofs.relaying.relay_begun.Goals as goal
 

@@ -2,9 +2,9 @@ use Rattle.std.proofs.Common.{◌≡◌, ◌+◌, ◌++◌, ◌∙◌, [], Err, 
 use Rattle.std.specs.Io.KnownBytes.{Consumes}
 use Rattle.std.proofs.KnownBytes.{Consumes-nil, Consumes-trans, Consumes-whole}
 use Rattle.lp_rebuild.specs.declared.program.RunFault.TheVariants.{OutOfMemory}
-use Rattle.lp_relay.specs.FieldTypes.{types_of}
+use Rattle.lp_conditions.specs.FieldTypes.{types_of}
 use Rattle.lp_relay.specs.RelaySteps.{Start, items_before, stage_of, unwritten_of_none}
-use Rattle.lp_relay.specs.Kinds.{counts_if}
+use Rattle.lp_conditions.specs.KindCounts.{counts_if}
 use Rattle.lp_relay.specs.Relays.{RelaysFronts, TypesAfter}
 use Rattle.lp_relay.specs.Writers.{bytes_of}
 use Rattle.lp_relay.proofs.RelaysSoFar.{fronts_so_far, pieces_relayed, read_none, so_far_all, so_far_none, some_so_far, types_all}

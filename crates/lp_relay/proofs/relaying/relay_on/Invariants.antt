@@ -1,6 +1,6 @@
 use Rattle.std.proofs.Common.{◌≡◌, ◌≤◌, length, List, ℕ}
 use Rattle.std.specs.Io.KnownBytes.{Consumes}
-use Rattle.lp_relay.specs.FieldTypes.{types_of}
+use Rattle.lp_conditions.specs.FieldTypes.{types_of}
 use Rattle.lp_relay.specs.RelaySteps.{IsReady, SoFarBy, stage_of}
 use Rattle.lp_relay.specs.Writers.{CountsNone, failures_of}
 use Rattle.lp_relay.proofs.relaying.relay_on.Given as goal

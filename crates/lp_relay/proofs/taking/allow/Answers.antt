@@ -1,7 +1,7 @@
 use Rattle.std.proofs.Common.{◌≤◌, ◌<◌, length, subst, sym, arith}
 use Rattle.std.proofs.lemmas.Result.{IfOk-weaker}
-use Rattle.lp_relay.specs.Refusals.{TakesItem}
-use Rattle.lp_relay.specs.Relaying.{allowed}
+use Rattle.lp_relay.specs.Taking.{TakesItem}
+use Rattle.lp_faults.specs.Relaying.{allowed}
 use Rattle.lp_relay.specs.declared.taking.Taken.{Taken}
 use Rattle.lp_relay.proofs.PortableLemmas.{nothing_added, something_added}
 use Rattle.lp_relay.proofs.taking.allow.Goals as goal

@@ -1,6 +1,6 @@
 use Rattle.std.proofs.Common.{subst, sym}
 use Rattle.std.proofs.lemmas.Result.{on_ok_weaker}
-use Rattle.lp_relay.specs.Refusals.{EndsPiece}
+use Rattle.lp_relay.specs.Taking.{EndsPiece}
 use Rattle.lp_relay.specs.RelaySteps.{unwritten_of}
 use Rattle.lp_relay.proofs.ToldLemmas.{ends_refused}
 use Rattle.lp_relay.proofs.taking.end_piece.Goals as goal

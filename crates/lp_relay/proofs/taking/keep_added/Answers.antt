@@ -3,8 +3,8 @@ use Rattle.std.specs.Prelude.{IfOk}
 use Rattle.influxdb_line_protocol.specs.code.{Parsed.line_read, Rules.rules_of}
 use Rattle.influxdb_line_protocol.specs.format.Lines.{answer}
 use Rattle.lp_relay.specs.declared.taking.Taken.TheVariants as took
-use Rattle.lp_relay.specs.FieldTypes.{types_of}
-use Rattle.lp_relay.specs.Refusals.{KeepsItem}
+use Rattle.lp_conditions.specs.FieldTypes.{types_of}
+use Rattle.lp_relay.specs.Taking.{KeepsItem}
 use Rattle.lp_relay.proofs.TimedPieces.{read_as_line}
 use Rattle.lp_relay.proofs.taking.keep_added.Goals as goal
 

@@ -1,7 +1,7 @@
 use Rattle.std.proofs.Common.{Ok}
 use Rattle.std.proofs.lemmas.Result.{IfOk-weaker}
 use Rattle.influxdb_line_protocol.specs.code.Parsed.{line_read}
-use Rattle.lp_relay.specs.FieldTypes.{types_of}
+use Rattle.lp_conditions.specs.FieldTypes.{types_of}
 use Rattle.lp_relay.proofs.TypeLemmas.{is_kept}
 use Rattle.lp_relay.proofs.taking.keep_if_read.Goals as goal
 

@@ -1,5 +1,5 @@
 use Rattle.std.proofs.Common.{refl}
-use Rattle.lp_relay.specs.Relaying.{line_of}
+use Rattle.lp_faults.specs.Relaying.{line_of}
 use Rattle.lp_relay.proofs.taking.line_of.Goals as goal
 
 pub returns-then-settings : goal.returns-then-settings

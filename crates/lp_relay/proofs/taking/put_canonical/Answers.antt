@@ -3,7 +3,7 @@ use Rattle.std.proofs.lemmas.Bool.{false≢true}
 use Rattle.std.proofs.lemmas.List.{take_rest}
 use Rattle.std.proofs.lemmas.Slice.Eq.{bytes_eq-Decides}
 use Rattle.influxdb_line_protocol.specs.code.Parsed.{line_read}
-use Rattle.lp_relay.specs.Differing.{differing_part}
+use Rattle.lp_conditions.specs.Differing.{differing_part}
 use Rattle.lp_relay.proofs.CanonicalLemmas.{no_refusal, takes_other, takes_same}
 use Rattle.lp_relay.proofs.taking.put_canonical.Goals as goal
 

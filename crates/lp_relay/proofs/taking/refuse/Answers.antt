@@ -2,7 +2,7 @@ use Rattle.std.proofs.Common.{◌≡◌, ◌++◌, ◌∷◌, [], ◌∙◌, Lis
 use Rattle.std.proofs.lemmas.Bool.Decides.{nat_tests}
 use Rattle.std.proofs.lemmas.Result.{on_ok_weaker}
 use Rattle.influxdb_line_protocol.specs.format.Bytes.{newline}
-use Rattle.lp_relay.specs.Kinds.{counts_if, with_fault}
+use Rattle.lp_conditions.specs.KindCounts.{counts_if, with_fault}
 use Rattle.lp_relay.specs.RelaySteps.{unwritten_of}
 use Rattle.lp_relay.proofs.ToldLemmas.{put_asked, put_unasked, refuses}
 use Rattle.lp_relay.proofs.taking.refuse.Goals as goal

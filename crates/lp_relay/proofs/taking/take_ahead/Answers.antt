@@ -1,5 +1,5 @@
 use Rattle.std.proofs.Common.{Err, refl}
-use Rattle.lp_relay.specs.FieldTypes.{types_of}
+use Rattle.lp_conditions.specs.FieldTypes.{types_of}
 use Rattle.lp_relay.specs.RelaySteps.{unwritten_of}
 use Rattle.lp_relay.proofs.RefusalLemmas.{takes_too_long}
 use Rattle.lp_relay.proofs.ToldLemmas.{counts_ahead}

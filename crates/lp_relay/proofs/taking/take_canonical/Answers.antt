@@ -1,7 +1,7 @@
 use Rattle.std.proofs.lemmas.List.{take_rest}
 use Rattle.std.proofs.Common.{◌≡◌, List, ℕ, ap, drop, ◌∙◌, arith}
 use Rattle.influxdb_line_protocol.specs.code.Rules.{rules_of}
-use Rattle.lp_relay.specs.Differing.{differing_part}
+use Rattle.lp_conditions.specs.Differing.{differing_part}
 use Rattle.lp_relay.proofs.CanonicalLemmas.{no_refusal, takes_differing}
 use Rattle.lp_relay.proofs.taking.take_canonical.Goals as goal
 

@@ -1,6 +1,6 @@
 use Rattle.std.proofs.Common.{false, true, subst, sym}
 use Rattle.std.proofs.lemmas.Result.{on_ok_weaker}
-use Rattle.lp_relay.specs.Refusals.{given_of}
+use Rattle.lp_faults.specs.Refusals.{given_of}
 use Rattle.lp_relay.specs.RelaySteps.{TakesBy, unwritten_of}
 use Rattle.lp_relay.proofs.RelayLemmas.{on_ok_pair}
 use Rattle.lp_relay.proofs.ToldLemmas.{step_same}

@@ -1,14 +1,15 @@
 use Rattle.std.proofs.Common.{◌≡◌, refl, subst, sym}
-use Rattle.lp_relay.specs.FieldTypes.{types_of}
+use Rattle.lp_conditions.specs.FieldTypes.{types_of}
 use Rattle.lp_relay.specs.RelaySteps.{types_given}
-use Rattle.lp_relay.proofs.ItemLemmas.{types_of_no_text}
+use Rattle.lp_faults.proofs.ItemLemmas.{types_of_no_text}
 use Rattle.std.proofs.lemmas.Result.{on_ok_weaker}
-use Rattle.lp_relay.specs.declared.refusals.Refusal.TheVariants as why
+use Rattle.lp_faults.specs.declared.refusals.Refusal.TheVariants as why
 use Rattle.lp_relay.specs.declared.taking.Taken.TheVariants as took
-use Rattle.lp_relay.specs.Refusals.{IsKnown, TakesPiece, given_of}
-use Rattle.lp_relay.specs.Relaying.{line_of}
+use Rattle.lp_faults.specs.Refusals.{IsKnown, given_of}
+use Rattle.lp_relay.specs.Taking.{TakesPiece}
+use Rattle.lp_faults.specs.Relaying.{line_of}
 use Rattle.lp_relay.proofs.RefusalLemmas.{takes_no_text, takes_too_long}
-use Rattle.lp_relay.proofs.ReturnLemmas.{piece_utf8}
+use Rattle.lp_faults.proofs.ReturnLemmas.{piece_utf8}
 use Rattle.lp_relay.proofs.taking.take_item.Goals as goal
 
 pub returns-in-NoText-clause-taken : goal.returns-in-NoText-clause-taken

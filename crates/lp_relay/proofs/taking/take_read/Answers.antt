@@ -1,8 +1,8 @@
 use Rattle.std.proofs.Common.{◌≡◌, Ok, length, arith}
 use Rattle.std.proofs.lemmas.Result.{on_ok_weaker}
 use Rattle.influxdb_line_protocol.specs.code.Parsed.{line_read}
-use Rattle.lp_relay.specs.FieldTypes.{types_of}
-use Rattle.lp_relay.specs.Relaying.{item_by, item_of}
+use Rattle.lp_conditions.specs.FieldTypes.{types_of}
+use Rattle.lp_faults.specs.Relaying.{item_by, item_of}
 use Rattle.lp_relay.proofs.TimedPieces.{kept_relayed, takes_relayed}
 use Rattle.lp_relay.proofs.taking.take_read.Goals as goal
 

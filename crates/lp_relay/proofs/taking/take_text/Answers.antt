@@ -3,8 +3,8 @@ use Rattle.std.proofs.lemmas.Result.{on_ok_weaker}
 use Rattle.influxdb_line_protocol.specs.code.Rules.{rules_of}
 use Rattle.influxdb_line_protocol.specs.format.Bytes.{newline}
 use Rattle.influxdb_line_protocol.specs.format.Lines.{answer}
-use Rattle.lp_relay.specs.FieldTypes.{types_of}
-use Rattle.lp_relay.specs.Relaying.{item_of, types_of_bytes}
+use Rattle.lp_conditions.specs.FieldTypes.{types_of}
+use Rattle.lp_faults.specs.Relaying.{item_of, types_of_bytes}
 use Rattle.lp_relay.proofs.CanonicalLemmas.{takes_copied}
 use Rattle.lp_relay.proofs.RelayLemmas.{blank_types}
 use Rattle.lp_relay.proofs.RefusalLemmas.{is_blank, not_blank, takes_blank}

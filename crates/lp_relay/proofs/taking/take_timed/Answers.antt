@@ -4,8 +4,8 @@ use Rattle.influxdb_line_protocol.specs.code.Rules.{rules_of}
 use Rattle.influxdb_line_protocol.specs.format.Lines.{answer}
 use Rattle.lp_rebuild.proofs.BatchLemmas.{has_field}
 use Rattle.lp_values.specs.code.SpelledParts.{spelled_fault}
-use Rattle.lp_relay.specs.FieldTypes.{types_of}
-use Rattle.lp_relay.specs.LineTimes.{change_of, time_fault, timed}
+use Rattle.lp_conditions.specs.FieldTypes.{types_of}
+use Rattle.lp_conditions.specs.LineTimes.{change_of, time_fault, timed}
 use Rattle.lp_relay.proofs.TimedPieces.{kept_fault_timed, kept_time_fault, read_as_line, takes_fault_timed, takes_time_fault, time_fault_is}
 use Rattle.lp_relay.proofs.taking.take_timed.Goals as goal
 

@@ -2,8 +2,8 @@ use Rattle.std.proofs.Common.{◌≡◌, ◌<◌, ◌∙◌, length, subst, arit
 use Rattle.std.proofs.lemmas.Result.{on_ok_weaker}
 use Rattle.influxdb_line_protocol.specs.code.Rules.{rules_of}
 use Rattle.influxdb_line_protocol.specs.format.Lines.{answer}
-use Rattle.lp_relay.specs.FieldTypes.{types_of}
-use Rattle.lp_relay.specs.Relaying.{item_of}
+use Rattle.lp_conditions.specs.FieldTypes.{types_of}
+use Rattle.lp_faults.specs.Relaying.{item_of}
 use Rattle.lp_relay.proofs.TimedPieces.{kept_untimed, takes_untimed}
 use Rattle.lp_relay.proofs.TypeLemmas.{kept_by}
 use Rattle.lp_relay.proofs.taking.take_uncopied.Goals as goal

@@ -1,0 +1,6 @@
+pub mod CountLemmas
+pub mod DifferingLemmas
+pub mod FieldTypeLemmas
+pub mod PortableTexts
+pub mod TimeLemmas
+pub mod VerdictLemmas

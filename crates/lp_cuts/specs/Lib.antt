@@ -1,0 +1,3 @@
+pub mod CutSteps
+pub mod Cuts
+pub mod Windows

@@ -1,0 +1,2 @@
+pub mod JsonTexts
+pub mod Told

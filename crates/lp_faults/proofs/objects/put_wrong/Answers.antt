@@ -1,0 +1,9 @@
+use Rattle.std.proofs.Common.{string_bytes, arith}
+use Rattle.std.proofs.lemmas.Str.{IsUtf8-string_bytes}
+use Rattle.lp_escapes.proofs.OneLine.{front_is_text}
+use Rattle.lp_faults.proofs.objects.put_wrong.Goals as goal
+
+pub escape_from-requires-clause-front : goal.escape_from-requires-clause-front
+escape_from-requires-clause-front c =
+    let old = c.args.faults.now in
+    front_is_text (string_bytes old) _ _ _ (IsUtf8-string_bytes old) (omega (arith, c.len-from.ensures)) c.in_ok-write.ensures.bytes

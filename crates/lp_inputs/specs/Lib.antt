@@ -1,0 +1,4 @@
+pub mod Counted
+pub mod Inputs
+pub mod Starts
+pub mod WholeLines

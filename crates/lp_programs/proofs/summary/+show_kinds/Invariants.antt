@@ -1,5 +1,0 @@
-use Rattle.std.proofs.Common.{length}
-use Rattle.lp_programs.proofs.summary.+show_kinds.Given as goal
-
-abbrev pub decreases-show_kinds : goal.decreases-show_kinds
-decreases-show_kinds g l = length l.kinds.now

@@ -1,9 +1,0 @@
-use Rattle.std.proofs.Common.{◌≡◌, ◌+◌, ◌≤◌, drop}
-use Rattle.lp_relay.specs.Editors.{character_column}
-use Rattle.lp_relay.proofs.editors.character_column.Given as goal
-
-abbrev pub invariant-loop-at : goal.invariant-loop-at
-invariant-loop-at l = record {
-  few : l.column ≤ l.at + 1;
-  rest : character_column l.column (drop l.at l.bytes) ≡ character_column 1 l.bytes;
-}

@@ -1,6 +1,0 @@
-use Rattle.std.proofs.Common.{arith}
-use Rattle.lp_relay.proofs.JsonTexts.{plain_front}
-use Rattle.lp_relay.proofs.objects.are_plain.Goals as goal
-
-pub returns : goal.returns
-returns c = λ are. plain_front c.args.bytes.now c.loop-at.at (omega (arith, c.loop-at-test.false)) (c.loop-at.invariant are)

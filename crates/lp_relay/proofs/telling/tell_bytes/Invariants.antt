@@ -1,8 +1,0 @@
-use Rattle.std.proofs.Common.{◌≡◌, ◌++◌, string_bytes, take}
-use Rattle.std.specs.List.{flat_map}
-use Rattle.lp_relay.specs.Told.{told_byte}
-use Rattle.lp_relay.proofs.telling.tell_bytes.Given as goal
-
--- the bytes so far are told
-abbrev pub invariant-loop-at : goal.invariant-loop-at
-invariant-loop-at l = string_bytes l.line ≡ string_bytes l.initial.line ++ flat_map told_byte (take l.at l.bytes)

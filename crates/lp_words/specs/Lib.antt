@@ -1,0 +1,4 @@
+pub mod BatchNames
+pub mod Options
+pub mod Plain
+pub mod Refusals
