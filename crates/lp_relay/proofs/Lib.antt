@@ -31,3 +31,9 @@ pub mod ReadLemmas
 pub mod TypeLemmas
 pub mod TimedPieces
 pub mod FieldTypeLemmas
+pub mod ReadFronts
+pub mod ListFronts
+pub mod NewStamps
+pub mod LineFronts
+pub mod CutStays
+pub mod TimeLaws

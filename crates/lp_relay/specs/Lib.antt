@@ -14,6 +14,7 @@ pub mod Reads
 pub mod Relaying
 pub mod RelaySteps
 pub mod Relays
+pub mod TimeLaws
 pub mod Told
 pub mod TypeSteps
 pub mod Verdicts
