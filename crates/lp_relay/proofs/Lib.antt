@@ -16,3 +16,9 @@ pub mod PortableLemmas
 pub mod ReadLemmas
 pub mod TypeLemmas
 pub mod TimedPieces
+pub mod ReadFronts
+pub mod ListFronts
+pub mod NewStamps
+pub mod LineFronts
+pub mod CutStays
+pub mod TimeLaws

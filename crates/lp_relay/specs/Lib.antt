@@ -3,6 +3,7 @@ pub mod Parts
 pub mod Reads
 pub mod RelaySteps
 pub mod Relays
+pub mod TimeLaws
 pub mod Writers
 pub mod Shards
 pub mod Taking

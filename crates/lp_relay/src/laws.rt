@@ -2,6 +2,7 @@
 ghost use Rattle.lp_conditions.specs.Differing.{FrontsStopInThePart};
 ghost use Rattle.lp_relay.specs.Parts.{FaultsChangeNoLine, PartsGiveLines, PartsGiveRefused};
 ghost use Rattle.lp_relay.specs.Shards.{PointsHaveOneShard, SeriesHaveOneShard};
+ghost use Rattle.lp_relay.specs.TimeLaws.{TimedPiecesAreReadBack, TimesAreReadBack};
 
 /// Of a line take the front before the first byte in which it differs from what the builder writes. The part that is told as not as
 /// written is the one in which reading stops of that front, if a character begins at that byte.
@@ -24,4 +25,11 @@ pub fn parts_are_relayed_apart()
 pub fn shards_part_the_series()
     ensures one { PointsHaveOneShard }
     ensures same { SeriesHaveOneShard }
+{}
+
+/// A line with another time is read as that line with this time: its measurement, tags, fields and series stay. If a newline ends its piece, a
+/// newline ends the piece with this time too, and changes nothing of what is read after it.
+pub fn times_are_read_back()
+    ensures lines { TimesAreReadBack }
+    ensures pieces { TimedPiecesAreReadBack }
 {}

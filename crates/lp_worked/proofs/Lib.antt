@@ -8,5 +8,6 @@ pub mod WorkedReaders
 pub mod WorkedStreams
 pub mod WorkedItems
 pub mod WorkedRelays
+pub mod WorkedTimes
 pub mod WorkedWords
 pub mod WorkedCalls
