@@ -105,6 +105,9 @@ def sizes(relay):
     many = [b"m a=%di\n" % number for number in range(30000)]
     for most_lines, most_bytes in ((5000, 0), (7000, 65536), (0, 65536), (0, 100000), (15000, 0), (30000, 0), (30001, 1000000)):
         cut(relay, "30,000 lines", [], b"".join(many), many, most_lines, most_bytes)
+    relay.clear()
+    same("1,200 batches", relay.run(["--batch-lines", "1", "-o", "b-%04d.lp"], b"".join(many[:1200])), (0, b"", ""))
+    same("1,200 batches: the files", relay.held(), files(many[:1200], "b-%04d.lp"))
     long = [LONG.encode() + b"\n"] * 200
     for most_lines, most_bytes in ((1, 0), (33, 0), (0, 65536), (0, 2000), (7, 10000)):
         cut(relay, "long lines", [], b"".join(long), long, most_lines, most_bytes)
@@ -174,6 +177,13 @@ def there(relay):
     (relay.room / os.fsdecode(b"b-\xff01.lp")).touch()
     same("names that are none of a batch", relay.run(["--batch-lines", "1", "-o", NAME], b"m a=1i\n"), (0, b"", ""))
     same("names that are none of a batch: the batch", (relay.room / "b-001.lp").read_bytes(), b"m a=1i\n")
+    for first, then in (("b-1.lp", "old"), ("old", "b-1.lp")):  # Of many names, the batch can be any.
+        relay.clear()
+        (relay.room / first).touch()
+        for number in range(1500):
+            (relay.room / f"other-{number}").touch()
+        (relay.room / then).touch()
+        same("a batch among 1,500 other names", relay.run(["--batch-lines", "1", "-o", "b-%01d.lp"], b"m a=1i\n"), (2, b"", "lp_relay: a batch is there already: b-1.lp\n"))
     relay.clear()
     (relay.room / "b-001.lp").write_bytes(b"m a=1i\n")
     same("an input that is a batch", relay.run(["--batch-lines", "1", "-o", NAME, "b-001.lp"])[0], 2)
@@ -307,7 +317,7 @@ def synced(relay):
 
 
 def compare(program, seed=1):
-    with tempfile.TemporaryDirectory() as top:
+    with relay_runs.folder() as top:
         relay = Relay(program, top)
         sizes(relay)
         random_ones(relay, int(seed))

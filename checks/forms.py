@@ -61,9 +61,10 @@ def compare(relay, room):
     has, out, said, _ = run(relay, room, ["--now"], SPACED)
     if has != 0 or not re.fullmatch(re.escape(TEXT) + rb" [0-9]{19}\n", out):
         fail("--now", f"the status is {has}, and {len(out)} bytes go out: {said[-200:]!r}")
-    has, out, said, _ = run(relay, room, ["--faults", "json+text"], BROKEN)
-    if has != 1 or out or json.loads(said)["piece"].encode() != BROKEN:
-        fail("--faults json+text", f"the status is {has}, and it says {said[:200]!r}")
+    for words in ["--faults", "json+text"], ["--faults", "json+text", "--crlf"]:
+        has, out, said, _ = run(relay, room, words, BROKEN)
+        if has != 1 or out or json.loads(said)["piece"].encode() != BROKEN:
+            fail(" ".join(words), f"the status is {has}, and it says {said[:200]!r}")
     for form in ["editor", "raw", "line", "json"]:
         has, out, said, left = run(relay, room, ["--faults", form], BROKEN)
         if has != 1 or out or left != BROKEN + b"\n" or len(said.splitlines()) != 1:
@@ -74,7 +75,7 @@ def main():
     relay = str(Path(sys.argv[1]).resolve())
     with tempfile.TemporaryDirectory() as room:
         compare(relay, room)
-    print(f"forms: lp_relay gives a line of {len(TEXT)} bytes whole in {len(ROWS) + 6} forms")
+    print(f"forms: lp_relay gives a line of {len(TEXT)} bytes whole in {len(ROWS) + 7} forms")
 
 
 main()

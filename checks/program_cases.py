@@ -249,6 +249,7 @@ def pauses(room):
     same("--now", (done.status, done.err, bool(found)), (1, fault_lines(b"item", [3, 5]), True))
     first, second, third = map(int, found.groups())
     same(f"the order of the times {found.groups()}, from {start}", start <= first < second - 200000000 < second <= third <= time.time_ns(), True)
+    same("whether a time is no whole number of milliseconds", any(told % 1000000 for told in (first, second, third)), True)
 
 
 @native
@@ -311,6 +312,7 @@ def files_without_a_length(room):
     wanted = room.run("--newline-delimited --faults raw /proc/version")
     same("/proc/version", room.run("--newline-delimited --whole-lines --faults raw /proc/version"), wanted)
     same("whether it has a fault", bool(wanted.err), True)
+    same("a cut of it", room.run("--newline-delimited --cut 2 /proc/version"), room.run("--newline-delimited --cut 2", Path("/proc/version").read_bytes()))
     same("a pipe", room.run("--range 0.. -", LINE), refused("--range reads a regular file, which this is not: standard input"))
 
 
@@ -348,13 +350,18 @@ def files_that_change(room):
 # Files that a relay writes.
 @case
 def runs_that_append(room):
-    """A second run may not put its rejected lines between those of a run that appends."""
+    """A second run may not put its rejected lines between those of a run that appends, for as long as that runs."""
     room.write("refused", b"x\n")
     with open(room.path / "refused", "ab") as held:
         fcntl.flock(held, fcntl.LOCK_EX)
         same("the run", room.run("--refused refused --append", b"m b=2i\nx\n"),
              refused("cannot write the output: refused: another run appends to it"))
     same("the file", room.read("refused"), b"x\n")
+    process = room.begin("--refused refused --append")
+    given_in_parts(process, [b"y\n"], 0)
+    wait_for(lambda: room.read("refused") == b"x\ny\n")
+    same("a run beside it", room.run("--refused refused --append", b"x\n"), refused("cannot write the output: refused: another run appends to it"))
+    same("the first run", ended(process), Done(1, b"", fault_lines(b"item", [1])))
 
 
 @case
@@ -481,13 +488,16 @@ def owners_of_files(room):
 
 @native
 def mount_points(room):
-    """A place that something is mounted on is refused before anything is read."""
-    room.write("out", b"old\n")
+    """A place that something is mounted on, whatever its name, is refused before anything is read."""
+    for name in ("out", "o \t\n\\"):
+        room.write(name, b"old\n")
     room.write("a", LINE)
-    mount = ["unshare", "--mount", "sh", "-c", 'mount --bind a out && exec "$@"', "sh"]
+    mount = ["unshare", "--mount", "sh", "-c", 'for name in o*; do mount --bind a "$name" || exit; done; exec "$@"', "sh"]
     if subprocess.run([*mount, "true"], cwd=room.path, stderr=subprocess.DEVNULL).returncode:
         return left_out("a mount point as output", "nothing can be mounted, for checks/program_cases.py")
-    same("the run", room.run("-o out none", prefix=mount), refused("cannot write the output: out: it is a mount point, which no file can replace"))
+    for name, told in (("out", "out"), ("o \t\n\\", r"o \t\n\\")):
+        same(f"the place {name}", room.run(["-o", name, "none"], prefix=mount),
+             refused(f"cannot write the output: {told}: it is a mount point, which no file can replace"))
 
 
 # Under strace.
@@ -507,18 +517,43 @@ def interrupted_calls(room):
 
 
 @native
+def file_that_goes_before_it_is_locked(room):
+    """If another run removes the file beside a place before it is locked, a run makes another one."""
+    if not can_trace():
+        return
+    room.write("a", LINE)
+    process = room.begin(f"-qq -o /dev/null -e trace=flock -e inject=flock:delay_enter=1000000:when=1 {room.relay} -o out a", "strace")
+    wait_for(room.beside)
+    (room.path / room.beside()[0]).unlink()
+    same("the status and the place", (ended(process).status, room.read("out")), (0, LINE))
+
+
+@native
+def calls_over_large_inputs(room):
+    """An input of many lines is read and written in blocks, and a cut reads no more than it needs."""
+    if not can_trace():
+        return
+    room.write("large", LINE * 30000)
+    for words, call, most in (("large", "read", 9), ("large", "write", 9), ("--cut 100 large", "pread64", 9), ("--newline-delimited --cut 3 large", "pread64", 2)):
+        _, trace = room.traced(words, call, options=["-P", room.path / "large", "-P", room.path / "out"], redirect=">out")
+        same(f"how many calls of {call} the words ({words}) make: {trace.count(call)}", 0 < trace.count(call) <= most, True)
+
+
+@native
 def files_on_the_device(room):
     """All of both files is on the device before either comes to its place, and the folder after that; whether a hard link can be made is seen first."""
     if not can_trace():
         return
     calls = "fsync,rename,link,unlink"
     room.write("b", b"m b=2i\nx\n")
-    room.write("long", LINE * 30000)
+    room.write("long", b'm s="%s"\n' % (b"x" * 210000))
     done = lambda trace: re.findall(r"^(\w+)\(.*= 0$", trace, re.M)
     for name in ("out", "refused"):
         room.write(name, b"old\n")
     run, trace = room.traced("-o out --replace --refused refused b", calls)
     same("files that are replaced", (run.status, done(trace)), (1, "fsync fsync rename rename fsync fsync".split()))
+    _, trace = room.traced("-o out b", "openat")
+    same("who may read a file beside an old one at first", re.findall(r"O_CREAT.*, 0(\d+)\)", trace), ["600"])
     for name in ("out", "refused"):
         (room.path / name).unlink()
     run, trace = room.traced(f"-o out --refused refused {10 * 'long '} b", calls)
@@ -586,6 +621,8 @@ def progress(room):
         same("more options", on_terminal(room, "--strict --lines --max-line 8", [b"# c\nm a=1i,\n", b"m abcd=1i\n"], out)[:2],
              (1, b"line 2: " + told + end + meter(22, 0, 1) + CLEAR + b"line 3: the line is too long" + end + meter(22, 0, 2) + end))
         same("the lines", room.read("out"), b"")
+    mark = b"lp_relay: the input begins with a byte order mark, which is part of its first line"
+    same("a byte order mark", on_terminal(room, "--check", [b"\xef\xbb\xbf" + LINE])[:2], (0, mark + end + meter(10, 0) + end))
     line = b"m a=1i\r\n"
     same("both outputs", on_terminal(room, "", [LINE] * 2)[:2], (0, line + meter(14, 1) + CLEAR + line + meter(14, 2) + end))
     same("no lines", on_terminal(room, "--check", [LINE] * 2)[:2], (0, meter(14, 0) + meter(14, 0) + end))
@@ -619,6 +656,8 @@ def progress_of_files(room):
         found = [tuple(map(int, pair)) for pair in re.findall(rb"K(\d+) bytes read, (\d+) %, \d+ lines written, ", told)]
         same(f"percents of {words}", [percent for _, percent in found], [number * 100 // total for number, _ in found])
         same(f"the end of {words}", (len(found) >= 2, found[-1:]), (True, [(total, 100)]))
+    _, told, _ = on_terminal(room, "--range 0..7 first")
+    same("a range", b"K7 bytes read, 100 %" in told, True)
     status, told, _ = on_terminal(room, "--output lines last")
     same("lines to a file", (status, room.read("lines"), b"K7 bytes read, 100 %, 1 lines written, faults: 0, " in told), (0, LINE, True))
 
@@ -794,11 +833,16 @@ def reports_while_input_pauses(room):
     for feeder in feeders:
         feeder.join()
     told = [line for line in ended(lines).out.splitlines() if re.match(rb"\d+ points, ", line)]
-    same("lines", (len(told) >= 2, told[-1]), (True, b"4 points, 4 of them without a time"))
+    same("lines", (len(told) >= 3, told[-1]), (True, b"4 points, 4 of them without a time"))
     told = [json.loads(line) for line in ended(objects).out.splitlines()]
-    same("objects", (len(told) >= 2, told[0]["refused"], told[-1]["bytes"], told[-1]["lines"], told[-1]["refused"]), (True, None, 28, 4, {}))
+    same("objects", (len(told) >= 3, told[0]["refused"], told[-1]["bytes"], told[-1]["lines"], told[-1]["refused"]), (True, None, 28, 4, {}))
     same("metrics", (ended(metrics).out, b"lp_series_points_total 4" in held(), room.names()), (b"", True, ["m"]))
     same("an input that ends at once", room.run("--every 1 --json", b"m v=1i\n", room.series).out.count(b"\n"), 1)
+    with open("/dev/full", "wb") as full:
+        process = room.begin("--every 1", room.series, stdout=full)
+    given_in_parts(process, [b"m v=1i\n"] * 2, 2)
+    wait_for(lambda: process.poll() is not None)  # A report that cannot be written ends the run, whose input goes on.
+    same("reports that cannot be written", process.returncode, 2)
 
 
 @case
