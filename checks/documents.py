@@ -938,7 +938,7 @@ def calls_page(tree):
 CHECKS = {"versions": check_versions, "definitions": check_definitions, "settings": check_settings, "blocks": check_blocks,
           "links": check_links, "names": check_names, "layers": check_layers, "lemmas": check_lemmas, "header": check_header,
           "bindings": check_bindings}
-SCRIPTS = {name: f"checks/{name}.py" for name in ("calls", "reading", "bugs", "what_sees")} | {"tables": "tables/generate.py"}
+SCRIPTS = {name: f"checks/{name}.py" for name in ("calls", "reading", "bugs", "what_sees", "what_programs_see")} | {"tables": "tables/generate.py"}
 WRITERS = {"blocks": block_texts, "definitions": lambda tree: {DEFINITIONS: definitions_page(tree)}, "calls": lambda tree: {CALLS: calls_page(tree)}}
 
 
