@@ -149,19 +149,21 @@ class Settings:
     refused: bool
     place: str
     inputs: str
+    limit: int = LIMIT
 
     def words(self):
         """The options and the files, as the words of a command."""
         return [*LINES[self.lines], *DIALECTS[self.dialect], *FAULTS[self.faults], *NUMBERS[self.number], *SUMMARY[self.summary],
-                *REFUSED[self.refused], "--max-line", str(LIMIT), *PLACES[self.place], *INPUTS[self.inputs]]
+                *REFUSED[self.refused], "--max-line", str(self.limit), *PLACES[self.place], *INPUTS[self.inputs]]
 
 
 class Wanted:
-    """What is to come of a relay by some settings."""
+    """What is to come of a relay of some pieces by some settings; of those of its dialect, if none are given."""
 
-    def __init__(self, settings):
+    def __init__(self, settings, pieces=None):
         self.settings = settings
-        self.lines = self.refused = b""
+        self.pieces = PIECES[settings.dialect] if pieces is None else pieces
+        self.lines, self.refused = bytearray(), bytearray()
         self.faults = []
         self.items = 0
         self.kinds = collections.Counter()
@@ -173,7 +175,7 @@ class Wanted:
     def read(self, name):
         """Adds what comes of one input."""
         offset, line = 0, 1
-        for piece in PIECES[self.settings.dialect]:
+        for piece in self.pieces:
             made = getattr(piece, self.settings.lines)
             self.items += made is not None
             if isinstance(made, bytes):
@@ -185,15 +187,18 @@ class Wanted:
 
     def refuse(self, name, piece, fault, offset, line):
         """Adds a fault, and its piece, which begins there."""
-        text = fault.text
-        if fault.kind == "too_long" and self.settings.refused:
-            text += f": its first {LIMIT} bytes are kept"
+        text, kept, limit = fault.text, piece.came, self.settings.limit
+        length = {"length": len(kept)}
+        if fault.kind == "too_long":
+            text += f": its first {limit} bytes are kept" if self.settings.refused else ""
+            kept, length = kept[:limit], {"longer_than": limit}
         self.kinds[fault.kind] += 1
-        self.refused += (piece.came[:LIMIT] if fault.kind == "too_long" else piece.came) + b"\n"
+        self.refused += kept + b"\n"
         if self.settings.faults.startswith("json"):
-            self.faults.append(fault_object(name, self.items, piece, fault, text, offset, line))
+            made = {"file": name} if name else {}
+            self.faults.append(made | {"item": self.items} | fault_members(piece, fault, text, length, offset, line))
             if self.settings.faults == "json+text":
-                self.faults[-1] |= piece_members(piece.came[:LIMIT] if fault.kind == "too_long" else piece.came, fault.kind)
+                self.faults[-1] |= piece_members(kept, fault.kind)
             return
         told = f"{self.settings.number} {self.items if self.settings.number == 'item' else line}: {text}".encode()
         if self.settings.faults == "line":
@@ -214,13 +219,10 @@ class Wanted:
                 f"{self.items - refused_items} carried, {refused_items} refused: {kinds}").encode()
 
 
-def fault_object(name, item, piece, fault, text, offset, line):
-    """The members of the object of a fault, in their order, of a piece that begins there."""
-    made = {"file": name} if name else {}
-    made |= {"item": item, "line": line + piece.came[:piece.front].count(b"\n"), "offset": offset + piece.front}
-    made |= {"piece_line": line, "piece_offset": offset}
-    made |= {"longer_than": LIMIT} if fault.kind == "too_long" else {"length": len(piece.came)}
-    made |= {"kind": fault.kind, "text": cut(text)}
+def fault_members(piece, fault, text, length, offset, line):
+    """The other members of the object of a fault, in their order, of a piece that begins there."""
+    made = {"line": line + piece.came[:piece.front].count(b"\n"), "offset": offset + piece.front, "piece_line": line, "piece_offset": offset}
+    made |= length | {"kind": fault.kind, "text": cut(text)}
     if fault.read is not None:
         read = piece.came[:piece.front + fault.read]
         made |= {"stop_line": line + read.count(b"\n"), "stop_column": len(read) - read.rfind(b"\n")}
@@ -251,7 +253,7 @@ def on_one_line(told):
 
 def lost(settings, what, wanted, got):
     """Ends the check."""
-    raise relay_runs.Wrong(f"with the words {' '.join(settings.words())} {what} should be\n{wanted!r}\nand here is\n{got!r}")
+    raise relay_runs.Wrong(f"with the words {' '.join(settings.words())} {what} should be\n{str(wanted)[:3000]}\nand here is\n{str(got)[:3000]}")
 
 
 def compare_faults(settings, wanted, err):
@@ -299,4 +301,5 @@ def check(relay):
     return f"one text is relayed as its table says, with each combination of options, in {relay.runs} runs"
 
 
-relay_runs.end_by(check, __doc__)
+if __name__ == "__main__":
+    relay_runs.end_by(check, __doc__)

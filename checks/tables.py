@@ -21,12 +21,13 @@ from concurrent.futures import ProcessPoolExecutor
 from dataclasses import dataclass, field
 
 from library import ALL, FINISH, FINISH_TEXT, NEXT, NEXT_TEXT, NO_LIMIT, Library, numbers, sized
+from random_texts import random_parts, random_text
 
 FOLDER = pathlib.Path(__file__).resolve().parent / "tables"
 LIBRARY = Library(sys.argv[1])
 DIALECTS = {b"crate": [0], b"strict": [1], b"newline_delimited": [2], b"both": [0, 1], b"all": [0, 1, 2]}
 DIALECT_LETTERS = [b"", b"s", b"n"]
-SHORT, MOST_CUT, MOST_BY_BYTES, MOST_PARTS, MOST_RANDOM = 6, 64, 4096, 12, 60
+SHORT, MOST_CUT, MOST_BY_BYTES, MOST_PARTS = 6, 64, 4096, 12
 MOST_SHOWN = 2000
 
 
@@ -263,29 +264,6 @@ def short_texts_give(stream, letters, cuts, count):
             stream.cut_text_gives(text, len(ways), steps)
         tried += len(ways) * 7**length
     must(tried == int(count))
-
-
-# Bytes that mean something, characters of two bytes, and parts of lines.
-RANDOM = [part.encode() for part in (
-    "\\", "\\", " ", "=", ",", "\"", "\"", "\n", "\n", "#", "a", "t", "i", "u", "-", "0", "7", ".", "\t", "é", "ß", "m a=1i\n", "m,t=v a=t 5\n",
-    "m s=\"", "\nn b=", ",c=\"", " 12\n", "\\\"", "\\\n", "\n#", "\n ", "x\n")]
-
-
-def random_text(rng):
-    """Random parts, until one has no room."""
-    most, text = rng.randrange(MOST_RANDOM + 1), b""
-    for part in rng.choices(RANDOM, k=most):
-        if len(text) + len(part) > most:
-            break
-        text += part
-    return text
-
-
-def random_parts(rng, length):
-    """Where a text is cut: at few places, at many, or at most."""
-    often, drawn = rng.randrange(1, 4), rng.choices(range(4), k=length)
-    places = [0, *(at for at in range(1, length) if drawn[at] < often), length]
-    return [end - start for start, end in itertools.pairwise(places)] if length else []
 
 
 def random_texts_give(stream, seed, texts, ways):

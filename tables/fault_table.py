@@ -264,8 +264,6 @@ def of_checks():
     yield Place("checks/page/in_chromium.mjs", ("    const faults = {",), "    }", each_kind('        {row}: "{kind}",', OF_LINES))
     yield Place("checks/rows.h", ("    static const char *const NAMES[]",), "    }", wrapped(
         ['""', *(f'"{fault.variant}{" " if fault.carries in ("key", "rest") else ""}"' for fault in NUMBERED)], "        "))
-    yield Place("checks/sizes.c", ("enum kind {",), "}", wrapped([fault.upper for fault in KINDS]))
-    yield Place("checks/sizes.c", ("static const char *const NAMES[LP_KINDS]",), "}", wrapped([f'"{fault.kind}"' for fault in KINDS]))
     yield Place("checks/lp_checks.h", ("/* How many kinds",), "", [f"enum {{ LP_KINDS = {len(KINDS)} }};"])
     yield Place("checks/tables/answers.tsv", ("# The texts of faults are",), "", [
         f"fault\t{text}\t{fault.front}{carried}{fault.back}" for fault in OF_LINES for text, carried in fault.examples])

@@ -2,7 +2,7 @@
  * each to every call that may answer that memory is out, and rebuilds a text of four million bytes. What must come is composed
  * here, by the rules of docs/FORMAT.md. Each block that is lent has just the length that is needed. Then it reads and cuts a million
  * short lines, and sees that the time of each call grows as the text does. */
-#include "../../checks/growth.h"
+#include "growth.h"
 #include "tests.h"
 
 enum { LONGEST = 1048577 };
