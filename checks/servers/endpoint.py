@@ -8,11 +8,14 @@ wanted. It needs influxdb-python. Status 1: something is not as the page of the 
 """
 
 import base64
+import contextlib
 import gzip
 import json
 import os
+import resource
 import shutil
 import signal
+import socket
 import subprocess
 import sys
 import threading
@@ -192,7 +195,6 @@ def bodies(make):
             want(f"a bomb of {name}", trial.write(gzip.compress(line * (6 * 10**6 // len(line)), 1), headers=packed)[0], 413)
         want("a long line", trial.write("m n=2i 2\nm s=\"" + "x" * 100000 + '"')[0], 400)
         want("what is kept of it", [len(line["raw"]) for line in trial.refused()], [100000])
-        want("what was taken of memory is less than 100 MB", trial.endpoint.peak() < 100000, True)
         units = {"n": 1, "ns": 1, "u": 10**3, "us": 10**3, "ms": 10**6, "s": 10**9, "m": 60 * 10**9, "h": 3600 * 10**9}
         for name, unit in units.items():
             want(f"precision {name}", trial.write(f"p,u={name} n={unit}i 400000", precision=name), (204, ""))
@@ -204,6 +206,35 @@ def bodies(make):
         want("no credentials", trial.write("m n=4i 4", u=None, p=None)[0], 401)
         want("what is stored", trial.influx.values(trial.db), [1, 2, 3])
         want("bytes in flight", trial.metric("in_flight_bytes"), 0)
+
+
+# What clients hold open that mean no good: how many, a header and a body of each.
+HEAD = b"POST /write?db=bounds HTTP/1.1\r\nHost: x\r\nContent-Length: 24000000\r\n"
+MANY_REFUSED = gzip.compress(b"x\n" * 160000)
+HOSTILE = {
+    "headers of 900 KB": (1000, HEAD, b"A:\r\n" * 225000),
+    "bodies that do not begin": (3000, HEAD, b"\r\n"),
+    "packed refused lines": (20, HEAD.replace(b"24000000", b"%d" % len(MANY_REFUSED)), b"Content-Encoding: gzip\r\n\r\n" + MANY_REFUSED),
+    "bodies of short lines": (60, HEAD, b"\r\n" + b"m n=1i\n" * 150000),
+    "bodies that do not end": (3, HEAD, b"\r\n" + b"m,t=a n=1i 1\n" * 1700000),
+}
+
+
+def bounds(make):
+    """Memory and connections, by the options as they come, while clients hold all open that they can: a client beside them is answered by 204."""
+    resource.setrlimit(resource.RLIMIT_NOFILE, (min(8192, resource.getrlimit(resource.RLIMIT_NOFILE)[1]),) * 2)
+    peaks = []
+    for number, (what, (count, head, body)) in enumerate(HOSTILE.items()):
+        with make(f"bounds{number}", "-spool", "spool") as trial, contextlib.ExitStack() as stack:
+            for _ in range(count):
+                held = stack.enter_context(socket.create_connection(("127.0.0.1", trial.endpoint.port), 30))
+                with contextlib.suppress(OSError):  # it was closed for another one
+                    held.sendall(head + body)
+            want(f"a client beside {what}", trial.write("m n=1i 1")[0], 204)
+            want(f"connections beside {what}", trial.metric("connections") <= 500, True)
+            peaks.append(trial.endpoint.peak() >> 10)
+            want(f"beside {what}, less than five times what is in flight", (peaks[-1] < 5 * 64, peaks), (True, peaks))
+    return f"at most {max(peaks)} MiB of {peaks}"
 
 
 def killed(make):
@@ -302,7 +333,8 @@ def portable(make):
             status, _ = trial.write(text)
             counts[status] = counts.get(status, 0) + 1
         want("answers by other statuses than 204 and 400", set(counts) - {204, 400}, set())
-        want("bodies in the spool", trial.metric("spooled_bodies_total"), 0)
+        trial.drained()  # what the server did not take within a second
+        want("what it refuses of the spool", trial.metric("refused_later_total"), 0)
         want("what the server answered by 500 and more", trial.influx.failures(), before)
         return counts
 
@@ -372,7 +404,7 @@ def synced(make):
         want("once the device is well", trial.write("m n=5i 5"), (204, ""))
         trial.influx.start()
         trial.drained()
-        want("what is stored then", trial.influx.values(trial.db)[-1], 5)
+        want("what is stored then", trial.influx.values(trial.db), [5])
         return "done"
 
 
@@ -395,7 +427,7 @@ def full(make):
     return counts
 
 
-TRIALS = [answers, bodies, killed, ended, synced, full, poisoned, portable, away]
+TRIALS = [answers, bodies, bounds, killed, ended, synced, full, poisoned, portable, away]
 
 
 def main():
