@@ -334,7 +334,6 @@ def portable(make):
             counts[status] = counts.get(status, 0) + 1
         want("answers by other statuses than 204 and 400", set(counts) - {204, 400}, set())
         trial.drained()  # what the server did not take within a second
-        want("what it refuses of the spool", trial.metric("refused_later_total"), 0)
         want("what the server answered by 500 and more", trial.influx.failures(), before)
         return counts
 
