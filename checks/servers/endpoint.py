@@ -62,12 +62,6 @@ class Influx(client.Influx):
         """The values of a field, in the order of their times."""
         return [value for _, value in self.rows(f'SELECT "{field}" FROM "{measurement}"', db)]
 
-    def failures(self):
-        """How many requests it answered by a status from 500 on, panics among them."""
-        (series,) = self.query("SHOW STATS FOR 'httpd'")
-        told = dict(zip(series["columns"], series["values"][0]))
-        return told["serverError"] + told["recoveredPanics"]
-
 
 class Trial:
     """A database of its own and, before it, an endpoint with options of its own."""
@@ -111,7 +105,7 @@ class Trial:
         return int(dict(line.split() for line in text.splitlines())["endpoint_" + name])
 
     def drained(self):
-        until("the spool is empty", lambda: self.metric("spool_bytes") == 0)
+        until("the spool is empty", lambda: self.metric("spool_bytes") == 0, 300)
 
 
 class Load:
@@ -299,6 +293,21 @@ def away(make):
         want("times of arrival", (len(times) > 1, all(came - 10**10 < at < came and at % 10**6 == 0 for at in times)), (True, True))
 
 
+def hung(make):
+    """The server takes connections and does not answer: lines are kept all the same, and come in order."""
+    with make("hung", "-spool", "spool") as trial:
+        trial.influx.process.send_signal(signal.SIGSTOP)
+        began = time.monotonic()
+        try:
+            for n in range(20):
+                want("an answer while the server hangs", trial.write(f"m n={n}i 5"), (204, ""))
+        finally:
+            trial.influx.process.send_signal(signal.SIGCONT)
+        want("it does not wait for -timeout", time.monotonic() - began < 25, True)
+        trial.drained()
+        want("the last value of one time", trial.influx.values(trial.db), [19])
+
+
 def poisoned(make):
     """Lines that the server refuses, or at which it panics, are in the spool among others."""
     poisons = [PANIC, "m f=1,f=t 2", "m n=t 3", 'm n="x" 4', "m n=7u 5", "m,a=1,a=2 n=8i 6"]
@@ -324,7 +333,6 @@ def portable(make):
     """No line that is let out as portable makes the server fail."""
     texts = [*(row.text() for row in oracle.rows()), *oracle.random_texts(1, 1500)]
     with make("portable", "-spool", "spool", "-portable", "influx1") as trial:
-        before = trial.influx.failures()
         said = f"partial write: line 2: unable to parse '{PANIC[:200]}': not portable: the tags are 100, 200, 400, 800 and so on dropped=1"
         want("a line at which the server panics", trial.write(f"m n=1i 1\n{PANIC}"), (400, said))
         want("a time of minutes", trial.write("m n=2i 153722868", precision="m")[0], 400)
@@ -334,7 +342,8 @@ def portable(make):
             counts[status] = counts.get(status, 0) + 1
         want("answers by other statuses than 204 and 400", set(counts) - {204, 400}, set())
         trial.drained()  # what the server did not take within a second
-        want("what the server answered by 500 and more", trial.influx.failures(), before)
+        later = [line["why"] for line in trial.refused() if line["line"] == 0]
+        want("lines that the server does not take, but for their types", [why for why in later if "field type conflict" not in why], [])
         return counts
 
 
@@ -426,7 +435,7 @@ def full(make):
     return counts
 
 
-TRIALS = [answers, bodies, bounds, killed, ended, synced, full, poisoned, portable, away]
+TRIALS = [answers, bodies, bounds, hung, killed, ended, synced, full, poisoned, portable, away]
 
 
 def main():

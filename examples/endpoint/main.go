@@ -170,7 +170,7 @@ func (e *endpoint) take(r *http.Request) error {
 }
 
 // How long the server may take for lines before they go to the spool.
-const patience = time.Second
+var patience = time.Second
 
 // send hands the good lines to the server; or to the spool, if the server does not take them at once, or if some that came before are still
 // there. A call that goes on after that holds up the sender of the spool until it ends: no line that came later is stored before it.
@@ -229,9 +229,8 @@ type door struct {
 func (d *door) enter(ctx context.Context, c net.Conn) context.Context {
 	d.mu.Lock()
 	defer d.mu.Unlock()
-	if len(d.connections) >= d.mostConnections {
-		oldest := c
-		d.connections[c] = time.Now()
+	d.connections[c] = time.Now()
+	if oldest := c; len(d.connections) > d.mostConnections {
 		for each, since := range d.connections {
 			if since.Before(d.connections[oldest]) {
 				oldest = each
@@ -240,23 +239,16 @@ func (d *door) enter(ctx context.Context, c net.Conn) context.Context {
 		delete(d.connections, oldest)
 		oldest.Close()
 	}
-	d.connections[c] = time.Now()
 	return context.WithValue(ctx, d, c)
 }
 
-// watch is told what becomes of a connection.
+// watch is told that a connection was closed, or that something was done on it.
 func (d *door) watch(c net.Conn, state http.ConnState) {
 	d.mu.Lock()
 	defer d.mu.Unlock()
 	if state == http.StateClosed {
 		delete(d.connections, c)
-	} else if state == http.StateIdle {
-		d.goesOn(c)
-	}
-}
-
-func (d *door) goesOn(c net.Conn) {
-	if _, ok := d.connections[c]; ok {
+	} else if _, ok := d.connections[c]; ok && state == http.StateIdle {
 		d.connections[c] = time.Now()
 	}
 }
@@ -266,12 +258,10 @@ func (d *door) goesOn(c net.Conn) {
 func (d *door) hold(b *body, more int64) error {
 	d.mu.Lock()
 	defer d.mu.Unlock()
-	if b.held == 0 && !b.isAway {
-		d.coming[b] = true
-	}
-	if !d.coming[b] {
+	if b.isAway {
 		return errBusy
 	}
+	d.coming[b] = true
 	d.bytes, b.held = d.bytes+more, b.held+more
 	if b.held > d.most {
 		return errTooLarge
@@ -295,9 +285,9 @@ func (d *door) hold(b *body, more int64) error {
 
 // settle says that a body is whole.
 func (d *door) settle(b *body) error {
+	d.watch(b.connection, http.StateIdle)
 	d.mu.Lock()
 	defer d.mu.Unlock()
-	d.goesOn(b.connection)
 	delete(d.coming, b)
 	if b.isAway {
 		return errBusy
@@ -559,8 +549,8 @@ func (e *endpoint) metrics(w http.ResponseWriter, r *http.Request) {
 }
 
 // The waits before the server is asked again; the bytes of files that go to it together; what a file takes of the disk beside its bytes; how many
-// calls find the lines of a body that the server refuses.
-const shortest, longest, batchBytes, perFile, mostCalls = 100 * time.Millisecond, 10 * time.Second, 1 << 20, 4096, 500
+// calls find the lines of a body that the server refuses; the longest text by which the server is tried: InfluxDB 1.x takes strings of 64 KiB.
+const shortest, longest, batchBytes, perFile, mostCalls, mostProbe = 100 * time.Millisecond, 10 * time.Second, 1 << 20, 4096, 500, 60000
 
 // A spool is a folder of lines that are sent later. A file has those of one body, after a line of JSON with their target. Its name, a
 // number, it gets once it is on the disk: so it is there whole, or not at all.
@@ -810,9 +800,6 @@ func (s *sender) isWell(ctx context.Context, to target, length int) bool {
 	probe := fmt.Sprintf("endpoint_probe text=%q %d\n", strings.Repeat("x", length), time.Now().Unix()/3600)
 	return s.post(ctx, target{query, to.Header}, []byte(probe)) == nil
 }
-
-// The longest text of a line by which the server is tried; InfluxDB 1.x takes strings of 64 KiB.
-const mostProbe = 60000
 
 // refuse keeps lines of the spool that the server refuses, as texts of at most batchBytes or one line.
 func (s *sender) refuse(to target, lines []byte, why string) error {

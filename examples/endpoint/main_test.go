@@ -356,21 +356,6 @@ func inSpool(folder string) int {
 	return len(files)
 }
 
-// A line that comes while others are in the spool goes after them, and they are there until the server has them.
-func TestOrder(t *testing.T) {
-	s, folder := newStub(t), t.TempDir()
-	spool := filepath.Join(folder, "spool")
-	address, _ := start(t, s, folder, "-spool", spool)
-	s.answer(503, "f=1 ")
-	want(t, "a line that the server does not take now", post(t, address+"/write?db=x", "m f=1 5"), "204")
-	wait(t, "the server is asked again", func() bool { return s.times() > 2 })
-	want(t, "the line after it", post(t, address+"/write?db=x", "m f=2 5"), "204")
-	want(t, "what the server has, and the spool", fmt.Sprintf("%q %d", s.taken(), inSpool(spool)), `"" 2`)
-	s.answer(503)
-	wait(t, "the spool is empty", func() bool { return inSpool(spool) == 0 })
-	want(t, "what the server has then", s.taken(), "m f=1 5\nm f=2 5\n")
-}
-
 // To tell a line that the server cannot take from a sick server, it is sent a line of the endpoint's own, and no other line once more.
 func TestProbe(t *testing.T) {
 	s, folder := newStub(t), t.TempDir()
@@ -436,24 +421,33 @@ func TestHangs(t *testing.T) {
 	spool := filepath.Join(folder, "spool")
 	address, _ := start(t, s, folder, "-spool", spool)
 	s.mu.Lock()
-	impatient, cancel := context.WithTimeout(context.Background(), 100*time.Millisecond)
-	defer cancel()
-	request, _ := http.NewRequestWithContext(impatient, "POST", address+"/write?db=x", strings.NewReader("m f=1 5"))
-	_, err := http.DefaultClient.Do(request)
-	want(t, "a client that gives up", fmt.Sprint(err != nil), "true")
-	wait(t, "its line is kept", func() bool { return inSpool(spool) == 1 })
 	began := time.Now()
+	want(t, "a client that waits", post(t, address+"/write?db=x", "m f=1 5"), "204")
+	want(t, "it is answered after a second", fmt.Sprint(time.Since(began).Round(time.Minute), inSpool(spool)), "0s 1")
 	want(t, "the next value", post(t, address+"/write?db=x", "m f=2 5"), "204")
-	want(t, "it is answered soon", fmt.Sprint(time.Since(began) < patience, inSpool(spool)), "true 2")
+	want(t, "what the spool has", fmt.Sprint(inSpool(spool)), "2")
+	time.Sleep(3 * shortest) // for a sender that would not wait
 	s.mu.Unlock()
 	wait(t, "the spool is empty", func() bool { return inSpool(spool) == 0 })
 	want(t, "what the server has", s.taken(), "m f=1 5\nm f=2 5\n")
+}
+
+// What a client sends that gives up is kept at once.
+func TestGone(t *testing.T) {
+	defer func(had time.Duration) { patience = had }(patience)
+	patience = time.Hour
+	s, folder := newStub(t), t.TempDir()
+	spool := filepath.Join(folder, "spool")
+	address, _ := start(t, s, folder, "-spool", spool)
 	s.mu.Lock()
-	began = time.Now()
-	want(t, "a client that waits", post(t, address+"/write?db=x", "m f=3 5"), "204")
-	want(t, "it is answered after a second", fmt.Sprint(time.Since(began).Round(time.Minute), inSpool(spool)), "0s 1")
+	ctx, cancel := context.WithTimeout(context.Background(), shortest)
+	defer cancel()
+	request, _ := http.NewRequestWithContext(ctx, "POST", address+"/write?db=x", strings.NewReader("m f=1 5"))
+	_, err := http.DefaultClient.Do(request)
+	want(t, "it gives up", fmt.Sprint(err != nil), "true")
+	wait(t, "its line is kept", func() bool { return inSpool(spool) == 1 })
 	s.mu.Unlock()
-	wait(t, "the spool is empty again", func() bool { return inSpool(spool) == 0 && strings.HasSuffix(s.taken(), "m f=3 5\n") })
+	wait(t, "the server has it", func() bool { return inSpool(spool) == 0 && s.taken() == "m f=1 5\n" })
 }
 
 // raw opens a connection, and sends a text.
@@ -470,7 +464,7 @@ func raw(t *testing.T, address, text string) net.Conn {
 // Connections on which nothing is done, and bodies that come slowly, keep no client out: each that is too many goes, the oldest or largest first.
 func TestDoor(t *testing.T) {
 	s, folder := newStub(t), t.TempDir()
-	address, _ := start(t, s, folder, "-max-connections", "10", "-max-body", "100000", "-max-in-flight", "600000")
+	address, _ := start(t, s, folder, "-max-connections", "10", "-max-body", "100000", "-max-in-flight", "600000", "-spool", filepath.Join(folder, "spool"))
 	const head = "POST /write?db=x HTTP/1.1\r\nHost: x\r\nContent-Length: 90000\r\n"
 	for _, row := range []struct {
 		what, text string
@@ -515,8 +509,8 @@ func TestDoor(t *testing.T) {
 	})
 	want(t, "a body beside it", post(t, address+"/write?db=x", strings.Repeat("#\n", 45000)), `503 {"error":"too many bytes are in flight"}`)
 	s.mu.Unlock()
-	const most = 600000/120 + 10 // each of these lines has 120 bytes and more in the file of refused lines
-	want(t, "many short lines", post(t, address+"/write?db=x", pack(strings.Repeat("\n\nx\n", most)), "Content-Encoding: gzip"), `413 {"error":"Request Entity Too Large"}`)
+	// Each line gets a time of 20 bytes.
+	want(t, "many short lines", post(t, address+"/write?db=x", pack(strings.Repeat("m f=1\n", 16000)), "Content-Encoding: gzip"), `413 {"error":"Request Entity Too Large"}`)
 }
 
 // The page has the figures of the program.
