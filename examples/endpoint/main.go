@@ -695,7 +695,7 @@ func middle(text []byte) (at, lines int) {
 type sender struct {
 	*endpoint
 	letters []byte // what the file of refused lines does not have yet
-	calls   int    // for the body at hand
+	calls   int    // to the server, for the body at hand
 }
 
 // run sends files, in order, until ctx ends. If there is no spool it ends at once.
@@ -794,6 +794,7 @@ func (s *sender) isWell(ctx context.Context, to target, length int) bool {
 	if length > mostProbe {
 		length = mostProbe
 	}
+	s.calls++
 	query := url.Values(http.Header(to.Query).Clone())
 	query.Set("precision", "h")
 	query.Del("rp")
