@@ -482,7 +482,7 @@ func (e *endpoint) post(ctx context.Context, to target, lines []byte) error {
 	switch code := response.StatusCode; {
 	case code/100 == 2:
 		return nil
-	case code == 500, code/100 == 4 && code != 408 && code != 429:
+	case code == 500 && said.Error != "timeout", code/100 == 4 && code != 408 && code != 429: // InfluxDB says so if it has too much to do
 		return &problem{code, said.Error}
 	}
 	return fmt.Errorf("the server answers %s: %s", response.Status, said.Error)

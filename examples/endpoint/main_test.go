@@ -32,6 +32,7 @@ type stub struct {
 	away, sick bool
 	answers    map[string]int
 	password   string
+	text       string // of these answers
 }
 
 func newStub(t *testing.T) *stub {
@@ -49,6 +50,7 @@ func (s *stub) serve(w http.ResponseWriter, r *http.Request) {
 	for part, code := range s.answers {
 		if bytes.Contains(text, []byte(part)) {
 			w.WriteHeader(code)
+			fmt.Fprint(w, s.text)
 			return
 		}
 	}
@@ -509,6 +511,7 @@ func TestDoor(t *testing.T) {
 	})
 	want(t, "a body beside it", post(t, address+"/write?db=x", strings.Repeat("#\n", 45000)), `503 {"error":"too many bytes are in flight"}`)
 	s.mu.Unlock()
+	wait(t, "nothing is in flight again", func() bool { return strings.Contains(get(t, address+"/metrics"), "in_flight_bytes 0\n") })
 	// Each line gets a time of 20 bytes.
 	want(t, "many short lines", post(t, address+"/write?db=x", pack(strings.Repeat("m f=1\n", 16000)), "Content-Encoding: gzip"), `413 {"error":"Request Entity Too Large"}`)
 }
@@ -634,13 +637,15 @@ func TestOneSpool(t *testing.T) {
 	start(t, s, folder, words...)
 }
 
-// A server that has too much to do, or no time, is asked again by the spool: no client is.
+// A server that has too much to do, or no time, is asked again by the spool: no client is, and no line is refused.
 func TestBusy(t *testing.T) {
-	for _, code := range []int{408, 429, 503} {
+	for _, code := range []int{408, 429, 500, 503} {
 		s, folder := newStub(t), t.TempDir()
 		address, _ := start(t, s, folder, "-spool", filepath.Join(folder, "spool"))
+		s.text = `{"error":"timeout"}`
 		s.answer(code, "m")
 		want(t, fmt.Sprint(code), post(t, address+"/write?db=x", "m f=1 5"), "204")
+		wait(t, "it is asked again", func() bool { return s.times() > 2 })
 		s.answer(503)
 		wait(t, fmt.Sprint("the line after ", code), func() bool { return s.taken() == "m f=1 5\n" })
 	}
