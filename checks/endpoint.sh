@@ -1,12 +1,13 @@
 #!/usr/bin/env bash
 # Builds examples/endpoint, and tries what its page promises before a server of InfluxDB 1.x, with influxdb-python as a client: what it
-# answers; what it refuses, and keeps; lines while it is killed, or ended, or while the server is; full disks, and syncs that fail; and lines
-# that the server cannot take. What was answered by 204 must be in the server in the end. servers/endpoint.py has the trials.
+# answers; what it refuses, and keeps; lines while it is killed, or ended, or while the server is, or hangs; full disks, and syncs that fail;
+# lines that the server cannot take; and what it takes of memory, whatever clients do. What was answered by 204 must be in the server in the
+# end. servers/endpoint.py has the trials.
 #
 #   checks/endpoint.sh ARCHIVE
 #
 # ARCHIVE: the library, liblp_c.a. influxd listens on a free port of the loopback device, has its data in a temporary folder, and ends with
-# this script. What is missing is left out, and is named. It takes about a minute, and no network.
+# this script. What is missing is left out, and is named. It takes about two minutes, and no network.
 set -euo pipefail
 here=$(cd "$(dirname "$0")" && pwd)
 . "$here/left_out.sh"

@@ -20,7 +20,7 @@ from pathlib import Path
 
 FOLDER = Path(sys.argv[1])
 CONFLICT = 'field type conflict: input field "f" on measurement "m" is type boolean, already exists as type float'
-TEXTS = {"401": "authorization failed", "404": 'database not found: "d"', "413": "Request Entity Too Large"}
+TEXTS = {"401": "authorization failed", "403": "red\x9b31m\u202e", "404": 'database not found: "d"', "413": "Request Entity Too Large"}
 
 
 def lines_of(body):
@@ -72,7 +72,7 @@ def judged(body, lines):
         if dropped:
             return "400", f"partial write: {text} dropped={len(dropped)}", kept
     if good != lines:
-        text = "\n".join(f"unable to parse '{each.rstrip(chr(10)).lstrip()}': invalid number" for each in lines if "bad" in each)
+        text = "\n".join(f"unable to parse '{each.rstrip(chr(10)).lstrip()}': invalid\x9bnumber" for each in lines if "bad" in each)
         return "400", f"partial write: {text} dropped=0" if good else text, good
     return "204", "", lines
 

@@ -136,6 +136,9 @@ post() {
     [ -n "$curl_status" ] || fail "${1#./}: its answer is lost, since $folder/.send cannot be written"
 }
 
+# What moves a terminal, beside the controls of ASCII, in UTF-8: those of C1, and marks of direction.
+moving=$(printf '\302[\200-\237]|\342(\200[\216\217\252-\256]|\201[\246-\251])')
+
 # Sets: code, that of the answer, or 000 if there is none, or `unread` if curl did not read all of the file; answer, that and what is said, on
 # one line; uploaded and size, how many bytes were posted and how many the file has.
 read_answer() {
@@ -145,7 +148,7 @@ read_answer() {
     case $curl_status:$code:$uploaded in
     "0:204:$size") answer=204 ;;
     0:204:*) code=unread answer="$uploaded of its $size bytes were read" ;;
-    0:*) answer="$code $(head -c 1000 .send/text | tr '[:cntrl:]' '[ *]' | sed 's/ *$//')" ;;
+    0:*) answer="$code $(head -c 1000 .send/text | tr '[:cntrl:]' '[ *]' | sed -E "s/$moving/ /g; s/ *\$//")" ;;
     26:*) code=unread answer=$(head -n 1 .send/why) ;;
     *) code=000 answer=$(tail -n 1 .send/why) ;;
     esac
@@ -262,7 +265,7 @@ in_json='
 # shellcheck disable=SC2016
 name_lines() {
     status=0
-    awk -v size="$(wc -c <"$1")" -v dead=.send/dead.lp -v stored="${sent:+.send/stored.lp}" "$in_json"'
+    awk -v moving="$moving" -v size="$(wc -c <"$1")" -v dead=.send/dead.lp -v stored="${sent:+.send/stored.lp}" "$in_json"'
         # The last line of the text that the next name has, if that text begins at this line, and else 0.
         function last_named(line,    text, at, part) {
             part = line_at[line]
@@ -276,6 +279,7 @@ name_lines() {
                 part = line_at[++line]
             }
             reason = substr(name[next_name], at + 3)
+            gsub(moving, " ", reason)
             return line
         }
         FNR == 1 { file++ }

@@ -3,6 +3,7 @@
 package main
 
 import (
+	"bufio"
 	"bytes"
 	"compress/gzip"
 	"context"
@@ -13,6 +14,7 @@ import (
 	"io"
 	"log"
 	"math"
+	"net"
 	"net/http"
 	"net/url"
 	"os"
@@ -24,6 +26,7 @@ import (
 	"sync/atomic"
 	"syscall"
 	"time"
+	"unicode/utf16"
 	"unicode/utf8"
 
 	"yomskafi.example/lineprotocol/v3"
@@ -31,29 +34,32 @@ import (
 
 // An endpoint is what the command line says, and what all requests share.
 type endpoint struct {
-	listen, server       string
-	maxBody, maxInFlight int64
-	portable             lineprotocol.Servers
-	client               http.Client
-	decoders             sync.Pool // of *lineprotocol.Decoder
-	refusals             refusals
-	spool                spool // without a folder nothing is kept for later
-	inFlight             atomic.Int64
-	counts               struct{ requests, refused, spooled, refusedLater atomic.Int64 }
+	listen, server string
+	maxBody        int64
+	portable       lineprotocol.Servers
+	client         http.Client
+	decoders       sync.Pool // of *lineprotocol.Decoder
+	door           door
+	refusals       refusals
+	spool          spool        // without a folder nothing is kept for later
+	past           sync.RWMutex // held by bodies that go to the server past the spool, or by the sender of the spool
+	counts         struct{ requests, refused, spooled, refusedLater atomic.Int64 }
 }
 
 // newEndpoint makes an endpoint of the words of a command line.
 func newEndpoint(words []string) (*endpoint, error) {
-	e := &endpoint{}
+	e := &endpoint{door: door{connections: map[net.Conn]time.Time{}, coming: map[*body]bool{}}}
 	flags := flag.NewFlagSet("endpoint", flag.ExitOnError)
 	flags.StringVar(&e.listen, "listen", "127.0.0.1:8087", "`address` to listen on")
 	flags.StringVar(&e.server, "server", "http://127.0.0.1:8086", "`URL` of the server, without /write")
 	flags.DurationVar(&e.client.Timeout, "timeout", 30*time.Second, "`time` that the server has for an answer")
 	flags.StringVar(&e.refusals.path, "refused", "refused.jsonl", "`file` to which refused lines are appended")
+	flags.Int64Var(&e.refusals.most, "max-refused", 1<<30, "`bytes` that this file may have, with the one before it")
 	flags.StringVar(&e.spool.folder, "spool", "", "`folder` for lines that the server does not take now, to send them later")
 	flags.Int64Var(&e.spool.most, "max-spool", 1<<30, "`bytes` that the spool may take of the disk")
 	flags.Int64Var(&e.maxBody, "max-body", 25e6, "`bytes` that a body may have once it is unpacked")
-	flags.Int64Var(&e.maxInFlight, "max-in-flight", 64<<20, "`bytes` that all bodies at hand may have")
+	flags.Int64Var(&e.door.most, "max-in-flight", 64<<20, "`bytes` that all bodies at hand may have")
+	flags.IntVar(&e.door.mostConnections, "max-connections", 500, "`number` of connections that may be open")
 	maxLine := flags.Int("max-line", 1<<20, "`bytes` that a line may have")
 	dialect := flags.String("dialect", "strict", "`rules` by which lines are read: strict or newline-delimited")
 	portable := flags.String("portable", "", "refuse what `servers` do not store as it is read here: influx1, victoria or all")
@@ -71,8 +77,10 @@ func newEndpoint(words []string) (*endpoint, error) {
 		return nil, fmt.Errorf("-portable is %q, and not influx1, victoria or all", *portable)
 	case err != nil || address.Host == "":
 		return nil, fmt.Errorf("-server is %q, and not a URL as http://127.0.0.1:8086", e.server)
-	case e.maxInFlight < e.maxBody+perRequest:
-		return nil, fmt.Errorf("-max-in-flight is %d, and one body of -max-body takes %d", e.maxInFlight, e.maxBody+perRequest)
+	case e.door.most < e.maxBody+perRequest:
+		return nil, fmt.Errorf("-max-in-flight is %d, and one body of -max-body takes %d", e.door.most, e.maxBody+perRequest)
+	case e.refusals.most < 4*e.maxBody:
+		return nil, fmt.Errorf("-max-refused is %d, and has to be four times -max-body: %d", e.refusals.most, 4*e.maxBody)
 	}
 	e.portable, e.server = servers, strings.TrimRight(e.server, "/")
 	e.client.Transport = &http.Transport{MaxIdleConnsPerHost: 64, IdleConnTimeout: time.Minute}
@@ -85,9 +93,15 @@ func newEndpoint(words []string) (*endpoint, error) {
 	return e, firstOf(e.refusals.append(nil), e.spool.open()) // what cannot be written to is told now
 }
 
+// web gives the server of HTTP. A client has mostWait for a body, for the next one, and to read an answer.
+func (e *endpoint) web() *http.Server {
+	return &http.Server{Addr: e.listen, Handler: e.routes(), ConnContext: e.door.enter, ConnState: e.door.watch, MaxHeaderBytes: mostHeader - 4096,
+		ReadHeaderTimeout: 10 * time.Second, ReadTimeout: mostWait, IdleTimeout: mostWait, WriteTimeout: 2*mostWait + e.client.Timeout}
+}
+
 // run answers requests until ctx ends, and then those that have begun.
 func (e *endpoint) run(ctx context.Context) error {
-	server := http.Server{Addr: e.listen, Handler: e.routes(), ReadTimeout: time.Minute, IdleTimeout: time.Minute}
+	server := e.web()
 	go func() {
 		if err := server.ListenAndServe(); err != http.ErrServerClosed {
 			log.Fatal(err)
@@ -95,7 +109,7 @@ func (e *endpoint) run(ctx context.Context) error {
 	}()
 	(&sender{endpoint: e}).run(ctx)
 	<-ctx.Done()
-	ending, cancel := context.WithTimeout(context.Background(), server.ReadTimeout+e.client.Timeout)
+	ending, cancel := context.WithTimeout(context.Background(), mostWait+e.client.Timeout)
 	defer cancel()
 	return server.Shutdown(ending)
 }
@@ -113,8 +127,9 @@ func main() {
 	}
 }
 
-// What a body has in flight beside its bytes; and how many refused lines an answer tells, and so many characters of each.
-const perRequest, mostTold, mostShown = 256 << 10, 20, 200
+// What a body has in flight beside its bytes; the bytes that the header of a request may have, to which net/http adds 4096 by itself; how long
+// a client is waited for; how many refused lines an answer tells, and so many characters of each.
+const perRequest, mostHeader, mostWait, mostTold, mostShown = 256 << 10, 8 << 10, time.Minute, 20, 200
 
 func (e *endpoint) routes() http.Handler {
 	mux := http.NewServeMux()
@@ -131,11 +146,15 @@ func (e *endpoint) routes() http.Handler {
 func (e *endpoint) take(r *http.Request) error {
 	e.counts.requests.Add(1)
 	b := &body{endpoint: e, at: time.Now().UTC()}
-	b.inFlight.Add(perRequest)
-	defer func() { b.inFlight.Add(-b.size - perRequest) }()
+	b.connection, _ = r.Context().Value(&e.door).(net.Conn)
+	b.uses.Store(1)
+	defer b.leave()
 	err := b.open(r)
 	if err == nil {
 		err = b.sort()
+	}
+	if err == nil {
+		err = e.door.settle(b)
 	}
 	if err == nil && b.refused > 0 { // before the others are sent: if this fails, nothing went out
 		err = e.refusals.append(b.letters)
@@ -145,21 +164,145 @@ func (e *endpoint) take(r *http.Request) error {
 	}
 	e.counts.refused.Add(int64(b.refused))
 	if len(b.good) > 0 {
-		err = e.send(r.Context(), b.to, b.good)
+		err = b.send(r.Context())
 	}
 	return b.outcome(err)
 }
 
-// send hands lines to the server; or to the spool, if the server does not take them, or if some that came before are still there.
-func (e *endpoint) send(ctx context.Context, to target, lines []byte) error {
-	if e.spool.held.Load() == 0 {
-		err := e.post(ctx, to, lines)
-		if err == nil || e.spool.folder == "" || ctx.Err() != nil || statusOf(err)/100 == 4 {
+// How long the server may take for lines before they go to the spool.
+var patience = time.Second
+
+// send hands the good lines to the server; or to the spool, if the server does not take them at once, or if some that came before are still
+// there. A call that goes on after that holds up the sender of the spool until it ends: no line that came later is stored before it.
+func (b *body) send(ctx context.Context) error {
+	if b.spool.folder == "" {
+		return b.post(ctx, b.to, b.good)
+	}
+	kept := make(chan batch, 1) // what the spool has of it while the call goes on
+	if b.past.TryRLock() {
+		if b.spool.held.Load() > 0 {
+			b.past.RUnlock()
+		} else if told, err := b.sendPast(ctx, kept); told && (err == nil || statusOf(err)/100 == 4) {
+			kept <- batch{}
 			return err
 		}
 	}
-	e.counts.spooled.Add(1)
-	return e.spool.put(to, lines)
+	b.counts.spooled.Add(1)
+	file, err := b.spool.put(b.to, b.good)
+	kept <- file
+	return err
+}
+
+// sendPast calls the server past the spool, and gives its answer if it comes soon enough. What the spool then has of these lines is removed if the
+// server takes them in the end.
+func (b *body) sendPast(ctx context.Context, kept <-chan batch) (told bool, err error) {
+	answered := make(chan error, 1)
+	b.uses.Add(1)
+	go func() {
+		defer b.leave()
+		defer b.past.RUnlock()
+		err := b.post(context.Background(), b.to, b.good)
+		answered <- err
+		if file := <-kept; err == nil && file.paths != nil {
+			_ = b.spool.drop(file) // or it is sent once more
+		}
+	}()
+	select {
+	case err := <-answered:
+		return true, err
+	case <-ctx.Done(): // the client is gone
+	case <-time.After(patience):
+	}
+	return false, nil
+}
+
+// A door bounds what clients take of memory: connections, and bytes of bodies. If there are too many, it is not the last client that goes.
+type door struct {
+	mu              sync.Mutex
+	connections     map[net.Conn]time.Time // when the last body of each was whole or answered, or when it came
+	mostConnections int
+	coming          map[*body]bool // the bodies that are not whole yet
+	bytes, most     int64          // of all bodies, in flight
+}
+
+// enter takes a connection. In its place that one goes on which nothing was done for longest.
+func (d *door) enter(ctx context.Context, c net.Conn) context.Context {
+	d.mu.Lock()
+	defer d.mu.Unlock()
+	d.connections[c] = time.Now()
+	if oldest := c; len(d.connections) > d.mostConnections {
+		for each, since := range d.connections {
+			if since.Before(d.connections[oldest]) {
+				oldest = each
+			}
+		}
+		delete(d.connections, oldest)
+		oldest.Close()
+	}
+	return context.WithValue(ctx, d, c)
+}
+
+// watch is told that a connection was closed, or that something was done on it.
+func (d *door) watch(c net.Conn, state http.ConnState) {
+	d.mu.Lock()
+	defer d.mu.Unlock()
+	if state == http.StateClosed {
+		delete(d.connections, c)
+	} else if _, ok := d.connections[c]; ok && state == http.StateIdle {
+		d.connections[c] = time.Now()
+	}
+}
+
+// hold has more bytes of a body in flight. If these are too many, the body that has held most for longest is answered by 503, of those that are
+// not whole: so a body that comes slowly keeps no others out.
+func (d *door) hold(b *body, more int64) error {
+	d.mu.Lock()
+	defer d.mu.Unlock()
+	if b.isAway {
+		return errBusy
+	}
+	d.coming[b] = true
+	d.bytes, b.held = d.bytes+more, b.held+more
+	if b.held > d.most {
+		return errTooLarge
+	}
+	for d.bytes > d.most && !b.isAway {
+		worst, weight := b, 0.0
+		for each := range d.coming {
+			if its := float64(each.held) * time.Since(each.at).Seconds(); its > weight {
+				worst, weight = each, its
+			}
+		}
+		delete(d.coming, worst)
+		d.bytes, worst.held, worst.isAway = d.bytes-worst.held, 0, true
+		_ = worst.connection.SetReadDeadline(time.Unix(1, 0)) // it waits no longer for bytes
+	}
+	if b.isAway {
+		return errBusy
+	}
+	return nil
+}
+
+// settle says that a body is whole.
+func (d *door) settle(b *body) error {
+	d.watch(b.connection, http.StateIdle)
+	d.mu.Lock()
+	defer d.mu.Unlock()
+	delete(d.coming, b)
+	if b.isAway {
+		return errBusy
+	}
+	return nil
+}
+
+// leave says that the bytes of a body are not needed any more, by one of those that use them.
+func (b *body) leave() {
+	if b.uses.Add(-1) == 0 {
+		b.door.mu.Lock()
+		defer b.door.mu.Unlock()
+		delete(b.door.coming, b)
+		b.door.bytes -= b.held
+	}
 }
 
 // A target is where lines go: the parameters of /write of InfluxDB 1.x, and the credentials, as the client gave them.
@@ -171,15 +314,19 @@ type target struct {
 // A body is that of a request, unpacked, and what becomes of its lines.
 type body struct {
 	*endpoint
-	source  io.Reader
-	size    int64
-	to      target
-	unit    int64     // of its times, in nanoseconds
-	at      time.Time // when it came
-	good    []byte    // the lines that go on, each with its newline
-	letters []byte    // the refused ones, as their file has them
-	refused int
-	told    []string // what is wrong with the first of them
+	connection net.Conn
+	uses       atomic.Int32 // the request, and a call to the server
+	held, made int64        // what the door holds for it; the bytes among these that are not of its text
+	isAway     bool         // the door does not hold it any more
+	source     io.Reader
+	size       int64
+	to         target
+	unit       int64     // of its times, in nanoseconds
+	at         time.Time // when it came
+	good       []byte    // the lines that go on, each with its newline
+	letters    []byte    // the refused ones, as their file has them
+	refused    int
+	told       []string // what is wrong with the first of them
 }
 
 // open finds the target of a body, the unit of its times, and its text.
@@ -200,7 +347,8 @@ func (b *body) open(r *http.Request) (err error) {
 		b.to.Query.Set("precision", "u")
 	}
 	b.unit = map[string]int64{"n": 1, "ns": 1, "u": 1e3, "us": 1e3, "ms": 1e6, "s": 1e9, "m": 60e9, "h": 3600e9}[precision]
-	b.source = r.Body
+	source := bufio.NewReader(r.Body)
+	b.source = source
 	switch {
 	case r.Method != http.MethodPost:
 		err = &problem{405, "lines come by POST"}
@@ -210,12 +358,16 @@ func (b *body) open(r *http.Request) (err error) {
 		err = &problem{400, fmt.Sprintf("invalid precision %q (use n, u, ms, s, m or h)", precision)}
 	case r.ContentLength > b.maxBody:
 		err = errTooLarge
-	case encoding == "gzip":
-		if b.source, err = gzip.NewReader(r.Body); err != nil {
-			err = &problem{400, "gzip: " + err.Error()}
-		}
-	case encoding != "" && encoding != "identity":
+	case encoding != "" && encoding != "identity" && encoding != "gzip":
 		err = &problem{415, "Content-Encoding: " + encoding}
+	default:
+		_, _ = source.Peek(1) // it takes nothing before its first byte has come
+		err = b.door.hold(b, perRequest)
+	}
+	if err == nil && encoding == "gzip" {
+		if b.source, err = gzip.NewReader(source); err != nil {
+			err = firstOf(b.door.hold(b, 0), &problem{400, "gzip: " + err.Error()})
+		}
 	}
 	return err
 }
@@ -226,9 +378,9 @@ var errTooLarge, errBusy = &problem{413, "Request Entity Too Large"}, errors.New
 func (b *body) Read(into []byte) (int, error) {
 	n, err := b.source.Read(into)
 	b.size += int64(n)
-	switch {
-	case b.inFlight.Add(int64(n)) > b.maxInFlight:
-		err = errBusy
+	switch held := b.door.hold(b, int64(n)); {
+	case held != nil:
+		err = held
 	case b.size > b.maxBody:
 		err = errTooLarge
 	case err != nil && err != io.EOF:
@@ -255,6 +407,12 @@ func (b *body) sort() error {
 		} else if b.refuse(d, why); int64(len(b.letters)) > b.maxBody {
 			return errTooLarge
 		}
+		if more := int64(len(b.good)+len(b.letters)) - b.size - b.made; more > 4096 { // times, and what is kept of refused lines
+			b.made += more
+			if err := b.door.hold(b, more); err != nil {
+				return err
+			}
+		}
 	}
 	return d.Err()
 }
@@ -265,6 +423,8 @@ func (b *body) faultOf(d *lineprotocol.Decoder) string {
 	clause, broken := verdict.First(b.portable)
 	number, _ := d.Timestamp()
 	switch {
+	case d.Line() == 1 && bytes.HasPrefix(d.Raw(), []byte("\ufeff")):
+		return "the body begins with a byte order mark"
 	case err != nil:
 		return firstOf(errors.Unwrap(err), err).Error() // of a fault its words, without the place
 	case verdict.Breaks(lineprotocol.ClauseNotALine): // it would take in the lines after it
@@ -322,7 +482,7 @@ func (e *endpoint) post(ctx context.Context, to target, lines []byte) error {
 	switch code := response.StatusCode; {
 	case code/100 == 2:
 		return nil
-	case code == 500, code/100 == 4 && code != 408 && code != 429:
+	case code == 500 && said.Error != "timeout", code/100 == 4 && code != 408 && code != 429: // InfluxDB says so if it has too much to do
 		return &problem{code, said.Error}
 	}
 	return fmt.Errorf("the server answers %s: %s", response.Status, said.Error)
@@ -360,18 +520,37 @@ func answer(w http.ResponseWriter, r *http.Request, err error) {
 	}
 	w.Header().Set("Content-Type", "application/json")
 	w.WriteHeader(code)
-	_ = json.NewEncoder(w).Encode(said) // a client that is gone is not told
+	_, _ = w.Write(append(inJSON(said), '\n')) // a client that is gone is not told
+}
+
+// inJSON gives a value as JSON on one line, with escapes for all that a terminal would not show as a letter: its controls, marks of direction.
+func inJSON(value any) (out []byte) {
+	text, _ := json.Marshal(value) // texts, numbers and a time have no error
+	for _, r := range string(text) {
+		if strconv.IsPrint(r) {
+			out = utf8.AppendRune(out, r)
+			continue
+		}
+		for _, unit := range utf16.Encode([]rune{r}) {
+			out = fmt.Appendf(out, "\\u%04x", unit)
+		}
+	}
+	return out
 }
 
 // metrics tells the counts in the text format of Prometheus.
 func (e *endpoint) metrics(w http.ResponseWriter, r *http.Request) {
+	e.door.mu.Lock()
+	bytes, connections := e.door.bytes, len(e.door.connections)
+	e.door.mu.Unlock()
 	fmt.Fprintf(w, "endpoint_requests_total %d\nendpoint_refused_lines_total %d\nendpoint_spooled_bodies_total %d\n"+
-		"endpoint_refused_later_total %d\nendpoint_spool_bytes %d\nendpoint_in_flight_bytes %d\n", e.counts.requests.Load(),
-		e.counts.refused.Load(), e.counts.spooled.Load(), e.counts.refusedLater.Load(), e.spool.held.Load(), e.inFlight.Load())
+		"endpoint_refused_later_total %d\nendpoint_spool_bytes %d\nendpoint_in_flight_bytes %d\nendpoint_connections %d\n", e.counts.requests.Load(),
+		e.counts.refused.Load(), e.counts.spooled.Load(), e.counts.refusedLater.Load(), e.spool.held.Load(), bytes, connections)
 }
 
-// The waits before the server is asked again; the bytes of files that go to it together; what a file takes of the disk beside its bytes.
-const shortest, longest, batchBytes, perFile = 100 * time.Millisecond, 10 * time.Second, 1 << 20, 4096
+// The waits before the server is asked again; the bytes of files that go to it together; what a file takes of the disk beside its bytes; how many
+// calls find the lines of a body that the server refuses; the longest text by which the server is tried: InfluxDB 1.x takes strings of 64 KiB.
+const shortest, longest, batchBytes, perFile, mostCalls, mostProbe = 100 * time.Millisecond, 10 * time.Second, 1 << 20, 4096, 500, 60000
 
 // A spool is a folder of lines that are sent later. A file has those of one body, after a line of JSON with their target. Its name, a
 // number, it gets once it is on the disk: so it is there whole, or not at all.
@@ -380,6 +559,7 @@ type spool struct {
 	most       int64
 	held, last atomic.Int64 // what its files take of the disk, also those that are being written; the last number
 	lock       *os.File     // the folder, which no other endpoint has
+	naming     sync.RWMutex // held by those that give files their names, or by who reads these
 }
 
 // open counts the files of the folder, and removes what was not finished.
@@ -423,32 +603,59 @@ func (s *spool) files(ending string) (paths []string, err error) {
 }
 
 // put has lines on the disk.
-func (s *spool) put(to target, lines []byte) error {
+func (s *spool) put(to target, lines []byte) (batch, error) {
 	head, _ := json.Marshal(to) // texts have no error
 	size := int64(perFile + len(head) + len("\n") + len(lines))
 	if held := s.held.Add(size); held > s.most {
 		s.held.Add(-size)
-		return fmt.Errorf("cannot keep the lines: the spool would have %d bytes, and may have %d", held, s.most)
+		return batch{}, fmt.Errorf("cannot keep the lines: the spool would have %d bytes, and may have %d", held, s.most)
 	}
 	path := filepath.Join(s.folder, fmt.Sprintf("%020d", s.last.Add(1)))
 	file, err := os.OpenFile(path+".part", os.O_CREATE|os.O_EXCL|os.O_WRONLY, 0o600)
 	_, noHead := file.Write(append(head, '\n'))
 	_, noLines := file.Write(lines)
 	if err = firstOf(err, noHead, noLines, file.Sync(), file.Close()); err == nil {
-		err = os.Rename(path+".part", path+".batch")
+		err = s.name(path)
 	}
 	if err != nil {
 		os.Remove(path + ".part")
 		s.held.Add(-size)
-		return err
+		return batch{}, err
 	}
-	return syncFolder(s.folder)
+	return batch{paths: []string{path + ".batch"}, sizes: []int64{size}}, nil
+}
+
+// name gives a file its name. If the disk does not have that, the file goes, and the sender has not seen it.
+func (s *spool) name(path string) error {
+	s.naming.RLock()
+	defer s.naming.RUnlock()
+	err := os.Rename(path+".part", path+".batch")
+	if err == nil {
+		if err = s.lock.Sync(); err != nil {
+			os.Remove(path + ".batch")
+		}
+	}
+	return err
+}
+
+// drop removes files, and has that on the disk before other lines go past the spool.
+func (s *spool) drop(b batch) (err error) {
+	var freed int64
+	for n, path := range b.paths {
+		if err = os.Remove(path); err != nil {
+			break
+		}
+		freed += b.sizes[n]
+	}
+	err = firstOf(err, s.lock.Sync())
+	s.held.Add(-freed)
+	return err
 }
 
 // A batch is a file of the spool, or some of one target that follow one another: they go to the server together.
 type batch struct {
-	files int
-	size  int64 // on the disk
+	paths []string
+	sizes []int64 // on the disk
 	to    target
 	text  []byte
 }
@@ -459,37 +666,36 @@ func (s *spool) read(paths []string) (b batch, err error) {
 	for _, path := range paths {
 		text, unread := os.ReadFile(path)
 		head, lines, _ := bytes.Cut(text, []byte{'\n'})
-		if b.files == 0 {
-			first, err = head, firstOf(unread, json.Unmarshal(head, &b.to))
+		if b.paths == nil {
+			first, b.text, err = head, lines, firstOf(unread, json.Unmarshal(head, &b.to))
 		} else if unread != nil || !bytes.Equal(head, first) || len(b.text)+len(lines) > batchBytes {
 			break
+		} else {
+			b.text = append(b.text, lines...)
 		}
-		b.files, b.size, b.text = b.files+1, b.size+perFile+int64(len(text)), append(b.text, lines...)
+		b.paths, b.sizes = append(b.paths, path), append(b.sizes, perFile+int64(len(text)))
 	}
 	return b, err
 }
 
-// middle gives a place between two lines: before the line in which the middle of the text is, or after it if it is the first. It is the end
-// of the text if there is one line alone.
-func middle(text []byte) (at int) {
+// middle gives how many lines a text has, and a place between two of them: before the line in which the middle of the text is, or after it if it is
+// the first. It is the end of the text if there is one line alone.
+func middle(text []byte) (at, lines int) {
 	d := lineprotocol.NewDecoderWithBytes(text)
 	d.SetDialect(lineprotocol.Strict)
-	for d.Next() {
-		end := at + len(d.Raw()) + 1
-		if at > 0 && end > len(text)/2 {
-			break
+	for end := 0; d.Next(); lines++ {
+		if end += len(d.Raw()) + 1; at == 0 || end <= len(text)/2 {
+			at = end
 		}
-		at = end
 	}
-	return at
+	return at, lines
 }
 
-// A sender sends what the spool holds. It keeps the last lines that the server took, and so tells a line that the server cannot take from a
-// server that takes nothing now: it answers 500 in both cases.
+// A sender sends what the spool holds, in order.
 type sender struct {
 	*endpoint
-	to   target
-	took []byte
+	letters []byte // what the file of refused lines does not have yet
+	calls   int    // to the server, for the body at hand
 }
 
 // run sends files, in order, until ctx ends. If there is no spool it ends at once.
@@ -497,7 +703,7 @@ func (s *sender) run(ctx context.Context) {
 	for wait := shortest; s.spool.folder != "" && ctx.Err() == nil; {
 		if err := s.sendFiles(ctx); err == nil {
 			wait = shortest
-		} else if log.Printf("lines stay in the spool: %v", err); wait < longest {
+		} else if log.Printf("lines stay in the spool: %q", err); wait < longest {
 			wait *= 2
 		}
 		select {
@@ -507,57 +713,119 @@ func (s *sender) run(ctx context.Context) {
 	}
 }
 
-// sendFiles sends the files that are there. Files that cannot be read, or are answered by 500, stay, and those behind them are sent.
+// sendFiles sends the files that are there, once no call goes on past the spool. A file that cannot be read stays, and those of a database that
+// takes no lines now; the others are sent.
 func (s *sender) sendFiles(ctx context.Context) (left error) {
-	paths, err := s.spool.files(".batch")
-	if len(paths) == 0 {
-		s.took = nil // lines go past the spool now, and may change its point
+	if s.spool.held.Load() == 0 || !s.past.TryLock() {
+		return nil
 	}
-	for err == nil && len(paths) > 0 {
-		b, unread := s.spool.read(paths)
-		if unread != nil {
-			left = fmt.Errorf("%s: %w", paths[0], unread)
-		} else if err = s.sendLines(ctx, b.to, b.text); err == nil {
-			for _, path := range paths[:b.files] {
-				err = firstOf(err, os.Remove(path))
-			}
-			err = firstOf(err, syncFolder(s.spool.folder)) // before others go past the spool
-			s.spool.held.Add(-b.size)
-		} else if statusOf(err) == 500 {
-			left, err = err, nil
+	defer s.past.Unlock()
+	s.spool.naming.Lock()
+	paths, err := s.spool.files(".batch")
+	s.spool.naming.Unlock()
+	isSick := map[string]bool{}
+	for alone := 0; err == nil && len(paths) > 0; alone-- {
+		some := paths
+		if alone > 0 {
+			some = paths[:1]
 		}
-		paths = paths[b.files:]
+		b, unread := s.spool.read(some)
+		switch db := b.to.Query.Get("db"); {
+		case unread != nil:
+			left = fmt.Errorf("%s: %w", paths[0], unread)
+		case isSick[db]:
+		default:
+			err = s.sendBatch(ctx, b)
+			if errors.As(err, new(*problem)) && len(b.paths) > 1 { // each body by itself, so that none is refused for another one
+				alone, err = len(b.paths)+1, nil
+				continue
+			} else if statusOf(err) == 500 {
+				isSick[db], left, err = true, err, nil
+			}
+		}
+		paths = paths[len(b.paths):]
 	}
 	return firstOf(err, left)
 }
 
-// sendLines sends lines of a batch. Those that the server refuses are found by halves, as its answer does not name all of them, and are
-// kept as refused. If there is an error the batch is sent again, which changes no point.
+// sendBatch sends a batch, and removes it. Only of a single body it finds the lines that the server refuses.
+func (s *sender) sendBatch(ctx context.Context, b batch) (err error) {
+	if len(b.paths) > 1 {
+		err = s.post(ctx, b.to, b.text)
+	} else {
+		s.calls, s.letters = 0, nil
+		err = s.sendLines(ctx, b.to, b.text)
+	}
+	if err == nil {
+		err = s.keep()
+	}
+	if err == nil {
+		err = s.spool.drop(b)
+	}
+	return err
+}
+
+// sendLines sends lines of a body. Those that the server refuses are found by halves, as its answer does not name all of them, and are kept as
+// refused. If there is an error the body is sent again, and so are those behind it: no point is left with an older value.
 func (s *sender) sendLines(ctx context.Context, to target, lines []byte) error {
+	s.calls++
 	err := s.post(ctx, to, lines)
 	var said *problem
 	if !errors.As(err, &said) {
-		if err == nil {
-			at := middle(lines) // the last lines, as one of the first may be an older value of their point
-			if at == len(lines) {
-				at = 0
-			}
-			s.to, s.took = to, lines[at:]
-		}
 		return err
 	}
-	at := middle(lines)
-	if at < len(lines) && (said.code == 400 || said.code == 413 || said.code == 500) {
+	at, count := middle(lines)
+	isPartly := said.code == 400 && !strings.HasSuffix(said.text, fmt.Sprintf(" dropped=%d", count)) || said.code == 413 || said.code == 500
+	if count > 1 && isPartly && s.calls <= mostCalls {
 		if err := s.sendLines(ctx, to, lines[:at]); err != nil {
 			return err
 		}
 		return s.sendLines(ctx, to, lines[at:])
 	}
-	if said.code == 500 && (s.took == nil || s.post(ctx, s.to, s.took) != nil) {
+	if said.code == 500 && !s.isWell(ctx, to, len(lines)) {
 		return err
 	}
+	return s.refuse(to, lines, said.text)
+}
+
+// isWell tells a database that cannot take a line from one that takes nothing now, as the server answers 500 in both cases: by a line of the
+// endpoint's own, which is as long, for the default policy.
+func (s *sender) isWell(ctx context.Context, to target, length int) bool {
+	if length > mostProbe {
+		length = mostProbe
+	}
+	s.calls++
+	query := url.Values(http.Header(to.Query).Clone())
+	query.Set("precision", "h")
+	query.Del("rp")
+	probe := fmt.Sprintf("endpoint_probe text=%q %d\n", strings.Repeat("x", length), time.Now().Unix()/3600)
+	return s.post(ctx, target{query, to.Header}, []byte(probe)) == nil
+}
+
+// refuse keeps lines of the spool that the server refuses, as texts of at most batchBytes or one line.
+func (s *sender) refuse(to target, lines []byte, why string) error {
+	if at, count := middle(lines); count > 1 && len(lines) > batchBytes {
+		if err := s.refuse(to, lines[:at], why); err != nil {
+			return err
+		}
+		return s.refuse(to, lines[at:], why)
+	}
 	s.counts.refusedLater.Add(1)
-	return s.refusals.append(appendLetter(nil, to, time.Now().UTC(), 0, lines[:len(lines)-1], said.text))
+	s.letters = appendLetter(s.letters, to, time.Now().UTC(), 0, lines[:len(lines)-1], why)
+	if len(s.letters) > batchBytes {
+		return s.keep()
+	}
+	return nil
+}
+
+// keep has the refused lines in their file.
+func (s *sender) keep() error {
+	if len(s.letters) == 0 {
+		return nil
+	}
+	err := s.refusals.append(s.letters)
+	s.letters = nil
+	return err
 }
 
 // appendLetter appends a refused line as their file has it: an object of JSON, without the credentials. Of a line that is too long it has
@@ -568,13 +836,14 @@ func appendLetter(letters []byte, to target, at time.Time, line int64, raw []byt
 	if !utf8.Valid(raw) {
 		letter["raw"], letter["raw_base64"] = "", raw
 	}
-	text, _ := json.Marshal(letter) // texts, a number and a time have no error
-	return append(append(letters, text...), '\n')
+	return append(append(letters, inJSON(letter)...), '\n')
 }
 
-// Refusals are the file of refused lines. It is opened for each body, so it may be moved away or emptied at any time.
+// Refusals are the file of refused lines. It is opened for each body, so it may be moved away or emptied at any time. Once it has half of what
+// it may have it is moved to a place beside it, in the place of the one that is there.
 type refusals struct {
 	path string
+	most int64
 	mu   sync.Mutex
 }
 
@@ -582,6 +851,12 @@ type refusals struct {
 func (r *refusals) append(lines []byte) error {
 	r.mu.Lock()
 	defer r.mu.Unlock()
+	if info, err := os.Stat(r.path); err == nil && info.Mode().IsRegular() && info.Size() > 0 && info.Size()+int64(len(lines)) > r.most/2 {
+		log.Printf("%q is moved to %q, in the place of what was there", r.path, r.path+".1")
+		if err := os.Rename(r.path, r.path+".1"); err != nil {
+			return err
+		}
+	}
 	file, err := os.OpenFile(r.path, os.O_CREATE|os.O_RDWR|os.O_APPEND, 0o600)
 	if err != nil {
 		return err

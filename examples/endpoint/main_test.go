@@ -7,6 +7,7 @@ import (
 	"encoding/json"
 	"fmt"
 	"io"
+	"log"
 	"net"
 	"net/http"
 	"net/http/httptest"
@@ -20,9 +21,9 @@ import (
 	"yomskafi.example/lineprotocol/v3"
 )
 
-// A stub is in the place of the server. It keeps what it takes, in order; it does not take lines with `conflict` or `panic`, as InfluxDB does
-// not; while it is away, or sick, it takes nothing; `answers` has the status that bodies with a text are answered by; and it may ask for
-// credentials.
+// A stub is in the place of the server. It keeps what it takes, in order, but for the endpoint's own line; it does not take lines with `conflict`
+// or `panic`, as InfluxDB does not; while it is away, or sick, it takes nothing; `answers` has the status that bodies with a text are answered
+// by; and it may ask for credentials.
 type stub struct {
 	*httptest.Server
 	mu         sync.Mutex
@@ -31,6 +32,7 @@ type stub struct {
 	away, sick bool
 	answers    map[string]int
 	password   string
+	text       string // of these answers
 }
 
 func newStub(t *testing.T) *stub {
@@ -48,6 +50,7 @@ func (s *stub) serve(w http.ResponseWriter, r *http.Request) {
 	for part, code := range s.answers {
 		if bytes.Contains(text, []byte(part)) {
 			w.WriteHeader(code)
+			fmt.Fprint(w, s.text)
 			return
 		}
 	}
@@ -63,9 +66,11 @@ func (s *stub) serve(w http.ResponseWriter, r *http.Request) {
 		fmt.Fprint(w, `{"error":"database not found"}`)
 	case bytes.Contains(text, []byte("conflict")):
 		w.WriteHeader(400)
-		fmt.Fprint(w, `{"error":"partial write: field type conflict dropped=1"}`)
+		fmt.Fprintf(w, `{"error":"partial write: field type conflict dropped=%d"}`, bytes.Count(text, []byte("conflict")))
 	default:
-		s.got = append(s.got, string(text))
+		if !bytes.HasPrefix(text, []byte("endpoint_probe ")) {
+			s.got = append(s.got, string(text))
+		}
 		w.WriteHeader(204)
 	}
 }
@@ -76,11 +81,14 @@ func (s *stub) set(away, sick bool) {
 	s.away, s.sick = away, sick
 }
 
-// answer has bodies with a text answered by this status, and all others as ever.
-func (s *stub) answer(part string, code int) {
+// answer has bodies with one of these texts answered by this status, and all others as ever.
+func (s *stub) answer(code int, parts ...string) {
 	s.mu.Lock()
 	defer s.mu.Unlock()
-	s.answers = map[string]int{part: code}
+	s.answers = map[string]int{}
+	for _, part := range parts {
+		s.answers[part] = code
+	}
 }
 
 // times gives how often the stub was asked.
@@ -104,7 +112,9 @@ func start(t *testing.T, s *stub, folder string, words ...string) (address strin
 		t.Fatal(err)
 	}
 	ctx, cancel := context.WithCancel(context.Background())
-	server := httptest.NewServer(e.routes())
+	server := httptest.NewUnstartedServer(nil)
+	server.Config = e.web()
+	server.Start()
 	var sending sync.WaitGroup
 	sending.Add(1)
 	go func() { (&sender{endpoint: e}).run(ctx); sending.Done() }()
@@ -217,6 +227,7 @@ func TestAnswers(t *testing.T) {
 		{long, "line 1: unable to parse '" + long[:100] + "': the line is too long"},
 		{"m f=4\n m=\" f=5", "partial write: line 2: unable to parse ' m=\" f=5': what is there is not one line for the strict reader dropped=1"},
 		{"m f=\"open\nm f=6", "line 1: unable to parse 'm f=\"open\nm f=6': " + fault("m f=\"")},
+		{"\ufeffm f=9\nm f=9", "partial write: line 1: unable to parse '\ufeffm f=9': the body begins with a byte order mark dropped=1"},
 		{"m f=7i,", "line 1: unable to parse 'm f=7i,': " + faultIn(lineprotocol.Strict, "m f=7i,")},
 		{"# a=\"\nm f=8\n", ""},
 		{"m conflict=1", "partial write: field type conflict dropped=1"},
@@ -224,16 +235,15 @@ func TestAnswers(t *testing.T) {
 	} {
 		wanted := "204"
 		if row.answer != "" {
-			text, _ := json.Marshal(map[string]string{"error": row.answer})
-			wanted = "400 " + string(text)
+			wanted = "400 " + string(inJSON(map[string]string{"error": row.answer}))
 		}
 		want(t, fmt.Sprintf("%.40q", row.body), post(t, write, row.body), wanted)
 	}
 	want(t, "a panic of the server", post(t, write, "m panic=1"), `500 {"error":""}`)
 	want(t, "a body too large", post(t, write, strings.Repeat("m f=1\n", 200)), `413 {"error":"Request Entity Too Large"}`)
 	want(t, "too much to keep", post(t, write, strings.Repeat("m\n", 100)), `413 {"error":"Request Entity Too Large"}`)
-	want(t, "what goes on", s.taken(), "m f=1\nm f=2\nm f=3\nm s=\"a\nb\" 3\nm f=4\nm f=8\n")
-	want(t, "what is kept", fmt.Sprintf("%q", refused(t, folder)), fmt.Sprintf("%q", []string{"m f=", "m f=1\r", "\xff f=1", long[:100], " m=\" f=5", "m f=\"open\nm f=6", "m f=7i,", "m f="}))
+	want(t, "what goes on", s.taken(), "m f=1\nm f=2\nm f=3\nm s=\"a\nb\" 3\nm f=4\nm f=9\nm f=8\n")
+	want(t, "what is kept", fmt.Sprintf("%q", refused(t, folder)), fmt.Sprintf("%q", []string{"m f=", "m f=1\r", "\xff f=1", long[:100], " m=\" f=5", "m f=\"open\nm f=6", "\ufeffm f=9", "m f=7i,", "m f="}))
 }
 
 // A quote that a line leaves open takes in no other line by the rules that end a line at each newline.
@@ -348,36 +358,234 @@ func inSpool(folder string) int {
 	return len(files)
 }
 
-// A line that comes while others are in the spool goes after them, and they are there until the server has them.
-func TestOrder(t *testing.T) {
-	s, folder := newStub(t), t.TempDir()
-	spool := filepath.Join(folder, "spool")
-	address, _ := start(t, s, folder, "-spool", spool)
-	s.answer("f=1 ", 503)
-	want(t, "a line that the server does not take now", post(t, address+"/write?db=x", "m f=1 5"), "204")
-	wait(t, "the server is asked again", func() bool { return s.times() > 2 })
-	want(t, "the line after it", post(t, address+"/write?db=x", "m f=2 5"), "204")
-	want(t, "what the server has, and the spool", fmt.Sprintf("%q %d", s.taken(), inSpool(spool)), `"" 2`)
-	s.answer("nothing", 503)
-	wait(t, "the spool is empty", func() bool { return inSpool(spool) == 0 })
-	want(t, "what the server has then", s.taken(), "m f=1 5\nm f=2 5\n")
-}
-
-// To tell a line that the server cannot take from a sick server, lines that it has are sent again: none that a later one has written over.
-func TestSentAgain(t *testing.T) {
+// To tell a line that the server cannot take from a sick server, it is sent a line of the endpoint's own, and no other line once more.
+func TestProbe(t *testing.T) {
 	s, folder := newStub(t), t.TempDir()
 	spool := filepath.Join(folder, "spool")
 	address, _ := start(t, s, folder, "-spool", spool)
 	s.set(true, false)
 	want(t, "a point, and its next value", post(t, address+"/write?db=x", "m f=1 5\nm f=2 5"), "204")
-	panics := "m panic=\"" + strings.Repeat("x", 99) + "\" 6" // longer than the others, so these go out together
-	want(t, "a line that the server cannot take", post(t, address+"/write?db=x", panics), "204")
+	panics := "m panic=\"" + strings.Repeat("x", 99) + "\" 6"
+	want(t, "a line that the server cannot take", post(t, address+"/write?db=x&precision=s", panics), "204")
 	s.set(false, false)
 	wait(t, "the spool is empty", func() bool { return inSpool(spool) == 0 })
-	if !strings.HasSuffix(s.taken(), "m f=2 5\n") || strings.Count(s.taken(), "m f=2 5\n") < 2 {
-		t.Errorf("the server was sent %q", s.taken())
-	}
+	want(t, "what the server has", s.taken(), "m f=1 5\nm f=2 5\n")
 	want(t, "what is refused", fmt.Sprintf("%q", refused(t, folder)), fmt.Sprintf("%q", []string{panics}))
+	asked := s.asked[len(s.asked)-1]
+	want(t, "the last call", fmt.Sprint(asked.URL.Query().Encode(), " ", asked.ContentLength > int64(len(panics))), "db=x&precision=h true")
+}
+
+// While a server answers 500 to all of a database, no line goes before one that came earlier: it would leave an older value in the end.
+func TestSick(t *testing.T) {
+	s, folder := newStub(t), t.TempDir()
+	spool := filepath.Join(folder, "spool")
+	address, _ := start(t, s, folder, "-spool", spool)
+	s.answer(500, "f=1 ", "endpoint_probe")
+	want(t, "a line for which the server fails", post(t, address+"/write?db=x", "m f=1 5"), "204")
+	want(t, "the next value of the point", post(t, address+"/write?db=x&u=other", "m f=2 5"), "204")
+	want(t, "a line of another database", post(t, address+"/write?db=y", "m f=3 5"), "204")
+	wait(t, "what the server has", func() bool { return s.taken() == "m f=3 5\n" })
+	asked := s.times()
+	wait(t, "the server is asked again", func() bool { return s.times() > asked+2 })
+	s.answer(500)
+	wait(t, "the spool is empty", func() bool { return inSpool(spool) == 0 })
+	want(t, "what the server has then", s.taken(), "m f=3 5\nm f=1 5\nm f=2 5\n")
+	want(t, "what is refused", fmt.Sprint(refused(t, folder)), "[]")
+}
+
+// Lines that the server refuses hold back no others for more than mostCalls calls, and those that it had to make then.
+func TestManyRefused(t *testing.T) {
+	s, folder := newStub(t), t.TempDir()
+	spool := filepath.Join(folder, "spool")
+	address, _ := start(t, s, folder, "-spool", spool)
+	s.set(true, false)
+	all, some := strings.Repeat("m conflict=1 1\n", 20000), strings.Repeat("m conflict=1 2\nm f=1 2\n", 2000)
+	for _, body := range []string{all, some, "m f=3 3\n"} {
+		want(t, "a body", post(t, address+"/write?db=x", body), "204")
+	}
+	asked := s.times()
+	s.set(false, false)
+	wait(t, "the spool is empty", func() bool { return inSpool(spool) == 0 })
+	if more := s.times() - asked; more < mostCalls || more > mostCalls+50 {
+		t.Errorf("the server was asked %d times", more)
+	}
+	text := strings.Join(refused(t, folder), "\n")
+	want(t, "lines that are refused", fmt.Sprint(strings.Count(text, "conflict=1 1"), " ", strings.Count(text, "conflict=1 2")), "20000 2000")
+	stored := strings.Count(s.taken(), "m f=1 2\n")
+	if stored == 0 || stored+strings.Count(text, "m f=1 2") != 2000 || !strings.HasSuffix(s.taken(), "m f=3 3\n") || strings.Contains(text, "m f=3") {
+		t.Errorf("%d lines of 2000 are stored, and the last is %q", stored, s.taken()[len(s.taken())-10:])
+	}
+}
+
+// Of a server that takes lines and does not answer the clients hear nothing but 204, and the lines come in order, each once.
+func TestHangs(t *testing.T) {
+	s, folder := newStub(t), t.TempDir()
+	spool := filepath.Join(folder, "spool")
+	address, _ := start(t, s, folder, "-spool", spool)
+	s.mu.Lock()
+	began := time.Now()
+	want(t, "a client that waits", post(t, address+"/write?db=x", "m f=1 5"), "204")
+	want(t, "it is answered after a second", fmt.Sprint(time.Since(began).Round(time.Minute), inSpool(spool)), "0s 1")
+	want(t, "the next value", post(t, address+"/write?db=x", "m f=2 5"), "204")
+	want(t, "what the spool has", fmt.Sprint(inSpool(spool)), "2")
+	time.Sleep(3 * shortest) // for a sender that would not wait
+	s.mu.Unlock()
+	wait(t, "the spool is empty", func() bool { return inSpool(spool) == 0 })
+	want(t, "what the server has", s.taken(), "m f=1 5\nm f=2 5\n")
+}
+
+// What a client sends that gives up is kept at once.
+func TestGone(t *testing.T) {
+	defer func(had time.Duration) { patience = had }(patience)
+	patience = time.Hour
+	s, folder := newStub(t), t.TempDir()
+	spool := filepath.Join(folder, "spool")
+	address, _ := start(t, s, folder, "-spool", spool)
+	s.mu.Lock()
+	ctx, cancel := context.WithTimeout(context.Background(), shortest)
+	defer cancel()
+	request, _ := http.NewRequestWithContext(ctx, "POST", address+"/write?db=x", strings.NewReader("m f=1 5"))
+	_, err := http.DefaultClient.Do(request)
+	want(t, "it gives up", fmt.Sprint(err != nil), "true")
+	wait(t, "its line is kept", func() bool { return inSpool(spool) == 1 })
+	s.mu.Unlock()
+	wait(t, "the server has it", func() bool { return inSpool(spool) == 0 && s.taken() == "m f=1 5\n" })
+}
+
+// raw opens a connection, and sends a text.
+func raw(t *testing.T, address, text string) net.Conn {
+	connection, err := net.Dial("tcp", strings.TrimPrefix(address, "http://"))
+	if err != nil {
+		t.Fatal(err)
+	}
+	t.Cleanup(func() { connection.Close() })
+	io.WriteString(connection, text)
+	return connection
+}
+
+// Connections on which nothing is done, and bodies that come slowly, keep no client out: each that is too many goes, the oldest or largest first.
+func TestDoor(t *testing.T) {
+	s, folder := newStub(t), t.TempDir()
+	address, _ := start(t, s, folder, "-max-connections", "10", "-max-body", "100000", "-max-in-flight", "600000", "-spool", filepath.Join(folder, "spool"))
+	const head = "POST /write?db=x HTTP/1.1\r\nHost: x\r\nContent-Length: 90000\r\n"
+	for _, row := range []struct {
+		what, text string
+		count      int
+		wanted     string
+	}{
+		{"connections", "", 30, ""},
+		{"headers that do not end", head, 30, ""},
+		{"bodies that do not begin", head + "\r\n", 30, ""},
+		{"bodies that do not end", head + "\r\n" + strings.Repeat("#\n", 40000), 3, "HTTP/1.1 503"},
+		{"a header too long", head + "A: " + strings.Repeat("a", mostHeader), 1, "HTTP/1.1 431"},
+	} {
+		var all []net.Conn
+		for n := 0; n < row.count; n++ {
+			all = append(all, raw(t, address, row.text))
+			time.Sleep(5 * time.Millisecond)
+		}
+		began := time.Now()
+		want(t, "a client beside "+row.what, post(t, address+"/write?db=x", "m f=1 1"), "204")
+		want(t, "it is answered soon", fmt.Sprint(time.Since(began) < time.Second), "true")
+		var connections int
+		_, told, _ := strings.Cut(get(t, address+"/metrics"), "endpoint_connections ")
+		if fmt.Sscan(told, &connections); connections > 10 {
+			t.Errorf("%s: %d are open", row.what, connections)
+		}
+		told = ""
+		for _, each := range all {
+			each.SetReadDeadline(time.Now().Add(100 * time.Millisecond))
+			answer, _ := io.ReadAll(each)
+			told += string(answer)
+			each.Close()
+		}
+		if row.wanted == "" && told != "" || !strings.HasPrefix(told, row.wanted) {
+			t.Errorf("%s: they are answered %.100q", row.what, told)
+		}
+	}
+	wait(t, "nothing is in flight", func() bool { return strings.Contains(get(t, address+"/metrics"), "in_flight_bytes 0\n") })
+	s.mu.Lock() // bodies that are whole stay in flight
+	go http.Post(address+"/write?db=x", "", strings.NewReader("m f=2 2\n"+strings.Repeat("#\n", 45000)))
+	wait(t, "a body is whole", func() bool {
+		return strings.Contains(get(t, address+"/metrics"), fmt.Sprint("in_flight_bytes ", perRequest+90008))
+	})
+	want(t, "a body beside it", post(t, address+"/write?db=x", strings.Repeat("#\n", 45000)), `503 {"error":"too many bytes are in flight"}`)
+	s.mu.Unlock()
+	wait(t, "nothing is in flight again", func() bool { return strings.Contains(get(t, address+"/metrics"), "in_flight_bytes 0\n") })
+	// Each line gets a time of 20 bytes.
+	want(t, "many short lines", post(t, address+"/write?db=x", pack(strings.Repeat("m f=1\n", 16000)), "Content-Encoding: gzip"), `413 {"error":"Request Entity Too Large"}`)
+}
+
+// The page has the figures of the program.
+func TestPage(t *testing.T) {
+	e, err := newEndpoint([]string{"-refused", filepath.Join(t.TempDir(), "refused")})
+	text, unread := os.ReadFile("README.md")
+	if err = firstOf(err, unread); err != nil {
+		t.Fatal(err)
+	}
+	page := strings.Join(strings.Fields(string(text)), " ")
+	for _, sentence := range []string{
+		fmt.Sprintf("`-max-connections` | %d | that one is closed", e.door.mostConnections),
+		fmt.Sprintf("`-max-connections NUMBER` | %d |", e.door.mostConnections),
+		fmt.Sprintf("the header of a request | %d KiB, in %.0f seconds |", mostHeader>>10, e.web().ReadHeaderTimeout.Seconds()),
+		fmt.Sprintf("the time until the next one | %.0f minute for each |", mostWait.Minutes()),
+		fmt.Sprintf("`-max-in-flight` | %d MiB |", e.door.most>>20),
+		fmt.Sprintf("and %d KiB for each body", perRequest>>10),
+		fmt.Sprintf("`-max-refused` | %d GiB together |", e.refusals.most>>30),
+		fmt.Sprintf("`-max-spool` | %d GiB |", e.spool.most>>30),
+		fmt.Sprintf("by at most %d calls for a body", mostCalls+50),
+		fmt.Sprintf("After %d calls for a body", mostCalls),
+		fmt.Sprintf("after %.0f second, or once the client is gone", patience.Seconds()),
+		fmt.Sprintf("the first %d refused lines", mostTold),
+	} {
+		if !strings.Contains(page, sentence) {
+			t.Errorf("README.md does not have: %s", sentence)
+		}
+	}
+}
+
+// The file of refused lines has a limit, and lines that came last.
+func TestMostRefused(t *testing.T) {
+	s, folder := newStub(t), t.TempDir()
+	address, _ := start(t, s, folder, "-max-body", "1000", "-max-refused", "4000")
+	for n := 0; n < 100; n++ {
+		post(t, address+"/write?db=x", fmt.Sprintf("x%d", n))
+	}
+	first, _ := os.ReadFile(filepath.Join(folder, "refused.1"))
+	last, _ := os.ReadFile(filepath.Join(folder, "refused"))
+	if len(first) > 2000 || len(first) < 1800 || len(last) > 2000 || !strings.HasSuffix(string(last), "\"why\":\""+fault("x99")+"\"}\n") {
+		t.Errorf("the files have %d and %d bytes, and end with %.200q", len(first), len(last), last)
+	}
+	lines := strings.Count(string(first)+string(last), "\"raw\":\"x")
+	want(t, "the oldest that is kept", fmt.Sprint(strings.Contains(string(first), fmt.Sprintf("\"raw\":\"x%d\"", 100-lines))), "true")
+}
+
+// Characters that a terminal would act on come to no answer, no log and no file.
+func TestEscapes(t *testing.T) {
+	s, folder := newStub(t), t.TempDir()
+	address, _ := start(t, s, folder)
+	const line = "m \u009b31m\u202e\u007f\U000e0001"
+	answer := post(t, address+"/write?db=x", line)
+	file, _ := os.ReadFile(filepath.Join(folder, "refused"))
+	for _, text := range []string{answer, string(file)} {
+		if !strings.Contains(text, `m \u009b31m\u202e\u007f\udb40\udc01`) || strings.ContainsAny(text, "\u009b\u202e\u007f\U000e0001") {
+			t.Errorf("not as escapes: %q", text)
+		}
+	}
+	want(t, "what is kept", refused(t, folder)[0], line)
+	var logged bytes.Buffer
+	log.SetOutput(&logged)
+	bad := httptest.NewServer(http.HandlerFunc(func(w http.ResponseWriter, r *http.Request) {
+		http.Error(w, "x\nendpoint: all is well \x1b[31m", 502)
+	}))
+	address, end := start(t, &stub{Server: bad}, t.TempDir(), "-spool", filepath.Join(t.TempDir(), "spool"))
+	want(t, "a line that stays", post(t, address+"/write?db=x", "m f=1 1"), "204")
+	time.Sleep(3 * shortest)
+	end()
+	log.SetOutput(os.Stderr)
+	if text := logged.String(); !strings.Contains(text, `x\nendpoint: all is well \x1b[31m`) || strings.Contains(text, "\nendpoint: all") {
+		t.Errorf("the log has %q", text)
+	}
 }
 
 // What was begun is answered before the program ends.
@@ -410,7 +618,7 @@ func TestEnding(t *testing.T) {
 		}
 		answered <- err.Error()
 	}()
-	wait(t, "a body is at hand", func() bool { return e.inFlight.Load() > 0 })
+	wait(t, "a body is at hand", func() bool { return e.counts.requests.Load() > 0 })
 	cancel()
 	time.Sleep(100 * time.Millisecond)
 	s.mu.Unlock()
@@ -429,14 +637,16 @@ func TestOneSpool(t *testing.T) {
 	start(t, s, folder, words...)
 }
 
-// A server that has too much to do, or no time, is asked again by the spool: no client is.
+// A server that has too much to do, or no time, is asked again by the spool: no client is, and no line is refused.
 func TestBusy(t *testing.T) {
-	for _, code := range []int{408, 429, 503} {
+	for _, code := range []int{408, 429, 500, 503} {
 		s, folder := newStub(t), t.TempDir()
 		address, _ := start(t, s, folder, "-spool", filepath.Join(folder, "spool"))
-		s.answer("m", code)
+		s.text = `{"error":"timeout"}`
+		s.answer(code, "m")
 		want(t, fmt.Sprint(code), post(t, address+"/write?db=x", "m f=1 5"), "204")
-		s.answer("nothing", 503)
+		wait(t, "it is asked again", func() bool { return s.times() > 2 })
+		s.answer(503)
 		wait(t, fmt.Sprint("the line after ", code), func() bool { return s.taken() == "m f=1 5\n" })
 	}
 }
@@ -483,7 +693,7 @@ func TestRefusedLater(t *testing.T) {
 // Where nothing can be kept, nothing is sent, and the client is told to come again.
 func TestFull(t *testing.T) {
 	s, folder := newStub(t), t.TempDir()
-	address, _ := start(t, s, folder, "-spool", filepath.Join(folder, "spool"), "-max-spool", "9000", "-max-body", "1000", "-max-in-flight", "263144")
+	address, _ := start(t, s, folder, "-spool", filepath.Join(folder, "spool"), "-max-spool", "9000")
 	refusedFile := filepath.Join(folder, "refused")
 	if err := os.WriteFile(refusedFile, []byte(`{"raw":"of a run that was killed`), 0o600); err != nil {
 		t.Fatal(err)
@@ -503,17 +713,4 @@ func TestFull(t *testing.T) {
 	}
 	s.set(false, false)
 	wait(t, "the spool is sent", func() bool { return s.taken() == "m f=2 2\nm f=3 3\n" })
-	slow, bytes := io.Pipe()
-	request, _ := http.NewRequest("POST", address+"/write?db=x", slow)
-	done := make(chan error)
-	go func() { _, err := http.DefaultClient.Do(request); done <- err }()
-	t.Cleanup(func() { bytes.Close() }) // before that of the endpoint, which waits for its clients
-	bytes.Write([]byte("m f=5 5\n"))
-	wait(t, "its first line is in flight", func() bool { return strings.Contains(get(t, address+"/metrics"), "in_flight_bytes 262152\n") })
-	want(t, "others", post(t, address+"/write?db=x", strings.Repeat("#", 999)), `503 {"error":"too many bytes are in flight"}`)
-	bytes.Close()
-	if err := <-done; err != nil {
-		t.Error(err)
-	}
-	want(t, "then", post(t, address+"/write?db=x", strings.Repeat("#", 1000)), "204")
 }
