@@ -138,8 +138,9 @@ pub(crate) fn tell_verdicts(
 {
     let most = limits_of(limits);
     let count = rows.len();
-    let mut portion = no_portion(text, count);
+    let mut portion = no_portion(text, 0);
     for at in 0..count {
+        portion.texts = count - at;
         let Ok(bits) = verdict(alloc, &most, &mut portion, parts, &rows[at]) else {
             return at;
         };

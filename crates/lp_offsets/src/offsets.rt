@@ -378,6 +378,7 @@ fn read_rows<'a>(
         parts.new room.new reading.new.filled result.0 result.1 }
 {
     for at in 0..rows.len() {
+        reading.seen.portion.texts = rows.len() - at;
         let came = read_row(source, reading, &mut rows[at], parts, room);
         if !has_row(came) {
             return (at, came);
@@ -439,7 +440,7 @@ pub fn fill_block(
 {
     let mut reading = Reading {
         seen: Seen {
-            portion: no_portion(source.text, rows.len()),
+            portion: no_portion(source.text, 0),
             at: 0,
             marks: 0,
         },

@@ -132,27 +132,13 @@ pub(crate) fn place_copy(room: &mut [u8], used: usize, spelled: Spelled<'_>) -> 
     (Placed { span, copied: 1 }, all)
 }
 
-// Where a text with a backslash lies. It lies in the line, if it is one escape, of which the byte after the backslash is the text. Else it
-// lies in the room, into which it is put.
+// A text with a backslash, if it is one escape: the byte after the backslash.
 #[cold]
 #[inline(never)]
-fn place_escaped(
-    line: LineIn<'_>,
-    room: &mut [u8],
-    used: usize,
-    text: Stretch<Spelled<'_>>,
-) -> (Placed, usize)
-    requires { EndsBefore line.line.now (spelled_text text.spelled) text.left }
-    ensures grows { Grows room.old used room.new result.1 }
-    ensures bound { length room.old < 2 ^ 32 → result.1 ≤ used + length (spelled_text text.entry.spelled).bytes }
-    ensures takes { TakesRoom room.new used result.1 (text_room result.0.copied result.0.span) }
-    ensures shows { Shows (λ r. bytes_at line.entry.text.now r result.0.copied result.0.span) room.new result.1
-        (spelled_text text.entry.spelled).bytes }
+fn escape_of<'a>(spelled: Spelled<'a>) -> Option<&'a str>
+    ensures { IfSome result (λ shown. record { bytes = shown.now; is_single = true } ≡ spelled_text spelled.entry) }
 {
-    let Some(shown) = shared(text.spelled) else {
-        return place_copy(room, used, text.spelled);
-    };
-    (place_before(line, text.left, shown.len()), used)
+    shared(spelled)
 }
 
 // Where a text lies: in the line, if it is a part of that, or else in the room, into which it is put. If it reads as it is spelled, it
@@ -177,16 +163,19 @@ pub(crate) fn place_text(
             used,
         );
     }
+    if let Some(shown) = escape_of(text.spelled) {
+        return (place_before(line, text.left, shown.len()), used);
+    }
     // Number by number: what a call fills as a whole would be kept in memory, and each place that is told would go there first.
-    let (escaped, used) = place_escaped(line, room, used, text);
+    let (copy, used) = place_copy(room, used, text.spelled);
     let span = Span {
-        at: escaped.span.at,
-        len: escaped.span.len,
+        at: copy.span.at,
+        len: copy.span.len,
     };
     (
         Placed {
             span,
-            copied: escaped.copied,
+            copied: copy.copied,
         },
         used,
     )

@@ -59,8 +59,9 @@ pub fn tell_keys(text: &[u8], rows: &mut [OffsetRow])
     laws::keys_tell_series();
     laws::bases_tell_series();
     let count = rows.len();
-    let mut portion = no_portion(text, count);
+    let mut portion = no_portion(text, 0);
     for at in 0..count {
+        portion.texts = count - at;
         let len = key_len(&mut portion, &rows[at]);
         rows[at].key = len;
     }

@@ -25,3 +25,22 @@ returns-then-reads_as_spelled-clause-shows c = λ enough r same.
     rw c.place_before.ensures.copied
     (shown_there line.text.now line.line.now (spelled_text spelled).bytes line.end c.args.text.left _ _ _ line.lies there
     (ap length c.spelled.ensures ∙ ap (λ (t : Text). length t.bytes) (sym is)) c.place_before.ensures.at c.place_before.ensures.len)
+
+pub place_before-requires-in-Some : goal.place_before-requires-in-Some
+place_before-requires-in-Some c =
+    let is = rw c.in-Some.is at c.escape_of.ensures in
+    let there = c.requires (ap (λ (t : Text). t.is_single) (sym is)) in
+    omega (
+      arith,
+      before_fits c.args.line.line.now (spelled_text c.args.text.spelled).bytes c.args.text.left there,
+      ap (λ (t : Text). length t.bytes) is,
+    )
+
+pub returns-in-Some-clause-shows : goal.returns-in-Some-clause-shows
+returns-in-Some-clause-shows c = λ enough r same.
+    let line = c.args.line in
+    let is = rw c.in-Some.is at c.escape_of.ensures in
+    let there = c.requires (ap (λ (t : Text). t.is_single) (sym is)) in
+    rw c.place_before-in-Some.ensures.copied
+    (shown_there line.text.now line.line.now (spelled_text c.args.text.spelled).bytes line.end c.args.text.left (length c.in-Some.shown.now) _ _
+    line.lies there (ap (λ (t : Text). length t.bytes) is) c.place_before-in-Some.ensures.at c.place_before-in-Some.ensures.len)
