@@ -60,7 +60,9 @@ class Lines(unittest.TestCase):
             split(b"\xff")
 
     def test_pieces(self):
-        self.assertEqual(list(split('a f=1\n b f="x\ny"\nc')), ["a f=1", ' b f="x\ny"', "c"])
+        text = 'a f=1\n b f="x\ny"\nc'
+        for given in (text, *(kind(text.encode()) for kind in (bytes, bytearray, memoryview))):
+            self.assertEqual(list(split(given)), ["a f=1", ' b f="x\ny"', "c"])
 
     def test_the_example_prints_its_items(self):
         printed = io.StringIO()

@@ -13,7 +13,7 @@ from pathlib import Path
 from line_protocol import (
     Column, Columns, FloatText, Line, NotAdmitted, Table, Unsigned, columns, is_admitted, parse, write_columns, write_many)
 
-from typed import typed
+from shared import typed
 
 sys.path.append(str(Path(__file__).parents[3] / "bench"))
 import corpora  # noqa: E402

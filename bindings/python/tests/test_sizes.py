@@ -7,7 +7,7 @@ import unittest
 from line_protocol import (
     Builder, DuplicateTag, Fault, FaultKind, Line, Rebuilt, Side, Unsigned, base, is_admitted, key, parse, rebuild, show, split, write)
 
-from typed import typed
+from shared import typed
 
 # Under a sanitizer the largest take too long.
 SIZES = (1, 65, 1025, 65_537, 1_048_577)[:3 if "WATCHED" in os.environ else 5]

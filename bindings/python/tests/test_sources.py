@@ -29,7 +29,7 @@ from unittest import mock
 import line_protocol
 from line_protocol import Dialect, Fault, FaultKind, Line, columns, parse, rebuild, split
 
-from typed import typed
+from shared import typed
 
 RELAY = os.environ.get("LP_RELAY", "")
 DIALECTS = get_args(Dialect)
