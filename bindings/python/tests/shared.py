@@ -2,14 +2,16 @@
 
 import copy
 import gc
+import os
 import pickle
 import sys
+import tempfile
 import tracemalloc
 import unittest
 from dataclasses import replace
 from pathlib import Path
 
-from line_protocol import Builder, Column, Line, Table, write_columns
+from line_protocol import Builder, Column, Line, Table
 
 try:
     import numpy
@@ -59,25 +61,44 @@ def table_of(time, fields, tags=()):
     return {"m": Table(Column(time), *({key: Column(values) for key, values in dict(given).items()} for given in (tags, fields)))}
 
 
-def write_table(time, fields, tags=(), **options):
-    """What is written of that table."""
-    return write_columns(table_of(time, fields, tags), **options)
+def tables_of(line):
+    """Tables whose only row is a line."""
+    tags, fields = ({key: [value] for key, value in pairs} for pairs in (line.tags, line.fields))
+    return {line.measurement: table_of([line.timestamp], fields, tags)["m"]}
 
 
-class Traced(unittest.TestCase):
-    def trace(self):
-        """Traces what memory is held."""
-        tracemalloc.start()
-        self.addCleanup(tracemalloc.stop)
+def trace(test):
+    """Traces what memory is held until a test ends."""
+    tracemalloc.start()
+    test.addCleanup(tracemalloc.stop)
 
-    def give_back(self, once, times, most):
-        """Sees that no more than so many bytes are held after many calls."""
-        self.trace()
-        for _ in range(times):  # caches of Python fill
-            once()
-        gc.collect()
-        before = tracemalloc.get_traced_memory()[0]
-        for _ in range(times):
-            once()
-        gc.collect()
-        self.assertLess(tracemalloc.get_traced_memory()[0], before + most)
+
+def give_back(test, once, times, most):
+    """Sees that no more than so many bytes are held after as many calls again."""
+    trace(test)
+    for _ in range(times):  # caches of Python fill
+        once()
+    gc.collect()
+    before = tracemalloc.get_traced_memory()[0]
+    for _ in range(times):
+        once()
+    gc.collect()
+    test.assertLess(tracemalloc.get_traced_memory()[0], before + most)
+
+
+def open_files():
+    """How many files the process has open, where the system says it."""
+    return len(os.listdir("/proc/self/fd")) if os.path.exists("/proc/self/fd") else 0
+
+
+class Folder(unittest.TestCase):
+    def setUp(self):
+        folder = tempfile.TemporaryDirectory()
+        self.addCleanup(folder.cleanup)
+        self.folder = Path(folder.name)
+
+    def file(self, data, name="lines"):
+        """A path of a file of these bytes."""
+        path = self.folder / name
+        path.write_bytes(data)
+        return path

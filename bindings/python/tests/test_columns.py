@@ -1,6 +1,5 @@
 """Columns hold what `parse` gives."""
 
-import gc
 import io
 import itertools
 import math
@@ -14,10 +13,7 @@ from unittest import mock
 
 from line_protocol import Fault, FaultKind, Line, Unsigned, columns, key, parse
 
-try:
-    import numpy
-except ImportError:
-    numpy = None
+from shared import give_back, numpy, trace
 
 MISSING = object()
 
@@ -172,23 +168,12 @@ class Columns(unittest.TestCase):
             except TypeError:
                 pass
 
-        once()
-        gc.collect()
-        tracemalloc.start()
-        self.addCleanup(tracemalloc.stop)
-        once()
-        gc.collect()
-        before = tracemalloc.get_traced_memory()[0]
-        for _ in range(20):
-            once()
-        gc.collect()
-        self.assertLess(tracemalloc.get_traced_memory()[0], before + 50_000)
+        give_back(self, once, 20, 50_000)
 
     def test_numbers_take_eight_bytes(self):
         """A million numbers take their bytes, and no object for each."""
         data = b"m,t=a f=1i,g=0.5,h=3u 7\n" * 50_000
-        tracemalloc.start()
-        self.addCleanup(tracemalloc.stop)
+        trace(self)
         told = columns(iter([data[:1_000_000], data[1_000_000:]]), use_numpy=False)
         size = tracemalloc.get_traced_memory()[0]
         self.assertEqual(len(told.tables["m"]), 50_000)

@@ -11,6 +11,8 @@ from types import SimpleNamespace
 
 from line_protocol import DuplicateTag, Line, Rebuilt, Unsigned, base, is_admitted, is_base_safe, key, parse, rebuild, show, write
 
+from shared import trace
+
 LINE = Line(
     "c pu", [("z", "a,b"), ("h=", "é")],
     [("i", -64), ("u", Unsigned(7)), ("f", 1.5), ("s", 'x"\\y'), ("t", True)], 5)
@@ -169,8 +171,7 @@ class Rebuilding(unittest.TestCase):
 
     def test_no_more_memory_is_kept_than_a_call_may_keep(self):
         text = b"m f=1i\n" * (1 << 22)
-        tracemalloc.start()
-        self.addCleanup(tracemalloc.stop)
+        trace(self)
         self.assertEqual(rebuild(text).carried, 1 << 22)
         self.assertLess(tracemalloc.get_traced_memory()[0], 1 << 26)
 
