@@ -151,12 +151,6 @@ class Columns(unittest.TestCase):
         for _ in range(3):
             with self.assertRaisesRegex(RuntimeError, "lost"):
                 columns(parts())
-        with self.assertRaises(UnicodeDecodeError):
-            columns(b"\xff")
-        with self.assertRaisesRegex(TypeError, "a source is a str"):
-            columns(5)
-        with self.assertRaisesRegex(ValueError, "max_line is -1"):
-            columns("", max_line=-1)
 
     def test_memory_is_given_back(self):
         text = "".join(f'm,t=a{i % 7} f={i}i,g={i}.5,s="x{i}",u={i}u {i}\n' for i in range(2000))

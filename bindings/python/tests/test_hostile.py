@@ -63,7 +63,7 @@ NO_STR = [
     Decimal(1), Level.HIGH]
 NO_SOURCE = [
     None, 0, 5, True, 1.5, 1j, ["n"], [10**5000], ("n",), {"n": 1}, {"n"}, frozenset("n"), range(3), Strange(), Decimal(1), iter("n"),
-    [109, 32], [], {109}]
+    [109, 32], [], {109}, object(), iter("é"), b"m".hex]
 NO_PATH = [
     None, 0, 5, True, 1.5, 1j, b"n", bytearray(b"n"), ["n"], ("n",), {"n": 1}, {"n"}, io.BytesIO(b"n"), iter("n"), Strange(), Silent()]
 NO_PAIRS = [None, 5, True, 1.5, "ab", b"ab", {("a", "b")}, {"ab"}, {"a": "b"}.items(), iter([("a", "b")]), Strange(), Silent()]
@@ -72,7 +72,7 @@ NO_VALUE = [
     None, b"x", bytearray(b"x"), 1j, Decimal(1), Fraction(1, 2), [1], (1,), {1: 2}, {1}, [], (), {}, datetime.datetime(2026, 1, 1),
     Strange(), Silent(), Number(), int]
 NO_INT = [
-    "5", b"5", "", b"", 0.0, 1.0, 1.5, 1.9, math.nan, True, False, 1j, Decimal(5), Fraction(5), [5], (5,), [], (), {}, Strange(),
+    "5", b"5", "", b"", 0.0, 1.0, 1.5, 1.9, 5.0, math.nan, True, False, 1j, Decimal(5), Fraction(5), [5], (5,), [], (), {}, Strange(),
     datetime.datetime(2026, 1, 1)]
 NO_TIME = [*NO_INT[:-1], datetime.date(2026, 1, 1), datetime.time(), datetime.timedelta(5)]
 TOO_LARGE = [2**63, -(2**63) - 1, 2**64, 10**30, 10**4000, 10**5000]
@@ -140,6 +140,7 @@ NO_LITERAL = ["", "x", "1.", ".5", "1e", "+1", "1_0", "inf", "-inf", "nan", "0x1
 TABLE = [
     (NO_SOURCE, itself, [parse, columns], TypeError, "a source is a str, bytes, a path .* not {told}"),
     (NO_SOURCE, itself, TEXT_CALLS, TypeError, "a text is a str or bytes, not {told}"),
+    ([b"\xff", b"m f=1i\n\xff"], itself, [parse, columns, split, rebuild], UnicodeDecodeError, "utf-8"),
     (["m f=1i\n\ud800"], itself, [parse, *TEXT_CALLS], UnicodeEncodeError, "surrogates not allowed"),
     (NO_STR, lambda value: Line(value, [], FIELDS), [*BOTH, begin], TypeError, "the measurement is a str, not {told}"),
     (NO_STR, lambda value: Line("m", [(value, "v")], FIELDS), [*BOTH, begin], TypeError, "the key of a tag is a str, not {told}"),
@@ -158,7 +159,8 @@ TABLE = [
     (TOO_LARGE, lambda value: Line("m", [], FIELDS, value), LINE_CALLS, OverflowError, "the timestamp: .* is not at least"),
     (NO_LINE, itself, BOTH, TypeError, "a line is a Line, not {told}"),
     (["m", "a b"], Line, [*WHOLE_CALLS, build], ValueError, "the line of the measurement '{value}' has no field"),
-    ([None, 5, 1.5, Strange(), Line("m")], itself, [write_many], TypeError, "lines are an iterable of Line, not"),
+    ([None, 5, 1.5, Strange(), Line("m")], itself, [write_many], TypeError, "lines are an iterable of Line, not {type}"),
+    (["ab", b"ab", {"a": 1}, [1]], itself, [write_many], TypeError, "line 1: a line is a Line, not"),
     (NO_INT, itself, [parse_within, columns_within], TypeError, "max_line is an int or None, not {told}"),
     ([-1, -(10**30)], itself, [parse_within, columns_within], ValueError, "max_line is {value}"),
     (NO_PATH, itself, [ends_of], TypeError, "a path is a str or a path of pathlib, not {told}"),
@@ -169,7 +171,7 @@ TABLE = [
     ([None, 1.0, 1.9, "7", b"7", True, False, 1j, Decimal(7), Strange()], itself, [Unsigned], TypeError, "integer"),
     ([None, 1.5, 1, b"1", True, Strange()], itself, [FloatText], TypeError, "the literal of a float is a str, not"),
     (NO_LITERAL, itself, [FloatText], ValueError, "no literal of a float"),
-    ([5, 1.5, Strange(), ["m"]], lambda value: iter([b"m f=1i\n", value]), [all_items, columns], TypeError,
+    ([5, 1.5, Strange(), ["m"], [b"m"], Line("m")], lambda value: iter([b"m f=1i\n", value]), [all_items, columns], TypeError,
      "a part of a source is a str or bytes, not {told}"),
     ([None], lambda value: iter([b"m f=1i\n", value]), [all_items, columns], BlockingIOError, "has no bytes yet"),
     (NO_TABLES, itself, TABLES, TypeError, "tables are Columns, or a dict of Table, not {told}"),
@@ -206,7 +208,7 @@ TABLE = [
 
 class Refused(unittest.TestCase):
     def refuse(self, call, given, raised, why, value):
-        said = why.format(told=told(value), value=re.escape(str(value)) if "{value}" in why else "")
+        said = why.format(told=told(value), type=type(value).__name__, value=re.escape(str(value)) if "{value}" in why else "")
         with self.assertRaisesRegex(raised, said) as found:
             call(given)
         self.assertIs(type(found.exception), raised)

@@ -108,17 +108,11 @@ class Many(unittest.TestCase):
 
     def test_many_lines_in_one_call(self):
         wanted = "".join(map(write, self.LINES))
-        for lines in (self.LINES, tuple(self.LINES), iter(self.LINES), (line for line in self.LINES), dict.fromkeys(range(3))):
-            if isinstance(lines, dict):
-                continue
+        for lines in (self.LINES, tuple(self.LINES), iter(self.LINES), (line for line in self.LINES), parse(wanted)):
             with self.subTest(lines=type(lines).__name__):
                 self.assertEqual(write_many(lines), wanted)
         self.assertEqual(write_many([]), "")
         self.assertEqual(list(parse(wanted)), self.LINES)
-
-    def test_what_parse_gives_is_written(self):
-        text = "".join(map(write, self.LINES))
-        self.assertEqual(write_many(parse(text)), text)
 
     def test_a_line_as_long_as_many(self):
         lines = [Line("m", [], [("s", "x" * size)]) for size in (1, 1000, 1_000_000, 3, 5_000_000)]
@@ -147,14 +141,6 @@ class Many(unittest.TestCase):
             write_many(lines())
         with self.assertRaisesRegex(ValueError, "^mine$"):
             write_many(map(lambda one: (_ for _ in ()).throw(ValueError("mine")), [1]))
-
-    def test_what_is_no_iterable_of_lines(self):
-        for lines in (None, 5, 1.5, Line("m", [], [("f", 1)])):
-            with self.subTest(lines=lines), self.assertRaisesRegex(TypeError, f"lines are an iterable of Line, not {type(lines).__name__}"):
-                write_many(lines)
-        for lines in ("ab", b"ab", {"a": 1}, [1]):
-            with self.subTest(lines=lines), self.assertRaisesRegex(TypeError, "line 1: a line is a Line, not"):
-                write_many(lines)
 
     def test_memory_is_given_back(self):
         lines = [*parse('m,t=a f=1e400,g=1.50,h=-1e999,i=5i,u=7u,s="x",b=t 5\nm f=0.30\n' * 20), *self.LINES[:40]]

@@ -106,16 +106,6 @@ class Kinds(Folder):
             self.assertEqual(list(parse(in_parts(long, 20_000))), items)
         self.assertLess(cut.call_count, 20)  # of 401 parts
 
-    def test_what_is_no_source(self):
-        for source in (5, None, 1.5, ["m f=1i"], ("m f=1i",), {"m": 1}, {1}, range(3), object(), iter("m f=1i"), iter("é"), b"m".hex):
-            with self.subTest(source=source), self.assertRaisesRegex(TypeError, f"not {type(source).__name__}: "):
-                parse(source)
-
-    def test_what_is_no_part(self):
-        for part in (5, None, 1.5, [b"m"], Line("m")):
-            with self.subTest(part=part), self.assertRaises((TypeError, BlockingIOError)):
-                list(parse(iter([b"m f=1i\n", part])))
-
     def test_a_character_that_utf_8_has_not(self):
         items = parse(iter(["m f=1i\n", "\ud800"]))
         self.assertEqual(next(items), Line("m", [], [("f", 1)]))
@@ -369,13 +359,7 @@ class Bytes(unittest.TestCase):
         self.assertEqual(len(list(parse(data, max_line=13))), 4)
         self.assertEqual(len([item for item in parse(data, max_line=13) if isinstance(item, Line)]), 4)
 
-    def test_what_is_no_limit(self):
-        for limit in (-1, -(10**30)):
-            with self.assertRaisesRegex(ValueError, f"max_line is {limit}"):
-                parse("m f=1i", max_line=limit)
-        for limit in ("5", 5.0, True, b"5", [5]):
-            with self.assertRaisesRegex(TypeError, f"max_line is an int or None, not {type(limit).__name__}: "):
-                parse("m f=1i", max_line=limit)
+    def test_the_greatest_and_the_least_limit(self):
         self.assertEqual(len(list(parse("m f=1i", max_line=10**30))), 1)
         self.assertEqual([item.kind for item in parse("m f=1i\n\n", max_line=0)], [FaultKind.TOO_LONG])
 
