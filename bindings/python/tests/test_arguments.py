@@ -1,22 +1,14 @@
-"""What is handed in: it is written or read as what it is, or the call raises."""
+"""What is handed in is written or read as what it is. (What is refused is in test_hostile.py.)"""
 
-import copy
-import enum
 import math
-import pickle
 import unittest
-from decimal import Decimal
-from fractions import Fraction
 
 from line_protocol import (
-    Builder, FloatText, Line, Unsigned, base, broken_clauses, columns, is_admitted, is_base_safe, key, parse, part_ends, rebuild,
-    show, split, verdicts, write, write_columns, write_many)
+    Builder, FloatText, Line, Unsigned, base, columns, is_admitted, parse, part_ends, rebuild, show, split, verdicts, write, write_columns,
+    write_many)
 
-from typed import typed
-
-
-class Level(enum.IntEnum):
-    HIGH = 3
+from shared import build, copies_of, typed
+from test_hostile import Level, Number
 
 
 class Shown(float):
@@ -24,43 +16,7 @@ class Shown(float):
         return "a number"
 
 
-class Number:
-    """No int, but a number that Python takes for a whole one."""
-
-    def __index__(self):
-        return 7
-
-
-def build(line):
-    """A line through the builder."""
-    builder = Builder().measurement(line.measurement)
-    for key, value in line.tags:
-        builder.tag(key, value)
-    for key, value in line.fields:
-        builder.field(key, value)
-    if line.timestamp is not None:
-        builder.timestamp(line.timestamp)
-    return builder.close_line().build()
-
-
 class Texts(unittest.TestCase):
-    def test_what_is_no_text(self):
-        for text in (None, 3, 0, True, 1.5, [109, 32], [], ("m f=1i",), {"m": 1}, {109}, iter("m f=1i"), range(3)):
-            for call in (parse, split, rebuild, verdicts, broken_clauses):
-                with self.subTest(text=text, call=call.__name__), self.assertRaises(TypeError):
-                    call(text)
-
-    def test_what_lends_bytes(self):
-        for kind in (bytes, bytearray, memoryview):
-            with self.subTest(kind=kind.__name__):
-                self.assertEqual(list(parse(kind(b"m f=1i"))), [Line("m", [], [("f", 1)])])
-                self.assertEqual(list(split(kind(b"a\nb"))), ["a", "b"])
-
-    def test_a_character_that_utf_8_has_not(self):
-        for call in (parse, split, rebuild, verdicts, broken_clauses):
-            with self.subTest(call=call.__name__), self.assertRaises(UnicodeEncodeError):
-                call("m f=1i\n\ud800")
-
     def test_changes_after_the_call_are_not_read(self):
         data = bytearray(b"m f=1i")
         items = parse(data)
@@ -106,39 +62,6 @@ class Dialects(unittest.TestCase):
                     call(**words)
 
 
-class Names(unittest.TestCase):
-    PLACES = {
-        "measurement": lambda name: Line(name, [], [("f", 1)]),
-        "the key of a tag": lambda name: Line("m", [(name, "v")], [("f", 1)]),
-        "the value of the tag 'k'": lambda name: Line("m", [("k", name)], [("f", 1)]),
-        "the key of a field": lambda name: Line("m", [], [(name, 1)]),
-    }
-
-    def test_names_that_are_no_str(self):
-        for place, make in self.PLACES.items():
-            for name in (None, b"n", bytearray(b"n"), 5, 0, True, 1.5, ["n"], ("n",), Level.HIGH):
-                for call in (write, show, is_admitted, build, base, key, is_base_safe)[: 4 if "field" in place else 7]:
-                    with self.subTest(place=place, name=name, call=call.__name__):
-                        with self.assertRaisesRegex(TypeError, f"{place} is a str, not {type(name).__name__}"):
-                            call(make(name))
-
-    def test_a_character_that_utf_8_has_not(self):
-        for place, make in {**self.PLACES, "value": lambda text: Line("m", [], [("f", text)])}.items():
-            for call in (write, show, is_admitted, build):
-                with self.subTest(place=place, call=call.__name__), self.assertRaises(UnicodeEncodeError):
-                    call(make("a\ud800"))
-
-    def test_what_is_no_list_of_pairs(self):
-        for pairs in (None, "ab", {"ab"}, ["ab"], [b"ab"], [("a",)], [("a", "b", "c")], [None], iter([("a", "b")])):
-            for line in (Line("m", pairs, [("f", 1)]), Line("m", [], pairs)):
-                for call in (write, show, is_admitted):
-                    with self.subTest(line=line, call=call.__name__), self.assertRaisesRegex(TypeError, "pair"):
-                        call(line)
-
-    def test_pairs_may_be_lists(self):
-        self.assertEqual(write(Line("m", (["a", "b"],), [["f", 1]])), "m,a=b f=1i\n")
-
-
 class Timestamps(unittest.TestCase):
     WRITTEN = {0: " 0", -5: " -5", 2**63 - 1: " 9223372036854775807", -(2**63): " -9223372036854775808", Level.HIGH: " 3"}
 
@@ -148,20 +71,6 @@ class Timestamps(unittest.TestCase):
             with self.subTest(given=given):
                 self.assertEqual((write(line), build(line)), (f"m f=1i{text}\n",) * 2)
                 self.assertEqual((show(line), is_admitted(line), base(line)), (f"m f=1i{text}", True, "m"))
-
-    def refuse(self, given, refused):
-        line = Line("m", [], [("f", 1)], given)
-        for call in (write, show, is_admitted, build):
-            with self.subTest(given=given, call=call.__name__), self.assertRaisesRegex(refused, "timestamp"):
-                call(line)
-
-    def test_what_is_no_timestamp(self):
-        for given in (False, True, 0.0, 1.0, 1.9, math.nan, "", "5", b"", [], (), {}, Decimal(5), Fraction(5)):
-            self.refuse(given, TypeError)
-
-    def test_a_timestamp_out_of_its_range(self):
-        for given in (2**63, -(2**63) - 1, 2**64, 10**4000):
-            self.refuse(given, OverflowError)
 
 
 class Values(unittest.TestCase):
@@ -176,32 +85,8 @@ class Values(unittest.TestCase):
             with self.subTest(value=value, kind=type(value).__name__):
                 self.assertEqual((write(line), build(line)), (f"m f={text}\n",) * 2)
 
-    def refuse(self, value, refused):
-        line = Line("m", [], [("f", value)])
-        for call in (write, show, is_admitted, build):
-            with self.subTest(value=value, call=call.__name__), self.assertRaisesRegex(refused, "field 'f'"):
-                call(line)
-
-    def test_a_float_without_a_literal(self):
-        for value in (math.inf, -math.inf, math.nan):
-            self.refuse(value, ValueError)
-
-    def test_a_number_out_of_its_range(self):
-        for value in (2**63, -(2**63) - 1, 10**4000, Unsigned(2**64), Unsigned(-1)):
-            self.refuse(value, OverflowError)
-
-    def test_a_number_too_long_to_be_shown(self):
-        with self.assertRaisesRegex(OverflowError, "the field 'f': an integer of 20001 bits"):
-            write(Line("m", [], [("f", 2**20_000)]))
-
-    def test_a_value_of_no_kind(self):
-        for value in (None, b"x", bytearray(b"x"), [], (), {}, 1j, Decimal(1), Fraction(1), Number()):
-            self.refuse(value, TypeError)
-
-    def test_what_is_no_unsigned_integer(self):
-        for value in (1.9, 1.0, True, False, "7", b"7", None, Decimal(7)):
-            with self.subTest(value=value), self.assertRaises(TypeError):
-                Unsigned(value)
+    def test_pairs_may_be_lists(self):
+        self.assertEqual(write(Line("m", (["a", "b"],), [["f", 1]])), "m,a=b f=1i\n")
 
 
 class Floats(unittest.TestCase):
@@ -229,13 +114,5 @@ class Floats(unittest.TestCase):
                 value = FloatText(literal)
                 self.assertEqual((value, value.text, repr(value)), (float(literal), literal, f"FloatText('{literal}')"))
                 self.assertEqual(write(Line("m", [], [("f", value)])), f"m f={literal}\n")
-                for again in (copy.copy(value), copy.deepcopy(value), pickle.loads(pickle.dumps(value))):
+                for again in copies_of(value):
                     self.assertEqual((type(again), again.text), (FloatText, literal))
-
-    def test_what_is_no_literal(self):
-        for text in ("-inf", "nan", " 1", "1\n", "1_0", "0x1", "1i", "١", "--1"):
-            with self.subTest(text=text), self.assertRaises(ValueError):
-                FloatText(text)
-        for text in (None, 1.5, 1, b"1", True):
-            with self.subTest(text=text), self.assertRaises(TypeError):
-                FloatText(text)

@@ -3,17 +3,13 @@ and other threads run meanwhile."""
 
 import array
 import random
-import sys
 import threading
-import time
 import unittest
+from concurrent.futures import ThreadPoolExecutor
 
-from line_protocol import Column, Line, NotAdmitted, Table, Unsigned, _fast, columns, rows, write, write_columns, write_many
+from line_protocol import Column, Line, NotAdmitted, Table, Unsigned, columns, write, write_columns, write_many
 
-try:
-    import numpy
-except ImportError:
-    numpy = None
+from shared import numpy
 
 ROWS = 1 << 14
 """So many rows are written in one go, at most."""
@@ -96,35 +92,6 @@ class Blocks(unittest.TestCase):
 class Threads(unittest.TestCase):
     SIZE = 100_000
 
-    def table(self):
-        hosts, size = [f"host{number}" for number in range(50)], self.SIZE
-        return Table(
-            Column(array.array("q", range(size))), {"host": Column([hosts[row % 50] for row in range(size)])},
-            {f"f{number}": Column(array.array("d", (row / 8 for row in range(size)))) for number in range(4)})
-
-    def test_other_threads_run_within_a_table(self):
-        told = [rows._told_table("m", self.table())]
-        ticks, is_over = [0], threading.Event()
-
-        def tick():
-            while not is_over.is_set():
-                ticks[0] += 1
-                time.sleep(0.0002)
-
-        ticker, interval = threading.Thread(target=tick), sys.getswitchinterval()
-        sys.setswitchinterval(100)  # no thread has to let the lock go
-        try:
-            ticker.start()
-            time.sleep(0.01)
-            before = ticks[0]
-            _fast.write_columns(iter(told), 0, [])
-            after = ticks[0]
-        finally:
-            sys.setswitchinterval(interval)
-            is_over.set()
-            ticker.join()
-        self.assertGreater(after, before)
-
     def test_threads_that_write_side_by_side(self):
         picks = random.Random(6)
         tables = [
@@ -132,17 +99,12 @@ class Threads(unittest.TestCase):
                   {"f": Column([picks.choice([0.5, 1e-9, "text", 7]) for _ in range(size)])})
             for size in (100, 5_000, 40_000, 20_000)]
         wanted = [write_columns({"m": table}) for table in tables]
-        found = [None] * len(tables)
 
-        def put(at):
-            found[at] = [write_columns({"m": tables[at]}) == wanted[at] for _ in range(5)]
+        def are_written(at):
+            return [write_columns({"m": tables[at]}) == wanted[at] for _ in range(5)]
 
-        threads = [threading.Thread(target=put, args=(at,)) for at in range(len(tables))]
-        for thread in threads:
-            thread.start()
-        for thread in threads:
-            thread.join()
-        self.assertEqual(found, [[True] * 5] * len(tables))
+        with ThreadPoolExecutor(len(tables)) as threads:
+            self.assertEqual(list(threads.map(are_written, range(len(tables)))), [[True] * 5] * len(tables))
 
     @unittest.skipIf(numpy is None, "there is no NumPy")
     def test_what_is_changed_meanwhile(self):
@@ -165,7 +127,3 @@ class Threads(unittest.TestCase):
         finally:
             is_over.set()
             changer.join()
-
-
-if __name__ == "__main__":
-    unittest.main()

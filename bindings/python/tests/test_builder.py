@@ -88,7 +88,8 @@ class States(unittest.TestCase):
                 call(builder, name)
                 self.ends(builder, made + [name], NEXT[name])
             else:
-                self.refuse(builder, name, *CALLS[name][0])
+                with self.assertRaises(ValueError):
+                    call(builder, name)
                 self.ends(builder, made, state)
 
     def test_each_call_in_each_state(self):
@@ -123,24 +124,6 @@ class States(unittest.TestCase):
 
 
 class Building(unittest.TestCase):
-    def test_the_builder(self):
-        built = (Builder().measurement("cpu").tag("host", "a").field("n", 1).field("u", Unsigned(2)).timestamp(5).close_line()
-                 .measurement("m").field("f", 0.5).close_line().build())
-        self.assertEqual(built, "cpu,host=a n=1i,u=2u 5\nm f=0.5\n")
-
-    def test_steps_out_of_order(self):
-        for steps in (
-            lambda b: b.tag("a", "b"),
-            lambda b: b.measurement("m").measurement("m"),
-            lambda b: b.measurement("m").field("f", 1).tag("a", "b"),
-            lambda b: b.measurement("m").timestamp(5),
-            lambda b: b.measurement("m").field("f", 1).timestamp(5).field("g", 1),
-            lambda b: b.measurement("m").close_line(),
-            lambda b: b.measurement("m").field("f", 1).build(),
-        ):
-            with self.assertRaises(ValueError):
-                steps(Builder())
-
     def test_a_refused_field_costs_no_line(self):
         builder = Builder().measurement("a").field("x", 1).close_line().measurement("m").tag("k", "v")
         with self.assertRaisesRegex(ValueError, "'f': nan"):

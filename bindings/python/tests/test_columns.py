@@ -1,6 +1,5 @@
 """Columns hold what `parse` gives."""
 
-import gc
 import io
 import itertools
 import math
@@ -14,10 +13,7 @@ from unittest import mock
 
 from line_protocol import Fault, FaultKind, Line, Unsigned, columns, key, parse
 
-try:
-    import numpy
-except ImportError:
-    numpy = None
+from shared import give_back, numpy, trace
 
 MISSING = object()
 
@@ -155,12 +151,6 @@ class Columns(unittest.TestCase):
         for _ in range(3):
             with self.assertRaisesRegex(RuntimeError, "lost"):
                 columns(parts())
-        with self.assertRaises(UnicodeDecodeError):
-            columns(b"\xff")
-        with self.assertRaisesRegex(TypeError, "a source is a str"):
-            columns(5)
-        with self.assertRaisesRegex(ValueError, "max_line is -1"):
-            columns("", max_line=-1)
 
     def test_memory_is_given_back(self):
         text = "".join(f'm,t=a{i % 7} f={i}i,g={i}.5,s="x{i}",u={i}u {i}\n' for i in range(2000))
@@ -172,23 +162,12 @@ class Columns(unittest.TestCase):
             except TypeError:
                 pass
 
-        once()
-        gc.collect()
-        tracemalloc.start()
-        self.addCleanup(tracemalloc.stop)
-        once()
-        gc.collect()
-        before = tracemalloc.get_traced_memory()[0]
-        for _ in range(20):
-            once()
-        gc.collect()
-        self.assertLess(tracemalloc.get_traced_memory()[0], before + 50_000)
+        give_back(self, once, 20, 50_000)
 
     def test_numbers_take_eight_bytes(self):
         """A million numbers take their bytes, and no object for each."""
         data = b"m,t=a f=1i,g=0.5,h=3u 7\n" * 50_000
-        tracemalloc.start()
-        self.addCleanup(tracemalloc.stop)
+        trace(self)
         told = columns(iter([data[:1_000_000], data[1_000_000:]]), use_numpy=False)
         size = tracemalloc.get_traced_memory()[0]
         self.assertEqual(len(told.tables["m"]), 50_000)

@@ -9,7 +9,8 @@ from unittest import mock
 
 import line_protocol
 from line_protocol import columns, write_columns
-from test_sources import Folder, located
+from shared import Folder
+from test_sources import located
 
 TEXT = b'cpu,host=a usage=64i,load=0.5 5\nwrong\ncpu usage=2.5\nmem s="a\nb"\n# c\nm f\n' * 40
 

@@ -9,10 +9,7 @@ from pathlib import Path
 import line_protocol
 from line_protocol import checking, frames, items, parts, portable, reading, rebuilding, rows, sources, tables, writing
 
-try:
-    import pandas
-except ImportError:
-    pandas = None
+from shared import pandas
 
 PAGE = Path(__file__).parents[3] / "docs" / "python.md"
 NAMES = {name: getattr(line_protocol, name) for name in line_protocol.__all__}

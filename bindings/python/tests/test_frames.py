@@ -5,7 +5,6 @@ import math
 import pickle
 import sys
 import unittest
-from pathlib import Path
 from typing import get_args
 from unittest import mock
 
@@ -13,15 +12,7 @@ from line_protocol import (
     Column, Dialect, FloatText, Frames, Line, NotAdmitted, Table, Unsigned, columns, from_frame, is_admitted, parse, to_frame,
     write_columns, write_many)
 
-sys.path.append(str(Path(__file__).parents[3] / "bench"))
-import corpora  # noqa: E402
-
-try:
-    import pandas
-except ImportError:
-    pandas = None
-else:
-    import numpy
+from shared import corpora, numpy, pandas
 
 TEXT = (
     'cpu,host=a,rack=r1 i=-5i,u=7u,f=0.5,b=t,s="x y",v=1i 1700000000000000000\n'

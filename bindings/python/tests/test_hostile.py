@@ -3,6 +3,7 @@ names the argument and its value."""
 
 import array
 import datetime
+import enum
 import io
 import math
 import re
@@ -12,9 +13,11 @@ from fractions import Fraction
 from pathlib import Path
 
 from line_protocol import (
-    Builder, Column, DuplicateTag, FloatText, Line, Table, Unsigned, base, columns, is_admitted, is_base_safe, key, parse, part_ends,
-    rebuild, show, split, write, write_columns, write_many)
+    Builder, Column, DuplicateTag, FloatText, Line, Table, Unsigned, base, broken_clauses, columns, is_admitted, is_base_safe, key, parse,
+    part_ends, rebuild, show, split, verdicts, write, write_columns, write_many)
 from line_protocol.items import short
+
+from shared import begin, build
 
 
 class Strange:
@@ -29,6 +32,17 @@ class Silent:
 
     def __repr__(self):
         raise RuntimeError("no repr")
+
+
+class Level(enum.IntEnum):
+    HIGH = 3
+
+
+class Number:
+    """No int, but a number that Python takes for a whole one."""
+
+    def __index__(self):
+        return 7
 
 
 class Lying:
@@ -46,22 +60,26 @@ class Lying:
 
 NO_STR = [
     None, 0, 5, 10**5000, True, 1.5, 1j, b"n", bytearray(b"n"), memoryview(b"n"), ["n"], ("n",), {"n": 1}, {"n"}, Strange(), str,
-    Decimal(1)]
+    Decimal(1), Level.HIGH]
 NO_SOURCE = [
-    None, 0, 5, True, 1.5, 1j, ["n"], [10**5000], ("n",), {"n": 1}, {"n"}, frozenset("n"), range(3), Strange(), Decimal(1), iter("n")]
+    None, 0, 5, True, 1.5, 1j, ["n"], [10**5000], ("n",), {"n": 1}, {"n"}, frozenset("n"), range(3), Strange(), Decimal(1), iter("n"),
+    [109, 32], [], {109}, object(), iter("é"), b"m".hex]
 NO_PATH = [
     None, 0, 5, True, 1.5, 1j, b"n", bytearray(b"n"), ["n"], ("n",), {"n": 1}, {"n"}, io.BytesIO(b"n"), iter("n"), Strange(), Silent()]
-NO_PAIRS = [None, 5, True, 1.5, "ab", b"ab", {("a", "b")}, {"a": "b"}.items(), iter([("a", "b")]), Strange(), Silent()]
+NO_PAIRS = [None, 5, True, 1.5, "ab", b"ab", {("a", "b")}, {"ab"}, {"a": "b"}.items(), iter([("a", "b")]), Strange(), Silent()]
 NO_PAIR = [None, 5, "ab", b"ab", {"a": "b"}, {"a", "b"}, (), ("a",), ("a", "b", "c"), [], ["a"], Strange()]
 NO_VALUE = [
-    None, b"x", bytearray(b"x"), 1j, Decimal(1), Fraction(1, 2), [1], (1,), {1: 2}, {1}, datetime.datetime(2026, 1, 1), Strange(),
-    Silent(), int]
-NO_INT = ["5", b"5", 1.0, 1.5, math.nan, True, False, 1j, Decimal(5), Fraction(5), [5], (5,), {}, Strange(), datetime.datetime(2026, 1, 1)]
+    None, b"x", bytearray(b"x"), 1j, Decimal(1), Fraction(1, 2), [1], (1,), {1: 2}, {1}, [], (), {}, datetime.datetime(2026, 1, 1),
+    Strange(), Silent(), Number(), int]
+NO_INT = [
+    "5", b"5", "", b"", 0.0, 1.0, 1.5, 1.9, 5.0, math.nan, True, False, 1j, Decimal(5), Fraction(5), [5], (5,), [], (), {}, Strange(),
+    datetime.datetime(2026, 1, 1)]
 NO_TIME = [*NO_INT[:-1], datetime.date(2026, 1, 1), datetime.time(), datetime.timedelta(5)]
-TOO_LARGE = [2**63, -(2**63) - 1, 2**64, 10**30, 10**5000]
+TOO_LARGE = [2**63, -(2**63) - 1, 2**64, 10**30, 10**4000, 10**5000]
 NO_LINE = [None, 5, True, 1.5, "m f=1i", b"m f=1i", ["m"], ("m", [], [("f", 1)], None), {"measurement": "m"}, Strange(), Silent()]
 
-LINE_CALLS = [write, show, is_admitted, lambda line: write_many([line])]
+WHOLE_CALLS = [write, show, is_admitted, lambda line: write_many([line])]
+LINE_CALLS = [*WHOLE_CALLS, begin]
 SERIES_CALLS = [base, key, is_base_safe]
 FIELDS = [("f", 1)]
 
@@ -105,7 +123,8 @@ def ends_of_parts(parts):
     return part_ends("nothing", parts)
 
 
-BOTH = LINE_CALLS + SERIES_CALLS
+TEXT_CALLS = [split, rebuild, verdicts, broken_clauses]
+BOTH = WHOLE_CALLS + SERIES_CALLS
 TABLES = [write_columns]
 NO_TABLES = [None, 5, True, 1.5, "m", b"m", [], ["m"], (("m", Table(ONE)),), {"m"}, Table(ONE), ONE, Strange(), Silent()]
 NO_TABLE = [None, 5, "m", [], {}, {"f": [1]}, (ONE, {}, {"f": ONE}), ONE, Strange(), Silent()]
@@ -115,29 +134,33 @@ NO_NAME = [None, 5, 1.5, b"m", ("m",), Strange()]
 NO_VALUES = [None, 5, True, 1.5, "a", b"a", bytearray(b"a"), memoryview(b"a"), {0: 1}, {1}, range(1), iter([1]), ONE, Strange(), Silent()]
 NO_MASK = [
     5, True, "a", b"\0", bytearray(1), {False}, [1], [None], ["x"], (0,), iter([False]), range(1), array.array("b", [0]), ONE, Strange()]
-NO_LITERAL = ["", "x", "1.", ".5", "1e", "+1", "1_0", "inf", "nan", "0x1", " 1", "1\n"]
+NO_LITERAL = ["", "x", "1.", ".5", "1e", "+1", "1_0", "inf", "-inf", "nan", "0x1", " 1", "1\n", "1i", "١", "--1"]
 
 # What is handed in, how, to which calls, what they raise, and what they say.
 TABLE = [
     (NO_SOURCE, itself, [parse, columns], TypeError, "a source is a str, bytes, a path .* not {told}"),
-    (NO_SOURCE, itself, [split, rebuild], TypeError, "a text is a str or bytes, not {told}"),
-    (NO_STR, lambda value: Line(value, [], FIELDS), BOTH, TypeError, "the measurement is a str, not {told}"),
-    (NO_STR, lambda value: Line("m", [(value, "v")], FIELDS), BOTH, TypeError, "the key of a tag is a str, not {told}"),
-    (NO_STR, lambda value: Line("m", [("k", value)], FIELDS), BOTH, TypeError, "the value of the tag 'k' is a str, not {told}"),
+    (NO_SOURCE, itself, TEXT_CALLS, TypeError, "a text is a str or bytes, not {told}"),
+    ([b"\xff", b"m f=1i\n\xff"], itself, [parse, columns, split, rebuild], UnicodeDecodeError, "utf-8"),
+    (["m f=1i\n\ud800"], itself, [parse, *TEXT_CALLS], UnicodeEncodeError, "surrogates not allowed"),
+    (NO_STR, lambda value: Line(value, [], FIELDS), [*BOTH, begin], TypeError, "the measurement is a str, not {told}"),
+    (NO_STR, lambda value: Line("m", [(value, "v")], FIELDS), [*BOTH, begin], TypeError, "the key of a tag is a str, not {told}"),
+    (NO_STR, lambda value: Line("m", [("k", value)], FIELDS), [*BOTH, begin], TypeError, "the value of the tag 'k' is a str, not {told}"),
     (NO_STR, lambda value: Line("m", [], [(value, 1)]), LINE_CALLS, TypeError, "the key of a field is a str, not {told}"),
     (NO_PAIRS, lambda value: Line("m", value, FIELDS), BOTH, TypeError, "the tags are a list of pairs or a dict, not {told}"),
-    (NO_PAIRS, lambda value: Line("m", [], value), LINE_CALLS, TypeError, "the fields are a list of pairs or a dict, not {told}"),
+    (NO_PAIRS, lambda value: Line("m", [], value), WHOLE_CALLS, TypeError, "the fields are a list of pairs or a dict, not {told}"),
     (NO_PAIR, lambda value: Line("m", [value], FIELDS), BOTH, TypeError, "each of the tags is a pair, not {told}"),
-    (NO_PAIR, lambda value: Line("m", [], [value]), LINE_CALLS, TypeError, "each of the fields is a pair, not {told}"),
+    (NO_PAIR, lambda value: Line("m", [], [value]), WHOLE_CALLS, TypeError, "each of the fields is a pair, not {told}"),
     (NO_VALUE, with_field, LINE_CALLS, TypeError, "the field 'f': a value is .* not {told}"),
     (TOO_LARGE, with_field, LINE_CALLS, OverflowError, "the field 'f': .* is not at least"),
+    ([2**20_000], with_field, LINE_CALLS, OverflowError, "the field 'f': an integer of 20001 bits"),
     ([-1, 2**64, 10**5000], lambda value: with_field(Unsigned(value)), LINE_CALLS, OverflowError, "the field 'f': .* is not at least 0"),
     ([math.inf, -math.inf, math.nan], with_field, LINE_CALLS, ValueError, "the field 'f': {value} has no literal"),
     (NO_TIME, lambda value: Line("m", [], FIELDS, value), LINE_CALLS, TypeError, "a timestamp is an int or a datetime, not {told}"),
     (TOO_LARGE, lambda value: Line("m", [], FIELDS, value), LINE_CALLS, OverflowError, "the timestamp: .* is not at least"),
     (NO_LINE, itself, BOTH, TypeError, "a line is a Line, not {told}"),
-    (["m", "a b"], Line, LINE_CALLS, ValueError, "the line of the measurement '{value}' has no field"),
-    ([None, 5, 1.5, Strange(), Line("m")], itself, [write_many], TypeError, "lines are an iterable of Line, not"),
+    (["m", "a b"], Line, [*WHOLE_CALLS, build], ValueError, "the line of the measurement '{value}' has no field"),
+    ([None, 5, 1.5, Strange(), Line("m")], itself, [write_many], TypeError, "lines are an iterable of Line, not {type}"),
+    (["ab", b"ab", {"a": 1}, [1]], itself, [write_many], TypeError, "line 1: a line is a Line, not"),
     (NO_INT, itself, [parse_within, columns_within], TypeError, "max_line is an int or None, not {told}"),
     ([-1, -(10**30)], itself, [parse_within, columns_within], ValueError, "max_line is {value}"),
     (NO_PATH, itself, [ends_of], TypeError, "a path is a str or a path of pathlib, not {told}"),
@@ -145,10 +168,10 @@ TABLE = [
     ([-1, 1_000_001, 10**30, 10**5000], itself, [ends_of_parts], ValueError, "parts is .*, and must be from 0 to 1000000"),
     (["nothing\0", "\0"], itself, [ends_of], ValueError, "null"),
     (["nothing", Path("nothing"), ""], itself, [ends_of], FileNotFoundError, "No such file"),
-    ([None, 1.0, "7", b"7", True, 1j, Decimal(7), Strange()], itself, [Unsigned], TypeError, "integer"),
+    ([None, 1.0, 1.9, "7", b"7", True, False, 1j, Decimal(7), Strange()], itself, [Unsigned], TypeError, "integer"),
     ([None, 1.5, 1, b"1", True, Strange()], itself, [FloatText], TypeError, "the literal of a float is a str, not"),
     (NO_LITERAL, itself, [FloatText], ValueError, "no literal of a float"),
-    ([5, 1.5, Strange(), ["m"]], lambda value: iter([b"m f=1i\n", value]), [all_items, columns], TypeError,
+    ([5, 1.5, Strange(), ["m"], [b"m"], Line("m")], lambda value: iter([b"m f=1i\n", value]), [all_items, columns], TypeError,
      "a part of a source is a str or bytes, not {told}"),
     ([None], lambda value: iter([b"m f=1i\n", value]), [all_items, columns], BlockingIOError, "has no bytes yet"),
     (NO_TABLES, itself, TABLES, TypeError, "tables are Columns, or a dict of Table, not {told}"),
@@ -182,23 +205,10 @@ TABLE = [
     (TOO_LARGE, lambda value: table_of(Column([value])), TABLES, OverflowError, "the table 'm', row 0: the timestamp: .* is not at least"),
 ]
 
-# For a builder: the call, what it is given before the value, and what it raises.
-BUILDER = [
-    ("measurement", [], NO_STR, TypeError, "the measurement is a str, not {told}"),
-    ("tag", [], [(value, "v") for value in NO_STR], TypeError, "the key of a tag is a str"),
-    ("tag", ["k"], NO_STR, TypeError, "the value of the tag 'k' is a str, not {told}"),
-    ("field", [], [(value, 1) for value in NO_STR], TypeError, "the key of a field is a str"),
-    ("field", ["f"], NO_VALUE, TypeError, "the field 'f': a value is .* not {told}"),
-    ("field", ["f"], TOO_LARGE, OverflowError, "the field 'f': .* is not at least"),
-    ("field", ["f"], [math.inf, math.nan], ValueError, "the field 'f': {value} has no literal"),
-    ("timestamp", [], NO_TIME, TypeError, "a timestamp is an int or a datetime, not {told}"),
-    ("timestamp", [], TOO_LARGE, OverflowError, "the timestamp: .* is not at least"),
-]
-
 
 class Refused(unittest.TestCase):
     def refuse(self, call, given, raised, why, value):
-        said = why.format(told=told(value), value=re.escape(str(value)) if "{value}" in why else "")
+        said = why.format(told=told(value), type=type(value).__name__, value=re.escape(str(value)) if "{value}" in why else "")
         with self.assertRaisesRegex(raised, said) as found:
             call(given)
         self.assertIs(type(found.exception), raised)
@@ -209,20 +219,6 @@ class Refused(unittest.TestCase):
                 for call in calls:
                     with self.subTest(value=short(value), call=call, why=why):
                         self.refuse(call, make(value), raised, why, value)
-
-    def test_the_builder(self):
-        for name, first, values, raised, why in BUILDER:
-            for value in values:
-                builder = Builder()
-                if name != "measurement":
-                    builder.measurement("m")
-                if name == "timestamp":
-                    builder.field("f", 1)
-                given = [*first, *value] if why.endswith("is a str") and not first else [*first, value]
-                with self.subTest(name=name, value=short(value)):
-                    self.refuse(lambda given: getattr(builder, name)(*given), given, raised, why, value)
-                builder.drop_line().measurement("n").field("g", 2).close_line()
-                self.assertEqual(builder.build(), "n g=2i\n")
 
     def test_wrong_arguments(self):
         for call, given, named in [
@@ -254,11 +250,12 @@ class Refused(unittest.TestCase):
             base(Line("m", [("k", "1"), ("k", "2")]))
 
     def test_surrogates(self):
-        for line in (Line("\ud800", [], FIELDS), Line("m", [("\ud800", "v")], FIELDS), Line("m", [("k", "\ud800")], FIELDS),
-                     Line("m", [], [("\ud800", 1)]), Line("m", [], [("f", "\ud800")])):
-            for call in LINE_CALLS:
-                with self.subTest(line=line, call=call), self.assertRaises(UnicodeEncodeError):
-                    call(line)
+        for text in ("\ud800", "a\ud800"):
+            for line in (Line(text, [], FIELDS), Line("m", [(text, "v")], FIELDS), Line("m", [("k", text)], FIELDS),
+                         Line("m", [], [(text, 1)]), with_field(text)):
+                for call in LINE_CALLS:
+                    with self.subTest(line=line, call=call), self.assertRaises(UnicodeEncodeError):
+                        call(line)
         for tables in ({"\ud800": table_of()["m"]}, table_of(tags={"\ud800": Column(["v"])}), table_of(tags={"k": Column(["\ud800"])}),
                        table_of(fields={"\ud800": ONE}), table_of(fields={"f": Column(["\ud800"])})):
             with self.subTest(tables=tables), self.assertRaises(UnicodeEncodeError):

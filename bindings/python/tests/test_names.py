@@ -1,14 +1,14 @@
 """Names that are not admitted: each writer raises NotAdmitted for each of them, and writes nothing. What is admitted is what
 docs/FORMAT.md says, section 13."""
 
-import copy
 import itertools
-import pickle
 import unittest
 from typing import get_args
 
 from line_protocol import (
     Builder, Column, Dialect, Line, NotAdmitted, Table, Unsigned, columns, is_admitted, parse, rebuild, write, write_columns, write_many)
+
+from shared import build, copies_of, tables_of
 
 DIALECTS = get_args(Dialect)
 
@@ -40,24 +40,8 @@ def flaw_of(part, name):
     return FLAWS.get(name) or (FLAWS_OF_MEASUREMENTS.get(name) if part == "measurement" else None)
 
 
-def built(line, **options):
-    """A line through the builder."""
-    builder = Builder(**options).measurement(line.measurement)
-    for key, value in line.tags:
-        builder.tag(key, value)
-    for key, value in line.fields:
-        builder.field(key, value)
-    return builder.timestamp(line.timestamp).close_line().build()
-
-
-def tables_of(line):
-    """Tables whose only row is a line."""
-    tags, fields = ({key: Column([value]) for key, value in pairs} for pairs in (line.tags, line.fields))
-    return {line.measurement: Table(Column([line.timestamp]), tags, fields)}
-
-
 WRITERS = {
-    "write": write, "write_many": lambda line, **options: write_many([line], **options), "Builder": built,
+    "write": write, "write_many": lambda line, **options: write_many([line], **options), "Builder": build,
     "write_columns": lambda line, **options: write_columns(tables_of(line), **options)}
 
 
@@ -174,7 +158,7 @@ class EachWriter(unittest.TestCase):
         with self.assertRaises(ValueError) as found:
             write_columns({"m": Table(Column([1]), {"k": Column(["\t"])}, {"f": Column([1])})})
         refused = found.exception
-        for again in (copy.copy(refused), pickle.loads(pickle.dumps(refused))):
+        for again in copies_of(refused):
             self.assertIs(type(again), NotAdmitted)
             self.assertEqual((str(again), vars(again)), (str(refused), vars(refused)))
         self.assertEqual((refused.part, refused.key, refused.value, refused.row, refused.table), ("tag value", "k", "\t", 0, "m"))
@@ -257,7 +241,3 @@ class TheBuilder(unittest.TestCase):
                     wanted[1] = ("s", name)
                 self.assertEqual(builder.close_line().build().splitlines()[0], "a f=1i")
                 self.assertEqual([line.fields[-1] for line in parse(builder.build(), dialect=dialect)], wanted)
-
-
-if __name__ == "__main__":
-    unittest.main()

@@ -251,7 +251,3 @@ class Platforms(unittest.TestCase):
                 (("GLIBC_2.2.5", "libasan.so.8"), r"asks for libasan\.so\.8, which manylinux2014_x86_64 does not promise")):
             with self.subTest(words=words), self.assertRaisesRegex(SystemExit, why):
                 backend.check_extension(self.extension_over(*words))
-
-
-if __name__ == "__main__":
-    unittest.main()

@@ -17,7 +17,8 @@ from unittest import mock
 from line_protocol import _fast, columns, part_ends
 from line_protocol.parts import START, after, as_paths, blocks_of, columns_of, cut, read_part
 from line_protocol.sources import BLOCK
-from test_sources import DIALECTS, OPTIONS, Folder, located
+from shared import Folder, open_files, trace
+from test_sources import DIALECTS, OPTIONS, located
 
 TOP = Path(__file__).parents[3]
 RELAY = os.environ.get("LP_RELAY", "")
@@ -177,19 +178,17 @@ class Files(Folder):
     def test_memory_stays_small(self):
         path = self.file(b'm s="' + b"a\n" * 8_000_000 + b'"\nn f=1i\n' + b"m f=1i\n" * 1_000_000)
         part_ends(path, 2)
-        tracemalloc.start()
-        self.addCleanup(tracemalloc.stop)
+        trace(self)
         self.assertEqual(part_ends(path, 2), [16_000_007, path.stat().st_size])
         self.assertLess(tracemalloc.get_traced_memory()[1], 4 * BLOCK)
 
     def test_files_are_closed(self):
         blocks = blocks_of([(str(self.file(b"m f=1i\n" * 100_000)), 0, 700_000)])
-        before = len(os.listdir("/proc/self/fd")) if os.path.exists("/proc/self/fd") else 0
+        before = open_files()
         next(blocks)
         del blocks
         gc.collect()
-        after_all = len(os.listdir("/proc/self/fd")) if os.path.exists("/proc/self/fd") else 0
-        self.assertEqual(before, after_all)
+        self.assertEqual(open_files(), before)
 
 
 @unittest.skipUnless(os.access(RELAY, os.X_OK), "LP_RELAY names no program")

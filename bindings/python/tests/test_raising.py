@@ -1,21 +1,15 @@
 """`parse` with `errors="raise"`, and what is said where a path was given as a text, or bytes that gzip made."""
 
-import copy
 import gzip
 import io
 import os
-import pickle
-import tempfile
 import unittest
 import warnings
 from pathlib import Path
 
 from line_protocol import Fault, Line, Unreadable, columns, parse, to_frame
 
-try:
-    import pandas
-except ImportError:
-    pandas = None
+from shared import Folder, copies_of, pandas
 
 TEXT = "m f=1i\nm f=\n# a comment\nn f=2i\nm f=99999999999999999999i 5\n"
 
@@ -46,7 +40,7 @@ class Raising(unittest.TestCase):
         with self.assertRaises(ValueError) as found:
             list(parse(TEXT, errors="raise"))
         self.assertEqual((type(found.exception), str(found.exception)), (Unreadable, "line 2: No fields were provided: b'm f='"))
-        for again in (copy.copy(found.exception), pickle.loads(pickle.dumps(found.exception))):
+        for again in copies_of(found.exception):
             self.assertEqual((type(again), str(again), again.fault), (Unreadable, str(found.exception), found.exception.fault))
         with self.assertRaises(Unreadable) as found:
             list(parse("m f=1i " + 100_000 * "x", errors="raise"))
@@ -64,14 +58,13 @@ class Raising(unittest.TestCase):
                 parse(TEXT, errors=errors)
 
 
-class Paths(unittest.TestCase):
+class Paths(Folder):
     """In a folder with a file data.lp."""
 
     def setUp(self):
-        folder = tempfile.TemporaryDirectory()
-        self.addCleanup(folder.cleanup)
+        super().setUp()
         self.addCleanup(os.chdir, os.getcwd())
-        os.chdir(folder.name)
+        os.chdir(self.folder)
         Path("data.lp").write_text(TEXT)
         Path("m f=1i").write_text(TEXT)
 
@@ -99,7 +92,7 @@ class Paths(unittest.TestCase):
         self.assertNotIn("file", str(found.exception))
 
 
-class Compressed(unittest.TestCase):
+class Compressed(Folder):
     DATA = gzip.compress(TEXT.encode())
     HINT = "it begins as what gzip made: gzip.open reads such a file, and gzip.decompress such bytes"
 
@@ -110,21 +103,15 @@ class Compressed(unittest.TestCase):
                     call(kind(self.DATA))
 
     def test_a_file_that_gzip_made(self):
-        with tempfile.TemporaryDirectory() as folder:
-            path = Path(folder, "data.lp.gz")
-            path.write_bytes(self.DATA)
-            with self.assertRaisesRegex(Unreadable, f"the line is not UTF-8: .*; {self.HINT}"):
-                list(parse(path, errors="raise"))
-            for call in (lambda source: columns(source, use_numpy=False), *([to_frame] if pandas else [])):
-                with self.assertWarnsRegex(UserWarning, self.HINT):
-                    call(path)
+        path = self.file(self.DATA)
+        with self.assertRaisesRegex(Unreadable, f"the line is not UTF-8: .*; {self.HINT}"):
+            list(parse(path, errors="raise"))
+        for call in (lambda source: columns(source, use_numpy=False), *([to_frame] if pandas else [])):
+            with self.assertWarnsRegex(UserWarning, self.HINT):
+                call(path)
 
     def test_other_bytes(self):
         for data in (b"m f=1i\n" + self.DATA, b"\x1f", b"m\xff", b"\x1f\x8c"):
             with self.subTest(data=data[:9]), warnings.catch_warnings():
                 warnings.simplefilter("error")
                 columns(io.BytesIO(data), use_numpy=False)
-
-
-if __name__ == "__main__":
-    unittest.main()

@@ -30,12 +30,6 @@ class Lines(unittest.TestCase):
         self.assertEqual(list(parse(text)), [wanted])
         self.assertEqual(list(parse(text.encode())), [wanted])
 
-    def test_a_zero_timestamp_is_one(self):
-        self.assertEqual([line.timestamp for line in parse("m f=1i 0\nm f=1i")], [0, None])
-
-    def test_an_empty_string(self):
-        self.assertEqual(list(parse('m f=""')), [Line("m", [], [("f", "")])])
-
     def test_no_item(self):
         for text in ("\n\n", "# a comment", "  \n#\n"):
             with self.subTest(text=text):
@@ -53,14 +47,10 @@ class Lines(unittest.TestCase):
         [line] = parse("m,a=1,a=2 f=1i,f=2i")
         self.assertEqual((line.tags, line.fields), ([("a", "1"), ("a", "2")], [("f", 1), ("f", 2)]))
 
-    def test_bytes_that_are_no_text(self):
-        with self.assertRaises(UnicodeDecodeError):
-            parse(b"m f=1i\n\xff")
-        with self.assertRaises(UnicodeDecodeError):
-            split(b"\xff")
-
     def test_pieces(self):
-        self.assertEqual(list(split('a f=1\n b f="x\ny"\nc')), ["a f=1", ' b f="x\ny"', "c"])
+        text = 'a f=1\n b f="x\ny"\nc'
+        for given in (text, *(kind(text.encode()) for kind in (bytes, bytearray, memoryview))):
+            self.assertEqual(list(split(given)), ["a f=1", ' b f="x\ny"', "c"])
 
     def test_the_example_prints_its_items(self):
         printed = io.StringIO()

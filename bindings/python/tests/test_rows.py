@@ -5,23 +5,13 @@ import os
 import random
 import struct
 import sys
-import tracemalloc
 import unittest
 from array import array
-from pathlib import Path
 
 from line_protocol import (
     Column, Columns, FloatText, Line, NotAdmitted, Table, Unsigned, columns, is_admitted, parse, write_columns, write_many)
 
-from typed import typed
-
-sys.path.append(str(Path(__file__).parents[3] / "bench"))
-import corpora  # noqa: E402
-
-try:
-    import numpy
-except ImportError:
-    numpy = None
+from shared import corpora, give_back, numpy, typed
 
 WAYS = [False] if numpy is None else [False, True]
 """Whether NumPy's arrays are used."""
@@ -180,15 +170,7 @@ class Values(unittest.TestCase):
                 except (TypeError, NotAdmitted):
                     pass
 
-        for _ in range(50):
-            once()
-        tracemalloc.start()
-        self.addCleanup(tracemalloc.stop)
-        once()
-        before = tracemalloc.get_traced_memory()[0]
-        for _ in range(100):
-            once()
-        self.assertLess(tracemalloc.get_traced_memory()[0], before + 30_000)
+        give_back(self, once, 100, 30_000)
 
 
 @unittest.skipIf(numpy is None, "there is no NumPy")
@@ -260,7 +242,3 @@ class WithNumpy(unittest.TestCase):
         for time in (numpy.array(["3000-01-01"], "datetime64[D]"), numpy.array([5], "datetime64[ps]"), numpy.array([2**63], "uint64")):
             with self.subTest(time=time), self.assertRaises(OverflowError):
                 write_columns({"m": Table(Column(time), {}, {"f": Column([1])})})
-
-
-if __name__ == "__main__":
-    unittest.main()

@@ -5,9 +5,9 @@ import random
 import unittest
 
 from line_protocol import (
-    Builder, DuplicateTag, Fault, FaultKind, Line, Rebuilt, Side, Unsigned, base, is_admitted, key, parse, rebuild, show, split, write)
+    DuplicateTag, Fault, FaultKind, Line, Rebuilt, Side, Unsigned, base, is_admitted, key, parse, rebuild, show, split, write)
 
-from typed import typed
+from shared import build, typed
 
 # Under a sanitizer the largest take too long.
 SIZES = (1, 65, 1025, 65_537, 1_048_577)[:3 if "WATCHED" in os.environ else 5]
@@ -51,12 +51,7 @@ class Calls(unittest.TestCase):
         self.same(write(line), written)
         self.same(show(line), shown)
         self.assertIs(is_admitted(line), True)
-        builder = Builder().measurement(line.measurement)
-        for key, value in line.tags:
-            builder.tag(key, value)
-        for key, value in line.fields:
-            builder.field(key, value)
-        self.same(builder.timestamp(line.timestamp).close_line().build(), written)
+        self.same(build(line), written)
         self.same([typed(item) for item in parse(written)], [typed(line)])
         self.same(list(split(written)), [written[:-1], ""])
         self.same(rebuild(written), Rebuilt(written, "", 1, 0))

@@ -17,19 +17,19 @@ import random
 import re
 import subprocess
 import sys
-import tempfile
 import threading
 import tracemalloc
 import unittest
 import warnings
 import weakref
+from concurrent.futures import ThreadPoolExecutor
 from typing import get_args
 from unittest import mock
 
 import line_protocol
 from line_protocol import Dialect, Fault, FaultKind, Line, columns, parse, rebuild, split
 
-from typed import typed
+from shared import Folder, copies_of, open_files, table_of, trace, typed
 
 RELAY = os.environ.get("LP_RELAY", "")
 DIALECTS = get_args(Dialect)
@@ -49,19 +49,6 @@ def located(items):
 def in_parts(data, size):
     """Data in parts of this size."""
     return (data[at : at + size] for at in range(0, len(data), size))
-
-
-class Folder(unittest.TestCase):
-    def setUp(self):
-        folder = tempfile.TemporaryDirectory()
-        self.addCleanup(folder.cleanup)
-        self.folder = pathlib.Path(folder.name)
-
-    def file(self, data, name="lines"):
-        """A path of a file of these bytes."""
-        path = self.folder / name
-        path.write_bytes(data)
-        return path
 
 
 class Kinds(Folder):
@@ -119,16 +106,6 @@ class Kinds(Folder):
             self.assertEqual(list(parse(in_parts(long, 20_000))), items)
         self.assertLess(cut.call_count, 20)  # of 401 parts
 
-    def test_what_is_no_source(self):
-        for source in (5, None, 1.5, ["m f=1i"], ("m f=1i",), {"m": 1}, {1}, range(3), object(), iter("m f=1i"), iter("é"), b"m".hex):
-            with self.subTest(source=source), self.assertRaisesRegex(TypeError, f"not {type(source).__name__}: "):
-                parse(source)
-
-    def test_what_is_no_part(self):
-        for part in (5, None, 1.5, [b"m"], Line("m")):
-            with self.subTest(part=part), self.assertRaises((TypeError, BlockingIOError)):
-                list(parse(iter([b"m f=1i\n", part])))
-
     def test_a_character_that_utf_8_has_not(self):
         items = parse(iter(["m f=1i\n", "\ud800"]))
         self.assertEqual(next(items), Line("m", [], [("f", 1)]))
@@ -183,11 +160,10 @@ class Kinds(Folder):
             next(parse(path))
             gc.collect()
         self.assertEqual(told, [])
-        before = len(os.listdir("/proc/self/fd")) if os.path.exists("/proc/self/fd") else 0
+        before = open_files()
         held = [parse(path) for _ in range(10)]
         del held
-        after = len(os.listdir("/proc/self/fd")) if os.path.exists("/proc/self/fd") else 0
-        self.assertEqual(before, after)
+        self.assertEqual(open_files(), before)
 
     def test_lines_come_as_they_arrive(self):
         read, write = os.pipe()
@@ -297,7 +273,7 @@ class Places(unittest.TestCase):
 
     def test_places_are_copied_and_do_not_count(self):
         for item in parse('\n m s="a\nb"\nm f'):
-            for same in (copy.copy(item), copy.deepcopy(item), pickle.loads(pickle.dumps(item))):
+            for same in copies_of(item):
                 self.assertEqual(located([same]), located([item]))
                 same.line = same.last_line = same.offset = 0
                 self.assertEqual(same, item)
@@ -383,13 +359,7 @@ class Bytes(unittest.TestCase):
         self.assertEqual(len(list(parse(data, max_line=13))), 4)
         self.assertEqual(len([item for item in parse(data, max_line=13) if isinstance(item, Line)]), 4)
 
-    def test_what_is_no_limit(self):
-        for limit in (-1, -(10**30)):
-            with self.assertRaisesRegex(ValueError, f"max_line is {limit}"):
-                parse("m f=1i", max_line=limit)
-        for limit in ("5", 5.0, True, b"5", [5]):
-            with self.assertRaisesRegex(TypeError, f"max_line is an int or None, not {type(limit).__name__}: "):
-                parse("m f=1i", max_line=limit)
+    def test_the_greatest_and_the_least_limit(self):
         self.assertEqual(len(list(parse("m f=1i", max_line=10**30))), 1)
         self.assertEqual([item.kind for item in parse("m f=1i\n\n", max_line=0)], [FaultKind.TOO_LONG])
 
@@ -431,8 +401,7 @@ class Memory(Folder):
         return int(pathlib.Path("/proc/self/statm").read_text(encoding="ascii").split()[1]) * mmap.PAGESIZE
 
     def test_a_long_line_that_is_refused_is_not_kept(self):
-        tracemalloc.start()
-        self.addCleanup(tracemalloc.stop)
+        trace(self)
         parts = itertools.chain([b'm s="'], itertools.repeat(b"a\n" * 50_000, 300), [b'"\nm f=1i'])
         items = list(parse(parts, max_line=1000))
         self.assertEqual([(item.kind, item.line) for item in items[:1]], [(FaultKind.TOO_LONG, 1)])
@@ -441,8 +410,7 @@ class Memory(Folder):
 
     def test_a_line_does_not_keep_its_block(self):
         block = b"m,t=a f=0.10 5\n" * 6_000
-        tracemalloc.start()
-        self.addCleanup(tracemalloc.stop)
+        trace(self)
         kept = [item for number, item in enumerate(parse(itertools.repeat(block, 50))) if number % 6_000 == 0]
         self.assertEqual(len(kept), 50)
         self.assertLess(tracemalloc.get_traced_memory()[0], 1 << 20)
@@ -503,17 +471,9 @@ class Collection(unittest.TestCase):
 class Threads(unittest.TestCase):
     def test_threads_read_side_by_side(self):
         texts = [f"m,t=a{number} f={number}i\nm {number}\n" * 5000 for number in range(4)]
-        wanted, found = [list(parse(text)) for text in texts], [None] * 4
-
-        def read(number):
-            found[number] = list(parse(texts[number]))
-
-        threads = [threading.Thread(target=read, args=(number,)) for number in range(4)]
-        for thread in threads:
-            thread.start()
-        for thread in threads:
-            thread.join()
-        self.assertEqual(found, wanted)
+        with ThreadPoolExecutor(4) as threads:
+            found = list(threads.map(lambda text: list(parse(text)), texts))
+        self.assertEqual(found, [list(parse(text)) for text in texts])
 
     def test_the_lock_is_let_go_while_a_block_is_read(self):
         """Another thread counts while a call is in the library, which gives it no other chance to run."""
@@ -523,11 +483,13 @@ class Threads(unittest.TestCase):
             while not is_over.wait(0.0001):
                 count[0] += 1
 
-        long = 'm s="' + "x" * 16_000_000 + '"'
+        long, numbers = 'm s="' + "x" * 16_000_000 + '"', array.array("q", range(100_000))
+        table = line_protocol.rows._told_table("m", table_of(numbers, {"f": numbers, "g": numbers})["m"])
         calls = [
             (lambda: long.encode(), parse), (lambda: parse(long), next), (lambda: None, lambda _: line_protocol.rebuild(long)),
             (lambda: long.encode(), lambda data: line_protocol._fast.cut(data, 0, 9)),
-            (lambda: long.encode(), lambda data: line_protocol._fast.part_ends(iter([data]), len(data), 2, False))]
+            (lambda: long.encode(), lambda data: line_protocol._fast.part_ends(iter([data]), len(data), 2, False)),
+            (lambda: iter([table]), lambda tables: line_protocol._fast.write_columns(tables, 0, []))]
         interval = sys.getswitchinterval()
         self.addCleanup(sys.setswitchinterval, interval)
         sys.setswitchinterval(100)
@@ -548,7 +510,7 @@ class Threads(unittest.TestCase):
 
     def test_one_source_in_many_threads(self):
         """Each item goes to one thread, or a call is refused."""
-        items, taken, refused = parse("m f=1i\n" * 200_000), [], []
+        items, refused = parse("m f=1i\n" * 200_000), []
 
         def read():
             count = 0
@@ -557,20 +519,16 @@ class Threads(unittest.TestCase):
                     next(items)
                     count += 1
                 except StopIteration:
-                    break
+                    return count
                 except ValueError as raised:
                     refused.append(raised)
-            taken.append(count)
 
         interval = sys.getswitchinterval()
         self.addCleanup(sys.setswitchinterval, interval)
         sys.setswitchinterval(1e-6)
-        threads = [threading.Thread(target=read) for _ in range(4)]
-        for thread in threads:
-            thread.start()
-        for thread in threads:
-            thread.join()
-        self.assertEqual(sum(taken), 200_000)
+        with ThreadPoolExecutor(4) as threads:
+            taken = [threads.submit(read) for _ in range(4)]
+        self.assertEqual(sum(count.result() for count in taken), 200_000)
         self.assertTrue(all("another call" in str(one) for one in refused))
 
     def test_a_source_that_reads_itself(self):

@@ -1,7 +1,5 @@
 """A `datetime` where a time is taken, and a `dict` where pairs are: what is written is what the nanoseconds and the pairs would give."""
 
-import copy
-import pickle
 import unittest
 from collections import OrderedDict
 from datetime import datetime, timedelta, timezone
@@ -16,10 +14,8 @@ try:
     zoneinfo.ZoneInfo("Europe/Berlin")
 except (ImportError, KeyError):  # before Python 3.9, or without its zones
     zoneinfo = None
-try:
-    import pandas
-except ImportError:
-    pandas = None
+
+from shared import copies_of, pandas
 
 UTC = timezone.utc
 NEW_YEAR = 1767225600 * 10**9
@@ -81,7 +77,7 @@ class Times(unittest.TestCase):
             line = Line("m", {}, {"f": 1}, time)
             self.assertEqual((type(line.timestamp), line.timestamp), (int, number))
             self.assertEqual([line], list(parse(write(line))))
-            for again in (copy.copy(line), copy.deepcopy(line), pickle.loads(pickle.dumps(line))):
+            for again in copies_of(line):
                 self.assertEqual(again, line)
 
     def test_a_zone_without_an_offset_is_none(self):
@@ -177,7 +173,3 @@ class Dicts(unittest.TestCase):
     def test_what_columns_gave_is_written_again(self):
         text = write_many([Line("m", {"k": "v"}, {"f": number}, datetime(2026, 1, 1 + number)) for number in range(3)])
         self.assertEqual(write_columns(columns(text, use_numpy=False)), text)
-
-
-if __name__ == "__main__":
-    unittest.main()

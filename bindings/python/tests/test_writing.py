@@ -11,6 +11,8 @@ from types import SimpleNamespace
 
 from line_protocol import DuplicateTag, Line, Rebuilt, Unsigned, base, is_admitted, is_base_safe, key, parse, rebuild, show, write
 
+from shared import trace
+
 LINE = Line(
     "c pu", [("z", "a,b"), ("h=", "é")],
     [("i", -64), ("u", Unsigned(7)), ("f", 1.5), ("s", 'x"\\y'), ("t", True)], 5)
@@ -20,10 +22,7 @@ class Writing(unittest.TestCase):
     def test_a_line_reads_back(self):
         text = write(LINE)
         self.assertEqual(text, 'c\\ pu,z=a\\,b,h\\==é i=-64i,u=7u,f=1.5,s="x\\"\\\\y",t=true 5\n')
-        self.assertEqual(list(parse(text)), [LINE])
-
-    def test_a_line_without_tags_or_timestamp(self):
-        self.assertEqual(write(Line("m", [], [("f", 1)])), "m f=1i\n")
+        self.assertEqual((list(parse(text)), is_admitted(LINE)), ([LINE], True))
 
     def test_a_line_is_shown(self):
         self.assertEqual(show(Line("m", [("a", "b")], [("s", "x y")], 5)), "m,a=b s=x y 5")
@@ -121,15 +120,6 @@ class Writing(unittest.TestCase):
     def test_names_that_do_not_read_back_have_keys(self):
         self.assertEqual(key(Line("#\n", [("b\\", ""), ("", "\t")])), "#\n,=\t,b\\\\=")
 
-    def test_names_that_do_not_read_back(self):
-        self.assertTrue(is_admitted(LINE))
-        self.assertFalse(is_admitted(Line("", [], [("f", 1)])))
-
-    def test_a_line_without_a_field(self):
-        for call in (write, show, is_admitted):
-            with self.subTest(call=call.__name__), self.assertRaisesRegex(ValueError, "'m' has no field"):
-                call(Line("m"))
-
     def test_floats_read_back(self):
         for value in (5e-324, 1.7976931348623157e308, -0.0, 0.1, 1e22, 123456789.125):
             with self.subTest(value=value):
@@ -169,8 +159,7 @@ class Rebuilding(unittest.TestCase):
 
     def test_no_more_memory_is_kept_than_a_call_may_keep(self):
         text = b"m f=1i\n" * (1 << 22)
-        tracemalloc.start()
-        self.addCleanup(tracemalloc.stop)
+        trace(self)
         self.assertEqual(rebuild(text).carried, 1 << 22)
         self.assertLess(tracemalloc.get_traced_memory()[0], 1 << 26)
 
@@ -178,7 +167,3 @@ class Rebuilding(unittest.TestCase):
         texts = [f"m,t=a{number} f={number}i\nm {number}\n" * 2000 for number in range(8)]
         with ThreadPoolExecutor(4) as threads:
             self.assertEqual(list(threads.map(rebuild, texts * 4)), [rebuild(text) for text in texts] * 4)
-
-    def test_bytes_that_are_no_text_are_not_rebuilt(self):
-        with self.assertRaises(UnicodeDecodeError):
-            rebuild(b"\xff")
