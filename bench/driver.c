@@ -1,6 +1,6 @@
 /* Times calls over files, or without a file the building of points, in processor time: the median of five runs after a
    first one, in MB/s. Each row has the call, the file, the speed and the answer, with tabs between.
-   `--once CALL FILE..` makes one call over each file in the function `counted`, for instructions.py and checks/instructions.sh. */
+   `--once CALL FILE..` makes one call over each file in the function `counted`, for run.sh and checks/instructions.sh. */
 #include "driver.h"
 #include <stdio.h>
 #include <stdlib.h>

@@ -3,8 +3,8 @@
 #
 #   bench/run.sh           makes the corpora, times all, and writes the .tsv files that table.py and picture.py read
 #   bench/run.sh FILE..    times these files alone
-#   COUNT=1 bench/run.sh   counts instructions in place of the times, by valgrind, over corpora of 1 MB, and writes instructions.tsv
-#                          and parts.tsv
+#   COUNT=1 bench/run.sh   counts by valgrind the instructions of the library's own calls in place of the times, over corpora of 1 MB, and
+#                          prints `call corpus instructions`; each count includes the test for UTF-8, whose own count is `utf8`
 #
 # CARGO_FLAGS: more words for cargo, as where the crate lies if crates.io is out of reach.
 # PYTHON: python3 by default. Debian's own has NumPy, pandas, influxdb and aioinflux, if they are installed.
@@ -48,8 +48,12 @@ cc -O2 -I"$top/include" "$here"/{driver,callers}.c "$archive" "$heap" -o "$built
 
 if [ -n "${COUNT:-}" ]; then
     python3 "$here/corpora.py" --seed "${SEED:-bench}" --size 1000000 --out "$built/counted" > "$built/files"
-    python3 "$here/parts.py" "$built/parts"
-    python3 "$here/instructions.py" "$built/library" "$built/c" "$built/counted" "$built/parts"
+    for file in "$built"/counted/*.lp; do
+        for call in utf8 parse next_into events pull split rebuild; do
+            valgrind --tool=callgrind --callgrind-out-file=/dev/null --toggle-collect=counted "$built/library" --once "$call" "$file" 2>&1 |
+                sed -n "s/.*Collected : /$call $(basename "$file" .lp) /p"
+        done
+    done
     exit
 fi
 

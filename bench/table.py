@@ -1,6 +1,6 @@
 #!/usr/bin/env python3
-"""Writes the tables of figures.tsv, figures_avx512.tsv, callers.tsv, python.tsv, streams.tsv, instructions.tsv and parts.tsv into
-README.md, each between its two marks. bench/run.sh makes these files, and git keeps none. A table whose file is missing stays as it is.
+"""Writes the tables of figures.tsv, figures_avx512.tsv, callers.tsv, python.tsv and streams.tsv into README.md, each between its two marks.
+bench/run.sh makes these files, and git keeps none. A table whose file is missing stays as it is.
 
     bench/table.py
 """
@@ -14,9 +14,6 @@ BEGIN = "<!-- The table of {}, as table.py writes it. -->"
 END = "<!-- The end of the table. -->"
 TABLES = {"figures.tsv": CALLS, "figures_avx512.tsv": CALLS, "callers.tsv": CALLERS, "python.tsv": PYTHON, "streams.tsv": STREAMS}
 """The files, and the names of the calls in each."""
-
-COUNTED = ("instructions.tsv", "parts.tsv")
-"""The files of counts, as instructions.py writes them."""
 
 
 def cell(figure: Figure | None) -> str:
@@ -45,15 +42,6 @@ def table(notes: list[str], figures: list[Figure], names: dict[str, str]) -> lis
     return [*lines, "", f"{built.call} of points: {cell(built)}"] if built else lines
 
 
-def counted(path: Path) -> list[str]:
-    """The lines of a table of counts: a row of each first word, a column of each call."""
-    rows = [line.split("\t") for line in path.read_text().splitlines()]
-    by_place = {(name, call): number for name, call, number in rows}
-    names, calls = (dict.fromkeys(row[place] for row in rows) for place in (0, 1))
-    lines = [row(["", *(f"`{call}`" for call in calls)]), row(["---"] * (len(calls) + 1))]
-    return [*lines, *(row([name, *(by_place[name, call] for call in calls)]) for name in names)]
-
-
 def with_table(text: str, name: str, lines: list[str]) -> str:
     """A text whose table of this file has these lines."""
     before, begin, rest = text.partition(BEGIN.format(name))
@@ -66,10 +54,9 @@ def with_table(text: str, name: str, lines: list[str]) -> str:
 def main() -> None:
     here = Path(__file__).parent
     text = (here / "README.md").read_text()
-    makers = {name: lambda path, calls=calls: table(*read(path), calls) for name, calls in TABLES.items()} | dict.fromkeys(COUNTED, counted)
-    for name, make in makers.items():
+    for name, calls in TABLES.items():
         if (here / name).is_file():
-            text = with_table(text, name, make(here / name))
+            text = with_table(text, name, table(*read(here / name), calls))
     (here / "README.md").write_text(text)
 
 

@@ -1,8 +1,8 @@
 package lineprotocol
 
 import (
-	"io"
 	"os"
+	"strconv"
 	"strings"
 	"testing"
 )
@@ -10,16 +10,8 @@ import (
 // The rows of checks/tables/answers.tsv that ask for items or for a key, in each dialect of which they say something. The head of that table
 // says how a row is spelled. LP_ANSWERS names the table, if this package is a copy.
 func TestAnswers(t *testing.T) {
-	place := os.Getenv("LP_ANSWERS")
-	if place == "" {
-		place = "../../checks/tables/answers.tsv"
-	}
-	table, err := os.ReadFile(place)
-	if err != nil {
-		t.Fatal(err)
-	}
 	answers := 0
-	for number, row := range strings.Split(string(table), "\n") {
+	for number, row := range rowsOf(t, "LP_ANSWERS", "../../checks/tables/answers.tsv") {
 		cells := strings.Split(row, "\t")
 		ask := asks[cells[0]]
 		if ask == nil {
@@ -36,6 +28,18 @@ func TestAnswers(t *testing.T) {
 		t.Errorf("the table has %d answers", answers)
 	}
 	t.Logf("answers.tsv: %d answers are as the table has them", answers)
+}
+
+// The lines of a table: of the one that a variable of the environment names, or else of the one at a place.
+func rowsOf(t *testing.T, variable, place string) []string {
+	if named := os.Getenv(variable); named != "" {
+		place = named
+	}
+	table, err := os.ReadFile(place)
+	if err != nil {
+		t.Fatal(err)
+	}
+	return strings.Split(string(table), "\n")
 }
 
 // What is asked of a text, by the kind of its row.
@@ -99,15 +103,10 @@ func spelledLine(d *Decoder) string {
 			s += value.String()
 		}
 	}
-	if _, ok := d.Timestamp(); ok {
-		s += " at " + value64(d)
+	if number, ok := d.Timestamp(); ok {
+		s += " at " + strconv.FormatInt(number, 10)
 	}
 	return s
-}
-
-func value64(d *Decoder) string {
-	number, _ := d.Timestamp()
-	return strings.TrimSuffix(IntValue(number).String(), "i")
 }
 
 var sides = [...]string{"", "Above", "Below"}
@@ -143,7 +142,7 @@ func FuzzDecoder(f *testing.F) {
 	}
 	f.Fuzz(func(t *testing.T, text []byte, size, dialect uint8, most uint16) {
 		whole := NewDecoder(strings.NewReader(string(text)))
-		parts := NewDecoder(&inParts{text, int(size%16) + 1})
+		parts := NewDecoder(&failing{text, int(size%16) + 1, nil})
 		bytes := NewDecoderWithBytes(text)
 		for _, d := range []*Decoder{whole, parts, bytes} {
 			d.SetDialect(Dialect(dialect % 3))
@@ -154,20 +153,6 @@ func FuzzDecoder(f *testing.F) {
 			t.Errorf("whole: %q\nin parts: %q\nas bytes: %q", a, b, c)
 		}
 	})
-}
-
-type inParts struct {
-	text []byte
-	size int
-}
-
-func (r *inParts) Read(buf []byte) (int, error) {
-	n := copy(buf[:min(r.size, len(buf))], r.text)
-	r.text = r.text[n:]
-	if n == 0 {
-		return 0, io.EOF
-	}
-	return n, nil
 }
 
 func min(a, b int) int {

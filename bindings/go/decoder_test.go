@@ -219,7 +219,7 @@ func TestReaderFails(t *testing.T) {
 	if d.Next() {
 		t.Error("it goes on after the failure")
 	}
-	d = NewDecoder(stuck{})
+	d = NewDecoder(bad(0))
 	if d.Next() || d.Err() != io.ErrNoProgress {
 		t.Errorf("%v", d.Err())
 	}
@@ -285,10 +285,6 @@ func TestNoLine(t *testing.T) {
 		none()
 	}
 }
-
-type stuck struct{}
-
-func (stuck) Read([]byte) (int, error) { return 0, nil }
 
 func TestTime(t *testing.T) {
 	now := time.Now()

@@ -118,42 +118,25 @@ func TestEncoderRefuses(t *testing.T) {
 	}
 }
 
-func TestEncoderTimes(t *testing.T) {
-	at := time.Unix(1590488773, 254420001)
-	for prec, wanted := range []string{"1590488773254420001", "1590488773254420", "1590488773254", "1590488773"} {
-		var e Encoder
-		e.SetPrecision(Precision(prec))
-		e.StartLine("m")
-		e.AddField("f", IntValue(1))
-		e.EndLine(at)
-		if got := string(e.Bytes()); got != "m f=1i "+wanted+"\n" {
-			t.Errorf("%q", got)
-		}
-	}
-}
-
 // The words of what is no line say why.
 func TestNotALineSaysWhy(t *testing.T) {
 	infinite, _ := FloatValue(math.Inf(-1))
+	type field []interface{}
 	for _, row := range []struct {
-		value Value
+		field field
 		words string
 	}{
-		{Value{kind: Float, number: math.Float64bits(math.NaN())}, `line 1: lineprotocol: no line: the field "f g" is NaN`},
-		{infinite, `line 1: lineprotocol: no line: the field "f g" is -Inf`},
-		{Value{}, `line 1: lineprotocol: no line: the field "f g" is a zero Value`},
-		{Value{kind: String, bytes: []byte("\xff")}, "line 1: lineprotocol: no line: a text is not UTF-8"},
+		{field{"f g", Value{kind: Float, number: math.Float64bits(math.NaN())}}, `line 1: lineprotocol: no line: the field "f g" is NaN`},
+		{field{"f g", infinite}, `line 1: lineprotocol: no line: the field "f g" is -Inf`},
+		{field{"f g", Value{}}, `line 1: lineprotocol: no line: the field "f g" is a zero Value`},
+		{field{"f g", Value{kind: String, bytes: []byte("\xff")}}, "line 1: lineprotocol: no line: a text is not UTF-8"},
+		{field{}, "line 1: lineprotocol: no line: it has no field"},
 	} {
 		var e Encoder
-		line(&e, "m", "f g", row.value)
+		line(&e, "m", row.field...)
 		if err := e.Err(); !errors.Is(err, ErrNotALine) || err.Error() != row.words || len(e.Bytes()) != 0 {
 			t.Errorf("%v, and not %s", err, row.words)
 		}
-	}
-	var e Encoder
-	line(&e, "m")
-	if err := e.Err(); err == nil || err.Error() != "line 1: lineprotocol: no line: it has no field" {
-		t.Error(err)
 	}
 }
 

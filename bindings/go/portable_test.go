@@ -4,7 +4,6 @@ import (
 	"bytes"
 	"fmt"
 	"math"
-	"os"
 	"regexp"
 	"strconv"
 	"strings"
@@ -20,15 +19,7 @@ type portableRow struct {
 }
 
 func portableRows(t *testing.T) (rows []portableRow) {
-	place := os.Getenv("LP_PORTABLE")
-	if place == "" {
-		place = "../../checks/portable_rows.txt"
-	}
-	table, err := os.ReadFile(place)
-	if err != nil {
-		t.Fatal(err)
-	}
-	for _, row := range strings.Split(string(table), "\n") {
+	for _, row := range rowsOf(t, "LP_PORTABLE", "../../checks/portable_rows.txt") {
 		if row == "" || row[0] == '#' {
 			continue
 		}

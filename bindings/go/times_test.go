@@ -62,11 +62,12 @@ func TestYears(t *testing.T) {
 	}
 }
 
-// Times before 1970 are rounded down too.
+// Times are rounded down, and those before 1970 too.
 func TestTimesAreRoundedDown(t *testing.T) {
-	times := []time.Time{time.Unix(0, -1), time.Unix(0, -5e8), time.Unix(-1, 0), time.Unix(-1, 1), time.Unix(0, 0), time.Unix(0, 1), time.Unix(0, 999999999)}
+	times := []time.Time{time.Unix(0, -1), time.Unix(0, -5e8), time.Unix(-1, 0), time.Unix(-1, 1), time.Unix(0, 0), time.Unix(0, 1), time.Unix(0, 999999999), time.Unix(1590488773, 254420001)}
 	for prec, wanted := range []string{
-		"-1 -500000000 -1000000000 -999999999 0 1 999999999", "-1 -500000 -1000000 -1000000 0 0 999999", "-1 -500 -1000 -1000 0 0 999", "-1 -1 -1 -1 0 0 0",
+		"-1 -500000000 -1000000000 -999999999 0 1 999999999 1590488773254420001", "-1 -500000 -1000000 -1000000 0 0 999999 1590488773254420",
+		"-1 -500 -1000 -1000 0 0 999 1590488773254", "-1 -1 -1 -1 0 0 0 1590488773",
 	} {
 		if _, numbers := writtenTimes(t, Precision(prec), times); strings.Join(numbers, " ") != wanted {
 			t.Errorf("in units of %v: %q, and not %q", Precision(prec).Duration(), numbers, wanted)

@@ -19,22 +19,18 @@ fn float(literal: &str) -> f64 {
 
 #[test]
 fn floats_are_those_of_the_standard_library() {
+    let edges = ["0", "-0", "-0.0", "0.0", "999999999999999", "1000000000000000", "0.000000000000001", "1e400", "5e-324"];
+    let mut literals = edges.map(String::from).to_vec();
     let mut state = 1u64;
     for round in 0..20_000usize {
         state = state.wrapping_mul(6364136223846793005).wrapping_add(1442695040888963407);
         let digits = (state >> (10 + round % 2)).to_string();
         let (whole, fraction) = digits.split_at(1 + round % (digits.len() - 1));
         let fraction = &fraction[..fraction.len().min(round % 17 + 1)];
-        for literal in [format!("{whole}.{fraction}"), format!("-{whole}.{fraction}"), format!("{whole}.{fraction}e-{}", round % 40)] {
-            assert_eq!(float(&literal).to_bits(), literal.parse::<f64>().unwrap().to_bits(), "{literal}");
-        }
+        literals.extend([format!("{whole}.{fraction}"), format!("-{whole}.{fraction}"), format!("{whole}.{fraction}e-{}", round % 40)]);
     }
-}
-
-#[test]
-fn floats_at_the_edges() {
-    for literal in ["0", "-0", "-0.0", "0.0", "999999999999999", "1000000000000000", "0.000000000000001", "1e400", "5e-324"] {
-        assert_eq!(float(literal).to_bits(), literal.parse::<f64>().unwrap().to_bits(), "{literal}");
+    for literal in literals {
+        assert_eq!(float(&literal).to_bits(), literal.parse::<f64>().unwrap().to_bits(), "{literal}");
     }
 }
 
@@ -118,43 +114,32 @@ fn items_tell_their_places() {
 }
 
 #[test]
-fn bases_are_borrowed_where_nothing_changes() {
-    assert!(matches!(line("m,a=1,b=2 f=1i").series.generate_base(), Ok(Cow::Borrowed("m,a=1,b=2"))));
-    assert!(matches!(line("m\\x,a=1 f=1i").series.generate_base(), Ok(Cow::Owned(base)) if base == "m\\x,a=1"));
-    assert!(matches!(line("m,b=2,a=1 f=1i").series.generate_base(), Ok(Cow::Owned(base)) if base == "m,a=1,b=2"));
-    let repeated = line("m,b=2,a=1,b=3 f=1i").series.generate_base();
-    assert!(matches!(repeated, Err(Error::DuplicateTag { tag_key }) if tag_key == "b"));
-}
-
-#[test]
-fn bases_are_those_of_the_library_at_each_edge() {
+fn bases_are_those_of_the_library_at_each_edge_and_are_borrowed_where_nothing_changes() {
     let rows = [
-        ("m", Some("m")),
-        ("m,a=1,ab=2,b=3", Some("m,a=1,ab=2,b=3")),
-        ("m,\\,=v,é=w", Some("m,\\,=v,é=w")),
-        ("m,a=1,a=2", None),
-        ("m,a=1,b=2,b=3,a=4", None),
-        ("m,ab=1,a=2", Some("m,a=2,ab=1")),
-        ("m,é=1,z=2", Some("m,z=2,é=1")),
-        ("m\\ n,a=1", Some("m n,a=1")),
-        ("m,a\\ b=1,c=2", Some("m,a b=1,c=2")),
-        ("m,a=1\\ 2,b=\\,", Some("m,a=1 2,b=,")),
-        ("m,b=\\,,a=1", Some("m,a=1,b=,")),
+        ("m", "borrowed m"),
+        ("m,a=1,b=2", "borrowed m,a=1,b=2"),
+        ("m,a=1,ab=2,b=3", "borrowed m,a=1,ab=2,b=3"),
+        ("m,\\,=v,é=w", "borrowed m,\\,=v,é=w"),
+        ("m,a=1,a=2", "repeated a"),
+        ("m,a=1,b=2,b=3,a=4", "repeated b"),
+        ("m,b=2,a=1,b=3", "repeated b"),
+        ("m,ab=1,a=2", "owned m,a=2,ab=1"),
+        ("m,b=2,a=1", "owned m,a=1,b=2"),
+        ("m,é=1,z=2", "owned m,z=2,é=1"),
+        ("m\\x,a=1", "owned m\\x,a=1"),
+        ("m\\ n,a=1", "owned m n,a=1"),
+        ("m,a\\ b=1,c=2", "owned m,a b=1,c=2"),
+        ("m,a=1\\ 2,b=\\,", "owned m,a=1 2,b=,"),
+        ("m,b=\\,,a=1", "owned m,a=1,b=,"),
     ];
     for (series, wanted) in rows {
-        let text = format!("{series} f=1i");
-        let parsed = line(&text);
-        let is_own = wanted == Some(series);
-        match (parsed.series.generate_base(), wanted) {
-            (Ok(base), Some(wanted)) => {
-                assert_eq!(base, wanted, "{series}");
-                assert_eq!(matches!(base, Cow::Borrowed(_)), is_own, "{series}");
-            }
-            (Err(Error::DuplicateTag { tag_key }), None) => {
-                assert_eq!(tag_key, if series.ends_with("a=4") { "b" } else { "a" }, "{series}");
-            }
-            (base, _) => panic!("{series}: {base:?}"),
-        }
+        let given = match line(&format!("{series} f=1i")).series.generate_base() {
+            Ok(Cow::Borrowed(base)) => format!("borrowed {base}"),
+            Ok(Cow::Owned(base)) => format!("owned {base}"),
+            Err(Error::DuplicateTag { tag_key }) => format!("repeated {tag_key}"),
+            Err(other) => other.to_string(),
+        };
+        assert_eq!(given, wanted, "{series}");
     }
 }
 
