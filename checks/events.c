@@ -3,7 +3,6 @@
    by jumps with those that are found here byte by byte. These are a hundred million calls, for which Python would take five minutes more;
    `events.py` has the fronts, and calls this. */
 #include "lp_checks.h"
-#include "rows.h"
 
 #include <stdio.h>
 #include <stdlib.h>
@@ -83,11 +82,11 @@ static void count_items(void) {
 static bool compare(const char *text, size_t len) {
     const uint8_t *bytes = (const uint8_t *)text;
     for (uint32_t dialect = 0; dialect < DIALECTS; dialect++) {
-        by_parse.count = lp_checks_items(dialect, bytes, len, by_parse.out, ROOM, by_parse.ends, ENTRIES);
-        by_events.count = lp_checks_events(dialect, bytes, len, by_events.out, ROOM, by_events.ends, ENTRIES);
-        by_pull.count = lp_checks_pulled(dialect, bytes, len, by_pull.out, ROOM, by_pull.ends, ENTRIES);
+        by_parse.count = lp_checks_items(LP_ITEMS, dialect, bytes, len, by_parse.out, ROOM, by_parse.ends, ENTRIES);
+        by_events.count = lp_checks_items(LP_EVENTS, dialect, bytes, len, by_events.out, ROOM, by_events.ends, ENTRIES);
+        by_pull.count = lp_checks_items(LP_PULLED, dialect, bytes, len, by_pull.out, ROOM, by_pull.ends, ENTRIES);
         by_blocks.count = rows_items(dialect, bytes, len, by_blocks.out, ROOM, by_blocks.ends, ENTRIES);
-        by_jumps.count = lp_checks_pieces(dialect, bytes, len, by_jumps.out, ROOM, by_jumps.ends, ENTRIES);
+        by_jumps.count = rows_pieces(dialect, bytes, len, by_jumps.out, ROOM, by_jumps.ends, ENTRIES);
         cut(dialect, text, len, &by_bytes);
         if (!is_same(&by_events, &by_parse) || !is_same(&by_pull, &by_parse)) return fail("items are told", text, len, dialect);
         if (!is_same(&by_blocks, &by_parse)) return fail("items are in blocks", text, len, dialect);

@@ -6,7 +6,7 @@ fault is told. What must come of these is written out here, from the format's ru
 
     checks/events.py LIBRARY
 
-LIBRARY: the calls of crates/lp_checks, with rows.c and events.c, as a shared library; checks/events.sh makes it.
+LIBRARY: the calls of crates/lp_checks, rows.c and events.c, as a shared library; checks/events.sh makes it.
 """
 
 import ctypes
@@ -35,8 +35,8 @@ BATCH = FIRST_LINE + b"n a=2u\n"
 FIRST, LAST = b"line 8:m,t\\ 1=v S1:m,C3:t 1=S1:v S1:s=sS3:x\ny S1:f=i1 at 5", b"line 1:n S1:n S1:a=u2"
 
 # Lines at fault, with a name that is longer than the text of each fault. Of each line just this must be told before its fault.
-NAME = b"o" * 64
-TOLD = b"S64:" + NAME
+NAME = b"o" * 96
+TOLD = b"S96:" + NAME
 FAULTS = {
     b",x": b"", NAME + b"\\\\ f=1i": b"", NAME: TOLD, NAME + b" 5": TOLD, NAME + b", f=1i": TOLD,
     NAME + b",t=x": TOLD + b",S1:t=S1:x",

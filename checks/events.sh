@@ -6,7 +6,7 @@ set -eu
 top=$(cd "$(dirname "$0")/.." && pwd)
 . "$top/checks/library.sh"
 begin lp_checks lp_c
-share_library "$built/lp_checks.so" "$top"/checks/{rows,events}.c "$archive"
+share_library "$built/lp_checks.so" "$top"/checks/{rows,events}.c
 for program in events newline_delimited keys; do
     python3 -B "$top/checks/$program.py" "$built/lp_checks.so"
 done

@@ -1,6 +1,6 @@
 /* What must hold of every text, in each dialect, for libFuzzer. `checks/fuzz.sh` builds this and runs it. */
 #include "lp_checks.h"
-#include "rows.h"
+#include "influxdb_line_protocol.h"
 
 #include <stdio.h>
 #include <stdlib.h>
@@ -48,17 +48,17 @@ static void must_fit(const struct report *report) {
 }
 
 static void read_items(uint32_t dialect, const uint8_t *text, size_t len, struct report *into) {
-    into->count = lp_checks_items(dialect, text, len, into->out, ROOM, into->ends, ENTRIES);
+    into->count = lp_checks_items(LP_ITEMS, dialect, text, len, into->out, ROOM, into->ends, ENTRIES);
     must_fit(into);
 }
 
 static void read_shown(const uint8_t *text, size_t len, struct report *into) {
-    into->count = lp_checks_shown(text, len, into->out, ROOM, into->ends, ENTRIES);
+    into->count = lp_checks_items(LP_SHOWN, 0, text, len, into->out, ROOM, into->ends, ENTRIES);
     must_fit(into);
 }
 
 static void rebuild(uint32_t dialect, const uint8_t *text, size_t len, struct report *into) {
-    into->count = lp_checks_rebuild(dialect, text, len, into->out, ROOM, into->ends, ENTRIES);
+    into->count = rows_rebuilt(dialect, text, len, into->out, ROOM, into->ends, ENTRIES);
     MUST(into->count == 3);
     must_fit(into);
 }
@@ -68,7 +68,7 @@ static uint8_t joined[ROOM + TEXT];
 
 /* The pieces joined by newlines are the text. Each item is that of its piece alone. */
 static void check_pieces(uint32_t dialect, const uint8_t *text, size_t len) {
-    pieces.count = lp_checks_pieces(dialect, text, len, pieces.out, ROOM, pieces.ends, ENTRIES);
+    pieces.count = rows_pieces(dialect, text, len, pieces.out, ROOM, pieces.ends, ENTRIES);
     must_fit(&pieces);
     size_t at = 0;
     uint64_t item = 0;
@@ -99,7 +99,7 @@ static void check_batch(uint32_t dialect, const uint8_t *text, size_t len) {
     uint64_t lines = 0;
     for (uint64_t place = 0; place < items.count; place++) {
         lines += begins(&items, place, "line ");
-        MUST(!is_text(&items, place, "OutOfMemory"));
+        MUST(!is_text(&items, place, "out of memory"));
     }
     MUST(of_batch.count <= lines);
     char counts[64];
@@ -122,9 +122,8 @@ static void check_batch(uint32_t dialect, const uint8_t *text, size_t len) {
 /* The events of the text tell its items, to a sink and one after another, and blocks of rows have them. */
 static void check_events(uint32_t dialect, const uint8_t *text, size_t len) {
     for (int way = 0; way < 3; way++) {
-        all.count = way == 0   ? lp_checks_events(dialect, text, len, all.out, ROOM, all.ends, ENTRIES)
-                    : way == 1 ? lp_checks_pulled(dialect, text, len, all.out, ROOM, all.ends, ENTRIES)
-                               : rows_items(dialect, text, len, all.out, ROOM, all.ends, ENTRIES);
+        all.count = way < 2 ? lp_checks_items(way == 0 ? LP_EVENTS : LP_PULLED, dialect, text, len, all.out, ROOM, all.ends, ENTRIES)
+                            : rows_items(dialect, text, len, all.out, ROOM, all.ends, ENTRIES);
         must_fit(&all);
         MUST(all.count == items.count);
         for (uint64_t place = 0; place < items.count; place++) MUST(is_same(&all, place, &items, place));
@@ -153,23 +152,25 @@ static void check_shown(const uint8_t *text, size_t len) {
     }
 }
 
-/* It ended without a fault, and wrote into `one` and `again`, so many bytes into each, what `rebuild` gives. */
-static void must_be_rebuilt(uint8_t answer, const uint64_t lens[LP_TOLD]) {
-    MUST(answer == 0);
-    MUST(lens[0] == len_of(&rebuilt, 0) && !memcmp(one.out, entry(&rebuilt, 0), lens[0]));
-    MUST(lens[1] == len_of(&rebuilt, 1) && !memcmp(again.out, entry(&rebuilt, 1), lens[1]));
+/* Runs or relays a text in parts, into `one` and `again`. */
+static uint8_t run_or_relay(uint32_t way, uint32_t dialect, const uint8_t *text, size_t len, size_t part, struct lp_told *told) {
+    static const char *const letters[] = {"", "s", "n"};
+    static uint8_t refused[1];
+    uint64_t kinds[LP_KINDS];
+    *told = (struct lp_told){0};
+    return lp_checks_relay(way, (const uint8_t *)letters[dialect], strlen(letters[dialect]), 0, text, len, text, 0, &part, 1, &told->reader,
+                           one.out, ROOM, &part, 0, &told->out, again.out, ROOM, &part, 0, &told->err, refused, 0, &told->pieces, &told->ending, kinds);
 }
 
-/* A run writes what `rebuild` gives, and so does a relay of the text in parts. */
+/* A run writes what `rebuild` gives, and so does a relay, of the text in parts. */
 static void check_run(uint32_t dialect, const uint8_t *text, size_t len) {
     static const size_t parts[] = {1, 7, TEXT};
-    static uint8_t refused[1];
-    uint64_t lens[LP_TOLD], kinds[LP_KINDS];
-    must_be_rebuilt(lp_checks_run(dialect, text, len, one.out, ROOM, again.out, ROOM, lens), lens);
-    for (int i = 0; i < 3; i++)
-        must_be_rebuilt(lp_checks_relay((const uint8_t *)"sn" + (dialect == 2), dialect > 0, SIZE_MAX, text, len, parts[i], one.out, ROOM, again.out,
-                                        ROOM, refused, 0, lens, kinds),
-                        lens);
+    struct lp_told told;
+    for (int i = 0; i < 6; i++) {
+        MUST(run_or_relay(i < 3 ? LP_RUN : LP_RELAY, dialect, text, len, parts[i % 3], &told) == 0);
+        MUST(told.out.bytes == len_of(&rebuilt, 0) && !memcmp(one.out, entry(&rebuilt, 0), told.out.bytes));
+        MUST(told.err.bytes == len_of(&rebuilt, 1) && !memcmp(again.out, entry(&rebuilt, 1), told.err.bytes));
+    }
 }
 
 /* Bytes that spell calls of the builder are written, and read without harm. */
@@ -188,10 +189,11 @@ int LLVMFuzzerTestOneInput(const uint8_t *bytes, size_t len) {
     if (len > TEXT) return 0;
     if (len > 0) memcpy(text, bytes, len);
     check_builder(text, len);
-    if (!lp_checks_is_utf8(text, len)) {
-        uint64_t lens[LP_TOLD];
-        MUST(lp_checks_run(false, text, len, one.out, ROOM, again.out, ROOM, lens) == 2);
-        MUST(lens[0] == 0 && lens[1] == 0);
+    lp_lines lines = LP_NO_LINES;
+    if (!lp_lines_begin(text, len, LP_CRATE, &lines)) {
+        struct lp_told told;
+        MUST(run_or_relay(LP_RUN, 0, text, len, TEXT, &told) == 2);
+        MUST(told.out.bytes == 0 && told.err.bytes == 0);
         return 0;
     }
     for (uint32_t dialect = 0; dialect < 3; dialect++) {

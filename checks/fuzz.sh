@@ -51,14 +51,14 @@ done
     --antt-project "$kit/rattle/logic/antt-project.json" --logic-built "$kit/logic_built" --links lp_checks= \
     --incremental out/incremental --backend llvm --toolchain "$built/toolchain" -o "$built/liblp_checks.a") \
     >"$built/log" 2>&1 || { tail -n 20 "$built/log" >&2; exit 1; }
-clang -O2 -g -Wall -Wextra -I"$top/include" -fsanitize=fuzzer,address "$here/fuzz.c" "$built/liblp_checks.a" "$archive" "$heap" \
+clang -O2 -g -Wall -Wextra -I"$top/include" -fsanitize=fuzzer,address "$here/fuzz.c" "$here/rows.c" "$built/liblp_checks.a" "$archive" "$heap" \
     -o "$built/fuzz"
 
 corpus=${CORPUS:-$built/corpus}
 mkdir -p "$corpus"
 printf 'cpu,host=A,region=west usage_system=64i,idle=0.5 1590488773254420000\nm 5\n' >"$corpus/lines"
 printf 'log,app=a\\ b,k\\,1=v\\=w message="say \\"hi\\"\nthere",n=3u,t=T,f=false 17\n# it a="\nm b=1i,' >"$corpus/escapes"
-printf 'm\1\0mi\1\0a\5\0\0\0\0\0\0\0@\7\0\0\0\0\0\0\0.' >"$corpus/calls"
+printf 'm\1\0\0\0m\0\0\0\0i\1\0\0\0a\1\0\0\0005@\0\0\0\0\1\0\0\0007.\0\0\0\0\0\0\0\0' >"$corpus/calls"
 cat >"$built/words" <<'EOF'
 "\\\\"
 "\\ "

@@ -5,7 +5,7 @@ library reads, and its hash what Python reckons from that; and it must stand in 
 
     checks/keys.py LIBRARY [PAIRS [SEED]]
 
-LIBRARY: the calls of crates/lp_checks as a shared library; checks/events.sh makes it. So many pairs are compared, 500,000 if their number is
+LIBRARY: the calls of crates/lp_checks and rows.c as a shared library; checks/events.sh makes it. So many pairs are compared, 500,000 if their number is
 not given, of series that are made from SEED, 1 if it is not given. Those of a group differ in little: in the order of their tags, in how a
 name is spelled, in a byte, or in where one name ends and the next begins.
 """
@@ -91,12 +91,12 @@ def compare(texts):
     told = []
     for line, item in zip(lines, items):
         if item:
-            key, *others = LIBRARY.reported("keys", line)
+            key, *others = LIBRARY.reported("keys", 0, line)
             text, *names = item
             wanted = written(*names)
             stands = wanted if text == wanted else b"None"
-            if sized(key)[0] != wanted or others != [b"%d" % hash_of(wanted), b"true", stands]:
-                sys.exit(f"keys: of {line!r} are told {key!r} and {others}, and not {wanted!r} with {hash_of(wanted)}, true, {stands!r}")
+            if sized(key)[0] != wanted or others != [b"%d" % hash_of(wanted), b"true", stands, b"%d" % (len(names[1]) + 2)]:
+                sys.exit(f"keys: of {line!r} are told {key!r} and {others}, and not {wanted!r} with {hash_of(wanted)}, true, {stands!r}, and its columns")
             told.append((sized(key)[0], as_told(*names), line))
     pairs = same = 0
     for (key, series, line), (other_key, other_series, other) in itertools.combinations(told, 2):

@@ -20,7 +20,7 @@ begin() {
     trap 'rm -rf "$built"' EXIT
 }
 
-# share_library OUT FILE..: makes a shared library of lp_checks and these sources and archives, for programs in Python: library.py has its calls.
+# share_library OUT FILE..: makes a shared library of lp_checks, and of these sources over lp_c, for programs in Python: library.py has its calls.
 share_library() {
-    cc -O2 -Wall -Wextra -shared -fPIC -I"$top/include" "${@:2}" -Wl,--whole-archive "$library" -Wl,--no-whole-archive "$heap" -o "$1"
+    cc -O2 -Wall -Wextra -shared -fPIC -I"$top/include" "${@:2}" "$archive" -Wl,--whole-archive "$library" -Wl,--no-whole-archive "$heap" -o "$1"
 }

@@ -1,5 +1,5 @@
 /* For refusals.py: counts the requests for memory, and refuses one. malloc, realloc and free of the library come here by the linker's --wrap.
-   Of a block of rows the call of the library counts alone: what it fills is memory of rows.h. */
+   Of a block of rows the call of the library counts alone: what it fills is memory of rows.c. */
 #include <stdbool.h>
 #include <stdint.h>
 #include <stdlib.h>

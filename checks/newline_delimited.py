@@ -6,7 +6,7 @@ it counts. And whatever bytes take the place of one line, the others are answere
 
     checks/newline_delimited.py LIBRARY [COUNT [SEED]]
 
-LIBRARY: the calls of crates/lp_checks, with `lp_checks_blocks` of checks/rows.c, as a shared library; checks/events.sh makes it. The
+LIBRARY: the calls of crates/lp_checks and rows.c as a shared library; checks/events.sh makes it. The
 texts are those of the table of answers, and COUNT hostile ones, made from SEED: 100,000 and 1 if they are not given.
 """
 
@@ -17,7 +17,7 @@ import random
 import re
 import sys
 
-from library import KINDS, Library
+from library import ALL, FINISH, KINDS, NEXT, Library, numbers
 
 STRICT, NEWLINE_DELIMITED = 1, 2
 
@@ -32,14 +32,14 @@ OTHERS = BYTES + [b"\xff", b"\xed\xa0\x80", b"\xc3", b"\r"]
 
 # The settings of relays, as letters of crates/lp_checks, and how long a line may be.
 LETTERS = [b"lork", b"jr", b"lorkv", b"jrk", b"lorkc"]
-LIMITS = [1 << 24, 1 << 24, 12]
+LIMITS = [b"", b"", b"b12"]
 
 LIBRARY = Library(sys.argv[1], 1 << 16, 1 << 10)
 
 
-def relayed(letters, limit, text, part):
+def relayed(letters, text, part):
     """What a relay writes to its three outputs, by lines, and how many items it refuses for each kind of fault."""
-    ended = LIBRARY.relay(letters, limit, text, part)
+    ended = LIBRARY.relay(letters, text, numbers([part]))
     if ended != 0:
         sys.exit(f"newline_delimited: a relay of {text!r} ends with {ended}")
     written, faults, refused = (output.split(b"\n")[:-1] for output in LIBRARY.outputs())
@@ -53,12 +53,12 @@ def items_alone(line):
 
 @functools.cache
 def rebuilt_alone(line):
-    return LIBRARY.reported("rebuild", STRICT, line)
+    return LIBRARY.reported("rows_rebuilt", STRICT, line)
 
 
 @functools.cache
-def relayed_alone(letters, limit, line):
-    return relayed(b"s" + letters, limit, line, len(line) + 1)
+def relayed_alone(letters, line):
+    return relayed(b"s" + letters, line, len(line) + 1)
 
 
 def rebuilt_by_lines(lines):
@@ -79,11 +79,11 @@ def moved(fault, item, line, offset):
     return {name: told + after[name] if name in after else told for name, told in fault.items()}
 
 
-def relayed_by_lines(letters, limit, lines):
+def relayed_by_lines(letters, lines):
     """What is relayed of lines, of which each is relayed alone."""
     written, faults, refused, counts, offset = [], [], [], [0] * KINDS, 0
     for number, line in enumerate(lines, 1):
-        alone = relayed_alone(letters, limit, line)
+        alone = relayed_alone(letters, line)
         item = len(written) + len(faults) + 1
         written += alone[0]
         faults += [moved(fault, item, number, offset) for fault in alone[1]]
@@ -101,16 +101,18 @@ def same(what, text, given, wanted):
 def compare(text, number):
     """Compares what is given for a text with what its lines give, and gives how many lines it has."""
     lines = text.split(b"\n")
-    same("the pieces", text, LIBRARY.reported("pieces", NEWLINE_DELIMITED, text), lines)
-    same("the pieces in parts", text, LIBRARY.reported("streamed", NEWLINE_DELIMITED, text, number % 7 + 1), lines)
+    same("the pieces", text, LIBRARY.reported("rows_pieces", NEWLINE_DELIMITED, text), lines)
+    part = number % 7 + 1
+    steps = numbers([*[part, NEXT] * (len(text) // part), len(text) % part, ALL, FINISH])
+    pieces = [piece[1:-1] for piece in LIBRARY.reported("calls", NEWLINE_DELIMITED, False, 0, text, steps) if piece != b"none"]
+    same("the pieces in parts", text, pieces, lines)
     items = [item for line in lines for item in items_alone(line)]
-    for name in "items", "events", "pulled", "blocks":
+    for name in "items", "events", "pulled", "rows_items":
         same(f"the {name}", text, LIBRARY.reported(name, NEWLINE_DELIMITED, text), items)
-    same("what is rebuilt", text, LIBRARY.reported("rebuild", NEWLINE_DELIMITED, text), rebuilt_by_lines(lines))
-    letters, limit = LETTERS[number % len(LETTERS)], LIMITS[number % len(LIMITS)]
+    same("what is rebuilt", text, LIBRARY.reported("rows_rebuilt", NEWLINE_DELIMITED, text), rebuilt_by_lines(lines))
+    letters = LETTERS[number % len(LETTERS)] + LIMITS[number % len(LIMITS)]
     if number % 2 == 0:
-        outputs = relayed(b"n" + letters, limit, text, number % 7 + 1)
-        same(f"what is relayed by {letters}", text, outputs, relayed_by_lines(letters, limit, lines))
+        same(f"what is relayed by {letters}", text, relayed(b"n" + letters, text, part), relayed_by_lines(letters, lines))
     return len(lines)
 
 
@@ -118,7 +120,7 @@ def compare_replaced(lines, place, other):
     """Compares what is relayed of lines, one of them replaced by such bytes, with what is if it is empty: each output may have one entry
     more, after those of the lines before."""
     def given(lines):
-        return relayed(b"nlor", 1 << 24, b"\n".join(lines), 5)[:3]
+        return relayed(b"nlor", b"\n".join(lines), 5)[:3]
 
     replaced = [*lines[:place], other, *lines[place + 1:]]
     before, empty = given(lines[:place]), given([*lines[:place], b"", *lines[place + 1:]])

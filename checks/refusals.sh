@@ -5,7 +5,7 @@ set -eu
 top=$(cd "$(dirname "$0")/.." && pwd)
 . "$top/checks/library.sh"
 begin lp_checks lp_c
-share_library "$built/lp_checks.so" -Wl,--wrap=malloc,--wrap=realloc,--wrap=free "$top/checks/memory.c" "$archive"
+share_library "$built/lp_checks.so" -Wl,--wrap=malloc,--wrap=realloc,--wrap=free "$top/checks/memory.c"
 watched=(env "LD_PRELOAD=$(cc -print-file-name=libasan.so)" PYTHONMALLOC=malloc ASAN_OPTIONS=detect_leaks=0)
 if [ "$("${watched[@]}" python3 -c 'print(open("/proc/self/maps").read().count("libasan") > 0)' 2>/dev/null)" != True ]; then
     watched=()

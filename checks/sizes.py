@@ -4,7 +4,7 @@ is said by settings.py, and of other calls it is composed here, from the format'
 
     checks/sizes.py LIBRARY
 
-LIBRARY: the calls of crates/lp_checks as a shared library; checks/sizes.sh makes it.
+LIBRARY: the calls of crates/lp_checks and rows.c as a shared library; checks/sizes.sh makes it.
 """
 
 import ctypes
@@ -14,7 +14,7 @@ import sys
 import time
 
 import settings
-from library import NO_LIMIT, Library, numbers
+from library import ALL, FINISH, NEXT, NO_LIMIT, Library, numbers
 from relay_runs import Wrong, same
 from settings import FAULTS, LINES, NUMBERS, PIECES, REFUSED, Fault, Piece, Settings, Wanted
 
@@ -28,12 +28,12 @@ def settings_of(lines, dialect, faults, number, refused, limit=settings.LIMIT):
     return Settings(lines, dialect, faults, number, False, refused, "standard output", "standard input", limit)
 
 
-def relay(asked, pieces, part=NO_LIMIT, counts_kinds=True):
-    """Relays these pieces in parts of so many bytes, and compares all that comes."""
+def relay(asked, pieces, part=None, counts_kinds=True):
+    """Relays these pieces, in parts of so many bytes if that is given, and compares all that comes."""
     letters = "".join(LETTERS.get(word, "") for word in (asked.lines, asked.dialect, asked.faults))
-    letters += "o" * (asked.faults == "line") + "l" * (asked.number == "line") + "r" * asked.refused + "k" * counts_kinds
+    letters += "o" * (asked.faults == "line") + "l" * (asked.number == "line") + "r" * asked.refused + "k" * counts_kinds + f"b{asked.limit}"
     wanted = Wanted(asked, pieces)
-    ended = LIBRARY.relay(letters.encode(), asked.limit, b"".join(piece.came + b"\n" for piece in pieces), part)
+    ended = LIBRARY.relay(letters.encode(), b"".join(piece.came + b"\n" for piece in pieces), numbers([part] if part else []))
     lines, faults, refused = LIBRARY.outputs()
     said = f"of a relay by the letters {letters!r}"
     same(f"the answer {said}", ended, 0)
@@ -91,17 +91,24 @@ def series_in_parts(text):
     return LIBRARY.joined("series", 0, NO_LIMIT, NO_LIMIT, text, parts)
 
 
+def pieces_of_parts(text):
+    """The pieces of a text that comes in parts of 64 bytes, as one text, and how many they are. One piece is taken after each part."""
+    steps = numbers([*[64, NEXT] * (len(text) // 64), len(text) % 64, ALL, FINISH])
+    pieces = [entry[1:-1] for entry in LIBRARY.reported("calls", 0, False, 0, text, steps) if entry != b"none"]
+    return b"".join(pieces), len(pieces)
+
+
 def joined(name, *dialect):
     """A call that reports entries of a text."""
     return lambda text: LIBRARY.joined(name, *dialect, text)
 
 
 CALLS = {
-    "pieces": joined("pieces", 0), "pieces of parts": lambda text: LIBRARY.joined("streamed", 0, text, 64), "items": joined("items", 0),
-    "events": joined("events", 0), "pulled events": joined("pulled", 0), "items by one line": joined("reused"), "bases": joined("bases"),
-    "keys": joined("keys"), "shown lines": joined("shown"), "a rebuild": joined("rebuild", 0), "counts of series": series_in_parts,
-    "what InfluxDB reads": joined("influx"), "a run": lambda text: LIBRARY.run(0, text),
-    "a relay": lambda text: LIBRARY.relay(b"cjrk", NO_LIMIT, text, 512),
+    "pieces": joined("rows_pieces", 0), "pieces of parts": pieces_of_parts, "items": joined("items", 0), "events": joined("events", 0),
+    "pulled events": joined("pulled", 0), "items by one line": joined("reused", 0), "bases": joined("bases", 0), "keys": joined("keys", 0),
+    "shown lines": joined("shown", 0), "a rebuild": joined("rows_rebuilt", 0), "counts of series": series_in_parts,
+    "what InfluxDB reads": joined("influx"), "a run": lambda text: LIBRARY.relay(b"", text, way="run"),
+    "a relay": lambda text: LIBRARY.relay(b"cjrk", text, numbers([512])),
 }
 # Calls that must give what another one does.
 SAME = {"pieces of parts": "pieces", "events": "items", "pulled events": "items", "items by one line": "items"}
@@ -148,13 +155,13 @@ def counts_begin(text, max_series, wanted):
 
 def read_large():
     """A line of many tags, which come in the other order, and as many fields: its key, the hash of that by FNV-1a of 64 bits, and what is counted
-    of it. Many lines, each of another measurement, and as many faults: if all series are kept, and if one is. And what InfluxDB 1.x reads of
-    3,001 tags, many fields and a long string."""
+    of it; its columns are not told. Many lines, each of another measurement, and as many faults: if all series are kept, and if one is. And what
+    InfluxDB 1.x reads of 3,001 tags, many fields and a long string."""
     tags = [b"t%06d=v" % at for at in range(1, MANY + 1)]
     key = b",".join([b"m", *tags])
     text = b",".join([b"m", *tags[::-1]]) + b" " + b",".join(b"f%06d=1i" % at for at in range(1, MANY + 1)) + b"\n"
     code = functools.reduce(lambda so_far, byte: (so_far ^ byte) * 1099511628211 % 2**64, key, 14695981039346656037)
-    same("the key of many tags", LIBRARY.reported("keys", text), [b"%d:" % len(key) + key, b"%d" % code, b"true", b"None"])
+    same("the key of many tags", LIBRARY.reported("keys", 0, text), [b"%d:" % len(key) + key, b"%d" % code, b"true", b"None", b""])
     counts_begin(text, NO_LIMIT, b"1 1 none none 0 0\nseries m,t000001=v,t000002=v,")
     text = b"".join(b"m%06d f=1i\nx\n" % at for at in range(MANY))
     counts_begin(text, NO_LIMIT, b"%d %d none none 0 %d\nseries m000000 1\nseries m000001 1\n" % (MANY, MANY, MANY))

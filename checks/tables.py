@@ -4,7 +4,7 @@ Each table says at its head how a row is spelled.
 
     checks/tables.py LIBRARY
 
-LIBRARY: the calls of crates/lp_checks as a shared library; checks/tables.sh makes it. Status 1: a row differs, or checks/tables/counts.txt has
+LIBRARY: the calls of crates/lp_checks and rows.c as a shared library; checks/tables.sh makes it. Status 1: a row differs, or checks/tables/counts.txt has
 other counts of rows.
 """
 
@@ -20,7 +20,8 @@ import sys
 from concurrent.futures import ProcessPoolExecutor
 from dataclasses import dataclass, field
 
-from library import ALL, FINISH, FINISH_TEXT, NEXT, NEXT_TEXT, NO_LIMIT, Library, numbers, sized
+from library import (ALL, CARRIED, FAULTS_AT, FINISH, FINISH_TEXT, LINES_AT, NEXT, NEXT_TEXT, NO_LIMIT, REFUSED, STATUS, Library, numbers,
+                     sized)
 from random_texts import random_parts, random_text
 
 FOLDER = pathlib.Path(__file__).resolve().parent / "tables"
@@ -80,11 +81,28 @@ def cell(spelled, is_part=False):
 PART = re.compile(rb"(?P<letter>[SCf])(?P<size>\d+):|s|(?P<kind>[iu])(?P<number>-?\d+)|(?P<word>true|false| at -?\d+|[,= ])")
 
 
+# Each fault as the rows name it, and what is written before and after the text that it carries, if it carries one.
+FAULTS = {
+    b"MeasurementValueInvalid": (b"Invalid measurement was provided", None),
+    b"FieldSetMissing": (b"No fields were provided", None),
+    b"IntegerValueInvalid": (b"Unable to parse integer value '", b"'"),
+    b"UIntegerValueInvalid": (b"Unable to parse unsigned integer value '", b"'"),
+    b"TimestampValueInvalid": (b"Unable to parse timestamp value '", b"'"),
+    b"EndsWithBackslash": (b"Measurements, tag keys and values, and field keys may not end with a backslash", None),
+    b"rest": (b"Could not parse entire line. Found trailing content: '", b"'"),
+    b"TagSetMalformed": (b"Tag Set Malformed", None),
+    b"TakeWhile1": (b"A generic parsing error occurred: TakeWhile1", None),
+}
+
+
 def spelled_fault(entry):
-    name, size, text = re.fullmatch(rb"(\D*)(?:(\d+):(.*))?", entry, re.DOTALL).groups()
-    if name.startswith(b"CannotParseEntireLine"):
-        name = b"rest "
-    return (b"TakeWhile1" if name == b"GenericParsingError" else name) + (b"<" + text[:int(size)] + b">" if size else b"")
+    side = entry[:6] if entry.startswith((b"Above ", b"Below ")) else b""
+    for name, (front, back) in FAULTS.items():
+        if back is None and entry == front:
+            return name
+        if back is not None and entry.startswith(side + front) and entry.endswith(back):
+            return name + b" " + side + b"<" + entry[len(side + front):len(entry) - len(back)] + b">"
+    return entry
 
 
 def spelled_item(entry):
@@ -106,21 +124,17 @@ def spelled_item(entry):
 def items_are(dialect, text, wanted):
     """The items of a text, read in each way."""
     utf8(text)
-    for name in "items", "events", "pulled":
+    for name in "items", "reused", "events", "pulled":
         same(f"{name} in dialect {dialect}", b"|".join(map(spelled_item, LIBRARY.reported(name, dialect, text))), wanted)
-    if dialect == 0:
-        same("items, read into one line", b"|".join(map(spelled_item, LIBRARY.reported("reused", text))), wanted)
 
 
 def spelled_base(entry):
     word, _, rest = entry.partition(b" ")
-    if word == b"DuplicateTag":
-        return b'Must not contain duplicate tags, but "' + rest.partition(b":")[2] + b'" was repeated'
     return {b"borrowed": b"B<", b"owned": b"O<"}[word] + sized(rest)[0] + b">" if word in (b"borrowed", b"owned") else entry
 
 
 def base_of(text):
-    return spelled_base(LIBRARY.reported("bases", utf8(text))[0])
+    return spelled_base(LIBRARY.reported("bases", 0, utf8(text))[0])
 
 
 def in_angles(pieces):
@@ -139,28 +153,32 @@ def counted(counts):
 
 
 def rebuilt_of(dialect, text):
-    batch, _, counts = LIBRARY.reported("rebuild", dialect, text)
+    batch, _, counts = LIBRARY.reported("rows_rebuilt", dialect, text)
     carried, refused = counted(counts)
     return b"%d of %d <%s>" % (carried, carried + refused, batch)
 
 
 def run_of(dialect, text):
-    must(LIBRARY.run(dialect, text) == 0)
-    return b"%d <%s> <%s>" % (LIBRARY.told[5], *LIBRARY.outputs()[:2])
+    must(LIBRARY.relay(DIALECT_LETTERS[dialect], text, way="run") == 0)
+    return b"%d <%s> <%s>" % (LIBRARY.told[STATUS], *LIBRARY.outputs()[:2])
+
+
+def carried_and_refused():
+    return LIBRARY.told[CARRIED], LIBRARY.told[REFUSED]
 
 
 def as_written(dialect, text):
     """Whether a canonical relay takes the text as one line."""
-    is_taken = LIBRARY.relay(b"c" + DIALECT_LETTERS[dialect], NO_LIMIT, text, NO_LIMIT) == 0 and LIBRARY.told[3:5] == [1, 0]
+    is_taken = LIBRARY.relay(b"c" + DIALECT_LETTERS[dialect], text) == 0 and carried_and_refused() == (1, 0)
     return b"true" if is_taken and LIBRARY.outputs()[0] == text + b"\n" else b"false"
 
 
 # What a question is answered, by dialects; and where there is no other dialect than that of the Rust crate.
-BY_DIALECT = {b"pieces": lambda dialect, text: in_angles(LIBRARY.reported("pieces", dialect, text)), b"series": series_of, b"rebuilt": rebuilt_of,
+BY_DIALECT = {b"pieces": lambda dialect, text: in_angles(LIBRARY.reported("rows_pieces", dialect, text)), b"series": series_of, b"rebuilt": rebuilt_of,
               b"run": run_of, b"as_written": as_written}
-BY_CRATE = {b"columns": lambda text: LIBRARY.reported("columns", text)[0], b"fault": lambda text: LIBRARY.reported("shown", text)[0],
-            b"base": base_of, b"key": lambda text: LIBRARY.reported("keys", text)[0].partition(b":")[2],
-            b"shown": lambda text: LIBRARY.reported("shown", text)[0]}
+BY_CRATE = {b"columns": lambda text: LIBRARY.reported("keys", 0, text)[4], b"fault": lambda text: LIBRARY.reported("shown", 0, text)[0],
+            b"base": base_of, b"key": lambda text: LIBRARY.reported("keys", 0, text)[0].partition(b":")[2],
+            b"shown": lambda text: LIBRARY.reported("shown", 0, text)[0]}
 
 
 def compare_answers(kind, text, *answers):
@@ -199,7 +217,7 @@ class Stream:
     def wanted(self, text):
         """The answers that the pieces of a text must have."""
         made = []
-        for piece in LIBRARY.reported("pieces", self.dialect, text):
+        for piece in LIBRARY.reported("rows_pieces", self.dialect, text):
             is_long = self.limit is not None and len(piece) > self.limit
             made.append((b"TooLong %d %d " % (piece.count(b"\n"), len(piece)) if is_long else b"") + b"<" + piece[:self.limit] + b">")
         return b"".join(made)
@@ -214,7 +232,7 @@ def pieces_are(stream, text, wanted):
     if stream.limit is None:
         try:
             text.decode()
-            same("the pieces of the whole text", in_angles(LIBRARY.reported("pieces", stream.dialect, text)), wanted)
+            same("the pieces of the whole text", in_angles(LIBRARY.reported("rows_pieces", stream.dialect, text)), wanted)
         except UnicodeDecodeError:
             pass
     stream.gives("byte by byte", text, [1] * len(text), wanted)
@@ -286,29 +304,23 @@ def compare_streams(kind, dialects, limit, *cells):
 
 # ---- written.tsv ----
 
-def spelled_text(text):
-    return struct.pack("<I", len(text)) + text
-
-
-def spelled_number(number):
-    return struct.pack("<Q", int(number) % 2**64)
+def spelled_call(letter, *texts):
+    """A call of a builder, as `calls` of crates/lp_checks spells it: a letter and two texts."""
+    return letter + b"".join(struct.pack("<I", len(text)) + text for text in (*texts, b"", b"")[:2])
 
 
 def spelled_pair(key, typed):
-    """The call of a builder for a tag or a field, as `calls` of crates/lp_checks spells it."""
     letter, value = typed[:1], typed[2:]
     must(typed[1:2] == b":" and letter in b"tiufsb" and (letter != b"b" or value in (b"true", b"false")))
-    if letter == b"b":
-        return letter + spelled_text(key) + bytes([value == b"true"])
-    return letter + spelled_text(key) + (spelled_number(value) if letter in b"iu" else spelled_text(value))
+    return spelled_call(letter, key, value)
 
 
 def spelled_line(cells):
     """The calls of a builder for a line, and whether it has a tag set, though no tag."""
     has_tag_set = len(cells) % 2 == 0 and cells[-1] == b","
     pairs = itertools.starmap(spelled_pair, zip(cells[1::2], cells[2::2]))
-    time = b"" if len(cells) % 2 or has_tag_set else b"@" + spelled_number(cells[-1])
-    return b"m" + spelled_text(cells[0]) + b"".join(pairs) + time, has_tag_set
+    time = b"" if len(cells) % 2 or has_tag_set else spelled_call(b"@", b"", cells[-1])
+    return spelled_call(b"m", cells[0]) + b"".join(pairs) + time, has_tag_set
 
 
 Point = collections.namedtuple("Point", "by_line is_admitted if_admitted if_strict line_shown series_shown values_shown")
@@ -333,7 +345,7 @@ def line_is(*cells):
 
 
 def lines_are(times, *cells):
-    same("built", built((spelled_line(cells[:-1])[0] + b".") * int(times)), cells[-1])
+    same("built", built((spelled_line(cells[:-1])[0] + spelled_call(b".")) * int(times)), cells[-1])
 
 
 def admitted_is(*cells):
@@ -347,9 +359,9 @@ def admitted_is(*cells):
 def read_is(text, item, shown, written):
     for dialect in 0, 1:
         items_are(dialect, text, item)
-    same("shown", LIBRARY.reported("shown", text)[0], shown)
-    same("written", LIBRARY.reported("written", text, b"", False, ctypes.byref(LIBRARY.place))[0], written)
-    same("written, as it is admitted", LIBRARY.reported("rebuild", 0, text)[0], written)
+    same("shown", LIBRARY.reported("shown", 0, text)[0], shown)
+    same("written", built(spelled_call(b"l", text)), written)
+    same("written, as it is admitted", LIBRARY.reported("rows_rebuilt", 0, text)[0], written)
 
 
 def series_is(raw, *cells):
@@ -379,7 +391,7 @@ def copies_are(text, spelled):
     """Copies of a name and of a string are this text: by `clone`, by `to_string` and by `into_string`."""
     name = (b"S" if len(text) == len(spelled) else b"C") + b"%d:" % len(text) + text
     bare = b"%d:" % len(text) + text
-    same("the copies", LIBRARY.reported("copies", utf8(spelled + b' s="' + spelled + b'"')), [name, bare, bare, name, b"s" + name, b"s" + name])
+    same("the copies", LIBRARY.reported("copies", 0, utf8(spelled + b' s="' + spelled + b'"')), [name, bare, bare, name, b"s" + name, b"s" + name])
 
 
 WRITTEN = {
@@ -408,7 +420,6 @@ class Asked:
 
     dialects: list = field(default_factory=lambda: [0])
     letters: bytes = b""
-    limit: int = NO_LIMIT
     reads: int = 0
     times: int = 1
     now: int | None = None
@@ -417,7 +428,9 @@ class Asked:
     def take(self, word):
         name, equals, number = word.partition(b"=")
         must(not equals or number.isdigit())
-        if name in (b"limit", b"reads", b"times", b"now"):
+        if name == b"limit":
+            self.letters += b"b" + number
+        elif name in (b"reads", b"times", b"now"):
             setattr(self, name.decode(), int(number))
         elif not equals and name in DIALECTS:
             self.dialects = DIALECTS[name]
@@ -446,48 +459,42 @@ def answer(ended, kinds):
     """The answer of a run or a relay, as a row spells it."""
     if ended:
         return ENDED[ended]
-    return b"%d carried, %d refused" % tuple(LIBRARY.told[3:5]) + (b": " + b" ".join(b"%d" % kind for kind in kinds) if kinds else b"")
+    return b"%d carried, %d refused" % carried_and_refused() + (b": " + b" ".join(b"%d" % kind for kind in kinds) if kinds else b"")
 
 
 def relay_gives(asked, text, part, cells, other=None):
-    ended = LIBRARY.relay(DIALECT_LETTERS[asked.dialect] + asked.letters, asked.limit, text, part, asked.now, other)
+    letters, steps = DIALECT_LETTERS[asked.dialect] + asked.letters, numbers([part] if part else [])
+    if other is not None:
+        ended = LIBRARY.relay(letters, b"", way="inputs", number=len(text), inputs=text + other)
+    else:
+        ended = LIBRARY.relay(letters, text, steps, "relay" if asked.now is None else "now", asked.now or 0)
     lines, faults, refused = LIBRARY.outputs()
     kinds = LIBRARY.kinds[:] if b"k" in asked.letters else []
-    gives(f"relayed by {part} bytes in dialect {asked.dialect}", ended, [lines, faults, answer(ended, kinds), refused], cells)
+    gives(f"relayed by {part or 'all'} bytes in dialect {asked.dialect}", ended, [lines, faults, answer(ended, kinds), refused], cells)
 
 
 def relays_give(asked, text, *cells):
     """A relay of a text: by the reads of the row, or else at once, byte by byte if it is not long, and by each number of bytes if it is short."""
     most = 0 if asked.reads else len(text) if len(text) <= MOST_CUT else 2 if len(text) <= MOST_BY_BYTES else 0
-    for part in [asked.reads or NO_LIMIT, *range(1, most)]:
+    for part in [asked.reads, *range(1, most)]:
         relay_gives(asked, text, part, cells)
 
 
-STEPPED = LIBRARY.calls.lp_checks_stepped
-LINES_TOLD, FAULTS_TOLD = (ctypes.c_uint64 * 3)(), (ctypes.c_uint64 * 3)()
-OUT, ERR, SIZE, READS = ctypes.addressof(LIBRARY.out), ctypes.addressof(LIBRARY.err), len(LIBRARY.out), ctypes.addressof(LIBRARY.place)
-
-
-def stepped(is_relay, letters, text, steps):
+def relayed(way, letters, text, steps):
     """The answer, the lines and the faults of a run or a relay whose reads give so many bytes in turn."""
-    LINES_TOLD[0] = FAULTS_TOLD[0] = 0
-    ended = STEPPED(is_relay, letters, len(letters), text, len(text), steps, len(steps), READS, OUT, SIZE, OUT, 0, LINES_TOLD, ERR, SIZE, OUT, 0,
-                    FAULTS_TOLD)
-    return ended, ctypes.string_at(OUT, LINES_TOLD[0]), ctypes.string_at(ERR, FAULTS_TOLD[0])
+    ended, told = LIBRARY.relay(letters, text, steps, way), LIBRARY.told
+    return ended, ctypes.string_at(LIBRARY.out, told[LINES_AT]), ctypes.string_at(LIBRARY.err, told[FAULTS_AT])
 
 
 def run_gives(asked, text, *cells):
-    """A run at once, and by reads too if the row says of how many bytes: then its answer is that of the first."""
-    ended = LIBRARY.run(asked.dialect, text)
-    status = b"%d" % LIBRARY.told[5]
-    gives("run", ended, [*LIBRARY.outputs()[:2], answer(ended, []), status], cells)
-    if asked.reads:
-        ended, lines, faults = stepped(False, DIALECT_LETTERS[asked.dialect], text, numbers([asked.reads] * (len(text) // asked.reads + 1)))
-        gives("run by reads", ended, [lines, faults, answer(ended, []), status], cells)
+    """A run at once, and by reads too if the row says of how many bytes."""
+    for part in {0, asked.reads}:
+        ended, lines, faults = relayed("run", DIALECT_LETTERS[asked.dialect], text, numbers([part] if part else []))
+        gives(f"run by {part or 'all'} bytes", ended, [lines, faults, answer(ended, []), b"%d" % LIBRARY.told[STATUS]], cells)
 
 
 def rebuilt_gives(asked, text, *cells):
-    lines, faults, counts = LIBRARY.reported("rebuild", asked.dialect, utf8(text))
+    lines, faults, counts = LIBRARY.reported("rows_rebuilt", asked.dialect, utf8(text))
     gives("rebuilt", 0, [lines, faults, counts], cells)
     run_gives(asked, text, *cells)
     relays_give(asked, text, *cells)
@@ -495,13 +502,13 @@ def rebuilt_gives(asked, text, *cells):
 
 def relay_agrees(dialect, text, steps, wanted):
     """A text that comes by these reads is relayed as it was rebuilt."""
-    if stepped(True, DIALECT_LETTERS[dialect], text, steps) != wanted:
+    if relayed("relay", DIALECT_LETTERS[dialect], text, steps) != wanted:
         raise Differs(f"{text!r} is relayed otherwise than it is rebuilt in dialect {dialect}, by {len(steps)} reads")
 
 
 def rebuilt(dialect, text):
-    """The answer, the lines and the faults of a rebuild, as `stepped` gives them."""
-    lines, faults, counts = LIBRARY.reported("rebuild", dialect, text)
+    """The answer, the lines and the faults of a rebuild, as `relayed` gives them."""
+    lines, faults, counts = LIBRARY.reported("rows_rebuilt", dialect, text)
     counted(counts)
     return 0, lines, faults
 
@@ -514,8 +521,8 @@ def ends_of(dialect, text, count):
 def parts_agree(dialect, text, parts):
     """So many parts of a text, rebuilt one after another, give the lines and the counts of the whole."""
     ends = ends_of(dialect, text, parts)
-    made = [LIBRARY.reported("rebuild", dialect, text[start:end]) for start, end in zip([0, *ends], ends)]
-    lines, _, counts = LIBRARY.reported("rebuild", dialect, text)
+    made = [LIBRARY.reported("rows_rebuilt", dialect, text[start:end]) for start, end in zip([0, *ends], ends)]
+    lines, _, counts = LIBRARY.reported("rows_rebuilt", dialect, text)
     same("the lines of the parts", b"".join(part[0] for part in made), lines)
     must((ends[-1] if ends else 0) == len(text) and [sum(count) for count in zip([0, 0], *(counted(part[2]) for part in made))] == counted(counts))
 
@@ -524,7 +531,7 @@ def text_agrees(asked, text):
     """A text is relayed as it is rebuilt, at once, byte by byte, and cut at each place; and its parts give what the whole gives."""
     must(len(text) <= MOST_CUT)
     wanted = rebuilt(asked.dialect, text)
-    for steps in [[1] * MOST_CUT, [], *([at] for at in range(1, len(text)))]:
+    for steps in [[1], [], *([at, NO_LIMIT - 1] for at in range(1, len(text)))]:
         relay_agrees(asked.dialect, text, numbers(steps), wanted)
     for parts in range(MOST_PARTS):
         parts_agree(asked.dialect, text, parts)
@@ -557,7 +564,7 @@ def random_texts_agree(asked, seed, texts):
 
 RELAYS = {b"relay": relays_give, b"run": run_gives, b"rebuilt": rebuilt_gives, b"as_rebuilt": text_agrees, b"parts": ends_are,
           b"short_texts": short_texts_agree, b"random": random_texts_agree,
-          b"inputs": lambda asked, text, other, *cells: relay_gives(asked, text, NO_LIMIT, cells, other)}
+          b"inputs": lambda asked, text, other, *cells: relay_gives(asked, text, 0, cells, other)}
 
 
 def compare_relays(kind, settings, *cells):

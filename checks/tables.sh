@@ -3,6 +3,6 @@
 set -eu
 top=$(cd "$(dirname "$0")/.." && pwd)
 . "$top/checks/library.sh"
-begin lp_checks
-share_library "$built/lp_checks.so"
+begin lp_checks lp_c
+share_library "$built/lp_checks.so" "$top/checks/rows.c"
 python3 -B "$top/checks/tables.py" "$built/lp_checks.so"

@@ -169,7 +169,7 @@ def of_reading():
 
 
 def of_border():
-    """The stretches of the code that callers in other languages meet: lp_offsets, lp_c and lp_checks."""
+    """The stretches of the code that callers in other languages meet: lp_offsets and lp_c."""
     one = "        SpelledFault::{variant}%s => (FaultKind::{variant}, %s, %s),"
     split = "        SpelledFault::{variant}%s => (\n            FaultKind::{variant},\n            %s,\n            %s,\n        ),"
     seen = {shape: laid(one % words, split % words) for shape, words in {
@@ -182,15 +182,6 @@ def of_border():
         kind="        SpelledFault::{variant} {{\n            kind: ErrorKind::TakeWhile1,\n        }} => (FaultKind::{variant}, Side::Neither, \"\"),"))
     yield Place("crates/lp_c/src/messages.rt", ("fn message_by", "    match number {"), "        _ =>", each(message, NUMBERED, **dict.fromkeys(
         ("key", "kind", "number", "rest"), message)))
-    for name, marks, end, faults, of, star in (("fault", "    match fault {", "        Error::OutOfMemory", NUMBERED, "Error", True),
-                                               ("spelled_fault", "    match fault {", "    }", OF_LINES, "SpelledFault", False)):
-        text = "            render_text(report, {member}%s);" % (".as_str()" if star else "")
-        held = "        %s::{variant} {{ {member} }} => {{\n            report.push(b\"{variant} \");\n%s\n        }}" % (of, text)
-        yield Place("crates/lp_checks/src/render.rt", (f"pub fn render_{name}(", marks), end, each(
-            '        %s::{variant} => report.push(b"{variant}"),' % of, faults, key=held, rest=held,
-            kind='        %s::{variant} {{ kind: _ }} => report.push(b"{variant}"),' % of,
-            number="        %s::{variant} {{ source, value }} => {{\n            render_range(report, \"{variant}\", %s);\n        }}" % (
-                of, "*source, value.as_str()" if star else "source, value")))
 
 
 def message(fault):
@@ -262,8 +253,8 @@ def of_checks():
     yield Place("bindings/c/writing.c", ("static bool are_no_messages",), "    const lp_text", [f"    const uint32_t next = LP_{NUMBERED[-1].upper} + 1;"])
     yield Place("checks/page/answers.mjs", ("    const faults = {",), "    }", each_kind('        {kind}: "{row}",', OF_LINES))
     yield Place("checks/page/in_chromium.mjs", ("    const faults = {",), "    }", each_kind('        {row}: "{kind}",', OF_LINES))
-    yield Place("checks/rows.h", ("    static const char *const NAMES[]",), "    }", wrapped(
-        ['""', *(f'"{fault.variant}{" " if fault.carries in ("key", "rest") else ""}"' for fault in NUMBERED)], "        "))
+    carrying = '    b"{row}": (b"{front}", b"{back}"),'
+    yield Place("checks/tables.py", ("FAULTS = {",), "}", each('    b"{row}": (b"{front}", None),', number=carrying, rest=carrying))
     yield Place("checks/lp_checks.h", ("/* How many kinds",), "", [f"enum {{ LP_KINDS = {len(KINDS)} }};"])
     yield Place("checks/tables/answers.tsv", ("# The texts of faults are",), "", [
         f"fault\t{text}\t{fault.front}{carried}{fault.back}" for fault in OF_LINES for text, carried in fault.examples])

@@ -34,14 +34,13 @@ pub struct Calls {
     pub built: Vec<u8>,
 }
 
-fn spell_text(program: &mut Vec<u8>, text: &str) {
-    program.extend_from_slice(&(text.len() as u32).to_le_bytes());
-    program.extend_from_slice(text.as_bytes());
-}
-
-fn spell_field(program: &mut Vec<u8>, letter: u8, key: &str) {
+/// Spells a call: a letter and two texts.
+pub fn spell_call(program: &mut Vec<u8>, letter: u8, key: &str, text: &str) {
     program.push(letter);
-    spell_text(program, key);
+    for text in [key, text] {
+        program.extend_from_slice(&(text.len() as u32).to_le_bytes());
+        program.extend_from_slice(text.as_bytes());
+    }
 }
 
 // A field of either state: both have a call of that name.
@@ -51,32 +50,27 @@ macro_rules! field {
         match $seeded.below(5) {
             0 => {
                 let value = $seeded.next() as i64 >> $seeded.below(64);
-                spell_field($program, b'i', &key);
-                $program.extend_from_slice(&value.to_le_bytes());
+                spell_call($program, b'i', &key, &value.to_string());
                 $builder.field(&key, value)
             }
             1 => {
                 let value = $seeded.next() >> $seeded.below(64);
-                spell_field($program, b'u', &key);
-                $program.extend_from_slice(&value.to_le_bytes());
+                spell_call($program, b'u', &key, &value.to_string());
                 $builder.field(&key, value)
             }
             2 => {
                 let value = $seeded.once_in(2);
-                spell_field($program, b'b', &key);
-                $program.push(u8::from(value));
+                spell_call($program, b'b', &key, &value.to_string());
                 $builder.field(&key, value)
             }
             3 => {
                 let value = texts::literal($seeded);
-                spell_field($program, b'f', &key);
-                spell_text($program, &value);
+                spell_call($program, b'f', &key, &value);
                 $builder.field(&key, Literal(&value))
             }
             _ => {
                 let value = texts::loose_text($seeded);
-                spell_field($program, b's', &key);
-                spell_text($program, &value);
+                spell_call($program, b's', &key, &value);
                 $builder.field(&key, value.as_str())
             }
         }
@@ -87,33 +81,29 @@ fn call(lines: Lines, seeded: &mut Seeded, name: Name, program: &mut Vec<u8>) ->
     match lines {
         Lines::Closed(builder) => {
             let name = name(seeded);
-            program.push(b'm');
-            spell_text(program, &name);
+            spell_call(program, b'm', &name, "");
             Lines::Measured(builder.measurement(&name))
         }
         Lines::Measured(builder) if seeded.once_in(2) => {
             let (key, value) = (name(seeded), name(seeded));
-            program.push(b't');
-            spell_text(program, &key);
-            spell_text(program, &value);
+            spell_call(program, b't', &key, &value);
             Lines::Measured(builder.tag(&key, &value))
         }
         Lines::Measured(builder) => Lines::Fielded(field!(builder, seeded, name, program)),
         Lines::Fielded(builder) => match seeded.below(4) {
             0 => {
-                program.push(b'.');
+                spell_call(program, b'.', "", "");
                 Lines::Closed(builder.close_line())
             }
             1 => {
                 let timestamp = seeded.next() as i64 >> seeded.below(64);
-                program.push(b'@');
-                program.extend_from_slice(&timestamp.to_le_bytes());
+                spell_call(program, b'@', "", &timestamp.to_string());
                 Lines::Stamped(builder.timestamp(timestamp))
             }
             _ => Lines::Fielded(field!(builder, seeded, name, program)),
         },
         Lines::Stamped(builder) => {
-            program.push(b'.');
+            spell_call(program, b'.', "", "");
             Lines::Closed(builder.close_line())
         }
     }

@@ -136,28 +136,13 @@ fn side(source: &ParseIntError) -> &'static str {
     }
 }
 
-// A fault, as `crates/lp_checks` tells it.
+// A fault, as `crates/lp_checks` tells it: what is shown of it, after the side of its range on which a number lies.
 fn told_fault(fault: &Error) -> String {
-    let range =
-        |name: &str, source, value: &str| format!("{name} {} {}", side(source), counted(value));
     match fault {
-        Error::DuplicateTag { tag_key } => format!("DuplicateTag {}", counted(tag_key)),
-        Error::MeasurementValueInvalid => "MeasurementValueInvalid".into(),
-        Error::FieldSetMissing => "FieldSetMissing".into(),
-        Error::IntegerValueInvalid { source, value } => range("IntegerValueInvalid", source, value),
-        Error::UIntegerValueInvalid { source, value } => {
-            range("UIntegerValueInvalid", source, value)
-        }
-        Error::TimestampValueInvalid { source, value } => {
-            range("TimestampValueInvalid", source, value)
-        }
-        Error::EndsWithBackslash => "EndsWithBackslash".into(),
-        Error::CannotParseEntireLine { trailing_content } => {
-            format!("CannotParseEntireLine {}", counted(trailing_content))
-        }
-        Error::TagSetMalformed => "TagSetMalformed".into(),
-        Error::GenericParsingError { .. } => "GenericParsingError".into(),
-        other => format!("a fault that this library lacks: {other:?}"),
+        Error::IntegerValueInvalid { source, .. }
+        | Error::UIntegerValueInvalid { source, .. }
+        | Error::TimestampValueInvalid { source, .. } => format!("{} {fault}", side(source)),
+        _ => fault.to_string(),
     }
 }
 

@@ -1,4 +1,6 @@
-//! This library's calls, by the static library of crates/lp_checks.
+//! This library's calls, by the static library of crates/lp_checks, and by rows.c.
+
+use crate::calls;
 
 /// Declares calls that make a report: each takes the words that it is declared with, and then the room of the report.
 macro_rules! reports {
@@ -10,25 +12,21 @@ macro_rules! reports {
 }
 
 reports! {
-    lp_checks_pieces(dialect: u32, text: *const u8, len: usize);
-    lp_checks_items(dialect: u32, text: *const u8, len: usize);
-    lp_checks_events(dialect: u32, text: *const u8, len: usize);
-    lp_checks_blocks(dialect: u32, text: *const u8, len: usize);
-    lp_checks_rebuild(dialect: u32, text: *const u8, len: usize);
-    lp_checks_bases(text: *const u8, len: usize);
-    lp_checks_shown(text: *const u8, len: usize);
-    lp_checks_written(text: *const u8, len: usize, start: *const u8, start_len: usize, again: bool, refused_at: *mut u64);
+    rows_pieces(dialect: u32, text: *const u8, len: usize);
+    rows_items(dialect: u32, text: *const u8, len: usize);
+    rows_rebuilt(dialect: u32, text: *const u8, len: usize);
+    lp_checks_items(way: u32, dialect: u32, text: *const u8, len: usize);
     lp_checks_build(program: *const u8, len: usize, reserved: u64, again: bool, refused_at: *mut u64);
 }
 
 #[rustfmt::skip]
 extern "C" {
-    fn lp_checks_run(
-        dialect: u32, input: *const u8, len: usize, out: *mut u8, room: usize, err: *mut u8, err_room: usize, told: *mut u64,
-    ) -> u8;
     fn lp_checks_relay(
-        letters: *const u8, letters_len: usize, limit: usize, input: *const u8, len: usize, part: usize,
-        out: *mut u8, room: usize, err: *mut u8, err_room: usize, refused: *mut u8, refused_room: usize, told: *mut u64, kinds: *mut u64,
+        way: u32, letters: *const u8, letters_len: usize, number: i64, input: *const u8, len: usize, inputs: *const u8, inputs_len: usize,
+        steps: *const usize, steps_len: usize, reader: *mut u64,
+        out: *mut u8, room: usize, out_steps: *const usize, out_steps_len: usize, out_told: *mut u64,
+        err: *mut u8, err_room: usize, err_steps: *const usize, err_steps_len: usize, err_told: *mut u64,
+        pieces: *mut u8, pieces_room: usize, pieces_told: *mut u64, ending: *mut u64, kinds: *mut u64,
     ) -> u8;
 }
 
@@ -44,6 +42,14 @@ macro_rules! fill_by {
 
 /// The number of the crate's dialect.
 pub const CRATE: u32 = 0;
+
+// The ways of `lp_checks_items` and of `lp_checks_relay`, as lp_checks.h names them.
+const ITEMS: u32 = 0;
+const EVENTS: u32 = 2;
+const BASES: u32 = 4;
+const SHOWN: u32 = 6;
+const RELAY: u32 = 0;
+const RUN: u32 = 1;
 
 /// The room of a report, and of what a run writes: bytes, and the ends of entries.
 const ROOM: usize = 1 << 21;
@@ -91,18 +97,23 @@ impl Report {
     }
 
     fill_by! {
-        pieces(text: &str) = lp_checks_pieces(CRATE, text.as_ptr(), text.len());
-        items(text: &str) = lp_checks_items(CRATE, text.as_ptr(), text.len());
-        events(text: &str) = lp_checks_events(CRATE, text.as_ptr(), text.len());
-        blocks(text: &str) = lp_checks_blocks(CRATE, text.as_ptr(), text.len());
-        bases(text: &str) = lp_checks_bases(text.as_ptr(), text.len());
-        shown(text: &str) = lp_checks_shown(text.as_ptr(), text.len());
-        /// One entry: all lines of the text, as they are written again.
-        written(text: &str) = lp_checks_written(text.as_ptr(), text.len(), [].as_ptr(), 0, false, &mut u64::MAX.clone());
+        pieces(text: &str) = rows_pieces(CRATE, text.as_ptr(), text.len());
+        items(text: &str) = lp_checks_items(ITEMS, CRATE, text.as_ptr(), text.len());
+        events(text: &str) = lp_checks_items(EVENTS, CRATE, text.as_ptr(), text.len());
+        blocks(text: &str) = rows_items(CRATE, text.as_ptr(), text.len());
+        bases(text: &str) = lp_checks_items(BASES, CRATE, text.as_ptr(), text.len());
+        shown(text: &str) = lp_checks_items(SHOWN, CRATE, text.as_ptr(), text.len());
         /// One entry: what the calls write.
         build(program: &[u8]) = lp_checks_build(program.as_ptr(), program.len(), 0, false, &mut u64::MAX.clone());
         /// Three entries: the batch, the fault lines, and how many items were carried and refused.
-        rebuild(dialect: u32, text: &str) = lp_checks_rebuild(dialect, text.as_ptr(), text.len());
+        rebuild(dialect: u32, text: &str) = rows_rebuilt(dialect, text.as_ptr(), text.len());
+    }
+
+    /// One entry: all lines of the text, as they are written again.
+    pub fn written(&mut self, text: &str) -> &Self {
+        let mut program = Vec::new();
+        calls::spell_call(&mut program, b'l', text, "");
+        self.build(&program)
     }
 }
 
@@ -110,7 +121,9 @@ impl Report {
 pub struct Written {
     out: Vec<u8>,
     err: Vec<u8>,
-    told: [u64; 6],
+    // How many bytes each of the two holds, and more of its device.
+    out_told: [u64; 3],
+    err_told: [u64; 3],
 }
 
 impl Written {
@@ -118,46 +131,45 @@ impl Written {
         Written {
             out: vec![0; ROOM],
             err: vec![0; ROOM],
-            told: [0; 6],
+            out_told: [0; 3],
+            err_told: [0; 3],
         }
     }
 
     /// The lines.
     pub fn out(&self) -> &[u8] {
-        &self.out[..self.told[0] as usize]
+        &self.out[..self.out_told[0] as usize]
     }
 
     /// The fault lines.
     pub fn err(&self) -> &[u8] {
-        &self.err[..self.told[1] as usize]
+        &self.err[..self.err_told[0] as usize]
     }
 
-    fn fill(&mut self, call: impl FnOnce(*mut u8, *mut u8, *mut u64) -> u8) -> &Self {
+    // A run, or a relay, of a text that comes in parts of so many bytes.
+    fn fill(&mut self, way: u32, dialect: u32, text: &str, part: usize) -> &Self {
+        let letters = ["", "s", "n"][dialect as usize];
+        let (text, len, none) = (text.as_ptr(), text.len(), [].as_ptr());
         let (out, err) = (self.out.as_mut_ptr(), self.err.as_mut_ptr());
-        let answer = call(out, err, self.told.as_mut_ptr());
+        (self.out_told, self.err_told) = ([0; 3], [0; 3]);
+        #[rustfmt::skip]
+        let answer = unsafe {
+            lp_checks_relay(
+                way, letters.as_ptr(), letters.len(), 0, text, len, text, 0, &part, 1, [0; 3].as_mut_ptr(),
+                out, ROOM, none, 0, self.out_told.as_mut_ptr(), err, ROOM, none, 0, self.err_told.as_mut_ptr(),
+                [0; 1].as_mut_ptr(), 0, [0; 3].as_mut_ptr(), [0; 3].as_mut_ptr(), [0; 19].as_mut_ptr(),
+            )
+        };
         assert_eq!(answer, 0, "a run ends without a fault");
         self
     }
 
     pub fn run(&mut self, dialect: u32, text: &str) -> &Self {
-        let (input, len) = (text.as_ptr(), text.len());
-        self.fill(|out, err, told| unsafe {
-            lp_checks_run(dialect, input, len, out, ROOM, err, ROOM, told)
-        })
+        self.fill(RUN, dialect, text, ROOM)
     }
 
     /// Relays a text that comes in parts of so many bytes.
     pub fn relay(&mut self, dialect: u32, text: &str, part: usize) -> &Self {
-        let (input, len) = (text.as_ptr(), text.len());
-        let letters = ["", "s", "n"][dialect as usize];
-        let (letters, letters_len) = (letters.as_ptr(), letters.len());
-        let (mut refused, mut kinds) = ([0; 1], [0; 19]);
-        let (refused, kinds) = (refused.as_mut_ptr(), kinds.as_mut_ptr());
-        self.fill(|out, err, told| unsafe {
-            lp_checks_relay(
-                letters, letters_len, usize::MAX, input, len, part, out, ROOM, err, ROOM, refused,
-                0, told, kinds,
-            )
-        })
+        self.fill(RELAY, dialect, text, part)
     }
 }

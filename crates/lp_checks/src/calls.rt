@@ -1,45 +1,37 @@
 //! Calls of the builder that the caller spells as bytes.
 //!
-//! A call is a letter and its arguments. A text is its length, four bytes with the least first, and its bytes; a number is
-//! eight bytes with the least first.
+//! A call is a letter and two texts. A text is its length, four bytes with the least first, and its bytes. Numbers and Booleans are texts
+//! too. A text that is none of a call's arguments is passed over.
 //!
-//! | letter | call | arguments |
+//! | letter | call | texts |
 //! |---|---|---|
-//! | `m` | `measurement` | a text |
-//! | `t` | `tag` | two texts |
-//! | `s` `f` | `field` of a text, of a float | the key and the text |
-//! | `i` `u` | `field` of an integer | the key and the number |
-//! | `b` | `field` of a Boolean | the key and a byte: 0 is `false` |
-//! | `@` | `timestamp` | the number |
+//! | `m` | `measurement` | its name |
+//! | `t` | `tag` | the key and the value |
+//! | `s` `f` `i` `u` `b` | `field` of a text, a float, an integer, an unsigned integer, a Boolean | the key and the value |
+//! | `@` | `timestamp` | none, and the number |
 //! | `.` | `close_line` | none |
+//! | `l` | `write_line` of each line that is read of a text | the text |
 
 use influxdb_line_protocol::builder::{
-    AfterField, AfterMeasurement, AfterTimestamp, BeforeMeasurement, Refused,
+    AfterField, AfterMeasurement, AfterTimestamp, BeforeMeasurement,
 };
-use influxdb_line_protocol::{FloatText, LineProtocolBuilder};
+use influxdb_line_protocol::{
+    EscapedStr, FieldSet, FieldValue, FloatText, LineProtocolBuilder, TagSet, parse_lines,
+    write_line,
+};
+use std::alloc::Global;
 
 type Building<S> = LineProtocolBuilder<Vec<u8>, S>;
 
-type Answered<S, T> = Result<Building<T>, Refused<Vec<u8>, S>>;
-
-/// A value for a field.
-#[derive(Clone, Copy)]
-pub enum Value<'c> {
-    I64(i64),
-    U64(u64),
-    F64(FloatText<'c>),
-    String(&'c str),
-    Boolean(bool),
-}
-
-/// A call.
-#[derive(Clone, Copy)]
-pub enum Call<'c> {
+// A call.
+#[derive(Drop)]
+enum Call<'c> {
     Measurement(&'c str),
     Tag(&'c str, &'c str),
-    Field(&'c str, Value<'c>),
+    Field(&'c str, FieldValue<'c>),
     Timestamp(i64),
     Close,
+    Lines(&'c str),
 }
 
 fn take_text(bytes: &[u8]) -> Option<(&str, &[u8])> {
@@ -49,62 +41,25 @@ fn take_text(bytes: &[u8]) -> Option<(&str, &[u8])> {
     Some((text, rest))
 }
 
-fn take_number(bytes: &[u8]) -> Option<(u64, &[u8])> {
-    let (number, rest) = bytes.split_first_chunk::<8>()?;
-    Some((u64::from_le_bytes(*number), rest))
-}
-
-// The value after the letter of a field and its key, and what follows.
-fn take_value(letter: u8, bytes: &[u8]) -> Option<(Value<'_>, &[u8])> {
-    match letter {
-        b's' => {
-            let (text, rest) = take_text(bytes)?;
-            Some((Value::String(text), rest))
-        }
-        b'f' => {
-            let (text, rest) = take_text(bytes)?;
-            Some((Value::F64(FloatText::new(text)?), rest))
-        }
-        b'i' => {
-            let (number, rest) = take_number(bytes)?;
-            Some((Value::I64(number.cast_signed()), rest))
-        }
-        b'u' => {
-            let (number, rest) = take_number(bytes)?;
-            Some((Value::U64(number), rest))
-        }
-        b'b' => {
-            let (byte, rest) = bytes.split_first()?;
-            Some((Value::Boolean(*byte != 0), rest))
-        }
-        _ => None,
-    }
-}
-
-/// The first call, and what follows; `None` if the bytes spell none.
-pub fn take_call(program: &[u8]) -> Option<(Call<'_>, &[u8])> {
+// The first call, and what follows; `None` if the bytes spell none.
+fn take_call(program: &[u8]) -> Option<(Call<'_>, &[u8])> {
     let (letter, rest) = program.split_first()?;
-    match letter {
-        b'.' => Some((Call::Close, rest)),
-        b'@' => {
-            let (number, rest) = take_number(rest)?;
-            Some((Call::Timestamp(number.cast_signed()), rest))
-        }
-        b'm' => {
-            let (name, rest) = take_text(rest)?;
-            Some((Call::Measurement(name), rest))
-        }
-        b't' => {
-            let (key, rest) = take_text(rest)?;
-            let (value, rest) = take_text(rest)?;
-            Some((Call::Tag(key, value), rest))
-        }
-        letter => {
-            let (key, rest) = take_text(rest)?;
-            let (value, rest) = take_value(*letter, rest)?;
-            Some((Call::Field(key, value), rest))
-        }
-    }
+    let (key, rest) = take_text(rest)?;
+    let (text, rest) = take_text(rest)?;
+    let call = match letter {
+        b'm' => Call::Measurement(key),
+        b't' => Call::Tag(key, text),
+        b's' => Call::Field(key, FieldValue::String(EscapedStr::from(text))),
+        b'f' => Call::Field(key, FieldValue::F64(FloatText::new(text)?)),
+        b'i' => Call::Field(key, FieldValue::I64(text.parse::<i64>().ok()?)),
+        b'u' => Call::Field(key, FieldValue::U64(text.parse::<u64>().ok()?)),
+        b'b' => Call::Field(key, FieldValue::Boolean(text == "true")),
+        b'@' => Call::Timestamp(text.parse::<i64>().ok()?),
+        b'.' => Call::Close,
+        b'l' => Call::Lines(key),
+        _ => return None,
+    };
+    Some((call, rest))
 }
 
 /// A builder, in one of its states.
@@ -116,124 +71,149 @@ pub enum Lines {
     Stamped(Building<AfterTimestamp>),
 }
 
-/// What a call gave.
-#[derive(Drop)]
-pub enum Answer {
-    /// The builder with the call's text.
-    Written(Lines),
-    /// The builder that a refused call handed back.
-    Refused(Lines),
-    /// The call is none of the builder's state.
-    Misplaced,
-}
-
-fn of_first_field(answered: Answered<AfterMeasurement, AfterField>) -> Answer {
-    match answered {
-        Ok(builder) => Answer::Written(Lines::Fielded(builder)),
-        Err(refused) => Answer::Refused(Lines::Measured(refused.builder)),
+/// Writes again each line of a text that has a field. `Err` has the builder that a refused call handed back.
+pub fn write_lines(
+    alloc: Global,
+    builder: Building<BeforeMeasurement>,
+    text: &str,
+) -> Result<Building<BeforeMeasurement>, Building<BeforeMeasurement>> {
+    let mut builder = builder;
+    for item in parse_lines(alloc, text) {
+        let Ok(line) = item else { continue };
+        if line.field_set.len() > 0 {
+            builder = match write_line(builder, &line) {
+                Ok(longer) => longer,
+                Err(refused) => return Err(refused.builder),
+            };
+        }
     }
+    Ok(builder)
 }
 
-fn of_later_field(answered: Answered<AfterField, AfterField>) -> Answer {
-    match answered {
-        Ok(builder) => Answer::Written(Lines::Fielded(builder)),
-        Err(refused) => Answer::Refused(Lines::Fielded(refused.builder)),
-    }
-}
-
-fn first_field(builder: Building<AfterMeasurement>, key: &str, value: Value<'_>) -> Answer {
-    of_first_field(match value {
-        Value::I64(value) => builder.field(key, value),
-        Value::U64(value) => builder.field(key, value),
-        Value::F64(value) => builder.field(key, value),
-        Value::String(value) => builder.field(key, value),
-        Value::Boolean(value) => builder.field(key, value),
-    })
-}
-
-fn later_field(builder: Building<AfterField>, key: &str, value: Value<'_>) -> Answer {
-    of_later_field(match value {
-        Value::I64(value) => builder.field(key, value),
-        Value::U64(value) => builder.field(key, value),
-        Value::F64(value) => builder.field(key, value),
-        Value::String(value) => builder.field(key, value),
-        Value::Boolean(value) => builder.field(key, value),
-    })
-}
-
-fn call_before(builder: Building<BeforeMeasurement>, call: Call<'_>) -> Answer {
-    match call {
-        Call::Measurement(name) => match builder.measurement(name) {
-            Ok(builder) => Answer::Written(Lines::Measured(builder)),
-            Err(refused) => Answer::Refused(Lines::Closed(refused.builder)),
+// Makes a call. `Err` has the builder that a refused call handed back, or nothing if the call is none of the builder's state.
+fn make_call(alloc: Global, lines: Lines, call: Call<'_>) -> Result<Lines, Option<Lines>> {
+    match (lines, call) {
+        (Lines::Closed(builder), Call::Measurement(name)) => match builder.measurement(name) {
+            Ok(builder) => Ok(Lines::Measured(builder)),
+            Err(refused) => Err(Some(Lines::Closed(refused.builder))),
         },
-        _ => Answer::Misplaced,
+        (Lines::Closed(builder), Call::Lines(text)) => match write_lines(alloc, builder, text) {
+            Ok(builder) => Ok(Lines::Closed(builder)),
+            Err(builder) => Err(Some(Lines::Closed(builder))),
+        },
+        (Lines::Measured(builder), Call::Tag(key, value)) => match builder.tag(key, value) {
+            Ok(builder) => Ok(Lines::Measured(builder)),
+            Err(refused) => Err(Some(Lines::Measured(refused.builder))),
+        },
+        (Lines::Measured(builder), Call::Field(key, value)) => match builder.field(key, value) {
+            Ok(builder) => Ok(Lines::Fielded(builder)),
+            Err(refused) => Err(Some(Lines::Measured(refused.builder))),
+        },
+        (Lines::Fielded(builder), Call::Field(key, value)) => match builder.field(key, value) {
+            Ok(builder) => Ok(Lines::Fielded(builder)),
+            Err(refused) => Err(Some(Lines::Fielded(refused.builder))),
+        },
+        (Lines::Fielded(builder), Call::Timestamp(time)) => match builder.timestamp(time) {
+            Ok(builder) => Ok(Lines::Stamped(builder)),
+            Err(refused) => Err(Some(Lines::Fielded(refused.builder))),
+        },
+        (Lines::Fielded(builder), Call::Close) => match builder.close_line() {
+            Ok(builder) => Ok(Lines::Closed(builder)),
+            Err(refused) => Err(Some(Lines::Fielded(refused.builder))),
+        },
+        (Lines::Stamped(builder), Call::Close) => match builder.close_line() {
+            Ok(builder) => Ok(Lines::Closed(builder)),
+            Err(refused) => Err(Some(Lines::Stamped(refused.builder))),
+        },
+        _ => Err(None),
     }
 }
 
-fn call_measured(builder: Building<AfterMeasurement>, call: Call<'_>) -> Answer {
-    match call {
-        Call::Tag(key, value) => match builder.tag(key, value) {
-            Ok(builder) => Answer::Written(Lines::Measured(builder)),
-            Err(refused) => Answer::Refused(Lines::Measured(refused.builder)),
-        },
-        Call::Field(key, value) => first_field(builder, key, value),
-        _ => Answer::Misplaced,
+/// Makes the calls that `program` spells. At the first refusal `refused_at` gets its place, and the call is made again, or
+/// the calls end. `None` if a second call was refused, or a call is none of the builder's state.
+pub fn make_calls(
+    alloc: Global,
+    lines: Lines,
+    program: &[u8],
+    again: bool,
+    refused_at: &mut u64,
+) -> Option<Lines> {
+    let mut lines = lines;
+    let mut rest = program;
+    let mut place = 0u64;
+    let mut is_refused = false;
+    for _ in 0..=program.len() {
+        let Some((call, after)) = take_call(rest) else {
+            break;
+        };
+        match make_call(alloc, lines, call) {
+            Ok(longer) => {
+                lines = longer;
+                rest = after;
+                place = place.saturating_add(1);
+            }
+            Err(Some(before)) if !is_refused => {
+                *refused_at = place;
+                is_refused = true;
+                lines = before;
+                if !again {
+                    return Some(lines);
+                }
+            }
+            Err(_) => return None,
+        }
     }
-}
-
-fn call_fielded(builder: Building<AfterField>, call: Call<'_>) -> Answer {
-    match call {
-        Call::Field(key, value) => later_field(builder, key, value),
-        Call::Timestamp(timestamp) => match builder.timestamp(timestamp) {
-            Ok(builder) => Answer::Written(Lines::Stamped(builder)),
-            Err(refused) => Answer::Refused(Lines::Fielded(refused.builder)),
-        },
-        Call::Close => match builder.close_line() {
-            Ok(builder) => Answer::Written(Lines::Closed(builder)),
-            Err(refused) => Answer::Refused(Lines::Fielded(refused.builder)),
-        },
-        _ => Answer::Misplaced,
-    }
-}
-
-fn call_stamped(builder: Building<AfterTimestamp>, call: Call<'_>) -> Answer {
-    match call {
-        Call::Close => match builder.close_line() {
-            Ok(builder) => Answer::Written(Lines::Closed(builder)),
-            Err(refused) => Answer::Refused(Lines::Stamped(refused.builder)),
-        },
-        _ => Answer::Misplaced,
-    }
-}
-
-/// Makes a call.
-pub fn make(lines: Lines, call: Call<'_>) -> Answer {
-    match lines {
-        Lines::Closed(builder) => call_before(builder, call),
-        Lines::Measured(builder) => call_measured(builder, call),
-        Lines::Fielded(builder) => call_fielded(builder, call),
-        Lines::Stamped(builder) => call_stamped(builder, call),
-    }
+    if rest.is_empty() { Some(lines) } else { None }
 }
 
 /// The bytes, the open line ended in the shortest way: after the measurement and tags by the field `end=true`. `None`
 /// if that was refused.
 pub fn finish(lines: Lines) -> Option<Vec<u8>> {
-    match lines {
-        Lines::Closed(builder) => Some(builder.build()),
-        Lines::Measured(builder) => {
-            let builder = builder.field("end", true).ok()?;
-            let builder = builder.close_line().ok()?;
-            Some(builder.build())
+    let builder = match lines {
+        Lines::Closed(builder) => builder,
+        Lines::Measured(builder) => builder.field("end", true).ok()?.close_line().ok()?,
+        Lines::Fielded(builder) => builder.close_line().ok()?,
+        Lines::Stamped(builder) => builder.close_line().ok()?,
+    };
+    Some(builder.build())
+}
+
+/// The parts of a line, as calls set them.
+#[derive(Drop)]
+pub struct Parts<'c> {
+    pub measurement: &'c str,
+    pub tags: TagSet<'c>,
+    pub field_set: FieldSet<'c>,
+    pub timestamp: Option<i64>,
+}
+
+/// Sets all that these calls write. Whether all of the program is calls, and no memory was refused.
+pub fn set_parts<'c>(program: &'c [u8], parts: &mut Parts<'c>) -> bool {
+    let mut rest = program;
+    for _ in 0..program.len() {
+        let Some((call, after)) = take_call(rest) else {
+            break;
+        };
+        let mut is_refused = false;
+        match call {
+            Call::Measurement(name) => parts.measurement = name,
+            Call::Tag(key, value) => {
+                let tag = (EscapedStr::from(key), EscapedStr::from(value));
+                is_refused = parts.tags.push(tag).is_err();
+            }
+            Call::Field(key, value) => {
+                is_refused = parts
+                    .field_set
+                    .push((EscapedStr::from(key), value))
+                    .is_err();
+            }
+            Call::Timestamp(time) => parts.timestamp = Some(time),
+            Call::Close | Call::Lines(_) => {}
         }
-        Lines::Fielded(builder) => {
-            let builder = builder.close_line().ok()?;
-            Some(builder.build())
+        if is_refused {
+            return false;
         }
-        Lines::Stamped(builder) => {
-            let builder = builder.close_line().ok()?;
-            Some(builder.build())
-        }
+        rest = after;
     }
+    rest.is_empty()
 }

@@ -10,21 +10,7 @@ use std::fmt::Write;
 /// Items, as they are told: an entry each.
 #[derive(Drop)]
 pub struct Items<'b> {
-    report: Report<'b>,
-}
-
-impl<'b> Items<'b> {
-    /// No items so far.
-    pub fn new(out: &'b mut [u8], ends: &'b mut [u64]) -> Self {
-        Items {
-            report: Report::new(out, ends),
-        }
-    }
-
-    /// How many items were told.
-    pub fn count(&self) -> u64 {
-        self.report.count()
-    }
+    pub report: Report<'b>,
 }
 
 impl<'a> EventSink<'a> for Items<'_> {
@@ -48,20 +34,26 @@ impl<'a> EventSink<'a> for Items<'_> {
         render::render_spelled_value(&mut self.report, value);
     }
 
-    // The head of a line is known at its end alone.
+    // The head of a line is known at its end alone, and is moved to its front if all of the line has room.
     fn end(&mut self, series: &'a str, timestamp: Option<i64>) {
+        let report = &mut self.report;
         if let Some(timestamp) = timestamp {
-            let _ = write!(self.report, " at {timestamp}");
+            let _ = write!(report, " at {timestamp}");
         }
-        let told = self.report.entry_len();
-        render::render_head(&mut self.report, series);
-        self.report.move_to_front(told);
-        self.report.end();
+        let told = report.len.saturating_sub(report.start);
+        report.push_sized("line ", series.as_bytes());
+        report.push(b" ");
+        if report.start <= report.len && report.len <= report.out.len() {
+            let entry = &mut report.out[report.start..report.len];
+            let head = entry.len().saturating_sub(told);
+            entry.rotate_right(head);
+        }
+        report.end();
     }
 
     // What was told of the line is no line.
     fn fault(&mut self, fault: SpelledFault<'a>) {
-        self.report.clear();
+        self.report.len = self.report.start;
         render::render_spelled_fault(&mut self.report, fault);
         self.report.end();
     }

@@ -8,39 +8,27 @@ use crate::report::Report;
 use lp_influx::{InfluxLine, InfluxValue};
 use std::fmt::Write;
 
-// A text.
-fn render_text(report: &mut Report<'_>, letter: char, text: &[u8]) {
-    let len = text.len();
-    let _ = write!(report, "{letter}{len}:");
-    report.push(text);
-}
-
-// A value.
-fn render_value(report: &mut Report<'_>, value: &InfluxValue) {
-    match value {
-        InfluxValue::Integer(number) => {
-            let _ = write!(report, "i{number}:");
-        }
-        InfluxValue::Unsigned(number) => {
-            let _ = write!(report, "u{number}:");
-        }
-        InfluxValue::Float(literal) => render_text(report, 'f', literal),
-        InfluxValue::String(text) => render_text(report, 's', text),
-        InfluxValue::Boolean(true) => report.push(b"b1:"),
-        InfluxValue::Boolean(false) => report.push(b"b0:"),
-    }
-}
-
 /// A line.
 pub fn render_influx(report: &mut Report<'_>, line: &InfluxLine) {
-    render_text(report, 'm', &line.measurement);
+    report.push_sized("m", &line.measurement);
     for tag in &line.tags {
-        render_text(report, 't', &tag.key);
-        render_text(report, 'v', &tag.value);
+        report.push_sized("t", &tag.key);
+        report.push_sized("v", &tag.value);
     }
     for field in &line.fields {
-        render_text(report, 'k', &field.key);
-        render_value(report, &field.value);
+        report.push_sized("k", &field.key);
+        match &field.value {
+            InfluxValue::Integer(number) => {
+                let _ = write!(report, "i{number}:");
+            }
+            InfluxValue::Unsigned(number) => {
+                let _ = write!(report, "u{number}:");
+            }
+            InfluxValue::Float(literal) => report.push_sized("f", literal),
+            InfluxValue::String(text) => report.push_sized("s", text),
+            InfluxValue::Boolean(true) => report.push(b"b1:"),
+            InfluxValue::Boolean(false) => report.push(b"b0:"),
+        }
     }
     if let Some(time) = line.timestamp {
         let _ = write!(report, "a{time}:");

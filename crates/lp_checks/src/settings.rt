@@ -10,6 +10,7 @@
 //! | `h` | a carriage return at the end of a piece is no byte of its line |
 //! | `l` | fault lines name lines |
 //! | `f` | the number of the first item or line |
+//! | `b` | so many bytes a line may have |
 //! | `o` `g` | faults are told on one line, or for editors |
 //! | `j` `p` | faults are told as objects of JSON, without their pieces or with them |
 //! | `m` | so many faults are told at most |
@@ -22,71 +23,50 @@
 use influxdb_line_protocol::Dialect;
 use lp_relay::{Faults, LineForm, Numbering, Settings, Shard, StrictTypes};
 
-// The lines of the shard of this number, of those whose lines went out before.
-fn of_shard(lines: LineForm, number: usize) -> LineForm {
-    match lines {
-        LineForm::OfShard(shard) => LineForm::OfShard(Shard {
-            number: number as u64,
-            count: shard.count,
-        }),
-        other => other,
-    }
-}
-
-// How lines go out by a letter.
-fn lines_by(letter: u8, number: usize, lines: LineForm) -> LineForm {
-    match letter {
-        b'v' => LineForm::Verbatim,
-        b'c' => LineForm::Canonical,
-        b'y' => LineForm::Keyed,
-        b'd' => LineForm::OfShard(Shard {
-            number: 0,
-            count: number as u64,
-        }),
-        b'e' => of_shard(lines, number),
-        _ => lines,
-    }
-}
-
-// How faults are told by a letter.
-fn faults_by(letter: u8, first_line: usize, faults: Faults) -> Faults {
-    match letter {
-        b'o' => Faults::OneLine,
-        b'g' => Faults::Editor { first_line },
-        b'j' | b'p' => Faults::Json {
-            first_line,
-            has_piece: letter == b'p',
-        },
-        _ => faults,
-    }
-}
-
 // Takes a letter and its number.
 fn take(settings: &mut Settings<'static>, letter: u8, number: Option<usize>) {
-    settings.lines = lines_by(letter, number.unwrap_or(0), settings.lines);
-    settings.faults = faults_by(letter, number.unwrap_or(1), settings.faults);
+    let first = number.unwrap_or(1);
+    let count = number.unwrap_or(0) as u64;
     match letter {
         b's' => settings.dialect = Dialect::Strict,
         b'n' => settings.dialect = Dialect::NewlineDelimited,
+        b'v' => settings.lines = LineForm::Verbatim,
+        b'c' => settings.lines = LineForm::Canonical,
+        b'y' => settings.lines = LineForm::Keyed,
+        b'd' => settings.lines = LineForm::OfShard(Shard { number: 0, count }),
+        b'e' => {
+            if let LineForm::OfShard(shard) = &mut settings.lines {
+                shard.number = count;
+            }
+        }
         b'h' => settings.drops_returns = true,
         b'l' => settings.numbering = Numbering::Lines,
-        b'f' => settings.first = number.unwrap_or(1),
+        b'f' => settings.first = first,
+        b'b' => settings.limit = number.unwrap_or(usize::MAX),
+        b'o' => settings.faults = Faults::OneLine,
+        b'g' => settings.faults = Faults::Editor { first_line: first },
+        b'j' | b'p' => {
+            let has_piece = letter == b'p';
+            settings.faults = Faults::Json {
+                first_line: first,
+                has_piece,
+            };
+        }
         b'm' => settings.max_faults = number,
         b'r' => settings.puts_refused = true,
         b'k' => settings.counts_kinds = true,
         b't' => {
-            settings.types = Some(StrictTypes {
-                max_fields: number.unwrap_or(4),
-            });
+            let max_fields = number.unwrap_or(4);
+            settings.types = Some(StrictTypes { max_fields });
         }
         _ => {}
     }
 }
 
-/// The settings that these letters spell, with this limit. Other letters spell nothing.
-pub fn spelled(letters: &[u8], limit: usize) -> Settings<'static> {
+/// The settings that these letters spell. Other letters spell nothing.
+pub fn spelled(letters: &[u8]) -> Settings<'static> {
     let mut settings = Settings {
-        limit,
+        limit: usize::MAX,
         ..Settings::default()
     };
     let mut letter = b' ';
