@@ -1,5 +1,5 @@
 #!/usr/bin/env python3
-"""Writes the tables of figures.tsv, figures_avx512.tsv, callers.tsv, python.tsv and streams.tsv into README.md, each between its two marks.
+"""Writes the tables of figures.tsv, callers.tsv, python.tsv and streams.tsv into README.md, each between its two marks.
 bench/run.sh makes these files, and git keeps none. A table whose file is missing stays as it is.
 
     bench/table.py
@@ -12,7 +12,7 @@ from figures import CALLERS, CALLS, PYTHON, STREAMS, Figure, read
 
 BEGIN = "<!-- The table of {}, as table.py writes it. -->"
 END = "<!-- The end of the table. -->"
-TABLES = {"figures.tsv": CALLS, "figures_avx512.tsv": CALLS, "callers.tsv": CALLERS, "python.tsv": PYTHON, "streams.tsv": STREAMS}
+TABLES = {"figures.tsv": CALLS, "callers.tsv": CALLERS, "python.tsv": PYTHON, "streams.tsv": STREAMS}
 """The files, and the names of the calls in each."""
 
 
