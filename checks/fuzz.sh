@@ -47,6 +47,7 @@ done
     --extern "influxdb_line_protocol=$top/crates/influxdb_line_protocol/out/rlib/influxdb_line_protocol.rlib" \
     --extern "lp_rebuild=$top/crates/lp_rebuild/out/rlib/lp_rebuild.rlib" \
     --extern "lp_relay=$top/crates/lp_relay/out/rlib/lp_relay.rlib" \
+    --extern "lp_series=$top/crates/lp_series/out/rlib/lp_series.rlib" \
     "${libraries[@]}" \
     --antt-project "$kit/rattle/logic/antt-project.json" --logic-built "$kit/logic_built" --links lp_checks= \
     --incremental out/incremental --backend llvm --toolchain "$built/toolchain" -o "$built/liblp_checks.a") \
