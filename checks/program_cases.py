@@ -622,7 +622,9 @@ def progress(room):
              (1, b"line 2: " + told + end + meter(22, 0, 1) + CLEAR + b"line 3: the line is too long" + end + meter(22, 0, 2) + end))
         same("the lines", room.read("out"), b"")
     mark = b"lp_relay: the input begins with a byte order mark, which is part of its first line"
-    same("a byte order mark", on_terminal(room, "--check", [b"\xef\xbb\xbf" + LINE])[:2], (0, mark + end + meter(10, 0) + end))
+    status, told, _ = on_terminal(room, "--check", [b"\xef\xbb\xbf" + LINE])
+    told = re.sub(rb"\d+\.\d MB/s", b"0.0 MB/s", told)  # All is read at once, so any rate can come.
+    same("a byte order mark", (status, told), (0, mark + end + meter(10, 0) + end))
     line = b"m a=1i\r\n"
     same("both outputs", on_terminal(room, "", [LINE] * 2)[:2], (0, line + meter(14, 1) + CLEAR + line + meter(14, 2) + end))
     same("no lines", on_terminal(room, "--check", [LINE] * 2)[:2], (0, meter(14, 0) + meter(14, 0) + end))
