@@ -75,7 +75,8 @@ no_backslash kind b plain = λ e. cc (plain, escapable_backslash kind, ap (is_es
 pub no_space : (kind : NameKind) (b : ℕ) → is_escapable kind b ≡ false → b ≢ space
 no_space kind b plain = λ e. cc (plain, space_escapable kind, ap (is_escapable kind) e)
 
--- a spelling of a name: each byte that can be escaped is escaped, and a byte that no escape keeps comes after a single backslash
+-- a spelling of a name: each byte that can be escaped is escaped, a byte that no escape keeps comes after a single backslash, and any
+-- other byte is bare
 pub data SpelledAs (kind : NameKind) : List ℕ → List ℕ → Type 0 where
   done : SpelledAs kind [] []
   escape : (b : ℕ) (n s : List ℕ) → is_escapable kind b ≡ true → SpelledAs kind n s → SpelledAs kind (b ∷ n) (backslash ∷ b ∷ s)

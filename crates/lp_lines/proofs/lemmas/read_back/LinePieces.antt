@@ -20,7 +20,7 @@ use Rattle.lp_lines.proofs.lemmas.names.Spellings.{Leads, leads_by_none, leads_t
 use Rattle.lp_lines.proofs.lemmas.names.Spellings.{reaches_start, ChangesNothing, reaches_byte, reaches_pair, admitted_spelled}
 use Rattle.lp_lines.proofs.lemmas.names.Spellings.{measurement_begins, reaches_name, reaches_field_key, BeginsLine, line_no_comment}
 
--- whether a byte is none of those that matter in a plain stretch: a backslash, an equals sign, a comma, a newline or a quote
+-- whether a byte is simple: no backslash, equals sign, comma, newline or quote, which have a meaning in a plain stretch
 abbrev pub is_simple : ℕ → Bool
 is_simple b = not (is_one_of (backslash ∷ equals ∷ comma ∷ newline ∷ quote ∷ []) b)
 

@@ -225,7 +225,7 @@ by_key_in_order tags once rise =
     let placed = by_key_placed tags once in
     same_moved (in_order tags) (by_key tags) (passes_rise (in_order tags) (ap is_strictly_sorted (keys_in_order tags) ∙ rise)) placed.1 placed.0
 
--- the same tags in two orders are the same list by their keys
+-- tags in any order are one list by their keys
 pub by_key_same : (tags others : List (Pair Text Text)) → first_repeated (keys_of tags) ≡ length tags
     → first_repeated (keys_of others) ≡ length others
     → IsPermutation (in_order tags) (in_order others) → by_key tags ≡ by_key others
