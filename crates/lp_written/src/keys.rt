@@ -32,7 +32,7 @@ fn split_byte(text: &[u8]) -> Option<(u8, &[u8])>
     Some((*byte, rest))
 }
 
-// Returns true if a tag key is not less than the key before it. Both keys are given by the texts that the builder writes for
+// Tells whether a tag key is not less than the key before it. Both keys are given by the texts that the builder writes for
 // them.
 fn is_in_order(before: &[u8], key: &[u8]) -> bool
     ensures { (b k : List ℕ) → before.now ≡ spelling a_tag_key b → key.now ≡ spelling a_tag_key k
