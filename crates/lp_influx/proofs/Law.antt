@@ -28,7 +28,7 @@ not_among f k (x ∷ ks) h =
       | inr other ↦ rw other (not_among f k ks both.1)
     ]
 
--- so texts do not repeat if what is made of them does not
+-- Texts do not repeat if their images do not repeat.
 no_repeats : (f : List ℕ → List ℕ) (ks : List (List ℕ)) → has_repeats (map f ks) ≡ false → has_repeats ks ≡ false
 no_repeats f [] h = refl
 no_repeats f (k ∷ ks) h =
@@ -50,11 +50,11 @@ keys_of (x ∷ xs) (t ∷ ts) h =
 tag_escapes : (b : ℕ) → is_one_of (backslash ∷ []) b ≡ false → is_one_of (comma ∷ space ∷ equals ∷ []) b ≡ is_escapable a_tag_key b
 tag_escapes b none = grind (arith, common_steps, cases_Bool)
 
--- so are those of a field key, but for the quote too
+-- The escapes of a field key are those of the strict reader, except for the backslash and the quote.
 key_escapes : (b : ℕ) → is_one_of (backslash ∷ quote ∷ []) b ≡ false → is_one_of (comma ∷ quote ∷ space ∷ equals ∷ []) b ≡ is_escapable a_field_key b
 key_escapes b none = grind (arith, common_steps, cases_Bool)
 
--- and of a measurement, but for the equals sign too
+-- The escapes of a measurement are those of the strict reader, except for the backslash, the quote and the equals sign.
 measurement_escapes : (b : ℕ) → is_one_of (backslash ∷ quote ∷ equals ∷ []) b ≡ false
     → is_one_of (comma ∷ quote ∷ space ∷ equals ∷ []) b ≡ is_escapable a_measurement b
 measurement_escapes b none = grind (arith, common_steps, cases_Bool)
@@ -65,7 +65,7 @@ tag_texts [] all = refl
 tag_texts (t ∷ tags) all =
     rw ((all.0.0 (comma ∷ space ∷ equals ∷ []) tag_escapes).1, (all.0.1 (comma ∷ space ∷ equals ∷ []) tag_escapes).1, tag_texts tags all.1) refl
 
--- so do fields
+-- Fields whose keys mean the same have the same logical texts.
 field_texts : (xs : List FieldText) (fields : List (Pair Text (Value Text))) → AllByRecursion (MeansTheSame (backslash ∷ quote ∷ []) a_field_key) (map (λ f. f.key) xs)
     → map (logical a_field_key) (map (λ f. f.key) xs) ≡ map (λ f. f.key.bytes) fields → map (λ f. f.value) xs ≡ map (λ f. f.value) fields
     → map influx_logical (map read_of xs) ≡ map logical_field fields
@@ -79,7 +79,7 @@ field_texts (x ∷ xs) (f ∷ fields) all keys values =
     let other_values : map (λ g. g.value) xs ≡ map (λ g. g.value) fields = cc in
     rw ((all.0 (comma ∷ quote ∷ space ∷ equals ∷ []) key_escapes).1, key, val, field_texts xs fields all.1 other_keys other_values) refl
 
--- what is asked of a line that is portable to InfluxDB
+-- A line that is portable to InfluxDB meets the conditions on a line.
 plain_line : (limits : Limits) (text : List ℕ) (p : IsPortable influx1 limits text) → IsPlainLine (trimmed text) p.line p.names
 plain_line limits text p =
     let keeps = p.keeps in
@@ -119,7 +119,7 @@ point_alike limits text p fields e keys values =
     let texts = field_texts fields p.line.fields (rw keys same.keys) (ap (map (logical a_field_key)) keys ∙ spelt.keys) values in
     rw (repeats, hundreds, long, name, tags, texts) refl
 
--- what was read of a line is the answer for it
+-- The line that was read of a piece is the answer for the trimmed piece.
 line_answer : (text : List ℕ) (line : Line) → answers_of_piece Strict text ≡ Ok line ∷ [] → answer Strict (trimmed text) ≡ Ok line
 unfolding answers_of_piece
 line_answer text line e = elim (cases_Bool (length (trimmed text) == 0)) [
@@ -127,7 +127,7 @@ line_answer text line e = elim (cases_Bool (length (trimmed text) == 0)) [
   | inr some ↦ let same = rw some at e in cc
 ]
 
--- what is left of a text does not begin with a comment
+-- The text that is left after blanks does not begin with a comment.
 left_begins : (in_comment : Bool) (text : List ℕ) → begins_with hash (left_of in_comment text) ≡ false
 left_begins in_comment [] = refl
 left_begins in_comment (b ∷ rest) = grind (arith, cases_Bool, left_begins false rest, left_begins true rest)

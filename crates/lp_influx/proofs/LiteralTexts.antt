@@ -50,7 +50,7 @@ marked_plain : (text : List ℕ) → list_all is_plain text ≡ true → list_al
 marked_plain [] all = refl
 marked_plain (b ∷ text) all = let both = and_parts (is_plain b) (list_all is_plain text) all in rw (both.0, marked_plain text both.1) refl
 
--- what an integer is that was read
+-- Facts about an integer that was read.
 record IntegerParts (text : List ℕ) (v : Value Text) (rest : List ℕ) : Type 0 where
   some : 0 < integer_len text
   mark : slice_index text (integer_len text) ≡ letter_i
@@ -135,7 +135,7 @@ float_text text v rest e finite =
           }
     ]
 
--- what holds at each end of a literal
+-- A property holds at each end of a literal if it holds at the end of the text, at a comma and at a space.
 by_end : (P : List ℕ → Type 0) → P [] → ((rest : List ℕ) → P (comma ∷ rest)) → ((rest : List ℕ) → P (space ∷ rest))
     → (rest : List ℕ) → is_literal_end rest ≡ true → P rest
 by_end P none at_comma at_space [] e = none

@@ -72,7 +72,7 @@ none_of p q all [] h = refl
 none_of p q all (b ∷ bytes) h =
     rw (all b (All-head (λ c. p c ≡ false) b bytes h)) (none_of p q all bytes (All-tail (λ c. p c ≡ false) b bytes h))
 
--- what a name is that was read
+-- A name that was read is not empty and does not end in a backslash.
 name_is_some : (kind : NameKind) (text : List ℕ) (t : Text) (rest : List ℕ) → name kind text ≡ reads t rest
     → (0 < length (spelled kind text)) × (ends_in_backslash (spelled kind text) ≡ false)
 unfolding name
@@ -123,7 +123,7 @@ module _ {A : Type 0} (one : List ℕ → Reading A) (no_longer : (text : List �
       let two = bind_reads (byte comma text) (λ after. one after.rest) x rest e in
       omega (arith, no_longer two.mid x rest two.next, ap length (byte_parts comma text two.first two.mid two.was).1)
 
-  -- so they are no more than there are bytes
+  -- The parts after commas are no more than the bytes of their text.
   pub are_fewer : (xs : List A) (text rest : List ℕ) → AreAfterCommas one xs text rest → length xs ≤ length text
   are_fewer [] text rest are = omega arith
   are_fewer (x ∷ xs) text rest are = omega (arith, less_left text x are.0 are.1, are_fewer xs are.0 rest are.2)

@@ -6,19 +6,19 @@ use Rattle.lp_portable.specs.format.Spellings.{without_each}
 use Rattle.lp_influx.specs.format.InfluxFields.{influx_string, value_text}
 use Rattle.lp_influx.specs.format.InfluxNames.{tag_ends, until, value_front}
 
--- what is before an end is the front of the text
+-- The text before an ending byte is a front of the text.
 pub until_front : (ends : List ℕ) (escaped : Bool) (text : List ℕ) → take (length (until ends escaped text)) text ≡ until ends escaped text
 unfolding until
 until_front ends escaped [] = refl
 until_front ends escaped (b ∷ text) = grind (arith, common_steps, cases_Bool, until_front ends (b == backslash) text)
 
--- so is the value of a tag
+-- The value of a tag is a front of the text.
 pub value_is_front : (text : List ℕ) → take (length (value_front text)) text ≡ value_front text
 unfolding until
 value_is_front [] = refl
 value_is_front (b ∷ text) = grind (arith, common_steps, cases_Bool, until_front tag_ends false text, until_front tag_ends false (b ∷ text))
 
--- so is the text of a value
+-- The text of a value is a front of the text.
 pub value_text_is_front : (quoted escaped : Bool) (text : List ℕ) → take (length (value_text quoted escaped text)) text ≡ value_text quoted escaped text
 unfolding value_text
 value_text_is_front quoted escaped [] = refl
@@ -74,7 +74,7 @@ module _ {A : Type 0} where
   prepend_more xs ys (fatal e) = refl
   prepend_more xs ys (reads zs rest) = rw append_assoc refl
 
-  -- one and what comes after it
+  -- If one element is read, the list of elements is this element and the list that is read from the rest.
   many_more : (one : List ℕ → Reading A) (most : ℕ) (left rest : List ℕ) (x : A) → one left ≡ reads x rest
       → many one (suc most) left ≡ prepend (x ∷ []) (many one most rest)
   many_more one most left rest x e = rw e refl
@@ -92,7 +92,7 @@ module _ {A : Type 0} where
   pub walk_none : (one : List ℕ → Reading A) (text : List ℕ) → Walk one (many one (length text) text) [] text
   walk_none one text = record { most = length text; enough = omega arith; goes_on = sym (prepend_none _) }
 
-  -- one more
+  -- A walk over at most this number of elements goes on with one more element.
   walk_by : (one : List ℕ → Reading A) (whole : Reading (List A)) (xs : List A) (left rest : List ℕ) (x : A) (most : ℕ) → length left ≤ most
       → whole ≡ prepend xs (many one most left) → one left ≡ reads x rest → length rest < length left → Walk one whole (xs ++ x ∷ []) rest
   walk_by one whole xs left rest x zero enough goes_on e less = absurd (omega arith)
@@ -102,12 +102,12 @@ module _ {A : Type 0} where
     goes_on = goes_on ∙ ap (prepend xs) (many_more one most left rest x e) ∙ prepend_more xs (x ∷ []) (many one most rest);
   }
 
-  -- the same of a walk
+  -- A walk goes on with one more element.
   walk_step : (one : List ℕ → Reading A) (whole : Reading (List A)) (xs : List A) (left rest : List ℕ) (x : A) → Walk one whole xs left
       → one left ≡ reads x rest → length rest < length left → Walk one whole (xs ++ x ∷ []) rest
   walk_step one whole xs left rest x w e less = walk_by one whole xs left rest x w.most w.enough w.goes_on e less
 
-  -- one more, as code pushes it
+  -- A walk goes on with one more element, which the code pushes.
   pub walk_push : {X : Type 0} (view : X → A) (one : List ℕ → Reading A) (whole : Reading (List A)) (xs ys : List X) (left rest : List ℕ) (x : X)
       → Walk one whole (map view xs) left → one left ≡ reads (view x) rest → length rest < length left → ys ≡ xs ++ x ∷ []
       → Walk one whole (map view ys) rest

@@ -33,7 +33,7 @@ record KeyParts (text key after : List ℕ) (f : Pair Text (Value Text)) (rest :
   value_is : value mid ≡ reads f.value rest
   same : after ≡ rest
 
--- these parts
+-- A field and its spelled key, read from one text, have these parts.
 key_parts : (text key after : List ℕ) (f : Pair Text (Value Text)) (rest : List ℕ) → key_text text ≡ reads key after → field text ≡ reads f rest
     → KeyParts text key after f rest
 unfolding field
@@ -83,7 +83,7 @@ piece_of text key mid v rest k x escapes commas =
       is = record { some = k.some; pairs = pairs; bare_bytes = bare; last = k.last; is_value = in_quotes s.body s.is refl s.reads_it };
     }
 
--- what is asked of keys and fields
+-- The conditions on field keys and fields.
 pub record ArePlain (keys : List (List ℕ)) (fields : List (Pair Text (Value Text))) : Type 0 where
   pub escapes : list_any has_marked_escape keys ≡ false
   pub commas : list_any has_bare_comma keys ≡ false
@@ -121,7 +121,7 @@ first_piece text key after keys f fields rest e d plain =
       record { escapes = escapes.1; commas = commas.1; signed = signed.1; finite = finite.1 },
     )
   where
-    -- what is not false
+    -- A test whose negation is `false` is `true`.
     is_true : (b : Bool) → not b ≡ false → b ≡ true
     is_true true h = refl
     is_true false h = absurd (false≢true (sym h))

@@ -75,7 +75,7 @@ comment_left (b ∷ text) e h =
 blank_either : (b : ℕ) → is_one_of (space ∷ tab ∷ []) b ≡ true → (b == space || b == tab) ≡ true
 blank_either b h = grind (arith, common_steps, cases_Bool)
 
--- and is skipped
+-- A blank is one of the bytes that InfluxDB skips.
 blank_skipped : (b : ℕ) → is_one_of (space ∷ tab ∷ []) b ≡ true → is_one_of (space ∷ tab ∷ nul ∷ []) b ≡ true
 blank_skipped b h = grind (arith, common_steps, cases_Bool)
 
@@ -99,7 +99,7 @@ gap_left (b ∷ text) early comment other =
           rw (line.0, mark.0, plain, other_kept b plain here) refl
     ]
 
--- what is left of a piece that is not blank is what follows the gap
+-- If a piece is not blank, the text after its gap is the trimmed piece.
 pub start_alike : (text : List ℕ) → IsCutPiece Strict text → left_of false text ≢ [] → begins_with nul (left_of false text) ≡ false
     → without_gap text ≡ left_of false text
 start_alike text (inl comment) some other = absurd (some (comment_left text comment.0 comment.1))

@@ -79,7 +79,7 @@ last_piece Strict text line is on = elim is.piece [
 ]
 last_piece NewlineDelimited text line is on = on refl
 
--- and answered alike
+-- A piece that the strict rules answer with a line has the same answer in each dialect.
 same_answer : (dialect : Dialect) (text : List ℕ) (line : Line) → answers_of_piece Strict text ≡ Ok line ∷ []
     → answers_of_piece dialect text ≡ Ok line ∷ []
 unfolding answers_of_piece answer
@@ -87,7 +87,7 @@ same_answer Crate text line read = let crate = read_by_crate (trimmed text) line
 same_answer Strict text line read = read
 same_answer NewlineDelimited text line read = read
 
--- so each dialect has one answer
+-- A line that is one line in a dialect is the only answer for its text there.
 pub lines_are_answered_alike : LinesAreAnsweredAlike
 lines_are_answered_alike dialect text line is on = record {
   pieces = text ∷ [];

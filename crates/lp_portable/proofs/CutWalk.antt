@@ -23,7 +23,7 @@ bare_step region next e c f d b other goes =
 is_it : (b x : ℕ) → (b == x) ≡ true → b ≡ x
 is_it b x h = grind (arith, nat_tests)
 
--- and else it is not
+-- If the test of equality fails for two bytes, they are different.
 is_not_it : (b x : ℕ) → (b == x) ≡ false → b ≢ x
 is_not_it b x h = grind (arith, nat_tests)
 
@@ -124,7 +124,7 @@ abbrev Tracks : (front text : List ℕ) → Option Track → Type 0
 Tracks front text None = (at : ℕ) × (at < length text) × (get_or text at 0 ≡ newline) × IsCutPiece Strict (front ++ take at text)
 Tracks front text (Some to) = IsTrackOf Strict (front ++ text) to
 
--- so do they with a byte before them
+-- If a text leads on from a front and a byte to a track, the byte and the text lead on from the front to the same track.
 further : (front : List ℕ) (b : ℕ) (text : List ℕ) (to : Option Track) → Tracks (front ++ b ∷ []) text to → Tracks front (b ∷ text) to
 further front b text None h =
     (suc h.0, omega (arith, h.1), h.2, subst (IsCutPiece Strict) (append_assoc front (b ∷ []) (take h.0 text)) h.3)
@@ -151,7 +151,7 @@ newline_ends : (text : List ℕ) (t : Track) (next : Option Track) → Leads t n
 newline_ends text t None leads is = (λ yes. leads.1 Strict text is, λ cut. refl)
 newline_ends text t (Some to) leads is = (λ never. absurd (false≢true never), λ cut. absurd (goes_on Strict text t to is leads cut))
 
--- and so after all bytes
+-- After all bytes, the track says that a newline ends the text exactly if it does.
 ended_is : (text : List ℕ) (to : Option Track) → Tracks [] text to → (is_ended to ≡ true) ↔ IsCutPiece Strict text
 ended_is text None h = (λ never. absurd (false≢true never), λ cut. absurd (cut_within Strict text h.0 h.1 h.2 h.3 cut))
 ended_is text (Some t) h = newline_ends text t (track_after t newline) (track_leads t newline) h

@@ -5,7 +5,7 @@ use Rattle.lp_format.specs.format.{fatal, field, miss, reads, value, ◌otherwis
 use Rattle.lp_format.specs.format.{boolean_at, float_at, integer_at, string_at, unsigned_at}
 use Rattle.lp_values.proofs.lemmas.fields.ReadingLemmas.{EndsIn, EndsIn-drop, EndsIn-end, name_ends, pair_parts}
 
--- what a reading leaves is an end of the text
+-- A reading leaves an end of the text.
 pub record LeavesEnd {A : Type 0} (text : List ℕ) (r : Reading A) : Type 0 where
   pub holds : (x : A) (rest : List ℕ) → r ≡ reads x rest → EndsIn text rest
 
@@ -21,7 +21,7 @@ fault_left text f = record { holds = λ x rest e. absurd (cc) }
 end_left : {A : Type 0} (text : List ℕ) (x : A) (rest : List ℕ) → EndsIn text rest → LeavesEnd text (reads x rest)
 end_left text x rest h = record { holds = λ y after e. let same : rest ≡ after = cc in rw (sym same) h }
 
--- what follows a front is left
+-- A reading that takes a front of the text leaves an end of the text.
 drop_left : {A : Type 0} (text : List ℕ) (n : ℕ) (x : A) → LeavesEnd text (reads x (drop n text))
 drop_left text n x = end_left text x (drop n text) (EndsIn-drop n text (drop n text) refl)
 

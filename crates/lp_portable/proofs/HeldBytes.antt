@@ -66,7 +66,7 @@ without_both some others kind name known slash agree h k =
     let same = same_text some others known (escapable kind) name agree h k in
     (same, each_alone known name (not_one others backslash name slash k) ∙ same)
 
--- so it is by one
+-- If a name holds none of these bytes escaped, it means the same to each reader that may escape them.
 pub without_marks : (marks : List ℕ) (kind : NameKind) (name : List ℕ) → is_one_of marks backslash ≡ true → holds marks [] name ≡ false
     → MeansTheSame marks kind name
 without_marks marks kind name slash h known agree = without_both marks marks kind name known slash (λ b none _. agree b none) h h
@@ -93,7 +93,7 @@ one_mark marks (b ∷ c ∷ rest) h = elim (cases_Bool (b == backslash)) [
       (later.0, later.1, rw plain later.2)
 ]
 
--- one more byte that may be escaped leaves a text as long, or shorter if it is escaped there
+-- If one more byte may be escaped, the text without escapes is no longer than before, and shorter if this byte is escaped in the text.
 shorter : (c : ℕ) (xs ys text : List ℕ) → ((b : ℕ) → (b == c) ≡ false → is_one_of xs b ≡ is_one_of ys b)
     → is_one_of xs c ≡ true → is_one_of ys c ≡ false
     → (length (without_escapes xs text) ≤ length (without_escapes ys text))
@@ -117,7 +117,7 @@ abbrev without : ℕ → List ℕ → List ℕ
 without c [] = []
 without c (b ∷ bytes) = if b == c then without c bytes else b ∷ without c bytes
 
--- it is none of these
+-- A list of bytes without a byte does not have this byte.
 without_it : (c : ℕ) (bytes : List ℕ) → is_one_of (without c bytes) c ≡ false
 without_it c [] = refl
 without_it c (b ∷ bytes) = elim (cases_Bool (b == c)) [
@@ -125,7 +125,7 @@ without_it c (b ∷ bytes) = elim (cases_Bool (b == c)) [
   | inr other ↦ rw (other, other) (without_it c bytes)
 ]
 
--- and each other byte is, if it was
+-- A list of bytes without a byte has each other byte that it had.
 without_other : (c : ℕ) (bytes : List ℕ) (b : ℕ) → (b == c) ≡ false → is_one_of (without c bytes) b ≡ is_one_of bytes b
 without_other c [] b h = refl
 without_other c (d ∷ bytes) b h = elim (cases_Bool (d == c)) [
@@ -161,7 +161,7 @@ with_mark marks kind name same held =
           omega (arith, longer, ap length (same more (λ b absent. agree b (not_it marks b c absent mark))).0)
     ]
 
--- so a name means the same exactly if it holds none of them escaped
+-- A name means the same to readers with other escapes exactly if it holds none of their bytes escaped.
 pub escaped_bytes_are_held : EscapedBytesAreHeld
 escaped_bytes_are_held marks kind name slash = (
   λ same. elim (cases_Bool (holds marks [] name)) [

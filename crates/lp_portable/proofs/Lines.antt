@@ -37,12 +37,12 @@ pub fault_is_no_line : (text : List ℕ) (fault : Fault) (line : Line) → answe
 unfolding answers_of_piece
 fault_is_no_line text fault line e h = let a = h.read in absurd (grind arith)
 
--- what is left of a piece is read as the answer of the piece
+-- The answer for the trimmed text of a piece is the answer for the piece.
 pub line_is_read : (text : List ℕ) (line : Line) → 0 < length (trimmed text) → answer Strict (trimmed text) ≡ Ok line → answers_of_piece Strict text ≡ Ok line ∷ []
 unfolding answers_of_piece
 line_is_read text line some e = grind arith
 
--- one newline after a track ends the piece or not
+-- One newline after a track ends the piece exactly if the track says so.
 pub ends_by : (dialect : Dialect) (text : List ℕ) (track : Track) (result : Result ℕ Track) → IsTrackOf dialect text track
     → TracksOn (newline ∷ []) track result → IsTrue (is_ok result) ↔ IsCutPiece dialect text
 ends_by dialect text track (Ok zero) is h = (λ ok. subst (IsCutPiece dialect) (append-nil text) (h.2 dialect text is), λ cut. refl)

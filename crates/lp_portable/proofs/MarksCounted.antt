@@ -57,7 +57,7 @@ one_of_each true false other = omega arith
 one_of_each false true other = omega arith
 one_of_each false false other = omega arith
 
--- so are those of a text
+-- The special bytes and the joints of a text together are no more than its marks.
 pub kinds_held : (text : List ℕ) → held is_special text + held is_joint text ≤ held is_mark text
 kinds_held [] = omega arith
 kinds_held (b ∷ text) = omega (
@@ -69,12 +69,12 @@ kinds_held (b ∷ text) = omega (
   kinds_held text,
 )
 
--- what parts weigh together
+-- The sum of the weights of the parts of a list.
 abbrev total : {A : Type 0} → (A → ℕ) → List A → ℕ
 total weight [] = 0
 total weight (x ∷ xs) = weight x + total weight xs
 
--- they weigh as much as the least of each
+-- If each part weighs at least 2, a list weighs at least twice the number of its parts.
 least : {A : Type 0} (weight : A → ℕ) → ((x : A) → 2 ≤ weight x) → (xs : List A) → 2 * length xs ≤ total weight xs
 least weight each [] = omega arith
 least weight each (x ∷ xs) = omega (arith, each x, least weight each xs)
@@ -159,11 +159,11 @@ module _ (w : List ℕ → ℕ) (add : (xs ys : List ℕ) → w (xs ++ ys) ≡ w
     joined_weigh [] text rest are = omega (arith, ap w are)
     joined_weigh (x ∷ xs) text rest are = omega (arith, weighs text x are.0 are.1, after_weigh xs are.0 rest are.2)
 
-  -- what a tag weighs with the comma before it
+  -- The weight of a tag with the comma before it.
   abbrev tag_weight : Pair (List ℕ) (List ℕ) → ℕ
   tag_weight t = w (comma ∷ []) + (w t.key + (w (equals ∷ []) + w t.value))
 
-  -- and the key of a field
+  -- The weight of the key of a field, with the comma before it and the equals sign after it.
   abbrev key_weight : List ℕ → ℕ
   key_weight k = w (comma ∷ []) + (w k + w (equals ∷ []))
 
@@ -184,7 +184,7 @@ module _ (w : List ℕ → ℕ) (add : (xs ys : List ℕ) → w (xs ++ ys) ≡ w
 abbrev pub AreBareTags : List (Pair (List ℕ) (List ℕ)) → Type 0
 AreBareTags tags = AllByRecursion (λ t. (is_one_of t.key comma ≡ false) × (is_one_of t.value equals ≡ false)) tags
 
--- what each of a list is, each of it is by another word
+-- If each element with a property has another property, all elements of a list with the first property have the second.
 each_is : {A : Type 0} (P Q : A → Type 0) → ((x : A) → P x → Q x) → (xs : List A) → AllByRecursion P xs → AllByRecursion Q xs
 each_is P Q so [] all = tt
 each_is P Q so (x ∷ xs) all = (so x all.0, each_is P Q so xs all.1)
@@ -223,7 +223,7 @@ held_nowhere test passes so (x ∷ text) none zero low high is =
 held_nowhere test passes so (x ∷ text) none (suc k) low high is =
     held_nowhere test passes so text (first_fails (test x) (held test text) (sym (held_cons test x text) ∙ none)).1 k (omega arith) (omega (arith, high)) is
 
--- what may end a piece, or open what goes on, means something else than a joint
+-- A byte that may end a piece, or open a part that goes on, is special: it is no joint.
 pub cuts_special : (b : ℕ) → is_byte3 backslash newline quote b ≡ true → is_special b ≡ true
 cuts_special b is = elim (cases_Bool (b == backslash)) [
   | inl here ↦ rw (eqb-true b backslash here) refl

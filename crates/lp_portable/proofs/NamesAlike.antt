@@ -23,7 +23,7 @@ tags_alike (t ∷ tags) h =
     let names = neither _ _ both.0 in
     ((without_marks _ a_tag_key t.key refl names.0, without_marks _ a_tag_value t.value refl names.1), tags_alike tags both.1)
 
--- and field keys do
+-- Field keys without escaped backslashes and quotes mean the same to readers with other escapes.
 keys_alike : (keys : List (List ℕ)) → list_any has_marked_escape keys ≡ false
     → AllByRecursion (MeansTheSame (backslash ∷ quote ∷ []) a_field_key) keys
 keys_alike [] h = tt
@@ -55,7 +55,7 @@ influx_names_mean_the_same limits text p =
     let keeps = p.keeps in
     names_alike p.names (keeps portable.measurement_equals refl) (keeps portable.measurement_escape refl) (keeps portable.tag_escape refl) (keeps portable.field_key_escape refl)
 
--- what is portable to all is so to each
+-- A line that is portable to all servers is portable to each of them.
 pub portable_lines_are_read_alike : PortableLinesAreReadAlike
 portable_lines_are_read_alike limits text p =
     let keeps = p.keeps in (

@@ -22,7 +22,7 @@ module _ {A : Type 0} (one : List ℕ → Reading A) where
       let others = after_once xs ys k.0 r s (rw same.1 at h.2) k.2 (omega (arith, n)) in
       (rw (same.0, others.0) refl, others.1)
 
-  -- and so are parts that commas join
+  -- Two lists of parts, of the same length and with commas between the parts, that are read from one text are the same.
   by_once : (xs ys : List A) (text r s : List ℕ) → AreJoined one xs text r → AreJoined one ys text s
       → length xs ≡ length ys → (xs ≡ ys) × (r ≡ s)
   by_once [] [] text r s h k n = (refl, sym h ∙ k)
@@ -42,7 +42,7 @@ spelled_once text line a b h k =
     (h.all_keys ∙ sym k.all_keys) in
     rw (first.0, tags.0, keys.0) refl
 
--- one line is read of a text
+-- A text is read as at most one line.
 line_once : (text : List ℕ) (a b : Line) → IsOneLine text a → IsOneLine text b → a ≡ b
 line_once text a b h k = let same = sym h.read ∙ k.read in cc
 
@@ -111,7 +111,7 @@ kept_at to broken none c n within at =
       | inr not ↦ not
     ]
 
--- and if none is broken that concerns the servers, none is the first
+-- If no broken clause concerns the servers, there is no first broken clause.
 none_first : (to : Servers) (broken : Broken) → ((c : Clause) → is_broken_for to broken c ≡ false) → first_broken to broken ≡ None
 unfolding first_broken
 none_first to broken none = each CLAUSES.now
@@ -140,14 +140,14 @@ portable_is to limits text broken h = (forth, back)
           subst (λ (d : format.Clause). breaks (limits_of limits) text h.line h.names d ≡ false) is (sym (h.tells c) ∙ and_second asked kept);
     }
 
-    -- and if each is kept, none is the first
+    -- If a line keeps each clause that concerns the servers, there is no first broken clause.
     back : IsPortable (servers_of to) (limits_of limits) text → first_broken to broken ≡ None
     back p =
         let line = line_once text h.line p.line h.is_line p.is_line in
         let names = spelled_once (trimmed text) p.line h.names p.names (rw line at h.are_names) p.are_names in
         none_first to broken (λ c. and_false (λ concerned. h.tells c ∙ rw (line, names) (p.keeps (clause_of c) concerned)))
 
--- what is none is `None`
+-- An option is `None` exactly if the test for `None` holds.
 pub none_is : {A : Type 0} (o : Option A) (none : Bool) → is_some o ≡ not none → (IsTrue none → o ≡ None) × (o ≡ None → IsTrue none)
 none_is None true is = (λ yes. refl, λ same. refl)
 none_is None false is = absurd (false≢true is)

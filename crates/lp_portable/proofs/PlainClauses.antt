@@ -47,7 +47,7 @@ pub record PlainText (text : List ℕ) : Type 0 where
   pub no_hash : Lacks hash text
   pub short : length text ≤ 8000
 
--- so are both parts of it
+-- Both parts of a plain text are plain.
 pub plain_parts : (xs ys : List ℕ) → PlainText (xs ++ ys) → PlainText xs × PlainText ys
 plain_parts xs ys h =
     let a = lacks_parts backslash xs ys h.no_backslash in
@@ -60,7 +60,7 @@ plain_parts xs ys h =
       record { no_backslash = a.1; no_quote = b.1; no_nul = c.1; no_return = d.1; no_hash = e.1; short = omega (arith, n, h.short) },
     )
 
--- what is spelled without a backslash is its own logical text
+-- A text without a backslash is its own logical text.
 own_logical : (known text : List ℕ) → Lacks backslash text → without_escapes known text ≡ text
 unfolding without_escapes
 own_logical known [] h = refl
@@ -69,13 +69,13 @@ own_logical known (b ∷ c ∷ rest) h =
     let parts = or_none (b == backslash) _ h in
     rw parts.0 (ap (λ (xs : List ℕ). b ∷ xs) (own_logical known (c ∷ rest) parts.1))
 
--- and holds nothing escaped
+-- A text without a backslash holds some bytes exactly if it holds them bare: it holds nothing escaped.
 holds_bare : (escaped marks text : List ℕ) → Lacks backslash text → holds escaped marks text ≡ list_any (is_one_of marks) text
 unfolding holds
 holds_bare escaped marks [] h = refl
 holds_bare escaped marks (b ∷ []) h = sym (or_false (is_one_of marks b))
   where
-    -- or false
+    -- A test or `false` is the test.
     or_false : (x : Bool) → (x || false) ≡ x
     or_false true = refl
     or_false false = refl
@@ -88,7 +88,7 @@ none_of_none : (text : List ℕ) → list_any (is_one_of []) text ≡ false
 none_of_none [] = refl
 none_of_none (b ∷ text) = none_of_none text
 
--- one byte alone is looked for
+-- A text that lacks a byte holds no byte of the list of this byte alone.
 one_alone : (m : ℕ) (text : List ℕ) → Lacks m text → list_any (is_one_of (m ∷ [])) text ≡ false
 one_alone m [] h = refl
 one_alone m (b ∷ text) h =
@@ -114,20 +114,20 @@ any_none : {X : Type 0} (p : X → Bool) (P : X → Type 0) → ((x : X) → P x
 any_none p P fails [] all = refl
 any_none p P fails (x ∷ xs) all = rw (fails x all.0) (any_none p P fails xs all.1)
 
--- what a sure key is not
+-- A sure key begins with no underscore and is not `time`.
 key_parts : (k : List ℕ) → is_sure_key k ≡ true → (begins_own k ≡ false) × (bytes_eq k (codes "time") ≡ false)
 key_parts k h =
     let one = and_parts (not (begins_own k)) _ h in
     (not-true _ one.0, not-true _ one.1)
 
--- what the key of a sure tag is not
+-- The key of a sure tag is not too long, begins with no underscore and is not `time`.
 tag_parts : (k : List ℕ) → is_sure_tag k ≡ true → (nat_lt 256 (length k) ≡ false) × (begins_own k ≡ false) × (bytes_eq k (codes "time") ≡ false)
 tag_parts k h =
     let one = and_parts (not (nat_lt 256 (length k))) _ h in
     let two = key_parts k one.1 in
     (not-true _ one.0, two.0, two.1)
 
--- what a sure value is not
+-- A sure value is no unsigned integer, is not rounded and is finite.
 value_parts : (v : Value Text) → is_sure_value v ≡ true → (is_unsigned v ≡ false) × (is_rounded v ≡ false) × (is_finite v ≡ true)
 value_parts v h =
     let one = and_parts (not (is_unsigned v)) _ h in
@@ -167,7 +167,7 @@ few_hundreds n few = rw (
   ne_eqb 12800 n (λ e. omega (arith, e, few)),
 ) refl
 
--- what the names of a plain line are, by their spelling
+-- The logical texts of plain names of tags are these names.
 tags_same : (names : List (Pair (List ℕ) (List ℕ))) → AllByRecursion (λ t. PlainText t.key × PlainText t.value) names → map logical_names names ≡ names
 tags_same [] all = refl
 tags_same (t ∷ names) all = rw (
@@ -176,7 +176,7 @@ tags_same (t ∷ names) all = rw (
   tags_same names all.1,
 ) refl
 
--- and its field keys
+-- The logical texts of plain field keys are these keys.
 keys_same : (keys : List (List ℕ)) → AllByRecursion PlainText keys → map (logical a_field_key) keys ≡ keys
 keys_same [] all = refl
 keys_same (k ∷ keys) all = rw (own_logical _ k all.0.no_backslash, keys_same keys all.1) refl
@@ -242,7 +242,7 @@ no_nul (f ∷ fields) all = first f.key.bytes all.0.key.no_nul
     first [] h = refl
     first (b ∷ key) h = (or_none (b == nul) _ h).0
 
--- what is known of a line that is noted to its end, of a plain text
+-- Facts about a plain text whose line is noted to its end.
 pub record PlainLine (text : List ℕ) (line : Line) (names : Spelling) : Type 0 where
   pub begins : is_one_of (space ∷ tab ∷ []) (slice_index_or text 0 0) ≡ false
   pub ends : (slice_index text (length text - 1) == space) ≡ false

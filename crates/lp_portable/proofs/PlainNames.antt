@@ -8,7 +8,7 @@ use Rattle.lp_portable.specs.format.Spellings.{AreAfterCommas, AreJoined, IsSpel
 use Rattle.lp_portable.proofs.FieldEnds.{value_left}
 
 module _ (P : List ℕ → Type 0) (parts : (xs ys : List ℕ) → P (xs ++ ys) → P xs × P ys) where
-  -- so it is of what a text ends in
+  -- An end of a text has a property that each part of such a text has.
   at_end : (text rest : List ℕ) → EndsIn text rest → P text → P rest
   at_end text rest e h = (parts e.front rest (subst P e.is h)).1
 
@@ -58,7 +58,7 @@ module _ (P : List ℕ → Type 0) (parts : (xs ys : List ℕ) → P (xs ++ ys) 
         let others = after_have xs are.0 rest are.2 here.1 in
         ((here.0, others.0), others.1)
 
-    -- and of parts that commas join
+    -- Parts with commas between them have the second property if the text has the first.
     joined_have : (xs : List A) (text rest : List ℕ) → AreJoined one xs text rest → P text → AllByRecursion Q xs
     joined_have [] text rest are h = tt
     joined_have (x ∷ xs) text rest are h =

@@ -11,13 +11,13 @@ use Rattle.lp_portable.specs.format.Spellings.{AreAfterCommas, name_text}
 use Rattle.lp_portable.specs.format.Portable.{has_bare_comma, has_comma, has_escape, has_marked_escape, has_sign, is_long_after}
 use Rattle.lp_portable.specs.code.Walks.{either_key, either_tag, key_breaks, keys_breaks, tag_breaks, tags_breaks}
 
--- what comes before the end of a text
+-- The front of a text before an end is the part of the text that the end leaves.
 front_is : (xs ys text : List ℕ) → xs ++ ys ≡ text → take (length text - length ys) text ≡ xs
 front_is xs ys text whole =
     let n : length text - length ys ≡ length xs = omega (arith, ap length whole, length-append xs ys) in
     rw (n, ← whole) (take-append_seam xs ys)
 
--- what comes before the end that follows a name is the name as it is spelled
+-- The front of a text before the rest that follows a name is the name as it is spelled.
 pub cut_name : (kind : NameKind) (text rest : List ℕ) (t : Text) → name kind text ≡ reads t rest
     → name_text kind text ≡ reads (take (length text - length rest) text) rest
 cut_name kind text rest t e =
@@ -42,7 +42,7 @@ module _ {A : Type 0} (one : List ℕ → Reading A) where
   some_next [] text rest h some = absurd (omega arith)
   some_next (y ∷ ys) text rest h some = (y, h.0, h.1)
 
--- what tags break after others is what the next of them breaks too
+-- The clauses that tags break are the clauses that the first tag breaks and the clauses that the others break.
 pub tags_step : (found : TagBreaks) (t : Pair (List ℕ) (List ℕ)) (tags : List (Pair (List ℕ) (List ℕ)))
     → either_tag found (tags_breaks (t ∷ tags)) ≡ either_tag (either_tag found (tag_breaks t)) (tags_breaks tags)
 tags_step found t tags = rw (
@@ -51,7 +51,7 @@ tags_step found t tags = rw (
   or_assoc found.sign (has_sign t) (list_any has_sign tags),
 ) refl
 
--- and so it is with keys
+-- The clauses that field keys break are the clauses that the first key breaks and the clauses that the others break.
 pub keys_step : (series_len : ℕ) (found : KeyBreaks) (key : List ℕ) (keys : List (List ℕ))
     → either_key found (keys_breaks series_len (key ∷ keys)) ≡ either_key (either_key found (key_breaks series_len key)) (keys_breaks series_len keys)
 keys_step series_len found key keys = rw (

@@ -47,7 +47,7 @@ key_is text x f rest end e d =
     (sym here.1, ap (logical a_field_key) (sym here.0) ∙ sym (ap (λ (u : Text). u.bytes) key))
 
 module _ {A B C : Type 0} (f : A → C) (g : B → C) (one : List ℕ → Reading A) (other : List ℕ → Reading B) (are : AreOne f g one other) where
-  -- so are as many that come after commas
+  -- As many spelled parts as parts that were read, each after a comma, leave the same rest and have the same logical texts.
   one_after : (xs : List A) (ys : List B) (text rest end : List ℕ) → AreAfterCommas one xs text rest → SeparatedAfterComma other ys text end
       → length xs ≡ length ys → (rest ≡ end) × (map f xs ≡ map g ys)
   one_after [] [] text rest end h k len = (sym h ∙ k, refl)
@@ -58,7 +58,7 @@ module _ {A B C : Type 0} (f : A → C) (g : B → C) (one : List ℕ → Readin
       let others = one_after xs ys h.0 rest end h.2 (rw here.0 k.4) (omega (arith, len)) in
       (others.0, rw (here.1, others.1) refl)
 
-  -- and as many that commas join
+  -- As many spelled parts as parts that were read, with commas between them, have the same logical texts.
   one_by : (xs : List A) (ys : List B) (text rest end : List ℕ) → AreJoined one xs text rest → SeparatedBy other ys text end
       → length xs ≡ length ys → map f xs ≡ map g ys
   one_by [] [] text rest end h k len = refl
@@ -73,7 +73,7 @@ module _ {A B C : Type 0} (f : A → C) (g : B → C) (one : List ℕ → Readin
 pub lines_are_spelled : LinesAreSpelled
 lines_are_spelled text line e = let spelled = line_spelled text line e in (spelled.0, spelled.1)
 
--- what was read are its logical texts
+-- The names that were read are the logical texts of the spelling.
 pub spellings_are_read : SpellingsAreRead
 spellings_are_read text line names e h =
     let p = answer_parts Strict text line e in

@@ -19,7 +19,7 @@ module _ {A : Type 0} (one : List ℕ → Reading A) where
       ap (λ (r : Reading A). and_those_after r (after_commas one (length xs))) h.1
       ∙ ap (λ (p : List A × List ℕ). (x ∷ p.0, p.1)) (after_is xs h.0 rest h.2)
 
-  -- and so are parts between commas
+  -- Parts with commas between them are the parts that the function reads.
   between_is : (xs : List A) (text rest : List ℕ) → AreJoined one xs text rest → between_commas one (length xs) text ≡ xs
   between_is [] text rest h = refl
   between_is (x ∷ xs) text rest h =

@@ -19,7 +19,7 @@ pub write_more : (a b c : Option (List ℕ)) (all rest : List ℕ) (n k : ℕ) �
 write_more a b c all rest n k left before written =
     subst (Appends a c) (ap (λ l. take n all ++ take k l) left ∙ sym (take-add n k all)) (Appends-trans a b c _ _ before written)
 
--- what is left after the next k bytes
+-- The text that is left after n bytes, without its next k bytes, is the text that is left after n + k bytes.
 pub rest_more : (all rest : List ℕ) (n k : ℕ) → rest ≡ drop n all → drop k rest ≡ drop (n + k) all
 rest_more all rest n k left = ap (drop k) left ∙ drop-drop k n all
 
@@ -28,7 +28,7 @@ pub none_left : (all rest : List ℕ) (n : ℕ) → rest ≡ drop n all → rest
 none_left all rest n left none =
     sym (append-nil (take n all)) ∙ ap (λ l. take n all ++ l) (sym none ∙ left) ∙ take-append-drop n all
 
--- what was read into a part of a buffer comes after its front
+-- The bytes that were read into a part of a buffer stand after the front of the buffer.
 pub read_in_place : {E : Type 0} (a b : Option (List ℕ)) (r : Result ℕ E) (front part rest : List ℕ) (at : ℕ)
     → length front ≡ at → IfOk r (λ n. n ≤ length part)
     → ReadConsumes a b r part → IfOk r (λ n. Consumes a b (take n (drop at (front ++ (part ++ rest)))))

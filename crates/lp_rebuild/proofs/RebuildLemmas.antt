@@ -41,7 +41,7 @@ carried_answer old new answer took faults carried refused =
       refused = rw carries refused;
     }
 
--- and one that is refused
+-- An answer that is refused was taken.
 pub refused_answer : (old mid new : Progress) (refusal : LineRefusal) (answer : Result Line Fault)
     → TakesLine old.batch.items (Some refusal) answer mid.batch.items → mid.faults ≡ old.faults → mid.carried ≡ old.carried
     → mid.refused ≡ old.refused → Refuses mid (line_refusal_text refusal) new → Takes old answer new
@@ -65,7 +65,7 @@ pub refused_cons : (answer : Result Line Fault) (answers : List (Result Line Fau
 refused_cons answer answers = omega
     (arith, sum_by-append (λ (a : Result Line Fault). cond (not (is_carried_answer a)) 1 0) (answer ∷ []) answers)
 
--- one of two
+-- Exactly one of a test and its negation counts one.
 pub one_of_two : (b : Bool) → cond b 1 0 + cond (not b) 1 0 ≡ 1
 one_of_two true = refl
 one_of_two false = refl
@@ -115,17 +115,17 @@ pub record Took (answers : List (Result Line Fault)) (so_far : Progress) : Type 
   pub carried : so_far.carried ≡ carried_of answers
   pub refused : so_far.refused ≡ refused_of answers
 
--- one is added if the test holds
+-- A count of the answers that pass a test grows by one if the test holds for the answer.
 pub add_where : (b : Bool) (m n : ℕ) → m ≡ n → cond b (m + 1) m ≡ n + cond b 1 0
 add_where true m n e = omega arith
 add_where false m n e = omega arith
 
--- one is added if the test does not hold
+-- A count of the answers that fail a test grows by one if the test does not hold for the answer.
 pub add_elsewhere : (b : Bool) (m n : ℕ) → m ≡ n → cond b m (m + 1) ≡ n + cond (not b) 1 0
 add_elsewhere true m n e = omega arith
 add_elsewhere false m n e = omega arith
 
--- one answer more was taken, whose fault line names its number
+-- If one more answer was taken, its fault line names its number, and the list of taken answers has this answer at its end.
 pub Took-more : (answers : List (Result Line Fault)) (answer : Result Line Fault) (old new : Progress)
     → Took answers old → Takes old answer new → Took (answers ++ answer ∷ []) new
 Took-more answers answer old new h t =

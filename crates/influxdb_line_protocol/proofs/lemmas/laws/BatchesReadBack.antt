@@ -42,7 +42,7 @@ admitted_names Crate p h = h
 admitted_names Strict p h = h
 admitted_names NewlineDelimited p h = (and_parts (is_admitted_point p) _ h).0
 
--- its line
+-- The line of a point that is admitted in a dialect is one line in this dialect.
 admitted_line : (dialect : Dialect) (p : Point) → IsAdmittedIn dialect p → IsOneLineIn dialect (line_of p)
 admitted_line dialect p h e = admitted_on p (subst (λ d. IsAdmittedIn d p) e h)
 
@@ -135,7 +135,7 @@ fields_line_fails m ts (g ∷ fs) more named tagged f =
       ) refl,
     )) (and_more more f.2))
 
--- what is made of an element is among what is made of all
+-- If a list contains an element, the list of the images of its elements contains the image of this element.
 made_element : {X Y : Type 0} (make : X → Y) (xs : List X) (x : X) → Contains xs x → Contains (map make xs) (make x)
 made_element make xs x h = grind (arith, length-map, get_or-map)
 
@@ -197,7 +197,7 @@ items_have_readable_names dialect text items p h here =
       λ e. subst (λ q. HasNoNewline (line_of q)) found.2 (answered_on text h.0 found.0 (subst (λ d. HasAnswers d text h.0) e h.1) found.1),
     )
 
--- such a point that is not admitted has a name that is not
+-- A point that has readable names and is not admitted in a dialect has a name that is not admitted.
 bad_name : (dialect : Dialect) (p : Point) → IsPoint p → IsReadableIn dialect p → is_admitted_in dialect p ≡ false → is_admitted_point p ≡ false
 bad_name Crate p is h bad = bad
 bad_name Strict p is h bad = bad

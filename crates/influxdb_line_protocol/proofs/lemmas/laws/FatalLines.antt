@@ -35,18 +35,18 @@ pub record StopsEarly (Reached AtStop : List ℕ → Type 0) (text : List ℕ) :
   pub reached : Reached front
   pub fails : (rest : List ℕ) → StopsWith stop rest → AtStop (front ++ rest)
 
--- so does a text that goes on after it
+-- If reading a text stops early, it also stops early in each longer text that begins with this text.
 pub and_more : {R A : List ℕ → Type 0} {text : List ℕ} (more : List ℕ) → StopsEarly R A text → StopsEarly R A (text ++ more)
 and_more more f = grind (arith, append_assoc)
 
 module _ {R A S B : List ℕ → Type 0} {text : List ℕ} where
-  -- and a text with a front and a byte before it
+  -- If reading a text stops early, it also stops early in the text with a front and a byte before it.
   pub and_before : (before : List ℕ) (b : ℕ) → ((front : List ℕ) → R front → S (before ++ b ∷ front))
       → ((front rest : List ℕ) → R front → A (front ++ rest) → B (before ++ b ∷ (front ++ rest)))
       → StopsEarly R A text → StopsEarly S B (before ++ b ∷ text)
   and_before before b reached fails f = grind (arith, append_assoc)
 
-  -- what holds of its front and of the texts at its stop, said in another way
+  -- Stopping early may be stated by other properties that follow from the properties of the front and of the texts at the stop.
   pub stops_as : ((front : List ℕ) → R front → S front) → ((front rest : List ℕ) → R front → A (front ++ rest) → B (front ++ rest))
       → StopsEarly R A text → StopsEarly S B text
   stops_as reached fails f = grind arith
@@ -61,7 +61,7 @@ piece_fails : (dialect : Dialect) (line : List ℕ) (f : Fails line) (rest : Lis
 unfolding answers_of_piece
 piece_fails dialect line f rest stops = grind (arith, line_trimmed, line_some)
 
--- such a front is a piece of its own
+-- The front at which reading a line fails is a piece of its own.
 front_is_piece : (dialect : Dialect) (line : List ℕ) (f : Fails line) → IsOneLineIn dialect line → IsLastPiece dialect f.front
 front_is_piece Crate line f whole = inl f.reached
 front_is_piece Strict line f whole = inr (line_no_comment f.front (subst BeginsLine (append-nil f.front) (f.fails [] tt).0), inl f.reached)
@@ -160,7 +160,7 @@ unfolding answer
 measurement_fails n more h f = and_more more (stops_as (λ front r. inl (reaches_head r.spelled [] reaches_start).1.0)
     (λ front rest r e. (spelled_begins r.spelled r.some (λ i. h.begins (sym r.first ∙ i)) rest, λ dialect. rw e refl)) f)
 
--- what is fatal for all that are joined by commas, the first of which this is or which come after others
+-- Reading a list with commas between its elements is fatal: either the first element is fatal, or an element after a comma is.
 pub record ManyFail {A : Type 0} (one : List ℕ → Reading A) (text : List ℕ) : Type 0 where
   pub at_first : separated_list one text ≡ fatal ends_with_backslash
   pub at_later : (n : ℕ) → length text < n → many (after_comma one) n (comma ∷ text) ≡ fatal ends_with_backslash
@@ -170,7 +170,7 @@ module _ {A : Type 0} (one : List ℕ → Reading A) where
   pub first_of_many : (text : List ℕ) → one text ≡ fatal ends_with_backslash → ManyFail one text
   first_of_many text e = grind arith
 
-  -- one is read, and then one is fatal
+  -- If an element is read, and the elements after the comma fail, the whole list fails.
   pub later_of_many : (front more : List ℕ) (x : A) → one (front ++ comma ∷ more) ≡ reads x (comma ∷ more)
       → ManyFail one more → ManyFail one (front ++ comma ∷ more)
   later_of_many front more x e h = grind (arith, length-append)
@@ -196,7 +196,7 @@ elements_fail test text all next stops reached fails (e ∷ es) known bad = elim
   | inr refused ↦ (text e ++ all es, next e es, and_more (all es) (stops e (known e (first_element e es)) refused))
 ]
 
--- what leaves a text in its head
+-- A front that leaves the scan of a text in the head of the line.
 abbrev ReachesHead : List ℕ → Type 0
 ReachesHead front = Leads (Reaches Head 0 0) (Reaches Head 0 0) front
 

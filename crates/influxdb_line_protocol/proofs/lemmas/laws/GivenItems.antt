@@ -19,7 +19,8 @@ blank_lines [] h = refl
 blank_lines (p ∷ pieces) h =
     rw (eq-eqb (length (trimmed p)) 0 (h 0 p (omega arith))) (blank_lines pieces (All-tail IsBlankPiece p pieces h))
 
--- what is left of blank pieces, one that is not blank, and others
+-- The trimmed texts of blank pieces, a piece that is not blank, and other pieces are the trimmed text of that piece and the trimmed texts
+-- of the others.
 lines_from : (skipped : List (List ℕ)) (piece : List ℕ) (front : List (List ℕ)) → All IsBlankPiece skipped → 0 < length (trimmed piece)
     → trimmed_lines (skipped ++ piece ∷ front) ≡ trimmed piece ∷ trimmed_lines front
 lines_from skipped piece front blank some = grind (arith, flat_map-append, blank_lines, ne_eqb)
@@ -44,7 +45,7 @@ given_items (item ∷ items) before left others steps h =
 pub items_so_far : ItemsSoFar
 items_so_far dialect text items left others steps h = given_items items (record { dialect = dialect; text = Some text }) left others steps h
 
--- and up to the last one
+-- Up to the last call of `next`, the items are the items of the trimmed pieces.
 pub items_are_of_pieces : ItemsAreOfPieces
 items_are_of_pieces dialect text pieces items h drained = grind (arith, items_so_far, same_pieces, flat_map-append, blank_lines, append-nil)
 
@@ -61,7 +62,7 @@ items_answer dialect [] items h = grind arith
 items_answer dialect (line ∷ lines) [] h = absurd h
 items_answer dialect (line ∷ lines) (item ∷ items) h = (h.0.answers, items_answer dialect lines items h.1)
 
--- so the items of a text are its answers
+-- The items of a text are its answers, or `OutOfMemory` in the place of an answer.
 pub items_are_answers : ItemsAreAnswers
 items_are_answers dialect text answers items has drained = grind (arith, items_are_of_pieces, answers_of_lines, items_answer)
 
@@ -77,6 +78,6 @@ pub so_far : EventsSoFar
 so_far start reader [] others same left = subst (λ r. HasEventsLeft r others) (sym same) left
 so_far start reader (event ∷ came) others (next, given, more) left = grind (arith, so_far next reader came others more left)
 
--- so all come before `None`
+-- All events that were left at the start come before `None`.
 pub all_come : AllEventsCome
 all_come start came (end, (reader, more, none)) = rw append-nil at (so_far start reader came [] more none.0)

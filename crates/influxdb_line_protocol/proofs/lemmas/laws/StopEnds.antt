@@ -61,12 +61,12 @@ taken_end Crate (f ∷ []) (b ∷ last) = elim (cases_Bool (b == comma)) [
   | inr other ↦ rw other (EndsIn-self (b ∷ last))
 ]
 
--- what is left after a timestamp
+-- After a timestamp is read, the text that is left is the text itself or the text after spaces and an integer.
 time_rest : (text : List ℕ) (t : Option ℤ) (rest : List ℕ) → timestamp text ≡ Ok (record { value = t; rest = rest })
     → (rest ≡ text) ⊎ (rest ≡ after_spaces (drop (integer_len (after_spaces text)) (after_spaces text)))
 time_rest text t rest e = grind (arith, cases_Bool)
 
--- it ends the text
+-- After a timestamp is read, an end of the text is left.
 time_end : (text : List ℕ) (t : Option ℤ) (rest : List ℕ) → timestamp text ≡ Ok (record { value = t; rest = rest }) → EndsIn text rest
 time_end text t rest e = elim (time_rest text t rest e) [
   | inl same ↦ rw same (EndsIn-self text)
@@ -115,7 +115,7 @@ module _ (dialect : Dialect) where
       (λ b place at.
       cond_ends _ rest _ _ (EndsIn-end rest place _ (byte_ends comma rest b place at) (pair_ends a_tag_key _ _ place)) (EndsIn-self rest))
 
--- what is left is an end
+-- The text that is left where reading stops is an end of the text.
 pub stops_are_in_text : StopsAreInText
 stops_are_in_text dialect text =
     let end : EndsIn text (reading_stop dialect text).1 =
@@ -125,5 +125,5 @@ stops_are_in_text dialect text =
     (EndsIn-end start tags.rest _ (most_ends (after_comma tag) (after_comma_ends tag tag_ends) (length start) start) (series_end dialect tags))) in
     (end.front, end.is)
 
--- what is left at a stop
+-- The laws about the text that is left where reading stops.
 pub ruleset stop_laws = (stops_are_by_rows, stops_are_in_text, lines_are_read_whole)

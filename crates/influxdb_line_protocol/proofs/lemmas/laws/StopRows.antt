@@ -21,11 +21,11 @@ use Rattle.lp_events.proofs.lemmas.fields.ManyLemmas.{comma_cases}
 use Rattle.influxdb_line_protocol.specs.laws.StopLaws.{IsPartAfter, IsPartAtComma, IsStopByRow, IsStopInField, IsStopInNext, IsStopInPair, IsStopInPair.at_key}
 use Rattle.influxdb_line_protocol.specs.laws.StopLaws.{IsStopInPair.at_sign, IsStopInPair.at_value, IsStopInTag, LinesAreReadWhole, StopsAreByRows}
 
--- this byte is not at the start of a text that does not begin with it
+-- A text that does not begin with a byte does not read as this byte.
 no_byte : (b : ℕ) (text : List ℕ) → ¬ BeginsWith b text → byte b text ≡ miss
 no_byte b text none = grind (arith, cases_Bool, eqb-true)
 
--- one of two holds, if the second does
+-- A test or `true` is `true`.
 or_true : (test : Bool) → (test || true) ≡ true
 or_true true = refl
 or_true false = refl
@@ -41,7 +41,7 @@ late_part : (b : Bool) (stop : Place) (rest : List ℕ) → (cond b stop (stop.0
 late_part true stop rest = refl
 late_part false stop rest = refl
 
--- what is read after a comma comes after one
+-- An element that is read after a comma comes after a comma in the text.
 comma_there : {A : Type 0} {one : List ℕ → Reading A} (text : List ℕ) (x : A) (after : List ℕ) → after_comma one text ≡ reads x after
     → (place : List ℕ) × (text ≡ comma ∷ place) × (one place ≡ reads x after)
 comma_there text x after e = grind (arith, comma_cases, byte_parts)
@@ -83,7 +83,7 @@ module _ {A : Type 0} (one : List ℕ → Reading A)
       let others = most_is n xs h.1 rest h.4 none (omega (arith, room, shorter, ap length h.2)) in
       rw (h.2, h.3, others) refl
 
-  -- one more that reads comes after others
+  -- An element that reads after a comma extends the list of elements that were read.
   one_more : (xs : List A) (text rest after : List ℕ) (y : A) → SeparatedAfterComma one xs text rest → after_comma one rest ≡ reads y after
       → SeparatedAfterComma one (xs ++ y ∷ []) text after
   one_more [] text rest after y h e = let sign = comma_there rest y after e in (sign.0, after, h ∙ sign.1, sign.2, refl)
@@ -106,7 +106,7 @@ module _ {A : Type 0} (one : List ℕ → Reading A)
       → is_fatal (one place) ≡ false
   whole_fine x xs text rest place h is = not_fatal (one place) (λ e bad. h.no_fault e (place, is, bad))
 
--- what is left after a tag is no longer
+-- After a tag is read, the text that is left is no longer than the text before.
 tag_longer : (text : List ℕ) (t : Pair Text Text) (rest : List ℕ) → tag text ≡ reads t rest → length rest ≤ length text
 tag_longer text t rest e = (tag_no_longer text).holds t rest e
 
@@ -119,12 +119,12 @@ space_part : (part : LinePart) (rest : List ℕ) → BeginsWith space rest → (
 space_part part [] gap = absurd gap
 space_part part (c ∷ rest) gap = rw gap (grind arith)
 
--- and without one it is in this part
+-- If no space is left, reading stops in the part that was being read.
 bare_part : (part : LinePart) (rest : List ℕ) → ¬ BeginsWith space rest → (end_stop part rest).0 ≡ part
 bare_part part [] none = refl
 bare_part part (c ∷ rest) none = grind (arith, cases_Bool, eqb-true)
 
--- so the part after fields is this
+-- The part in which reading stops after the fields, from the part without a comma and the part at a comma.
 part_after : (fields : ℕ) (last rest : List ℕ) (part : LinePart) → (¬ BeginsWith comma last → part ≡ FieldValue fields)
     → IsPartAtComma IsStopInField (fields + 1) last part → IsPartAfter fields last rest (end_stop part rest).0
 part_after fields last rest part is at = (space_part part rest, λ bare. rw (bare_part part rest bare) (is, at))
@@ -275,12 +275,12 @@ lines_are_read_whole dialect text line is =
     let row = (answer_is_by_rows dialect text (Ok line)).0 is in
     line_left line row refl (reading_stop dialect text) (row_stops dialect text row)
 
--- of this line reading stops at its last comma, in the key of the second tag
+-- Reading `m,t=x,u a=1i` stops at its last comma, in the key of its second tag.
 a_comma_is_left : reading_stop Crate (codes "m,t=x,u a=1i") ≡ (TagKey 2, codes ",u a=1i")
 unfolding tag name without_escapes is_escaped_after escaped first_bare
 a_comma_is_left = refl
 
--- and of this one after the comma of its first field, in the value of the second field
+-- Reading `m a=1i,b=x` stops after the comma of its first field, in the value of its second field.
 a_comma_is_taken : reading_stop Crate (codes "m a=1i,b=x") ≡ (FieldValue 2, codes "b=x")
 unfolding field name without_escapes is_escaped_after escaped first_bare value integer_at unsigned_at float_at string_at boolean_at
 a_comma_is_taken = refl

@@ -27,7 +27,7 @@ escaped_same bytes (b ∷ text) none =
     let rest : escaped bytes text ≡ text = escaped_same bytes text (λ k h. none (suc k) (omega arith)) in
     rw (none 0 (omega arith)) (ap (λ (xs : List ℕ). b ∷ xs) rest)
 
--- the first byte that gets one divides it
+-- The first byte that gets a backslash divides a text with its backslashes into the text before it, the backslash, and the rest.
 escaped_at : (bytes text : List ℕ) (at : ℕ)
     → at < length text → is_one_of bytes (get_or text at 0) ≡ true
     → ((k : ℕ) → k < at → is_one_of bytes (get_or text k 0) ≡ false)
@@ -43,7 +43,7 @@ escaped_at bytes (b ∷ text) (suc at) within here before =
 rest_of : (text : List ℕ) (n : ℕ) → take (length text - n) (drop n text) ≡ drop n text
 rest_of text n = take_all (length text - n) (drop n text) (omega (arith, length-drop n text))
 
--- the same, as the code finds the byte and slices after it
+-- The first byte that gets a backslash divides the text, as the code finds this byte and slices the text after it.
 pub escaped_first : (bytes text marks : List ℕ) (at : ℕ)
     → ((b : ℕ) → is_one_of marks b ≡ is_one_of bytes b) → IsRunAt (λ b. not (is_one_of marks b)) text 0 at → at < length text
     → escaped bytes text

@@ -6,7 +6,7 @@ use Rattle.lp_lines.specs.{declared.parsed.ParsedLine.ParsedLine, code.Parsed.pa
 use Rattle.lp_format.specs.format.{comma, space, built, line_of}
 use Rattle.lp_build.specs.code.WrittenAgain.{fields_text, line_text}
 
--- what comes before the first field is one byte, whichever it is
+-- The length of the fields does not depend on the byte before the first field.
 pub length_fields_after : (fields : List (EscapedStr × FieldValue))
     → length (fields_text space fields) ≡ length (fields_text comma fields)
 length_fields_after [] = refl

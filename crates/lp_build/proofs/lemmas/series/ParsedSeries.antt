@@ -98,16 +98,16 @@ many_read (suc n) (t ∷ tags) text h room =
     let room : length h.1 ≤ n = omega (arith, ap length h.2, (tag_no_longer h.0).holds t h.1 h.3) in
     rw (h.2, h.3, many_read n tags h.1 h.4 room) refl
 
--- these tags, and no set if there are none
+-- The set of these tags, and `None` if there are none.
 abbrev set_of : List (Pair Text Text) → Option (List (Pair Text Text))
 set_of [] = None
 set_of (t ∷ tags) = Some (t ∷ tags)
 
--- they are its tags
+-- The tags of the set are these tags.
 set_tags : (tags : List (Pair Text Text)) → some_tags (set_of tags) ≡ tags
 set_tags tags = grind (arith)
 
--- they are read as a set
+-- A text of these tags, each after a comma, is read as the set of these tags.
 set_read : (tags : List (Pair Text Text)) (text : List ℕ) → SeparatedAfterComma tag tags text []
     → tag_set text ≡ Ok (record { value = set_of tags; rest = [] })
 set_read tags text h = grind (arith, many_read)

@@ -88,7 +88,7 @@ key_of_tag text key_end k only t rest is whole =
     let same = ap (λ (r : List ℕ). spelling a_tag_key t.key ++ r) (sym after) ∙ w.written ∙ sym k.written in
     (one_name a_tag_key t.key k.thing (append_cancel_right (spelling a_tag_key t.key) (spelling a_tag_key k.thing) key_end same), sym after)
 
--- what follows the sign of a tag is its value
+-- After the equals sign of a tag, the text is the value of the tag.
 value_after : (value key_end rest : List ℕ) (t : Tag) → key_end ≡ equals ∷ value → IsTag t
     → key_end ≡ equals ∷ (spelling a_tag_value t.value ++ rest) → (w : IsWrittenName a_tag_value value rest) × (w.thing ≡ t.value)
 value_after value key_end rest t sign is whole =
@@ -125,7 +125,7 @@ tag_is text key_end value rest k only sign v last = (
       ((λ i. record { key = key.0 i; value = values i }), same),
 )
 
--- what follows tags and ends a series ends a name before them
+-- A text of tags and an end of the series ends a name that stands before it.
 tags_end : (kind : NameKind) → is_stop kind comma ≡ true → is_stop kind space ≡ true → (ts : List Tag) (rest : List ℕ) → EndsSeries rest
     → EndsName kind (flat_map built_tag ts ++ rest)
 unfolding written_len
@@ -173,13 +173,13 @@ no_tag before left tag begins none rest w ends =
     let f = first_of before left tag rest begins w ends in
     none f.first _ f.is f.whole (tags_end a_tag_value refl refl f.more rest ends) f.not_less
 
--- what is told of the tags after the first is told of them with it
+-- The answer for the tags after the first tag is the answer for all tags.
 pub tag_more : (before left tag after : List ℕ) (t : Tag) → left ≡ comma ∷ tag → IsTag t → tag_text t ++ after ≡ tag → IsNotLess before t.key
     → ((u : Tag) (rest : List ℕ) → IsTag u → tag_text u ++ rest ≡ tag → EndsName a_tag_value rest → (u ≡ t) × (rest ≡ after))
     → (told : Option (Bor (List ℕ))) → IsOnlyRest (AreTagsAfter t.key after) EndsSeries told → IsOnlyRest (AreTagsAfter before left) EndsSeries told
 tag_more before left tag after t begins is whole not_less only told = go told
   where
-    -- the same rest is left of the others
+    -- The rest after all tags is the rest after the tags that follow the first tag.
     others : (rest : List ℕ) → AreTagsAfter before left rest → EndsSeries rest → AreTagsAfter t.key after rest
     others rest w ends =
         let f = first_of before left tag rest begins w ends in
@@ -267,7 +267,7 @@ key_of_parts text tags rest n f = (
   },
 )
 
--- what is lent is the key before the rest
+-- The lent text is the key before the rest.
 pub lent_key : (text key rest lent : List ℕ) → key ++ rest ≡ text → IsAdmittedKey key → EndsSeries rest
     → lent ≡ take (length text - length rest) text → IsAdmittedKey lent × ((rest : List ℕ) × (lent ++ rest ≡ text) × EndsSeries rest)
 lent_key text key rest lent whole k ends is =
