@@ -51,7 +51,7 @@ no_name missed = no_measurement missed
 pub it_stops_at_the_measurement : (missed : name a_measurement (codes ",t=x f=1i") ≡ miss) → IsStopByRow (no_name missed) (Measurement, codes ",t=x f=1i")
 it_stops_at_the_measurement missed = refl
 
--- It does not stop after the comma.
+-- Reading `,t=x f=1i` does not stop after the comma.
 pub it_does_not_stop_later : (missed : name a_measurement (codes ",t=x f=1i") ≡ miss) → ¬ IsStopByRow (no_name missed) (Measurement, codes "t=x f=1i")
 it_does_not_stop_later missed h = omega (arith, ap (λ p. length p.1) h)
 
@@ -82,7 +82,7 @@ last_is : (skipped : List (List ℕ)) (piece only : List ℕ) → skipped ++ pie
 last_is [] piece only h = cc
 last_is (s ∷ more) piece only h = absurd (omega (arith, ap length h, length-append more (piece ∷ [])))
 
--- It never gives `OutOfMemory` for `m f=1i`, which is light.
+-- A call never gives `OutOfMemory` for `m f=1i`, because this line is light.
 pub a_light_line_has_memory : ¬ GivesItem (record { dialect = Strict; text = Some (codes "m f=1i") })
     (Some (Err error.OutOfMemory)) (record { dialect = Strict; text = None })
 unfolding on_texts is_light_in tags_in fields_in

@@ -57,7 +57,7 @@ pub a_line_is_as_written : IsAsWritten (codes "m f=1i")
 unfolding on_texts
 a_line_is_as_written = record { point = one; is_point = a_field_makes_a_point; admitted = refl; written = refl }
 
--- It does not write `m f=01i`: that line is read, and written again as `m f=1i`.
+-- The builder does not write `m f=01i`: the line is read, and written again as `m f=1i`.
 pub a_zero_is_not_as_written : ¬ IsAsWritten (codes "m f=01i")
 unfolding on_texts
 a_zero_is_not_as_written h =
@@ -72,12 +72,12 @@ pub fields_end : EndsItsFields (codes "m f=1i") one_line
 unfolding on_texts
 fields_end = strict_fields_end (codes "m f=1i") one_line refl
 
--- what is left after a reading
+-- The text that a reading leaves.
 abbrev after : {A : Type 0} → Reading A → List ℕ
 after (reads x rest) = rest
 after other = []
 
--- what is left after a set of tags
+-- The text that a reading of a set of tags leaves.
 abbrev after_set : {A : Type 0} → Result (Read A) Fault → List ℕ
 after_set (Ok r) = r.rest
 after_set (Err e) = []

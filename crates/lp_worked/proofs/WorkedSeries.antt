@@ -83,7 +83,7 @@ a_key_is_admitted = record { measurement = codes "m"; tags = tag_of "a" "x\\y" â
 abbrev read_x : Pair Text Text
 read_x = record { key = part "a"; value = record { bytes = codes "x\\y"; is_single = false } }
 
--- It does not write `m,a=x\y`, which reads as the same series.
+-- The text `m,a=x\y` is not the key of a series, although it reads as a series.
 pub a_spelling_is_no_key : Â¬ IsAdmittedKey (codes "m,a=x\\y")
 unfolding on_texts series_key
 a_spelling_is_no_key h =

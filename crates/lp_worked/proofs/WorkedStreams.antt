@@ -26,7 +26,7 @@ an_open_quote_gives_none h =
     let same : codes "m f=\"a" ∷ more.0 ≡ codes "m f=\"a\nb\"" ∷ [] = same_pieces Strict refl is one_piece in
     absurd (cc)
 
--- what a stream by the strict rules holds
+-- A stream of the strict dialect that holds these bytes.
 abbrev pub holding : List ℕ → Held
 holding bytes = record { dialect = Strict; bytes = bytes; capacity = 64; given = 0 }
 
@@ -35,7 +35,7 @@ pub a_piece_is_taken : TakesPiece (holding (codes "m f=1i\nm f")) (codes "m f=1i
 unfolding on_texts
 a_piece_is_taken = record { dialect = refl; bytes = refl; is_cut = m_is_cut (integer (pos 1)) refl }
 
--- It does not take `m f="a`.
+-- A stream that holds `m f="a⏎b` does not take the piece `m f="a`.
 pub an_open_quote_is_not_taken : ¬ TakesPiece (holding (codes "m f=\"a\nb")) (codes "m f=\"a") (holding (codes "b"))
 an_open_quote_is_not_taken h = an_open_quote_is_not_cut h.is_cut
 
