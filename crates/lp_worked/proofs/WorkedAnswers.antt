@@ -64,7 +64,7 @@ pub a_row_answers : IsAnswer Strict (codes ",t=x f=1i") (Err measurement_value_i
 unfolding on_texts
 a_row_answers = no_measurement refl
 
--- No other row does.
+-- No other row of the table of answers holds for `,t=x f=1i`.
 pub no_other_row : ¬ IsAnswer Strict (codes ",t=x f=1i") (Err field_set_missing)
 unfolding on_texts
 no_other_row h = let is = (answer_is_by_rows Strict (codes ",t=x f=1i") (Err field_set_missing)).1 h in absurd (cc)

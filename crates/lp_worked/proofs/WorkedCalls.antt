@@ -113,7 +113,7 @@ no_text_is_cut = (refl, one_is_last)
 pub a_text_is_cut : ¬ GivesCutText {E = ℕ} (holding (codes "m f=1i\nm f=2i")) None (holding (codes "m f=1i\nm f=2i"))
 a_text_is_cut h = two_lines_are_not_last h.1
 
--- At its end a stream gives all that it holds.
+-- At the end of the input, a stream that holds `m f=1i` gives this text.
 pub the_last_is_given : GivesLast (holding (codes "m f=1i")) (codes "m f=1i") (holding [])
 the_last_is_given = (refl, (refl, refl))
 

@@ -47,7 +47,7 @@ pub the_next_field_has_a_fault : NextHasFault field (record { key = part "f"; va
 unfolding on_texts
 the_next_field_has_a_fault = (_, refl, refl)
 
--- After a space no further field is read, so none has a fault.
+-- After a space no further field is read, so no further field has a fault.
 pub no_next_field_has_one : ¬ NextHasFault field (record { key = part "f"; value = integer (pos 1) } ∷ []) (codes " g=9223372036854775808i")
     (integer_value_invalid above (codes "9223372036854775808"))
 no_next_field_has_one h = absurd (cc (h.1))

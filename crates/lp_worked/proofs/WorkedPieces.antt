@@ -25,7 +25,7 @@ a_line_is_one is = a_line_has_no_newline
 pub two_lines_are_not_one : ¬ IsOneLineIn NewlineDelimited (codes "m f=\"a\nb\"")
 two_lines_are_not_one h = a_string_has_a_newline (h refl)
 
--- By the strict rules it is.
+-- The two lines of `m f="a⏎b"` are one line by the strict rules.
 pub two_lines_are_one_strictly : IsOneLineIn Strict (codes "m f=\"a\nb\"")
 two_lines_are_one_strictly never = cc
 

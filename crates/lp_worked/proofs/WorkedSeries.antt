@@ -51,7 +51,7 @@ tags_in_any_order = record { measurement_is = refl; tags_are = IsPermutation-mid
 pub another_measurement : ¬ IsSameSeries (part "m") (part "mm") (read_tag "a" "1" ∷ []) (read_tag "a" "1" ∷ [])
 another_measurement h = omega (arith, ap length h.measurement_is)
 
--- By their keys, `m,a=1,b=2` and `m,b=2,a=1` are one series.
+-- The series `m,a=1,b=2` and `m,b=2,a=1` are the same series by their keys.
 pub one_key_in_any_order : IsSameByKeys (codes "m") (codes "m") (tag_of "a" "1" ∷ tag_of "b" "2" ∷ []) (tag_of "b" "2" ∷ tag_of "a" "1" ∷ [])
 unfolding on_texts series_key
 one_key_in_any_order = (keys_tell_series (codes "m") (codes "m") _ _).0 refl

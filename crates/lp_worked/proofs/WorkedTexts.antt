@@ -31,7 +31,7 @@ read_tag key text = record { key = part key; value = part text }
 abbrev pub point_of_m : Value (List ℕ) → Point
 point_of_m v = record { measurement = codes "m"; tags = []; fields = record { key = codes "f"; value = v } ∷ []; timestamp = None }
 
--- the line that is read for it
+-- The line that is read from the text of the point `m` with this value.
 abbrev pub line_of_m : Value Text → Line
 line_of_m v = record { series = codes "m"; measurement = part "m"; tags = None; fields = record { key = part "f"; value = v } ∷ []; timestamp = None }
 
