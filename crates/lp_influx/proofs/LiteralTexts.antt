@@ -32,7 +32,7 @@ pub record LiteralFront (text : List ℕ) (v : Value Text) (rest : List ℕ) : T
   pub whole : text ≡ front ++ rest
   pub is : LiteralText front v
 
--- the end of a literal, as those of floats are told
+-- The end of a literal is an end as the lemmas about floats have it.
 ends_float : (rest : List ℕ) → is_literal_end rest ≡ true → Ends rest
 ends_float [] e = refl
 ends_float (b ∷ rest) e = grind (arith, cases_Bool)
@@ -151,7 +151,7 @@ by_end P none at_comma at_space (b ∷ rest) e = elim (cases_Bool (comma == b)) 
 abbrev pub ReadsWord : Bool → List ℕ → Type 0
 ReadsWord b word = LiteralText word (boolean b)
 
--- a word that is read before each end is such a text
+-- A word that is read before each end of a literal is the text of a boolean.
 word : (b : Bool) (text : List ℕ) → 0 < length text → list_all is_plain text ≡ true → literal (text ++ []) ≡ reads (boolean b) []
     → ((rest : List ℕ) → literal (text ++ comma ∷ rest) ≡ reads (boolean b) (comma ∷ rest))
     → ((rest : List ℕ) → literal (text ++ space ∷ rest) ≡ reads (boolean b) (space ∷ rest)) → ReadsWord b text

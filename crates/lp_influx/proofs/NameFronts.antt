@@ -66,7 +66,7 @@ pub record NameFront (kind : NameKind) (text front rest : List ℕ) : Type 0 whe
   pub bare_bytes : (marks : List ℕ) → is_one_of marks backslash ≡ false → ((b : ℕ) → is_stop kind b ≡ false → is_one_of marks b ≡ false)
       → holds [] marks front ≡ false
 
--- none of the bytes of a list is such
+-- No byte of a list passes a test, if each of its bytes fails a wider test.
 none_of : (p q : ℕ → Bool) → ((b : ℕ) → p b ≡ false → q b ≡ false) → (bytes : List ℕ) → All (λ b. p b ≡ false) bytes → list_any q bytes ≡ false
 none_of p q all [] h = refl
 none_of p q all (b ∷ bytes) h =
@@ -78,7 +78,7 @@ name_is_some : (kind : NameKind) (text : List ℕ) (t : Text) (rest : List ℕ) 
 unfolding name
 name_is_some kind text t rest e = grind (arith, cases_Bool, eqb-false, logical_ends)
 
--- a name that was read is such a front
+-- A name that was read is the front of the text before the rest, with these facts.
 pub name_front : (kind : NameKind) (text front rest : List ℕ) → name_text kind text ≡ reads front rest → NameFront kind text front rest
 name_front kind text front rest e =
     let two = bind_reads (name kind text) (λ n. reads (spelled kind text) n.rest) front rest e in
@@ -104,7 +104,7 @@ pub name_rest : (kind : NameKind) (text front mid : List ℕ) (t : Text) (rest :
     → mid ≡ rest
 name_rest kind text front mid t rest e d = sym (reads_parts (spelled kind text) front rest mid (rw d at e)).1
 
--- some bytes are read that are at the start
+-- A front of the text that is not empty is read.
 pub some_reads : (front rest : List ℕ) → 0 < length front → some_of front (front ++ rest) ≡ reads front rest
 some_reads front rest some = rw (ne_eqb (length front) 0 (λ e. absurd (omega (arith, e))), drop-append_seam front rest) refl
 

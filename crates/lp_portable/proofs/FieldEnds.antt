@@ -33,7 +33,7 @@ either text b r s h k = grind arith
 one_of_two : {A : Type 0} (text : List ℕ) (r s : Reading A) → LeavesEnd text r → LeavesEnd text s → LeavesEnd text (r otherwise s)
 one_of_two text r s h k = grind arith
 
--- after a quote
+-- A text without its first bytes, after a quote, is an end of the text with the quote.
 after_quote : (b : ℕ) (after : List ℕ) (n : ℕ) → EndsIn (b ∷ after) (drop n after)
 after_quote b after n =
     EndsIn-end (b ∷ after) after (drop n after) (record { front = b ∷ []; is = refl }) (EndsIn-drop n after (drop n after) refl)

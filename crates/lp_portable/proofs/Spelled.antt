@@ -28,7 +28,7 @@ cut_name kind text rest t e =
 pub ruleset name_steps = (cut_name)
 
 module _ {A : Type 0} (one : List ℕ → Reading A) where
-  -- of parts that come after commas the first is the one that is read
+  -- The first of the parts after commas is the part that is read.
   pub next_after : (xs : List A) (text rest after : List ℕ) (x : A) → AreAfterCommas one xs text rest → 0 < length xs
       → after_comma one text ≡ reads x after → (more : List A) × (xs ≡ x ∷ more) × AreAfterCommas one more after rest
   next_after [] text rest after x h some e = absurd (omega arith)

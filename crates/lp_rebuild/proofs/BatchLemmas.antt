@@ -74,7 +74,7 @@ points_are are dialect (piece ∷ pieces) =
           (answer_is_point are dialect (trimmed piece) a refl) others)
     ]
 
--- the point of each line that is carried is admitted, if such a point is admitted in the dialect
+-- The point of each carried line is admitted in a dialect, if each admitted point of these lines is admitted there.
 lines_admitted : (dialect : Dialect) (items : List (Result Line Fault))
     → ((line : Line) → Contains items (Ok line) → is_admitted_point (point_of line) ≡ true → is_admitted_in dialect (point_of line) ≡ true)
     → list_all (is_admitted_in dialect) (flat_map carried_point items) ≡ true

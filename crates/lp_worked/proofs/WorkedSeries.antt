@@ -51,7 +51,7 @@ tags_in_any_order = record { measurement_is = refl; tags_are = IsPermutation-mid
 pub another_measurement : ¬ IsSameSeries (part "m") (part "mm") (read_tag "a" "1" ∷ []) (read_tag "a" "1" ∷ [])
 another_measurement h = omega (arith, ap length h.measurement_is)
 
--- By their keys, `m,a=1,b=2` and `m,b=2,a=1` are one series.
+-- The series `m,a=1,b=2` and `m,b=2,a=1` are the same series by their keys.
 pub one_key_in_any_order : IsSameByKeys (codes "m") (codes "m") (tag_of "a" "1" ∷ tag_of "b" "2" ∷ []) (tag_of "b" "2" ∷ tag_of "a" "1" ∷ [])
 unfolding on_texts series_key
 one_key_in_any_order = (keys_tell_series (codes "m") (codes "m") _ _).0 refl
@@ -83,7 +83,7 @@ a_key_is_admitted = record { measurement = codes "m"; tags = tag_of "a" "x\\y" �
 abbrev read_x : Pair Text Text
 read_x = record { key = part "a"; value = record { bytes = codes "x\\y"; is_single = false } }
 
--- It does not write `m,a=x\y`, which reads as the same series.
+-- The text `m,a=x\y` is not the key of a series, although it reads as a series.
 pub a_spelling_is_no_key : ¬ IsAdmittedKey (codes "m,a=x\\y")
 unfolding on_texts series_key
 a_spelling_is_no_key h =

@@ -95,7 +95,7 @@ module _ {A : Type 0} (Q : A → Type 0) where
   none_given : GivesOn Q miss
   none_given = record { holds = λ x rest e. absurd (cc) }
 
-  -- nor does a fault
+  -- A reading that gives a fault gives no value, so each value that it gives is on one line.
   fault_given : (f : Fault) → GivesOn Q (fatal f)
   fault_given f = record { holds = λ x rest e. absurd (cc) }
 
@@ -252,7 +252,7 @@ stamp_on : (t : Option ℤ) → IfSome t (λ z. fits_i64 z ≡ true) → OnOne (
 stamp_on None ok = refl
 stamp_on (Some z) ok = simple_on (signed_decimal z) (simple_signed z ok)
 
--- the line of such a point
+-- The line of a point whose names and strings are on one line holds no newline.
 pub point_on : (p : Point) → IsPoint p → PointOn p → HasNoNewline (line_of p)
 point_on p is on = no_newline (line_of p) (subst OnOne (sym (line_parts p))
     (joined (spelling a_measurement p.measurement) _ (escaped_on _ p.measurement on.measurement)
