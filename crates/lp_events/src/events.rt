@@ -351,7 +351,7 @@ fn parts<'a, S: PlacedSink<'a>>(
 /// [`reading_stop`](crate::stops) finds it for each line.
 ///
 /// ```text
-/// m,t=x a=1i 7  tells  measurement m and 12 bytes left, tag t x and 10 and 8, field a 1i and 5 and 2, end m,t=x 7
+/// m,t=x a=1i 7  tells  measurement m and 11 bytes left, tag t x and 9 and 7, field a 1i and 5 and 2, end m,t=x 7
 /// ```
 #[inline(always)]
 pub fn read_placed_events<'a, S: PlacedSink<'a>>(

@@ -170,7 +170,7 @@ fn fields_stop(dialect: Dialect, text: &str) -> Stop<'_>
 /// line reads, no text is left. It reads the line once, and takes no memory.
 ///
 /// ```text
-/// m,t=x a=tru  stops in  FieldValue(1), before  tru
+/// m,t=x a=tru  stops in  FieldValue(1), before  ru
 /// m,t=x,u=     stops in  TagValue(2), before  ,u=
 /// m,t=x        stops in  TagValue(1), at the end
 /// ```

@@ -37,9 +37,9 @@ impl<'a> Series<'a> {
     /// of the line.
     ///
     /// ```text
-    /// m,a=1,b=2  gives  m,a=1,b=2, borrowed
-    /// m,b=2,a=1  gives  m,a=1,b=2
-    /// m,a=1,a=2  gives  DuplicateTag with the key a
+    /// m,B=1,a=2          gives  m,B=1,a=2, borrowed
+    /// foo,tag2=2,tag1=1  gives  foo,tag1=1,tag2=2
+    /// foo,tag=1,tag=2    gives  DuplicateTag with the key tag
     /// ```
     ///
     /// # Errors

@@ -341,8 +341,7 @@ impl<'a> ParseLines<'a> {
 /// For example, `m a="x`, a newline and `n b=1i` are one `Err(FieldSetMissing)`, because the quote is never closed.
 ///
 /// ```text
-/// "m,t=x a=1i 5\nm b\n"  gives  Ok, with the measurement m, the tag t=x, the field a=1i and the timestamp 5,
-///                        and    Err(FieldSetMissing)
+/// "cpu usage=64i\nm 5\n"  gives  Ok, with the measurement cpu and the field usage=64i, and Err(FieldSetMissing)
 /// ```
 ///
 /// If memory for a line is refused, its item is `Err(Error::OutOfMemory)`, or the fault of the line if it has one. A line of at

@@ -45,7 +45,7 @@ pub type FieldSet<'a> = SmallVec<(EscapedStr<'a>, FieldValue<'a>), INLINE_FIELDS
 /// A line that was read.
 ///
 /// ```text
-/// m,t=x a=1i 5  has the measurement m, the tag t=x, the field a=1i and the timestamp 5
+/// m,k=1 a=1i 5  has the measurement m, the tag k=1, the field a=1i and the timestamp 5
 /// ```
 #[derive(Debug, Drop)]
 pub struct ParsedLine<'a> {
@@ -81,7 +81,7 @@ impl<'a> ParsedLine<'a> {
     /// The caller must show that the number fits a `usize`. It does for each line that `parse_lines` gave. It takes no memory.
     ///
     /// ```text
-    /// m,t=x a=1i,b=2i  has 4 columns
+    /// m,k=1,k=2 a=1i,a=2i  has 5 columns
     /// ```
     pub fn column_count(&self) -> usize
         requires { columns self.now < 2 ^ 64 }
@@ -93,7 +93,7 @@ impl<'a> ParsedLine<'a> {
     /// Returns the value of the first tag whose key has the text `tag_key`, or `None` if no tag has this key. It takes no memory.
     ///
     /// ```text
-    /// m,t=x,t=y a=1i  gives  x  for the key t, and None for the key u
+    /// m,k=1,k=2 a=1i,a=2i  gives  1  for the key k, and None for the key a
     /// ```
     pub fn tag_value(&self, tag_key: &str) -> Option<&EscapedStr<'a>>
         ensures { option_copied result ≡ value_by_key tag_key.now (some_items self.now.series.tag_set) }
@@ -107,7 +107,7 @@ impl<'a> ParsedLine<'a> {
     /// memory.
     ///
     /// ```text
-    /// m,t=x a=1i,b=2i  gives  I64(2)  for the key b, and None for the key t
+    /// m,k=1,k=2 a=1i,a=2i  gives  I64(1)  for the key a, and None for the key k
     /// ```
     pub fn field_value(&self, field_key: &str) -> Option<&FieldValue<'a>>
         ensures { option_copied result ≡ value_by_key field_key.now self.now.field_set.items }

@@ -106,7 +106,7 @@ impl<'a> FloatText<'a> {
     /// Makes a float of this text. Returns `Some` exactly if the whole text is a float.
     ///
     /// ```text
-    /// "-1.5e-3"  gives Some,  "1."  and  "+1"  give None
+    /// "-1.234456E+3"  gives Some,  "1."  and  "+1"  give None
     /// ```
     #[tactic(auto, using(crate::proofs::lemmas::fields::ReadingLemmas::whole_float_steps))]
     pub fn new(text: &'a str) -> Option<Self>
