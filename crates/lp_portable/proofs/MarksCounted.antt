@@ -1,4 +1,4 @@
--- Where a line holds just as many marks as its parts need, its names hold none.
+-- If a line holds exactly as many marks as its parts need, its names hold none.
 use Rattle.std.proofs.Common.{◌≡◌, ℕ, ◌+◌, ◌*◌, ◌≤◌, ◌==◌, ◌||◌, Bool, true, false, List, [], ◌∷◌, ◌++◌, length, take, drop, refl, sym, ◌∙◌, ap, arith, take-append-drop, inl, inr}
 use Rattle.std.specs.{List.AllByRecursion}
 use Rattle.std.proofs.Common.{zero, suc, Ok, ◌<◌, cond, length-drop, count_ones, map, ◌%◌, ◌^◌, ◌-◌}

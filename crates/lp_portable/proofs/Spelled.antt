@@ -1,4 +1,4 @@
--- What is read of a line, and how it is spelled.
+-- Parts that are read of a line, and the spelling of their names.
 use Rattle.std.proofs.Common.{◌≡◌, ℕ, List, [], ◌∷◌, ◌++◌, length, take, refl, sym, ◌∙◌, ap, arith, take-append-drop, ◌-◌, ◌<◌, ◌||◌, Bool, map, length-append}
 use Rattle.std.proofs.Math.Seq.{take-append_seam}
 use Rattle.lp_format.specs.format.{NameKind, Reading, Text, after_comma, name, reads, spelled, spelled_len}

@@ -1,4 +1,4 @@
--- How a rebuild goes over the pieces of a text.
+-- A rebuild takes the pieces of a text one after another.
 use Rattle.std.proofs.Common.{None, Some, ◌≡◌, ℕ, ◌+◌, ◌==◌, ◌<◌, Bool, true, false, not, cond, List, [], ◌∷◌, ◌++◌, length}
 use Rattle.std.proofs.Common.{Result, Ok, string_bytes, refl, sym, ap, subst, ◌∙◌, arith, append_assoc}
 use Rattle.std.proofs.Common.{append-nil, eq-eqb, inl, inr}

@@ -301,8 +301,8 @@ pub fn rebuild(alloc: Global, input: &str) -> Result<Rebuilt, AllocError>
 /// reads back in `NewlineDelimited` only if no string in it holds a newline.
 ///
 /// ```text
-/// m s="a⏎n b=01i⏎    in Crate and Strict has one item, and the fault `item 1: No fields were provided`
-///                    in NewlineDelimited has the same fault, and the batch `n b=1i⏎`
+/// m s="a⏎n b=01i    in Crate and Strict has one item, and the fault `item 1: No fields were provided`
+///                  in NewlineDelimited has the same fault, and the batch `n b=1i⏎`
 /// ```
 ///
 /// # Errors

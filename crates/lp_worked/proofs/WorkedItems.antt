@@ -1,4 +1,4 @@
--- What iterators give, and where reading stops: an example that each relation covers, and one just outside.
+-- Worked lines about iterators, and about the places where reading stops: an example that each relation covers, and one just outside.
 use Rattle.std.proofs.Common.{◌≡◌, ◌++◌, ℕ, List, [], ◌∷◌, map, length, None, Some, Ok, Err, refl, sym, ap, subst, codes, arith, pos, length-append}
 use Rattle.lp_format.specs.format.{Strict, NewlineDelimited, integer, trimmed}
 use Rattle.lp_format.specs.format.{measurement_value_invalid, a_measurement, miss, name, logical_field}

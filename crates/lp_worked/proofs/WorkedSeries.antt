@@ -1,4 +1,4 @@
--- What bases and keys tell of series: an example that each relation covers, and one just outside.
+-- Worked lines about bases and keys of series: an example that each relation covers, and one just outside.
 use Rattle.std.proofs.Common.{◌≡◌, ℕ, List, [], ◌∷◌, length, false, Option, Some, Result, Ok, Err, refl, sym, ap, ◌∙◌, codes, arith}
 use Rattle.lp_format.specs.format.{Text, Pair, Read, Fault, tag_set}
 use Rattle.lp_lines.specs.code.Bases.{first_repeated}

@@ -1,4 +1,4 @@
--- What streams give, and what lines add to a text: an example that each relation covers, and one just outside.
+-- Worked lines about streams, and about lines that are added to a text: an example that each relation covers, and one just outside.
 use Rattle.std.proofs.Common.{◌≡◌, ℕ, List, [], ◌∷◌, length, Result, Ok, Err, refl, ap, codes, arith, pos, length-append}
 use Rattle.lp_format.specs.format.{Strict, Fault, Point, integer, HasAnswers, HasItems, take_while1, HasNoNewline, Pieces.Pieces, Pieces.last}
 use Rattle.lp_format.proofs.lemmas.split.SplitPieces.{pieces_exist, same_pieces, IsLastPiece-nil, IsLastPiece-cut, IsLastPiece-extend}
