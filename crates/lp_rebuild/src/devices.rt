@@ -242,6 +242,10 @@ impl Kept {
     }
 
     /// Returns all bytes that were written so far.
+    ///
+    /// ```text
+    /// after writes of b"m f" and b"=1i", as_slice() is b"m f=1i"
+    /// ```
     pub fn as_slice(&self) -> &[u8]
         ensures { result.now ≡ kept_bytes self.now }
     {

@@ -138,6 +138,11 @@ pub fn read_all<R: Source>(alloc: Global, reader: &mut R) -> Result<Vec<u8>, Run
 
 /// Writes all of `bytes` to `sink`.
 ///
+/// ```
+/// let mut out = Kept::new(alloc);
+/// write_bytes(&mut out, b"m f=1i")?;
+/// ```
+///
 /// # Errors
 ///
 /// Returns `DeviceFault` if `sink` failed. A front of the bytes may be written.
