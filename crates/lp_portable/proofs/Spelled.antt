@@ -60,7 +60,7 @@ keys_step series_len found key keys = rw (
   or_assoc found.long (is_long_after series_len key) (list_any (is_long_after series_len) keys),
 ) refl
 
--- a test of what is seen of elements
+-- Some image of an element passes a test exactly if some element passes the test of its image.
 pub any_map : {X Y : Type 0} (p : Y → Bool) (f : X → Y) (xs : List X) → list_any p (map f xs) ≡ list_any (λ x. p (f x)) xs
 any_map p f [] = refl
 any_map p f (x ∷ xs) = ap (λ (b : Bool). p (f x) || b) (any_map p f xs)

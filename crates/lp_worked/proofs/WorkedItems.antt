@@ -38,7 +38,7 @@ no_memory_in_its_place = (tt, tt)
 pub no_fault_in_its_place : ¬ AreAnswers (Err error.FieldSetMissing ∷ []) (Ok one_line ∷ [])
 no_fault_in_its_place h = absurd (cc (h.0))
 
--- A line that says just what `m f=1i` says was read.
+-- Each line with the content of `m f=1i` was read.
 pub this_line_was_read : (line : ParsedLine) → line_read line ≡ one_line → IsReadLine line
 unfolding on_texts
 this_line_was_read line is = record { dialect = Strict; text = codes "m f=1i"; answered = ap Ok (sym is) }

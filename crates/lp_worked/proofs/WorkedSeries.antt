@@ -61,7 +61,7 @@ pub two_keys_for_two_orders : ¬ IsSameByKeys (codes "m") (codes "m") (tag_of "a
 unfolding on_texts series_key
 two_keys_for_two_orders h = omega (arith, ap (λ (t : List ℕ). slice_index t 4) ((keys_tell_series (codes "m") (codes "m") _ _).1 h))
 
--- The key `m,a=1` reads back as the series of which it is the key.
+-- The key `m,a=1` reads back as the series that has this key.
 pub a_key_reads_back : ReadsAsSeries (codes "m,a=1") (codes "m") (tag_of "a" "1" ∷ [])
 unfolding on_texts series_key
 a_key_reads_back = keys_read_back (codes "m") (tag_of "a" "1" ∷ []) refl refl

@@ -30,7 +30,7 @@ an_open_quote_gives_none h =
 abbrev pub holding : List ℕ → Held
 holding bytes = record { dialect = Strict; bytes = bytes; capacity = 64; given = 0 }
 
--- A call takes `m f=1i` and its newline of what is held.
+-- A call takes `m f=1i` and its newline from the bytes that a stream holds.
 pub a_piece_is_taken : TakesPiece (holding (codes "m f=1i\nm f")) (codes "m f=1i") (holding (codes "m f"))
 unfolding on_texts
 a_piece_is_taken = record { dialect = refl; bytes = refl; is_cut = m_is_cut (integer (pos 1)) refl }
