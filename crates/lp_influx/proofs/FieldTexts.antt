@@ -21,7 +21,7 @@ pub data IsValueText (text : List ℕ) (v : Value Text) : Type 0 where
   plain_value : LiteralText text v → IsValueText text v
   in_quotes : (body : List ℕ) → is_body false body ≡ true → text ≡ quote ∷ (body ++ quote ∷ []) → v ≡ string (read_text quotable body) → IsValueText text v
 
--- a field by its spelled key, the text of its value, and what that says
+-- A field by its spelled key, the text of its value, and the value.
 pub record FieldText : Type 0 where
   pub key : List ℕ
   pub text : List ℕ

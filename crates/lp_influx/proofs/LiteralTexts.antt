@@ -1,4 +1,4 @@
--- The values of a portable line are those that InfluxDB reads, whatever ends them.
+-- InfluxDB reads the values of a portable line as the strict reader does, whatever ends them.
 use Rattle.std.proofs.Common.{◌≡◌, ◌⊎◌, ℕ, ◌+◌, ◌<◌, List, [], ◌∷◌, ◌++◌, length, take, drop, Bool, true, false, not, ◌==◌, ◌&&◌, refl, sym, ap, ◌∙◌, arith, inl, inr, subst}
 use Rattle.std.proofs.Common.{eqb-true, append-nil, append_assoc, take-append-drop, codes, slice_index, length-append}
 use Rattle.std.proofs.Math.Seq.{drop-append_seam, take-append_seam}
@@ -199,7 +199,7 @@ false_texts = (
 )
 
 module _ (P : List ℕ → Type 0) (text : List ℕ) where
-  -- the longest of words is one that the text begins with, if it is longer than what was found before
+  -- The longest of some words is a word with which the text begins, if it is longer than the front that was found before.
   word_found : (words : List (List ℕ)) (n : ℕ) → AllByRecursion P words
       → (fold (λ (m : ℕ) (word : List ℕ). longer_front text m word) n words ≡ n)
       ⊎ ((word : List ℕ) × P word × (starts_with (λ (a b : ℕ). a == b) text word ≡ true) × (fold (λ (m : ℕ) (word : List ℕ). longer_front text m word) n words ≡ length word))

@@ -94,7 +94,7 @@ name_front kind text front rest e =
       bare_bytes = λ marks other all. bare_bytes_are_held marks (spelled kind text) other ∙ none_of (is_stop kind) (is_one_of marks) all (bare (spelled kind text)) stops.none;
     })
 
--- a name, by what it and its rest are
+-- A front of a text is the front of a name if it equals the spelled name, and its rest equals the rest.
 pub front_is : (kind : NameKind) (text front other rest end : List ℕ) → name_text kind text ≡ reads front rest → front ≡ other → rest ≡ end
     → NameFront kind text other end
 front_is kind text front other rest end e same after = rw (← same, ← after) (name_front kind text front rest e)
@@ -117,7 +117,7 @@ many_reads one (x ∷ xs) zero text rest fits are none = absurd (omega arith)
 many_reads one (x ∷ xs) (suc n) text rest fits are none = rw (are.1, many_reads one xs n are.0 rest (omega arith) are.2 none) refl
 
 module _ {A : Type 0} (one : List ℕ → Reading A) (no_longer : (text : List ℕ) (x : A) (rest : List ℕ) → one text ≡ reads x rest → length rest ≤ length text) where
-  -- a comma and what is after it leave less
+  -- The text after a comma and an element is shorter than the text.
   less_left : (text : List ℕ) (x : A) (rest : List ℕ) → after_comma one text ≡ reads x rest → length rest < length text
   less_left text x rest e =
       let two = bind_reads (byte comma text) (λ after. one after.rest) x rest e in

@@ -1,4 +1,4 @@
--- The parts of a portable line are those that InfluxDB's reader finds.
+-- InfluxDB's reader finds the same parts of a portable line as the strict reader.
 use Rattle.std.proofs.Common.{◌≡◌, ℕ, ℤ, ◌-◌, ◌<◌, pos, negsuc, List, [], ◌∷◌, ◌++◌, length, drop, map, true, false, ◌==◌, refl, sym, ap, ◌∙◌, arith, inl, inr, Option, None, Ok}
 use Rattle.std.proofs.Common.{eqb-true, length-append}
 use Rattle.std.proofs.lemmas.{Bool.cases_Bool, Bool.false≢true, Grind.common_steps}

@@ -1,4 +1,4 @@
--- What the reader in code walks over.
+-- The loops of the reader in code read the lists and the fronts of the definition.
 use Rattle.std.proofs.Common.{◌≡◌, ◌≤◌, ◌<◌, ℕ, zero, suc, List, [], ◌∷◌, ◌++◌, length, take, drop, nat_lt, le-ltb, ◌-◌, Bool, false, not, ◌&&◌, ◌==◌, inl, inr, if◌then◌else◌, refl, sym, ap, ◌∙◌, arith, append_assoc, append-nil, map}
 use Rattle.std.proofs.lemmas.{Bool.cases_Bool, Grind.common_steps, List.map-append}
 use Rattle.lp_format.specs.format.{Reading, backslash, fatal, is_one_of, many, miss, prepend, quotable, quote, read_text, reads, string, without_escapes}

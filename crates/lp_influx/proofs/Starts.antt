@@ -1,4 +1,4 @@
--- What InfluxDB's reader drops at the start of a portable line is what trimming drops.
+-- At the start of a portable line, InfluxDB's reader drops the same bytes as trimming.
 use Rattle.std.proofs.Common.{◌≡◌, ◌≢◌, ℕ, List, [], ◌∷◌, ◌++◌, Bool, true, false, ◌==◌, ◌||◌, ◌&&◌, refl, ◌∙◌, arith, inl, inr, All}
 use Rattle.std.proofs.Common.{append-nil, append_assoc, ne_eqb, one-add}
 use Rattle.std.proofs.lemmas.{Bool.cases_Bool, Bool.false≢true, Grind.common_steps}

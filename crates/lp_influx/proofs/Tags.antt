@@ -1,4 +1,4 @@
--- The tags of a portable line are those that InfluxDB reads.
+-- InfluxDB's reader reads the same tags of a portable line as the strict reader.
 use Rattle.std.proofs.Common.{◌≡◌, ℕ, ◌<◌, ◌≤◌, List, [], ◌∷◌, ◌++◌, length, true, false, ◌==◌, refl, sym, ap, ◌∙◌, arith, inl, inr}
 use Rattle.std.proofs.Common.{eqb-true, length-drop}
 use Rattle.std.proofs.lemmas.{Bool.cases_Bool}
@@ -92,7 +92,7 @@ tag_no_longer text t rest e =
     some_left : (front text found rest : List ℕ) → some_of front text ≡ reads found rest → length rest ≤ length text
     some_left front text found rest e = grind (arith, cases_Bool, length-drop)
 
--- tags after commas begin with a comma, and what follows them with a space
+-- A text of tags after commas and a space begins with a comma or a space.
 pub next_byte : (tags : List (Pair (List ℕ) (List ℕ))) (text rest : List ℕ) → AreAfterCommas tag_text tags text (space ∷ rest)
     → (b : ℕ) × (more : List ℕ) × (text ≡ b ∷ more) × (is_one_of (comma ∷ space ∷ []) b ≡ true)
 next_byte [] text rest are = (space, rest, are, refl)

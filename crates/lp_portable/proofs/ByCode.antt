@@ -1,4 +1,4 @@
--- What the code tells of a line is what the definition says of it.
+-- The clauses that the code finds broken are the clauses that are broken by the definition.
 use Rattle.std.proofs.Common.{◌≡◌, ℕ, ◌+◌, not, List, ◌∷◌, [], length, map, option_map, Some, None, codes, nat_lt, bytes_eq, refl, sym, ap, ◌∙◌}
 use Rattle.std.proofs.lemmas.List.{length-map}
 use Rattle.lp_format.specs.format.{is_one_of, quote, some_tags}

@@ -1,4 +1,4 @@
--- Whether a newline ends a text as one piece is told by the track of its bytes.
+-- The track of the bytes of a text tells whether a newline ends the text as one piece.
 use Rattle.std.proofs.Common.{◌≡◌, ◌≢◌, ℕ, ◌+◌, ◌<◌, ◌++◌, ◌==◌, ◌&&◌, ◌||◌, ◌↔◌, ◌⊎◌, nat_lt, suc, Bool, true, false, List, [], ◌∷◌, length, take, Option, None, Some, is_none, inl, inr, refl, sym, ◌∙◌, subst, arith, append-nil, append_assoc, get_or, if◌then◌else◌, option_map}
 use Rattle.std.proofs.lemmas.{Bool.cases_Bool, Bool.false≢true, Bool.Decides.nat_tests, List.Elements.All-nil}
 use Rattle.lp_format.specs.format.{IsBareAfter, IsCutPiece, Strict, backslash, comma, equals, hash, newline, quote, space, tab}

@@ -1,4 +1,4 @@
--- A text ends in what is left of it after a value, and after a field.
+-- The text that is left after a value, or after a field, is an end of the text.
 use Rattle.std.proofs.Common.{◌≡◌, ℕ, List, [], ◌∷◌, drop, refl, sym, arith, Bool, cond}
 use Rattle.lp_format.specs.format.{equals, Fault, Pair, Reading, Text, Value, a_field_key}
 use Rattle.lp_format.specs.format.{fatal, field, miss, reads, value, ◌otherwise◌}
@@ -49,7 +49,7 @@ pub value_left : (text : List ℕ) → LeavesEnd text (value text)
 unfolding value integer_at unsigned_at float_at boolean_at
 value_left text = grind (arith, either, none_left, drop_left, fault_left, one_of_two, string_left)
 
--- a text ends in what is left after a field
+-- The text that is left after a field is an end of the text.
 pub field_ends : (text : List ℕ) (x : Pair Text (Value Text)) (rest : List ℕ) → field text ≡ reads x rest → EndsIn text rest
 unfolding field
 field_ends text x rest e =

@@ -1,4 +1,4 @@
--- What bytes a name holds, escaped or bare.
+-- The bytes that a name holds, escaped or bare.
 use Rattle.std.proofs.Common.{◌≡◌, ℕ, ◌<◌, ◌≤◌, List, [], ◌∷◌, ◌++◌, length, if◌then◌else◌, Bool, true, false, ◌||◌, ◌==◌, refl, sym, ap, ◌∙◌, arith, inl, inr, eqb-true, eq-eqb, ne_eqb}
 use Rattle.std.specs.List.{list_any}
 use Rattle.std.proofs.lemmas.{Bool.cases_Bool, Bool.or_parts, Bool.eqb-false, Bool.false≢true}

@@ -1,4 +1,4 @@
--- Where a line holds just as many marks as its parts need, its names hold none.
+-- If a line holds exactly as many marks as its parts need, its names hold none.
 use Rattle.std.proofs.Common.{◌≡◌, ℕ, ◌+◌, ◌*◌, ◌≤◌, ◌==◌, ◌||◌, Bool, true, false, List, [], ◌∷◌, ◌++◌, length, take, drop, refl, sym, ◌∙◌, ap, arith, take-append-drop, inl, inr}
 use Rattle.std.specs.{List.AllByRecursion}
 use Rattle.std.proofs.Common.{zero, suc, Ok, ◌<◌, cond, length-drop, count_ones, map, ◌%◌, ◌^◌, ◌-◌}
@@ -91,11 +91,11 @@ module _ (w : List ℕ → ℕ) (add : (xs ys : List ℕ) → w (xs ++ ys) ≡ w
   end_weighs : (text rest : List ℕ) → EndsIn text rest → w rest ≤ w text
   end_weighs text rest e = omega (arith, ap w e.is, add e.front rest)
 
-  -- a byte and what follows it
+  -- A text that begins with a byte weighs as much as the byte and the text after it.
   byte_weighs : (b : ℕ) (text : List ℕ) (x : ℕ) (rest : List ℕ) → byte b text ≡ reads x rest → w text ≡ w (b ∷ []) + w rest
   byte_weighs b text x rest e = ap w (byte_parts b text x rest e).1 ∙ add (b ∷ []) rest
 
-  -- a name and what follows it
+  -- A text that begins with a name weighs as much as the spelled name and the text after it.
   name_weighs : (kind : NameKind) (text s rest : List ℕ) → name_text kind text ≡ reads s rest → w text ≡ w s + w rest
   name_weighs kind text s rest e =
       let p = bind_reads (name kind text) (λ n. reads (spelled kind text) n.rest) s rest e in

@@ -1,4 +1,4 @@
--- A text breaks one set of clauses, and what is told of the first of them.
+-- A text breaks one set of clauses, and the first of them is unique.
 use Rattle.std.proofs.Common.{◌≡◌, ℕ, List, [], ◌∷◌, length, drop, Option, None, Some, true, false, ◌&&◌, Bool, not, inl, inr, ◌<◌, get_or, refl, sym, ◌∙◌, ap, subst, arith, IsTrue, ◌↔◌}
 use Rattle.std.proofs.lemmas.{Bool.cases_Bool, Bool.false≢true, List.Folds.list_all_at}
 use Rattle.std.specs.{List.list_all, Option.is_some}

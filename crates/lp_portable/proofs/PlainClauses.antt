@@ -376,7 +376,7 @@ plain_is text short none =
       short = short;
     }
 
--- a bare text of which this is noted is one line that breaks what is noted, and no other clause
+-- A bare text with these notes is one line that breaks the clauses which the notes show, and no other clause.
 pub noted_breaks : (limits : code.Limits) (text : List ℕ) (n : Noted) → IsBare text (n.tags + n.fields) → IsLineNoted (trimmed text) n
     → Breaks limits text (broken_by_noted limits text n.tags n.timestamp)
 noted_breaks limits text n bare (line, read, are) =

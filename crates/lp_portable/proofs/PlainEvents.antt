@@ -1,4 +1,4 @@
--- What is noted of a line that is read to its end.
+-- The notes about a line that is read to its end.
 use Rattle.std.proofs.Common.{◌≡◌, ℕ, ◌+◌, ◌≤◌, ◌&&◌, Bool, true, false, not, List, [], ◌∷◌, ◌++◌, length, map, Ok, Err, Result, refl, sym, ◌∙◌, ap, arith, nat_lt}
 use Rattle.std.specs.{List.AllByRecursion, Prelude.if◌then◌else◌}
 use Rattle.std.proofs.lemmas.Bool.{and_parts, false≢true, ltb-true}

@@ -1,4 +1,4 @@
--- What holds of each part of a text holds of the names of its line.
+-- If a property holds of each part of a text that has it, it holds of the names of the line of the text.
 use Rattle.std.proofs.Common.{◌≡◌, ℕ, List, [], ◌∷◌, ◌++◌, take, drop, sym, subst, take-append-drop}
 use Rattle.std.specs.{List.AllByRecursion}
 use Rattle.lp_format.specs.format.{NameKind, Line, Pair, Reading, byte, comma, equals, name, reads}

@@ -1,4 +1,4 @@
--- Keys that are looked for among those after them.
+-- A search for keys among the keys after them.
 use Rattle.std.proofs.Common.{◌≡◌, ℕ, ◌<◌, ◌+◌, ◌||◌, Bool, true, false, cond, List, [], ◌∷◌, ◌++◌, length, take, drop, get_or, refl, sym, ap, ◌∙◌, arith}
 use Rattle.std.proofs.Common.{bytes_eq, Bor, BTreeMap, is_some, Some, Option, nat_cmp, take-append-drop}
 use Rattle.std.proofs.lemmas.List.{map-append, take_more}

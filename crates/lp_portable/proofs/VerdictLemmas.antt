@@ -1,4 +1,4 @@
--- What is told of a text in one word is what is told of its clauses.
+-- The verdict on a text agrees with the clauses that the text breaks.
 use Rattle.std.proofs.Common.{◌≡◌, ℕ, Bool, ◌&&◌, List, [], ◌∷◌, drop, length, Option, Some, Ok, Err, Result, inl, inr, refl, sym, ap, ◌∙◌, cond}
 use Rattle.std.proofs.lemmas.{Bool.cases_Bool}
 use Rattle.lp_format.specs.format.{Fault, Line, Pair, Reading, Strict, a_measurement, answers_of_piece, spaces, trimmed}

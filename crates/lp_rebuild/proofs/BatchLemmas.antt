@@ -1,4 +1,4 @@
--- What is carried: lines that were read, and points that are admitted, so that the batch reads back.
+-- Carried lines were read, and their points are admitted, so the batch reads back.
 use Rattle.std.proofs.Common.{◌≡◌, ℕ, ◌<◌, ◌==◌, List, [], ◌∷◌, ◌++◌, length, map, Result, Ok, Err}
 use Rattle.std.proofs.Common.{refl, sym, ap, subst, ◌∙◌, inl, inr, arith, true, Contains}
 use Rattle.std.specs.Prelude.{IfOk}

@@ -1,4 +1,4 @@
--- What several reads or writes, one after the other, move together.
+-- Several reads, or several writes, together move the bytes that each of them moves.
 use Rattle.std.proofs.Common.{◌≡◌, ℕ, ◌+◌, ◌≤◌, List, [], ◌++◌, length, take, drop, Option, Result, Ok, Err, IfOk, sym}
 use Rattle.std.proofs.Common.{ap, subst, ◌∙◌, append-nil, OnErr, take_all, le_refl}
 use Rattle.std.proofs.Math.Seq.{take-add}

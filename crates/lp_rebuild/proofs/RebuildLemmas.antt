@@ -1,4 +1,4 @@
--- How a rebuild goes over the pieces of a text.
+-- A rebuild takes the pieces of a text one after another.
 use Rattle.std.proofs.Common.{None, Some, ◌≡◌, ℕ, ◌+◌, ◌==◌, ◌<◌, Bool, true, false, not, cond, List, [], ◌∷◌, ◌++◌, length}
 use Rattle.std.proofs.Common.{Result, Ok, string_bytes, refl, sym, ap, subst, ◌∙◌, arith, append_assoc}
 use Rattle.std.proofs.Common.{append-nil, eq-eqb, inl, inr}
@@ -23,7 +23,7 @@ use Rattle.lp_rebuild.specs.RebuildSteps.{IsRefusedFor, Refuses, Takes, TakesLin
 use Rattle.lp_rebuild.specs.declared.refusals.LineRefusal.{LineRefusal}
 use Rattle.lp_rebuild.specs.declared.refusals.LineRefusal.TheVariants as why
 
--- an answer that is refused for this is not carried, and this is what is wrong with it
+-- An answer that is refused for a reason is not carried, and the text of the refusal is the text of this reason.
 pub refused_for : (refusal : LineRefusal) (answer : Result Line Fault) → IsRefusedFor (Some refusal) answer
     → (is_carried_answer answer ≡ false) × (refusal_text answer ≡ line_refusal_text refusal)
 refused_for (why.Fault fault) answer is = rw is (refl, refl)

@@ -1,4 +1,4 @@
--- What is answered for a text: an example that each relation covers, and one just outside.
+-- Worked lines about the answers for a text: an example that each relation covers, and one just outside.
 use Rattle.std.proofs.Common.{◌≡◌, ℕ, List, [], ◌∷◌, map, length, Result, Ok, Err, refl, ap, ◌∙◌, codes, arith, pos}
 use Rattle.lp_format.specs.format.{Strict, NewlineDelimited, Dialect, integer, HasAnswers, HasItems, answers_of, answers_of_piece}
 use Rattle.lp_format.specs.format.{Fault, Line, Point, field_set_missing, item_of, measurement_value_invalid}

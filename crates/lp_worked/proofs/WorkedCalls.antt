@@ -1,4 +1,4 @@
--- What single calls give: an example that each relation covers, and one just outside.
+-- Worked lines about single calls: an example that each relation covers, and one just outside.
 use Rattle.std.proofs.Common.{◌≡◌, ◌++◌, ℕ, List, [], ◌∷◌, length, None, Some, Ok, Err, refl, sym, ap, subst, codes, arith, pos, length-append}
 use Rattle.std.specs.Borrow.{Bor}
 use Rattle.lp_format.specs.format.{Strict, NewlineDelimited, integer, GivesPiece, IsAsWrittenIn, IsLastPiece, field_set_missing, Pieces.Pieces, Pieces.cut}

@@ -1,4 +1,4 @@
--- What iterators give, and where reading stops: an example that each relation covers, and one just outside.
+-- Worked lines about iterators, and about the places where reading stops: an example that each relation covers, and one just outside.
 use Rattle.std.proofs.Common.{◌≡◌, ◌++◌, ℕ, List, [], ◌∷◌, map, length, None, Some, Ok, Err, refl, sym, ap, subst, codes, arith, pos, length-append}
 use Rattle.lp_format.specs.format.{Strict, NewlineDelimited, integer, trimmed}
 use Rattle.lp_format.specs.format.{measurement_value_invalid, a_measurement, miss, name, logical_field}
@@ -38,7 +38,7 @@ no_memory_in_its_place = (tt, tt)
 pub no_fault_in_its_place : ¬ AreAnswers (Err error.FieldSetMissing ∷ []) (Ok one_line ∷ [])
 no_fault_in_its_place h = absurd (cc (h.0))
 
--- A line that says just what `m f=1i` says was read.
+-- Each line with the content of `m f=1i` was read.
 pub this_line_was_read : (line : ParsedLine) → line_read line ≡ one_line → IsReadLine line
 unfolding on_texts
 this_line_was_read line is = record { dialect = Strict; text = codes "m f=1i"; answered = ap Ok (sym is) }

@@ -1,4 +1,4 @@
--- What the parts of a line read as: an example that each relation covers, and one just outside.
+-- Worked lines about the parts of a line: an example that each relation covers, and one just outside.
 use Rattle.std.proofs.Common.{List, [], ◌∷◌, length, refl, ap, codes, arith, pos}
 use Rattle.lp_format.specs.format.{integer, a_measurement, is_stop, tag, field, comma, newline, space, Text, Pair, above, integer_value_invalid}
 use Rattle.lp_format.specs.laws.Meanings.{IsLogical, LongestList, WholeList, NextHasFault, IsBeforeStop, IsBlankFront, IsBlankFront.empty, IsBlankFront.comment, IsBlankFront.blank}

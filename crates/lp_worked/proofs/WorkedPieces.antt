@@ -1,4 +1,4 @@
--- Where pieces end, and which pieces a text has: an example that each relation covers, and one just outside.
+-- Worked lines about the ends of pieces and the pieces of a text: an example that each relation covers, and one just outside.
 use Rattle.std.proofs.Common.{[], ◌∷◌, None, Some, refl, codes, arith, pos}
 use Rattle.std.proofs.lemmas.Bool.{false≢true}
 use Rattle.lp_format.specs.format.{Strict, NewlineDelimited, string, integer, HasNoNewline, IsCutPiece, IsLastPiece, IsFirstCut, PiecesLeft}

@@ -1,4 +1,4 @@
--- What other readers make of a line: an example that each relation covers, and one just outside.
+-- Worked lines about other readers of a line: an example that each relation covers, and one just outside.
 use Rattle.std.proofs.Common.{ℕ, List, [], ◌∷◌, length, false, refl, ap, codes, arith, pos}
 use Rattle.lp_format.specs.format.{Strict, Line, string, integer, backslash, equals, quote, a_field_key, a_measurement, a_tag_key, a_tag_value}
 use Rattle.lp_format.proofs.lemmas.split.SplitPieces.{IsLastPiece-cut}

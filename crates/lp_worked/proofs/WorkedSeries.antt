@@ -1,4 +1,4 @@
--- What bases and keys tell of series: an example that each relation covers, and one just outside.
+-- Worked lines about bases and keys of series: an example that each relation covers, and one just outside.
 use Rattle.std.proofs.Common.{◌≡◌, ℕ, List, [], ◌∷◌, length, false, Option, Some, Result, Ok, Err, refl, sym, ap, ◌∙◌, codes, arith}
 use Rattle.lp_format.specs.format.{Text, Pair, Read, Fault, tag_set}
 use Rattle.lp_lines.specs.code.Bases.{first_repeated}
@@ -61,7 +61,7 @@ pub two_keys_for_two_orders : ¬ IsSameByKeys (codes "m") (codes "m") (tag_of "a
 unfolding on_texts series_key
 two_keys_for_two_orders h = omega (arith, ap (λ (t : List ℕ). slice_index t 4) ((keys_tell_series (codes "m") (codes "m") _ _).1 h))
 
--- The key `m,a=1` reads back as the series of which it is the key.
+-- The key `m,a=1` reads back as the series that has this key.
 pub a_key_reads_back : ReadsAsSeries (codes "m,a=1") (codes "m") (tag_of "a" "1" ∷ [])
 unfolding on_texts series_key
 a_key_reads_back = keys_read_back (codes "m") (tag_of "a" "1" ∷ []) refl refl

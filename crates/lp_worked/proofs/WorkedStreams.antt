@@ -1,4 +1,4 @@
--- What streams give, and what lines add to a text: an example that each relation covers, and one just outside.
+-- Worked lines about streams, and about lines that are added to a text: an example that each relation covers, and one just outside.
 use Rattle.std.proofs.Common.{◌≡◌, ℕ, List, [], ◌∷◌, length, Result, Ok, Err, refl, ap, codes, arith, pos, length-append}
 use Rattle.lp_format.specs.format.{Strict, Fault, Point, integer, HasAnswers, HasItems, take_while1, HasNoNewline, Pieces.Pieces, Pieces.last}
 use Rattle.lp_format.proofs.lemmas.split.SplitPieces.{pieces_exist, same_pieces, IsLastPiece-nil, IsLastPiece-cut, IsLastPiece-extend}
@@ -30,7 +30,7 @@ an_open_quote_gives_none h =
 abbrev pub holding : List ℕ → Held
 holding bytes = record { dialect = Strict; bytes = bytes; capacity = 64; given = 0 }
 
--- A call takes `m f=1i` and its newline of what is held.
+-- A call takes `m f=1i` and its newline from the bytes that a stream holds.
 pub a_piece_is_taken : TakesPiece (holding (codes "m f=1i\nm f")) (codes "m f=1i") (holding (codes "m f"))
 unfolding on_texts
 a_piece_is_taken = record { dialect = refl; bytes = refl; is_cut = m_is_cut (integer (pos 1)) refl }

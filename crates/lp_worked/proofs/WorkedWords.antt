@@ -1,4 +1,5 @@
--- What is written, and what laws say of words, tags and differences: an example that each covers, and one just outside.
+-- Worked lines about written texts, and about the laws of words, tags and differences: an example that each relation covers, and one just
+-- outside.
 use lib.Utf8.{encode}
 use Rattle.std.specs.{Prelude.IsUtf8, Str.chars, Str.is_utf8}
 use Rattle.std.proofs.lemmas.Str.{is_utf8-from_IsUtf8}

@@ -1,4 +1,4 @@
--- Batches of points: those with admitted names read back, and no others do.
+-- Batches of admitted points read back, and batches with another point do not.
 use Rattle.std.proofs.Common.{◌≡◌, [], ◌∷◌, ◌++◌, refl, ap, subst, append_assoc, Ok, ℕ, ◌+◌, List, map, true, false, ◌&&◌, sym, ◌∙◌, arith}
 use Rattle.std.proofs.Common.{inl, inr, Err, Result, Contains, flat_map}
 use Rattle.lp_format.specs.format.{Dialect, Crate, Strict, NewlineDelimited, HasNoNewline, HasItems, is_admitted_in, Point, line_of, built_all, IsPoint, Tag, Field, IsValue, is_admitted_name, is_admitted_tag}
@@ -84,7 +84,7 @@ tags_line_fails m ts more named f =
 abbrev InPlain : List ℕ → Type 0
 InPlain piece = (counted : List ℕ) × EndsPlain piece counted
 
--- fields of which one stops too early, without the byte before them
+-- Reading one of these fields stops too early, in the text of the fields without the byte before them.
 abbrev FieldsFail : List Field → Type 0
 FieldsFail fs = (text : List ℕ) × (built_fields comma fs ≡ comma ∷ text)
     × StopsEarly (λ front. (m : ℕ) → Leads (Reaches Plain m m) InPlain front) (λ at. (spaces at ≡ 0) × ManyFail field at) text

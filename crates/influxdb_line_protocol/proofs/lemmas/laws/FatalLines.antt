@@ -200,7 +200,7 @@ elements_fail test text all next stops reached fails (e ∷ es) known bad = elim
 abbrev ReachesHead : List ℕ → Type 0
 ReachesHead front = Leads (Reaches Head 0 0) (Reaches Head 0 0) front
 
--- a key, a byte that neither ends a head nor escapes, and what comes after it
+-- A key, a byte that neither ends a head nor escapes, and a text that stays in the head leave the scan in the head.
 reaches_after : (front : List ℕ) (b : ℕ) (more : List ℕ) → b ≢ backslash → b ≢ space → b ≢ newline → ReachesHead front → ReachesHead more
     → ReachesHead (front ++ b ∷ more)
 reaches_after front b more e s n before after = leads_then (Reaches Head 0 0) front (b ∷ more) before
@@ -228,7 +228,7 @@ tag_fails t names bad =
           (name_stops a_tag_key t.key names.0 refused))
     ]
 
--- tags of which one stops too early, without the first comma
+-- Reading one of these tags stops too early, in the text of the tags without the first comma.
 abbrev pub TagsFail : List Tag → Type 0
 TagsFail ts = (text : List ℕ) × (flat_map built_tag ts ≡ comma ∷ text) × StopsEarly ReachesHead (ManyFail tag) text
 

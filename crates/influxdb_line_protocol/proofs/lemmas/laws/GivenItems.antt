@@ -1,4 +1,4 @@
--- The items and the events that calls of `next` give are those of the text, one after another.
+-- The items and the events that calls of `next` give are the items and the events of the text, one after another.
 use Rattle.std.proofs.Common.{◌≡◌, ℕ, ◌<◌, List, [], ◌∷◌, ◌++◌, length, map, refl, sym, subst, arith, append_assoc, append-nil, Some}
 use Rattle.std.proofs.Common.{Result, All, eq-eqb, ne_eqb}
 use Rattle.std.specs.Iterator.{Yields}

@@ -1,4 +1,4 @@
--- What is left of a line where reading stops is an end of the line.
+-- The text that is left where reading a line stops is an end of the line.
 use Rattle.std.proofs.Common.{◌≡◌, ◌⊎◌, ◌==◌, ℕ, zero, suc, List, [], ◌∷◌, drop, length, refl, arith, Bool, true, false, cond, ℤ, Option, Result, Ok, Err, inl, inr}
 use Rattle.std.proofs.lemmas.Bool.{cases_Bool}
 use Rattle.lp_format.specs.format.{comma, equals, space, Dialect, Fault, NameKind, Pair, Read, Reading, Text, Value, a_field_key, a_measurement, a_tag_key}

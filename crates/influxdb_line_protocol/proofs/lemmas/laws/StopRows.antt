@@ -1,4 +1,4 @@
--- Where reading stops, by the row of the answer.
+-- Reading stops at the place that the row of the answer names.
 use Rattle.std.proofs.Common.{◌≡◌, ℕ, zero, suc, ◌≤◌, ◌==◌, ◌||◌, Bool, true, false, List, [], ◌∷◌, ◌++◌, length, refl, sym, ap, ◌∙◌, arith, inl, inr}
 use Rattle.std.proofs.Common.{Option, Result, Ok, Err, cond, eqb-true, length-append, ◌+◌, codes}
 use Rattle.std.proofs.lemmas.Bool.{cases_Bool}

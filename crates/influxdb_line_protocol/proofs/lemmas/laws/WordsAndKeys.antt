@@ -81,5 +81,5 @@ tags_by_key_are_sorted tags entries once =
           (IsPermutation-sym (in_order tags) entries h.1) placed.0)),
     )
 
--- the laws of what is read by its longest front
+-- The laws of words and blanks that are read by their longest front.
 pub ruleset word_laws = (word_front_is_word, word_front_is_longest, trimmed_is_after, trimmed_is_longest)

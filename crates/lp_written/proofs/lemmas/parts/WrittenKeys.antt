@@ -53,7 +53,7 @@ pub not_less_than_nothing : (m : List ℕ) → is_lt (slice_cmp nat_cmp m []) �
 not_less_than_nothing [] = refl
 not_less_than_nothing (b ∷ m) = refl
 
--- a front of a text is what is before the rest
+-- A front of a text is the part of the text that its rest leaves.
 pub front_is : (xs ys text : List ℕ) → xs ++ ys ≡ text → take (length text - length ys) text ≡ xs
 front_is xs ys text whole =
     let n : length text - length ys ≡ length xs = omega (arith, ap length whole, length-append xs ys) in
@@ -134,7 +134,7 @@ tags_end kind at_comma at_space [] (b ∷ rest) ends =
     subst (λ c. EndsName kind (c ∷ rest)) (sym ends) (stop_ends kind space rest at_space (λ e. omega (arith, e)))
 tags_end kind at_comma at_space (t ∷ ts) rest ends = stop_ends kind comma _ at_comma (λ e. omega (arith, e))
 
--- the first of tags in order that a text begins with after a comma, and what follows it
+-- The first of the tags in order with which a text begins after a comma, and the rest after this tag.
 record IsFirstOf (before tag rest : List ℕ) : Type 0 where
   first : Tag
   more : List Tag

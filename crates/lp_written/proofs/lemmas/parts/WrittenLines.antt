@@ -129,7 +129,7 @@ fields_end = record { comma_ends = λ after. refl; after_ends = λ text w. grind
 pub later_fields : ItemSteps IsWrittenField IsWrittenTimestamp EndsValue
 later_fields = items_read IsWrittenField fields_end
 
--- the first field, and what comes after it
+-- A text is written fields exactly if it begins with a written field and its rest is written after a field.
 pub first_step : (text : List ℕ) (o : Option (Bor (List ℕ))) → IsOnlyRest (IsWrittenField text) EndsValue o
     → MatchOption o (AreWrittenFields text → ⊥) (λ r. IsWrittenAfterField r.now ↔ AreWrittenFields text)
 first_step text = followed_step IsWrittenField IsWrittenAfterField EndsValue (items_end IsWrittenField fields_end)
@@ -239,7 +239,7 @@ field_values : (fs : List Field) → AllByRecursion AdmittedField fs → AllByRe
 field_values [] all = tt
 field_values (f ∷ fs) all = (all.0.1, field_values fs all.1)
 
--- a line is as written if it is a measurement, and what comes after it
+-- A line is as written exactly if it is a written measurement and a rest that is written after a measurement.
 line_is : (line : List ℕ) → IsAsWritten line ↔ IsFollowed (IsWrittenName a_measurement) IsWrittenAfterName line
 unfolding is_admitted_point
 line_is line = (there, back)

@@ -172,7 +172,7 @@ spelling_tells other n may = rw (spelled_empty (escapable other) n, spelled_ends
 abbrev pub name_len : NameKind → List ℕ → ℕ
 name_len kind text = written_len (escapable kind) (is_stop kind) text
 
--- the spelling of a name is what is passed
+-- The spelling of a name at the start of a text is the front that is passed.
 name_passed : (kind : NameKind) (text rest : List ℕ) (w : IsWrittenName kind text rest) → EndsName kind rest
     → name_len kind text ≡ length (spelling kind w.thing)
 name_passed kind text rest w ends =

@@ -41,7 +41,7 @@ minus_zero ds more = grind (arith, ne_eqb)
 pub signed_zero : (z : ℤ) → fits_i64 z ≡ true → has_extra_zero (signed_decimal z) ≡ false
 signed_zero n fits = grind (arith, fits_from_test, decimal_digit, first_digit, minus_zero, first_decimal)
 
--- digits after a sign are what the builder writes for their number
+-- A minus sign and digits without a zero too many are the text that the builder writes for their number.
 minus_again : (ds : List ℕ) → IsNumeral 10 ds → has_extra_zero (minus ∷ ds) ≡ false
     → fits_i64 (neg_ℤ (pos (digits_value 10 ds))) ≡ true → signed_decimal (neg_ℤ (pos (digits_value 10 ds))) ≡ minus ∷ ds
 minus_again ds numeral plain fits =
@@ -51,7 +51,7 @@ minus_again ds numeral plain fits =
 plain_value : (d : ℕ) (ds : List ℕ) → IsNumeral 10 (d ∷ ds) → signed_digits_value 10 (d ∷ ds) ≡ pos (digits_value 10 (d ∷ ds))
 plain_value d ds numeral = grind (arith, digit_from_value, ne_eqb)
 
--- an integer without a zero too many is what the builder writes for its number
+-- An integer without a zero too many is the text that the builder writes for its number.
 pub integer_again : (number : List ℕ) → IsSigned (codes "-") number → has_extra_zero number ≡ false
     → fits_i64 (signed_digits_value 10 number) ≡ true → signed_decimal (signed_digits_value 10 number) ≡ number
 integer_again [] never plain fits = absurd never
@@ -230,7 +230,7 @@ pub value_word : (text rest : List ℕ) → integer_len text ≡ 0 → slice_ind
     → (b : Bool) × (text ≡ built_value (boolean b) ++ rest)
 value_word text rest whole first w ends = let t = shape text rest w ends in grind (arith)
 
--- two words at the start of a text are the same, and so is what follows them
+-- Two words for booleans at the start of one text are the same word, and the same rest follows them.
 word_same : (a b : Bool) (rest left : List ℕ) → built_value (boolean a) ++ rest ≡ built_value (boolean b) ++ left → rest ≡ left
 word_same x0 x1 rest left e = grind (arith)
 
@@ -244,7 +244,7 @@ word_answer b text left whole first s =
       λ rest w ends. let x = value_word text rest whole first w ends in word_same x.0 b rest left (sym x.1 ∙ e),
     )
 
--- if the word for true is not there, what follows that for false is the only rest of a value
+-- If the word for true is not there, the rest after the word for false is the only rest after a value.
 pub last_word : (text : List ℕ) (o : Option (Bor (List ℕ))) → integer_len text ≡ 0 → slice_index text 0 ≢ quote
     → LacksTextAt (codes "true") text 0
     → MatchOption o (LacksTextAt (codes "false") text 0) (λ r. StripsPrefix (FindsTextPrefix (codes "false")) text r.now)
