@@ -27,7 +27,7 @@ ghost use Rattle.lp_portable.specs.laws.PortableLaws.{PortableLinesAreReadAlike,
 ghost use Rattle.lp_portable.specs.laws.PortableLaws.{LinesAreSpelled, SpellingsAreUnique, SpellingsAreRead};
 ghost use Rattle.lp_format.specs.format.Lines.{tag, field};
 
-/// A batch of lines that are built from points reads back as these points if all names are admitted, and otherwise does not.
+/// A batch of lines that are built from points reads back as these points if all points are admitted, and otherwise does not.
 ///
 /// If there is enough memory and room, a batch built from points, followed by any text, parses to exactly these points in order
 /// and then to the items of that text alone, if and only if every name is admitted. In the newline-delimited dialect, no string

@@ -213,7 +213,7 @@ impl<B: BufMut> LineProtocolBuilder<B, BeforeMeasurement> {
     ///
     /// ```
     /// // a builder of packets of at most 64 bytes, which never takes memory
-    /// let lines = LineProtocolBuilder::new_with(ArrayVec::<u8, 64>::new());
+    /// let lines: LineProtocolBuilder<ArrayVec<u8, 64>, BeforeMeasurement> = LineProtocolBuilder::new_with(ArrayVec::new());
     /// ```
     pub fn new_with(buf: B) -> Self
         ensures { buffer_of result ≡ buf }

@@ -21,7 +21,7 @@ pub data IsValueText (text : List ℕ) (v : Value Text) : Type 0 where
   plain_value : LiteralText text v → IsValueText text v
   in_quotes : (body : List ℕ) → is_body false body ≡ true → text ≡ quote ∷ (body ++ quote ∷ []) → v ≡ string (read_text quotable body) → IsValueText text v
 
--- a field by its spelled key, the text of its value, and what that says
+-- A field by its spelled key, the text of its value, and the value.
 pub record FieldText : Type 0 where
   pub key : List ℕ
   pub text : List ℕ
@@ -40,7 +40,7 @@ abbrev pub after_commas : List FieldText → List ℕ → List ℕ
 after_commas [] rest = rest
 after_commas (f ∷ fs) rest = comma ∷ (f.key ++ equals ∷ (f.text ++ after_commas fs rest))
 
--- unequal the other way round
+-- Two different bytes are different in the other order too.
 pub flip : (a b : ℕ) → (a == b) ≡ false → (b == a) ≡ false
 flip a b h = ne_eqb b a (λ is. false≢true (sym h ∙ eq-eqb a b (sym is)))
 
@@ -50,7 +50,7 @@ start true = a_divider
 start false = a_byte
 
 module _ (n : ℕ) where
-  -- no quote opens a string where as many commas came before it as equals signs
+  -- A quote opens no string if as many commas as equals signs came before it.
   no_string : (b : ℕ) → (b == quote && nat_lt n n) ≡ false
   no_string b = elim (cases_Bool (b == quote)) [
     | inl is ↦ rw is (le-ltb n n (omega arith))
@@ -290,7 +290,7 @@ fields_read f fs all =
     next [] = nothing_more
     next (f ∷ fs) = one_more _
 
--- fields before the end of a text are those before its rest
+-- The text of fields before a rest is the text of these fields and the rest.
 joined_end : (fs : List FieldText) (rest : List ℕ) → after_commas fs rest ≡ after_commas fs [] ++ rest
 joined_end [] rest = refl
 joined_end (f ∷ fs) rest =

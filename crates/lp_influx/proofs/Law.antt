@@ -18,7 +18,7 @@ use Rattle.lp_influx.proofs.SpelledFields.{fewer_escaped}
 use Rattle.lp_influx.proofs.Parts.{IsPlainLine, first_of, parts_of, parts_read}
 use Rattle.lp_influx.proofs.Starts.{start_alike}
 
--- a text is not among texts if what is made of it is not among what is made of them
+-- A text is not among some texts if its image is not among their images.
 not_among : (f : List ℕ → List ℕ) (k : List ℕ) (ks : List (List ℕ)) → list_any (bytes_eq (f k)) (map f ks) ≡ false → list_any (bytes_eq k) ks ≡ false
 not_among f k [] h = refl
 not_among f k (x ∷ ks) h =
@@ -46,7 +46,7 @@ keys_of (x ∷ xs) (t ∷ ts) h =
     let others : map logical_names xs ≡ map logical_tag ts = cc in
     rw (ap (λ (p : Pair (List ℕ) (List ℕ)). p.key) first, keys_of xs ts others) refl
 
--- the escapes of a tag are those of the strict reader, but for the backslash
+-- The escapes of a tag are those of the strict reader, except for the backslash.
 tag_escapes : (b : ℕ) → is_one_of (backslash ∷ []) b ≡ false → is_one_of (comma ∷ space ∷ equals ∷ []) b ≡ is_escapable a_tag_key b
 tag_escapes b none = grind (arith, common_steps, cases_Bool)
 
@@ -99,7 +99,7 @@ plain_line limits text p =
       time = keeps portable.time_out_of_range refl;
     }
 
--- the parts of such a line are its point
+-- The point of the parts of a portable line is the point that the strict reader reads.
 point_alike : (limits : Limits) (text : List ℕ) (p : IsPortable influx1 limits text) (fields : List FieldText)
     → answer Strict (trimmed text) ≡ Ok p.line → map (λ f. f.key) fields ≡ p.names.keys → map (λ f. f.value) fields ≡ map (λ f. f.value) p.line.fields
     → point_of_parts (parts_of p.line p.names fields) ≡ Some (point_of p.line)
@@ -140,11 +140,11 @@ measurement_begins text (b ∷ name) rest f =
     let other : begins_with nul (b ∷ (name ++ rest)) ≡ false = flip_byte (neither (nul == b) false none).0 in
     (λ empty. absurd (omega (arith, ap length (sym empty ∙ f.whole))), ap (begins_with nul) f.whole ∙ other)
   where
-    -- the other way round
+    -- Two different bytes are different in the other order too.
     flip_byte : (nul == b) ≡ false → (b == nul) ≡ false
     flip_byte h = flip nul b h
 
--- of each portable line the same point is read
+-- From each portable line, both readers read the same point.
 pub influx_reads_portable_lines : InfluxReadsPortableLines
 unfolding influx_line
 influx_reads_portable_lines limits text p =

@@ -50,7 +50,7 @@ module _ (line name rest left after start : List ℕ) (tags : List (Pair (List �
   pub no_fields : influx_fields gap start ≡ miss → parts_at line ≡ miss
   no_fields none = rw (m, t, b, gap_is, ← g, none) refl
 
-  -- nor without a time that is one
+  -- Without a time in range there are no parts.
   pub no_time : (fields : List (Pair (List ℕ) (Value Text))) (end : List ℕ) → influx_fields gap start ≡ reads fields end → influx_time end ≡ miss
       → parts_at line ≡ miss
   no_time fields end f none = rw (m, t, b, gap_is, ← g, f, none) refl

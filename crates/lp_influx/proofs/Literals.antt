@@ -1,4 +1,4 @@
--- What the reader in code finds of literals.
+-- Each literal that the reader in code finds is the literal of the definition.
 use Rattle.std.proofs.Common.{◌≡◌, ◌≢◌, ◌<◌, ◌+◌, ◌^◌, ℕ, ℤ, List, [], ◌∷◌, length, take, drop, Bool, true, false, ◌==◌, codes, refl, sym, ap, ◌∙◌, arith, FitsSigned, w64, slice_index, if◌then◌else◌, nat_lt, lt-ltb, ne_eqb, eqb-true, ◌&&◌, not, to_z-of_z, length-take, inl, inr, ltb-true}
 use Rattle.std.proofs.lemmas.{Bool.cases_Bool, Bool.Decides.nat_tests, Grind.common_steps}
 use Rattle.std.specs.Str.Parse.{IsNumeral, digits_value, signed_digits_value, without_leading_sign, without_leading_plus}

@@ -1,4 +1,4 @@
--- The parts of a portable line are those that InfluxDB's reader finds.
+-- InfluxDB's reader finds the same parts of a portable line as the strict reader.
 use Rattle.std.proofs.Common.{◌≡◌, ℕ, ℤ, ◌-◌, ◌<◌, pos, negsuc, List, [], ◌∷◌, ◌++◌, length, drop, map, true, false, ◌==◌, refl, sym, ap, ◌∙◌, arith, inl, inr, Option, None, Ok}
 use Rattle.std.proofs.Common.{eqb-true, length-append}
 use Rattle.std.proofs.lemmas.{Bool.cases_Bool, Bool.false≢true, Grind.common_steps}
@@ -30,7 +30,7 @@ tag_rest text x t rest end e d =
     let p = pair_parts a_tag_key (name a_tag_value) text t end d in
     by p.mid p.key p.value
   where
-    -- by what the names leave
+    -- Both readings of a tag leave the same rest, by the rests that its names leave.
     by : (mid : List ℕ) → name a_tag_key text ≡ reads t.key (equals ∷ mid) → name a_tag_value mid ≡ reads t.value end → rest ≡ end
     by mid key val = sym (reads_parts _ x end rest (rw (key, val) at e)).1
 
@@ -55,7 +55,7 @@ after_fields_is (b ∷ text) t e = elim (cases_Bool (b == space)) [
       absurd (omega (arith, ap length same))
 ]
 
--- the first byte of a name that holds none of some bytes bare is none of them
+-- The first byte of a name that holds none of some bytes bare is none of these bytes.
 pub first_of : (marks : List ℕ) (b : ℕ) (name : List ℕ) → is_one_of marks backslash ≡ false → holds [] marks (b ∷ name) ≡ false → is_one_of marks b ≡ false
 unfolding holds
 first_of marks b [] other none = none
@@ -191,7 +191,7 @@ pub parts_read : (text : List ℕ) (line : Line) (names : Spelling) → answer S
     → PartsRead text line names
 parts_read text line names e h plain = by_row ((answer_is_by_rows Strict text (Ok line)).0 e)
   where
-    -- by the row of the table of answers
+    -- The parts of a line are read, by the row of the table of answers.
     by_row : IsAnswer Strict text (Ok line) → PartsRead text line names
     by_row (all_read _ rest r stamp) =
         let s = series_parts r.series_reads in

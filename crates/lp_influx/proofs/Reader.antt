@@ -1,4 +1,4 @@
--- What the reader in code walks over.
+-- The loops of the reader in code read the lists and the fronts of the definition.
 use Rattle.std.proofs.Common.{◌≡◌, ◌≤◌, ◌<◌, ℕ, zero, suc, List, [], ◌∷◌, ◌++◌, length, take, drop, nat_lt, le-ltb, ◌-◌, Bool, false, not, ◌&&◌, ◌==◌, inl, inr, if◌then◌else◌, refl, sym, ap, ◌∙◌, arith, append_assoc, append-nil, map}
 use Rattle.std.proofs.lemmas.{Bool.cases_Bool, Grind.common_steps, List.map-append}
 use Rattle.lp_format.specs.format.{Reading, backslash, fatal, is_one_of, many, miss, prepend, quotable, quote, read_text, reads, string, without_escapes}
@@ -68,7 +68,7 @@ module _ {A : Type 0} where
   prepend_none (fatal e) = refl
   prepend_none (reads xs rest) = refl
 
-  -- some before some
+  -- Putting elements before a list twice puts both before it.
   prepend_more : (xs ys : List A) (r : Reading (List A)) → prepend xs (prepend ys r) ≡ prepend (xs ++ ys) r
   prepend_more xs ys miss = refl
   prepend_more xs ys (fatal e) = refl
@@ -79,16 +79,16 @@ module _ {A : Type 0} where
       → many one (suc most) left ≡ prepend (x ∷ []) (many one most rest)
   many_more one most left rest x e = rw e refl
 
-  -- none
+  -- If no element is read, the list is empty and the whole text is left.
   many_none : (one : List ℕ → Reading A) (most : ℕ) (left : List ℕ) → one left ≡ miss → many one most left ≡ reads [] left
   many_none one zero left e = refl
   many_none one (suc most) left e = rw e refl
 
-  -- at the start, after some
+  -- At its start, a walk has the elements that were found before.
   pub walk_start : (one : List ℕ → Reading A) (xs : List A) (text : List ℕ) → Walk one (prepend xs (many one (length text) text)) xs text
   walk_start one xs text = record { most = length text; enough = omega arith; goes_on = refl }
 
-  -- after none
+  -- A walk may start without an element.
   pub walk_none : (one : List ℕ → Reading A) (text : List ℕ) → Walk one (many one (length text) text) [] text
   walk_none one text = record { most = length text; enough = omega arith; goes_on = sym (prepend_none _) }
 
@@ -114,7 +114,7 @@ module _ {A : Type 0} where
   walk_push view one whole xs ys left rest x w e less pushed =
       rw (pushed, map-append view xs (x ∷ [])) (walk_step one whole (map view xs) left rest (view x) w e less)
 
-  -- at the end
+  -- At the end of a walk, the whole list is read.
   pub walk_end : (one : List ℕ → Reading A) (whole : Reading (List A)) (xs : List A) (left : List ℕ) → Walk one whole xs left → one left ≡ miss
       → whole ≡ reads xs left
   walk_end one whole xs left w e = w.goes_on ∙ ap (prepend xs) (many_none one w.most left e) ∙ rw append-nil refl

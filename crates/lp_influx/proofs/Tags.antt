@@ -1,4 +1,4 @@
--- The tags of a portable line are those that InfluxDB reads.
+-- InfluxDB's reader reads the same tags of a portable line as the strict reader.
 use Rattle.std.proofs.Common.{◌≡◌, ℕ, ◌<◌, ◌≤◌, List, [], ◌∷◌, ◌++◌, length, true, false, ◌==◌, refl, sym, ap, ◌∙◌, arith, inl, inr}
 use Rattle.std.proofs.Common.{eqb-true, length-drop}
 use Rattle.std.proofs.lemmas.{Bool.cases_Bool}
@@ -64,7 +64,7 @@ value_front_is (c ∷ val) rest b end some no_pair no_end no_sign last = elim (c
       rw other (until_name tag_ends (c ∷ val) rest b refl end no_pair bare last)
 ]
 
--- a tag without such escapes, commas and equals signs is read, before a byte that ends it
+-- A tag without escaped backslashes, commas and equals signs is read as it is spelled, before a byte that ends a tag.
 tag_alike : (text rest : List ℕ) (t : Pair (List ℕ) (List ℕ)) (b : ℕ) → tag_text text ≡ reads t (b ∷ rest) → is_one_of (comma ∷ space ∷ []) b ≡ true
     → has_escape t ≡ false → has_comma t ≡ false → has_sign t ≡ false → influx_tag text ≡ reads t (b ∷ rest)
 tag_alike text rest t b e end escapes commas signs =
@@ -92,7 +92,7 @@ tag_no_longer text t rest e =
     some_left : (front text found rest : List ℕ) → some_of front text ≡ reads found rest → length rest ≤ length text
     some_left front text found rest e = grind (arith, cases_Bool, length-drop)
 
--- tags after commas begin with a comma, and what follows them with a space
+-- A text of tags after commas and a space begins with a comma or a space.
 pub next_byte : (tags : List (Pair (List ℕ) (List ℕ))) (text rest : List ℕ) → AreAfterCommas tag_text tags text (space ∷ rest)
     → (b : ℕ) × (more : List ℕ) × (text ≡ b ∷ more) × (is_one_of (comma ∷ space ∷ []) b ≡ true)
 next_byte [] text rest are = (space, rest, are, refl)
@@ -100,7 +100,7 @@ next_byte (t ∷ tags) text rest are =
     let two = bind_reads (byte comma text) (λ after. tag_text after.rest) t are.0 are.1 in
     (comma, two.mid, (byte_parts comma text two.first two.mid two.was).1, refl)
 
--- tags that come after commas, before a space, are those that are read
+-- Tags after commas and before a space are the tags that are read.
 tags_after : (tags : List (Pair (List ℕ) (List ℕ))) (text rest : List ℕ) → AreAfterCommas tag_text tags text (space ∷ rest)
     → list_any has_escape tags ≡ false → list_any has_comma tags ≡ false → list_any has_sign tags ≡ false
     → AreAfterCommas influx_tag tags text (space ∷ rest)

@@ -1,4 +1,4 @@
--- What the code tells of a line is what the definition says of it.
+-- The clauses that the code finds broken are the clauses that are broken by the definition.
 use Rattle.std.proofs.Common.{◌≡◌, ℕ, ◌+◌, not, List, ◌∷◌, [], length, map, option_map, Some, None, codes, nat_lt, bytes_eq, refl, sym, ap, ◌∙◌}
 use Rattle.std.proofs.lemmas.List.{length-map}
 use Rattle.lp_format.specs.format.{is_one_of, quote, some_tags}
@@ -26,7 +26,7 @@ field_keys (f ∷ fields) = ap (λ (keys : List (List ℕ)). text_of f.0 ∷ key
 pub tags_are : (read : ParsedLine) → some_tags (line_read read).tags ≡ map tag_of (some_items read.series.tag_set)
 tags_are read = by_set read.series.tag_set
   where
-    -- by whether there is a set
+    -- The tags of a set are its items, by whether there is a set.
     by_set : (set : _) → some_tags (option_map tags_of set) ≡ map tag_of (some_items set)
     by_set None = refl
     by_set (Some tags) = refl

@@ -1,4 +1,4 @@
--- A text ends in what is left of it after a value, and after a field.
+-- The text that is left after a value, or after a field, is an end of the text.
 use Rattle.std.proofs.Common.{◌≡◌, ℕ, List, [], ◌∷◌, drop, refl, sym, arith, Bool, cond}
 use Rattle.lp_format.specs.format.{equals, Fault, Pair, Reading, Text, Value, a_field_key}
 use Rattle.lp_format.specs.format.{fatal, field, miss, reads, value, ◌otherwise◌}
@@ -33,7 +33,7 @@ either text b r s h k = grind arith
 one_of_two : {A : Type 0} (text : List ℕ) (r s : Reading A) → LeavesEnd text r → LeavesEnd text s → LeavesEnd text (r otherwise s)
 one_of_two text r s h k = grind arith
 
--- after a quote
+-- A text without its first bytes, after a quote, is an end of the text with the quote.
 after_quote : (b : ℕ) (after : List ℕ) (n : ℕ) → EndsIn (b ∷ after) (drop n after)
 after_quote b after n =
     EndsIn-end (b ∷ after) after (drop n after) (record { front = b ∷ []; is = refl }) (EndsIn-drop n after (drop n after) refl)
@@ -49,7 +49,7 @@ pub value_left : (text : List ℕ) → LeavesEnd text (value text)
 unfolding value integer_at unsigned_at float_at boolean_at
 value_left text = grind (arith, either, none_left, drop_left, fault_left, one_of_two, string_left)
 
--- a text ends in what is left after a field
+-- The text that is left after a field is an end of the text.
 pub field_ends : (text : List ℕ) (x : Pair Text (Value Text)) (rest : List ℕ) → field text ≡ reads x rest → EndsIn text rest
 unfolding field
 field_ends text x rest e =

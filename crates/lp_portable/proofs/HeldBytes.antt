@@ -1,4 +1,4 @@
--- What bytes a name holds, escaped or bare.
+-- The bytes that a name holds, escaped or bare.
 use Rattle.std.proofs.Common.{◌≡◌, ℕ, ◌<◌, ◌≤◌, List, [], ◌∷◌, ◌++◌, length, if◌then◌else◌, Bool, true, false, ◌||◌, ◌==◌, refl, sym, ap, ◌∙◌, arith, inl, inr, eqb-true, eq-eqb, ne_eqb}
 use Rattle.std.specs.List.{list_any}
 use Rattle.std.proofs.lemmas.{Bool.cases_Bool, Bool.or_parts, Bool.eqb-false, Bool.false≢true}
@@ -44,7 +44,7 @@ each_alone known (b ∷ c ∷ rest) h = elim (cases_Bool (b == backslash)) [
   | inr plain ↦ rw plain (ap (λ (t : List ℕ). b ∷ t) (each_alone known (c ∷ rest) (rw plain at h)))
 ]
 
--- a text that holds none of some bytes escaped does not hold one of them so
+-- A text that holds none of some bytes escaped does not hold a single one of these bytes escaped.
 not_one : (marks : List ℕ) (c : ℕ) (text : List ℕ) → is_one_of marks c ≡ true → holds marks [] text ≡ false → holds (c ∷ []) [] text ≡ false
 unfolding holds
 not_one marks c [] mark h = refl
@@ -57,7 +57,7 @@ not_one marks c (b ∷ d ∷ rest) mark h = elim (cases_Bool (b == backslash)) [
   | inr plain ↦ rw plain (not_one marks c (d ∷ rest) mark (rw plain at h))
 ]
 
--- a name without such escapes means the same, by two sets of them that hold the backslash
+-- A name that holds the bytes of neither of two lists escaped means the same, if the second list has the backslash.
 pub without_both : (some others : List ℕ) (kind : NameKind) (name known : List ℕ) → is_one_of others backslash ≡ true
     → ((b : ℕ) → is_one_of some b ≡ false → is_one_of others b ≡ false → is_one_of known b ≡ is_one_of (escapable kind) b)
     → holds some [] name ≡ false → holds others [] name ≡ false
@@ -76,7 +76,7 @@ or_second : (a b : Bool) → b ≡ true → (a || b) ≡ true
 or_second true b h = refl
 or_second false b h = h
 
--- of some bytes that a text holds escaped it holds one
+-- A text that holds some of these bytes escaped holds a single one of them escaped.
 one_mark : (marks text : List ℕ) → holds marks [] text ≡ true → (c : ℕ) × (is_one_of marks c ≡ true) × (holds (c ∷ []) [] text ≡ true)
 unfolding holds
 one_mark marks [] h = absurd (false≢true h)
@@ -112,7 +112,7 @@ shorter c xs ys (b ∷ d ∷ rest) agree more less =
       | inr plain ↦ grind arith
     ]
 
--- some bytes without one
+-- These bytes without one byte.
 abbrev without : ℕ → List ℕ → List ℕ
 without c [] = []
 without c (b ∷ bytes) = if b == c then without c bytes else b ∷ without c bytes
@@ -143,7 +143,7 @@ not_it marks b c none some = elim (cases_Bool (b == c)) [
   | inr other ↦ other
 ]
 
--- a name that holds one of these bytes escaped does not mean the same
+-- A name that holds one of these bytes escaped does not mean the same to all readers that may escape them.
 with_mark : (marks : List ℕ) (kind : NameKind) (name : List ℕ) → MeansTheSame marks kind name → ¬ (holds marks [] name ≡ true)
 with_mark marks kind name same held =
     let (c, mark, here) = one_mark marks name held in

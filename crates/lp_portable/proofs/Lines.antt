@@ -1,4 +1,4 @@
--- Texts that are one line, and what is told of them.
+-- Texts that are one line, and the answers for them.
 use Rattle.std.proofs.Common.{◌≡◌, ℕ, ◌<◌, ◌++◌, List, [], ◌∷◌, length, take, drop, get_or, ◌+◌, refl, subst, arith, append-nil, zero, suc, IsTrue, ◌↔◌, Ok, Err, Result}
 use Rattle.std.specs.Result.{is_ok}
 use Rattle.std.proofs.lemmas.Bool.{false≢true}
@@ -27,7 +27,7 @@ cut_within dialect text at within is cut whole =
     no_cut_within dialect (take at text) (drop (at + 1) text) cut
     (IsLastPiece-cut dialect _ (subst (IsCutPiece dialect) (split_at text at within is) whole))
 
--- nothing is answered for a piece of which nothing is left
+-- A piece of which nothing is left is no line: it has no answer.
 pub blank_is_no_line : (text : List ℕ) (line : Line) → length (trimmed text) ≡ 0 → ¬ IsOneLine text line
 unfolding answers_of_piece
 blank_is_no_line text line none h = let a = h.read in absurd (grind arith)

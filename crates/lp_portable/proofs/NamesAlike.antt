@@ -9,7 +9,7 @@ use Rattle.lp_portable.specs.format.Portable as portable
 use Rattle.lp_format.specs.format.{Line, newline}
 use Rattle.lp_portable.proofs.{AnsweredAlike.lines_are_answered_alike, AnsweredAlike.no_newline, HeldBytes.neither, HeldBytes.without_both, HeldBytes.without_marks}
 
--- a measurement without such escapes means the same
+-- A measurement without escaped equals signs, backslashes and quotes means the same to readers with other escapes.
 measurement_alike : (name : List ℕ) → holds (equals ∷ []) [] name ≡ false → has_marked_escape name ≡ false
     → MeansTheSame (backslash ∷ quote ∷ equals ∷ []) a_measurement name
 measurement_alike name signs marked known agree =
@@ -29,7 +29,7 @@ keys_alike : (keys : List (List ℕ)) → list_any has_marked_escape keys ≡ fa
 keys_alike [] h = tt
 keys_alike (key ∷ keys) h = let both = neither _ _ h in (without_marks _ a_field_key key refl both.0, keys_alike keys both.1)
 
--- all names do, if no kind of them holds such an escape
+-- All names mean the same to readers with other escapes, if no name holds one of these escapes.
 names_alike : (names : Spelling) → holds (equals ∷ []) [] names.measurement ≡ false → has_marked_escape names.measurement ≡ false
     → list_any has_escape names.tags ≡ false → list_any has_marked_escape names.keys ≡ false → NamesMeanTheSame names
 names_alike names signs marked tags keys = record {

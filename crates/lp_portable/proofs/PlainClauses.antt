@@ -83,7 +83,7 @@ holds_bare escaped marks (b ∷ c ∷ rest) h =
     let parts = or_none (b == backslash) _ h in
     rw parts.0 (ap (λ (x : Bool). is_one_of marks b || x) (holds_bare escaped marks (c ∷ rest) parts.1))
 
--- no byte is one of none
+-- No byte of a text is among no bytes.
 none_of_none : (text : List ℕ) → list_any (is_one_of []) text ≡ false
 none_of_none [] = refl
 none_of_none (b ∷ text) = none_of_none text
@@ -154,7 +154,7 @@ no_control (b ∷ text) h k =
     let c = or_none (b == 13) _ k in
     rw (ne_eqb nul b (λ e. eqb-false b nul a.0 (sym e)), ne_eqb 13 b (λ e. eqb-false b 13 c.0 (sym e))) (no_control text a.1 c.1)
 
--- fewer tags than those that make InfluxDB panic
+-- At most 29 tags are fewer than the tags that make InfluxDB panic.
 few_hundreds : (n : ℕ) → n ≤ 29 → is_hundreds n ≡ false
 few_hundreds n few = rw (
   ne_eqb 100 n (λ e. omega (arith, e, few)),
@@ -185,12 +185,12 @@ keys_same (k ∷ keys) all = rw (own_logical _ k all.0.no_backslash, keys_same k
 abbrev IsGoodNames : Pair (List ℕ) (List ℕ) → Type 0
 IsGoodNames t = (PlainText t.key × PlainText t.value) × (Lacks comma t.key × Lacks equals t.value)
 
--- two things that each of a list is, each of it is
+-- If all elements of a list have two properties, each element has both.
 both_are : {A : Type 0} (P Q : A → Type 0) (xs : List A) → AllByRecursion P xs → AllByRecursion Q xs → AllByRecursion (λ x. P x × Q x) xs
 both_are P Q [] p q = tt
 both_are P Q (x ∷ xs) p q = ((p.0, q.0), both_are P Q xs p.1 q.1)
 
--- tags that break nothing, of such names
+-- Tags with good names that are sure break no clause.
 good_tags : (tags : List (Pair Text Text)) → AllByRecursion IsGoodNames (map logical_tag tags) → AllByRecursion SureTag tags
     → AllByRecursion GoodTag tags
 good_tags [] plain sure = tt
@@ -210,7 +210,7 @@ good_fields (f ∷ fields) plain sure =
 either_none : {a b : Bool} → a ≡ false → b ≡ false → (a || b) ≡ false
 either_none h k = rw h k
 
--- no measurement and no key of the server's own
+-- A measurement that begins with no underscore is no measurement of the server's own.
 no_system : (name : List ℕ) → begins_own name ≡ false → is_system_measurement name ≡ false
 no_system name h = rw (
   no_own (codes "series") name h,
@@ -222,7 +222,7 @@ no_system name h = rw (
   no_own (codes "tags") name h,
 ) refl
 
--- nor such a field key
+-- A field key that begins with no underscore is no field key of the server's own.
 no_system_key : (key : List ℕ) → begins_own key ≡ false → is_system_key key ≡ false
 no_system_key key h = rw (
   no_own (codes "name") key h,
@@ -232,12 +232,12 @@ no_system_key key h = rw (
   no_own (codes "seriesKey") key h,
 ) refl
 
--- no first key begins with a byte 0
+-- The first field key does not begin with a byte 0, if the fields are good.
 no_nul : (fields : List (Pair Text (Value Text))) → AllByRecursion GoodField fields → begins_with_nul fields ≡ false
 no_nul [] all = refl
 no_nul (f ∷ fields) all = first f.key.bytes all.0.key.no_nul
   where
-    -- by its first byte
+    -- A key that lacks the byte 0 does not begin with it.
     first : (key : List ℕ) → Lacks nul key → format.begins_with nul key ≡ false
     first [] h = refl
     first (b ∷ key) h = (or_none (b == nul) _ h).0
@@ -260,7 +260,7 @@ pub record PlainLine (text : List ℕ) (line : Line) (names : Spelling) : Type 0
   pub fields_once : has_repeats (map (λ f. f.key.bytes) line.fields) ≡ false
   pub series : PlainText line.series
 
--- no clause is broken but those about its time, its tags and its length, which are as they are noted
+-- A plain line breaks only clauses about its time, its tags and its length, and the notes have these facts.
 pub plain_breaks : (limits : code.Limits) (text : List ℕ) (line : Line) (names : Spelling) (n : Noted) → PlainLine text line names
     → length (some_tags line.tags) ≡ n.tags → line.timestamp ≡ n.timestamp
     → (clause : Clause) → breaks (limits_of limits) text line names (clause_of clause) ≡ is_broken (broken_by_noted limits text n.tags n.timestamp) clause
@@ -331,7 +331,7 @@ plain_breaks limits text line names n h tags time Clause.LongLine =
 plain_breaks limits text line names n h tags time Clause.TimeNotKept =
     ap (is_outside limits.earliest limits.latest) time
 
--- a bare text that is noted to its end is such a line
+-- A bare text whose line is noted to its end is a plain line.
 pub plain_line : (text : List ℕ) (line : Line) (names : Spelling) (n : Noted) → PlainText (trimmed text) → answer Strict (trimmed text) ≡ Ok line
     → IsSpelled (trimmed text) line names → BareNames text names → LineNoted line n
     → is_one_of (space ∷ tab ∷ []) (slice_index_or text 0 0) ≡ false → (slice_index text (length text - 1) == space) ≡ false → Lacks newline text
@@ -376,7 +376,7 @@ plain_is text short none =
       short = short;
     }
 
--- a bare text of which this is noted is one line that breaks what is noted, and no other clause
+-- A bare text with these notes is one line that breaks the clauses which the notes show, and no other clause.
 pub noted_breaks : (limits : code.Limits) (text : List ℕ) (n : Noted) → IsBare text (n.tags + n.fields) → IsLineNoted (trimmed text) n
     → Breaks limits text (broken_by_noted limits text n.tags n.timestamp)
 noted_breaks limits text n bare (line, read, are) =

@@ -1,4 +1,4 @@
--- What is noted of a line that is read to its end.
+-- The notes about a line that is read to its end.
 use Rattle.std.proofs.Common.{◌≡◌, ℕ, ◌+◌, ◌≤◌, ◌&&◌, Bool, true, false, not, List, [], ◌∷◌, ◌++◌, length, map, Ok, Err, Result, refl, sym, ◌∙◌, ap, arith, nat_lt}
 use Rattle.std.specs.{List.AllByRecursion, Prelude.if◌then◌else◌}
 use Rattle.std.proofs.lemmas.Bool.{and_parts, false≢true, ltb-true}
@@ -27,20 +27,20 @@ stays_unsure : (e : Event) → note unsure e ≡ unsure
 stays_unsure (named m) = refl
 stays_unsure (tagged t) = either (t.key.is_single && t.value.is_single)
   where
-    -- in both cases
+    -- Both branches of the choice are unsure notes.
     either : (b : Bool) → (if b then unsure else unsure) ≡ unsure
     either true = refl
     either false = refl
 stays_unsure (valued f) = either f.key.is_single
   where
-    -- in both cases
+    -- Both branches of the choice are unsure notes.
     either : (b : Bool) → (if b then unsure else unsure) ≡ unsure
     either true = refl
     either false = refl
 stays_unsure (ended series timestamp) = refl
 stays_unsure (failed fault) = refl
 
--- after any events
+-- After any events, unsure notes stay unsure.
 all_unsure : (es : List Event) → note_all unsure es ≡ unsure
 all_unsure [] = refl
 all_unsure (e ∷ es) = ap (λ n. note_all n es) (stays_unsure e) ∙ all_unsure es

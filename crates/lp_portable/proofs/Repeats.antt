@@ -1,4 +1,4 @@
--- Keys that are looked for among those after them.
+-- A search for keys among the keys after them.
 use Rattle.std.proofs.Common.{◌≡◌, ℕ, ◌<◌, ◌+◌, ◌||◌, Bool, true, false, cond, List, [], ◌∷◌, ◌++◌, length, take, drop, get_or, refl, sym, ap, ◌∙◌, arith}
 use Rattle.std.proofs.Common.{bytes_eq, Bor, BTreeMap, is_some, Some, Option, nat_cmp, take-append-drop}
 use Rattle.std.proofs.lemmas.List.{map-append, take_more}
@@ -12,7 +12,7 @@ use Rattle.lp_events.specs.code.OwnBases.{is_strictly_sorted}
 use Rattle.lp_values.specs.{declared.escaped.EscapedStr.EscapedStr, code.Texts.text_of}
 use Rattle.lp_portable.specs.{code.Walks.keys_in, format.Portable.has_repeats}
 
--- the keys from a place on are that there and those after it
+-- The keys from a place on are the key at this place and the keys after it.
 pub keys_from : {X : Type 0} (items : List (EscapedStr × X)) (i : ℕ) (x : EscapedStr × X) → i < length items → x ≡ get_or items i x
     → keys_in (drop i items) ≡ text_of x.0 ∷ keys_in (drop (i + 1) items)
 keys_from {X} items i x within is =
@@ -28,7 +28,7 @@ or_true : (b : Bool) → (b || true) ≡ true
 or_true true = refl
 or_true false = refl
 
--- a key that is repeated among some is so among more
+-- A key that is repeated among some keys is repeated among more keys.
 repeats_within : (front keys : List (List ℕ)) → has_repeats keys ≡ true → has_repeats (front ++ keys) ≡ true
 repeats_within [] keys is = is
 repeats_within (k ∷ front) keys is = rw (repeats_within front keys is) (or_true (list_any (bytes_eq k) (front ++ keys)))
@@ -59,7 +59,7 @@ repeats_snoc (x ∷ keys) k =
     rw (list_any-append (bytes_eq x) keys (k ∷ []), repeats_snoc keys k, nat_list_eq_equiv.symm x k)
     (four (list_any (bytes_eq x) keys) (bytes_eq k x) (list_any (bytes_eq k) keys) (has_repeats keys))
   where
-    -- of four in another order
+    -- Four tests can be joined in another order.
     four : (a b c d : Bool) → ((a || (b || false)) || (c || d)) ≡ ((b || c) || (a || d))
     four true true c d = refl
     four true false true d = refl
@@ -83,7 +83,7 @@ module _ {X : Type 0} (items : List (EscapedStr × X)) (i : ℕ) (x : EscapedStr
       ap keys_in (take_more items i x within ∙ ap (λ (y : EscapedStr × X). take i items ++ y ∷ []) (sym is))
       ∙ map-append (λ (y : EscapedStr × X). text_of y.0) (take i items) (x ∷ [])
 
-  -- a key that is among those before it is repeated
+  -- If the next key is among the keys before it, a key is repeated.
   pub repeated_here : list_any (λ y. bytes_eq (text_of x.0) (text_of y.0)) (take i items) ≡ true → has_repeats (keys_in items) ≡ true
   repeated_here found =
       let again = keys_any (bytes_eq (text_of x.0)) (take i items) ∙ found in

@@ -1,4 +1,4 @@
--- What is read of a line, and how it is spelled.
+-- Parts that are read of a line, and the spelling of their names.
 use Rattle.std.proofs.Common.{◌≡◌, ℕ, List, [], ◌∷◌, ◌++◌, length, take, refl, sym, ◌∙◌, ap, arith, take-append-drop, ◌-◌, ◌<◌, ◌||◌, Bool, map, length-append}
 use Rattle.std.proofs.Math.Seq.{take-append_seam}
 use Rattle.lp_format.specs.format.{NameKind, Reading, Text, after_comma, name, reads, spelled, spelled_len}
@@ -28,7 +28,7 @@ cut_name kind text rest t e =
 pub ruleset name_steps = (cut_name)
 
 module _ {A : Type 0} (one : List ℕ → Reading A) where
-  -- of parts that come after commas the first is the one that is read
+  -- The first of the parts after commas is the part that is read.
   pub next_after : (xs : List A) (text rest after : List ℕ) (x : A) → AreAfterCommas one xs text rest → 0 < length xs
       → after_comma one text ≡ reads x after → (more : List A) × (xs ≡ x ∷ more) × AreAfterCommas one more after rest
   next_after [] text rest after x h some e = absurd (omega arith)
@@ -60,7 +60,7 @@ keys_step series_len found key keys = rw (
   or_assoc found.long (is_long_after series_len key) (list_any (is_long_after series_len) keys),
 ) refl
 
--- a test of what is seen of elements
+-- Some image of an element passes a test exactly if some element passes the test of its image.
 pub any_map : {X Y : Type 0} (p : Y → Bool) (f : X → Y) (xs : List X) → list_any p (map f xs) ≡ list_any (λ x. p (f x)) xs
 any_map p f [] = refl
 any_map p f (x ∷ xs) = ap (λ (b : Bool). p (f x) || b) (any_map p f xs)

@@ -1,4 +1,4 @@
--- Each line that is read has a spelling, and what was read are its logical texts.
+-- Each line that is read has a spelling, and its names are the logical texts of this spelling.
 use Rattle.std.proofs.Common.{◌≡◌, ℕ, List, [], ◌∷◌, length, map, drop, refl, sym, ap, ◌∙◌, arith}
 use Rattle.lp_format.specs.format.{Pair, Reading, Strict, Text, Value, a_field_key, a_measurement, a_tag_key, a_tag_value, equals}
 use Rattle.lp_format.specs.format.{NameKind, field, logical, logical_tag, name, reads, some_tags, spaces, spelled, tag, value}
@@ -11,7 +11,7 @@ use Rattle.lp_portable.specs.format.Spellings.{AreAfterCommas, AreJoined, key_te
 use Rattle.lp_portable.specs.laws.PortableLaws.{LinesAreSpelled, SpellingsAreRead, logical_names}
 use Rattle.lp_portable.proofs.LinesSpelled.{line_spelled}
 
--- two readings of one text leave the same, and what they give is seen alike
+-- Two readings of one text leave the same rest, and their results have the same view.
 abbrev AreOne : {A B C : Type 0} → (A → C) → (B → C) → (List ℕ → Reading A) → (List ℕ → Reading B) → Type 0
 AreOne {A} {B} f g one other =
     (text : List ℕ) (x : A) (y : B) (rest end : List ℕ) → one text ≡ reads x rest → other text ≡ reads y end → (rest ≡ end) × (f x ≡ g y)

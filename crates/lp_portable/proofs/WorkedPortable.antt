@@ -81,7 +81,7 @@ an_integer_is_portable = record {
   keeps = keeps;
 }
   where
-    -- clause by clause
+    -- The line with an integer keeps each clause.
     keeps : (clause : Clause) → concerns all clause ≡ true → breaks default_limits inside (line_with (integer (pos 1))) names clause ≡ false
     keeps portable.unsigned own = refl
     keeps other own = refl
@@ -91,7 +91,7 @@ outside_is_line : IsOneLine outside (line_with (unsigned 1))
 unfolding on_lines
 outside_is_line = record { piece = is_piece (unsigned 1) (omega arith); read = refl }
 
--- with these names
+-- The names of the line with an unsigned integer are spelled as they read.
 outside_is_spelled : IsSpelled (trimmed outside) (line_with (unsigned 1)) names
 unfolding on_lines
 outside_is_spelled = record {
@@ -116,7 +116,7 @@ an_unsigned_integer_is_for_victoria = record {
   keeps = keeps;
 }
   where
-    -- clause by clause, but for one that does not concern these servers
+    -- The line with an unsigned integer keeps each clause that concerns VictoriaMetrics.
     keeps : (clause : Clause) → concerns victoria clause ≡ true → breaks default_limits outside (line_with (unsigned 1)) names clause ≡ false
     keeps portable.unsigned own = absurd (false≢true own)
     keeps other own = refl
@@ -135,21 +135,22 @@ an_unsigned_integer_is_not_for_influx line =
 abbrev others : List ℕ
 others = comma ∷ equals ∷ space ∷ []
 
--- an escaped comma means the same to that reader
+-- An escaped comma means the same to a reader for which a backslash escapes no backslash.
 a_comma_means_the_same : (has_escape (record { key = codes "t"; value = codes "x\\,y" }) ≡ false)
     × (without_escapes others (codes "x\\,y") ≡ codes "x,y") × (without_each others (codes "x\\,y") ≡ codes "x,y")
     × (logical a_tag_value (codes "x\\,y") ≡ codes "x,y")
 unfolding on_lines
 a_comma_means_the_same = (refl, refl, refl, refl)
 
--- an escaped backslash does not: here it is one, and two there; and before a comma they differ also by whether each is taken by itself
+-- An escaped backslash does not mean the same: here it is one backslash, and two for that reader. Before a comma, readers also differ by
+-- whether they take each backslash by itself.
 a_backslash_does_not : (has_escape (record { key = codes "t"; value = codes "x\\\\y" }) ≡ true)
     × (without_escapes others (codes "x\\\\y") ≡ codes "x\\\\y") × (logical a_tag_value (codes "x\\\\y") ≡ codes "x\\y")
     × (without_escapes others (codes "x\\\\,y") ≡ codes "x\\\\,y") × (without_each others (codes "x\\\\,y") ≡ codes "x\\,y")
 unfolding on_lines
 a_backslash_does_not = (refl, refl, refl, refl, refl)
 
--- nor does an escaped equals sign of a measurement, to a reader that takes it for escaped
+-- An escaped equals sign of a measurement does not mean the same to a reader that takes it for escaped.
 an_equals_sign_does_not : (holds (equals ∷ []) [] (codes "m\\=n") ≡ true) × (without_escapes others (codes "m\\=n") ≡ codes "m=n")
     × (logical a_measurement (codes "m\\=n") ≡ codes "m\\=n")
 unfolding on_lines

@@ -1,4 +1,4 @@
--- What is carried: lines that were read, and points that are admitted, so that the batch reads back.
+-- Carried lines were read, and their points are admitted, so the batch reads back.
 use Rattle.std.proofs.Common.{◌≡◌, ℕ, ◌<◌, ◌==◌, List, [], ◌∷◌, ◌++◌, length, map, Result, Ok, Err}
 use Rattle.std.proofs.Common.{refl, sym, ap, subst, ◌∙◌, inl, inr, arith, true, Contains}
 use Rattle.std.specs.Prelude.{IfOk}
@@ -74,7 +74,7 @@ points_are are dialect (piece ∷ pieces) =
           (answer_is_point are dialect (trimmed piece) a refl) others)
     ]
 
--- the point of each line that is carried is admitted, if such a point is admitted in the dialect
+-- The point of each carried line is admitted in a dialect, if each admitted point of these lines is admitted there.
 lines_admitted : (dialect : Dialect) (items : List (Result Line Fault))
     → ((line : Line) → Contains items (Ok line) → is_admitted_point (point_of line) ≡ true → is_admitted_in dialect (point_of line) ≡ true)
     → list_all (is_admitted_in dialect) (flat_map carried_point items) ≡ true

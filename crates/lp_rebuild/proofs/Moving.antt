@@ -1,4 +1,4 @@
--- What several reads or writes, one after the other, move together.
+-- Several reads, or several writes, together move the bytes that each of them moves.
 use Rattle.std.proofs.Common.{◌≡◌, ℕ, ◌+◌, ◌≤◌, List, [], ◌++◌, length, take, drop, Option, Result, Ok, Err, IfOk, sym}
 use Rattle.std.proofs.Common.{ap, subst, ◌∙◌, append-nil, OnErr, take_all, le_refl}
 use Rattle.std.proofs.Math.Seq.{take-add}
@@ -7,7 +7,7 @@ use Rattle.std.specs.Io.KnownBytes.{Consumes, Appends, Keeps, ReadConsumes}
 use Rattle.std.proofs.KnownBytes.{Consumes-trans, Appends-trans, Appends-kept}
 use Rattle.lp_rebuild.specs.Running.{AppendsFront}
 
--- the first f bytes of xs were consumed, and ys has those and the next n that were
+-- If the first f bytes were consumed, and then n bytes, the buffer holds the first f + n bytes.
 pub read_more : (a b c : Option (List ℕ)) (xs ys : List ℕ) (f n : ℕ) → take f ys ≡ take f xs
     → Consumes a b (take f xs) → Consumes b c (take n (drop f ys)) → Consumes a c (take (f + n) ys)
 read_more a b c xs ys f n same before read =
@@ -36,7 +36,7 @@ read_in_place a b (Ok n) front part rest at long fits read =
     subst (Consumes a b) (sym (ap (take n) (drop_at front (part ++ rest) at long) ∙ take-append-le n part rest fits)) read.0
 read_in_place a b (Err e) front part rest at long fits read = tt
 
--- all bytes were appended, and then none: that is a front of them too
+-- If all bytes were appended and then none, a front of the bytes was appended.
 pub whole_front : {T E : Type 0} (a b c : Option (List ℕ)) (bs : List ℕ) (r : Result T E) → Appends a b bs → Keeps b c
     → OnErr r (AppendsFront a c bs)
 whole_front a b c bs (Ok x) p k = tt

@@ -1,4 +1,4 @@
--- What a run that could not write has written.
+-- The parts of the output that a run has written which could not write all of it.
 use Rattle.std.proofs.Common.{◌≡◌, ℕ, List, length, Option, Result, Ok, Err, true, false, is_err, OnErr, OnOk, IfSome}
 use Rattle.std.proofs.Common.{subst, arith, take_all, le_refl}
 use Rattle.std.specs.Io.KnownBytes.{Consumes, Appends, IsAtEnd}

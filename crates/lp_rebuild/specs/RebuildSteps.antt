@@ -1,4 +1,4 @@
--- What each step of a rebuild adds to the batch, to the faults and to the counts.
+-- The steps of a rebuild: each adds to the batch, to the faults and to the counts.
 use Rattle.std.specs.Prelude.{◌≡◌, ℕ, ◌+◌, ◌++◌, string_bytes, true, false, List, [], codes, Option, Some, None, Result, Ok, Err, if◌then◌else◌}
 use Rattle.lp_rebuild.specs.declared.batch.Progress.{Progress}
 use Rattle.lp_rebuild.specs.declared.refusals.LineRefusal.{LineRefusal}

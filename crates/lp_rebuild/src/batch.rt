@@ -58,6 +58,10 @@ pub struct LineReader<'a> {
 
 impl<'a> LineReader<'a> {
     /// Returns a reader that has read no line. Takes no memory.
+    ///
+    /// ```
+    /// let mut reader = LineReader::new(alloc, Dialect::Strict);
+    /// ```
     #[inline(always)]
     pub fn new(alloc: Global, dialect: Dialect) -> Self
         ensures { result.dialect ≡ dialect }
@@ -80,6 +84,10 @@ impl<'a> LineReader<'a> {
 
     /// Reads a trimmed text. Returns `None` if the text is a line, which [`LineReader::line`] then returns. Returns the fault of
     /// the text if it is not.
+    ///
+    /// ```text
+    /// read("m f=1i") returns Ok(None),  and  read("m 5") returns the fault `No fields were provided`
+    /// ```
     ///
     /// # Errors
     ///
@@ -145,6 +153,11 @@ fn append(batch: Vec<u8>, line: &ParsedLine<'_>) -> Result<Vec<u8>, AllocError>
 /// The line must have a field, as each line has that was read. In the newline-delimited dialect, no string that was read holds a
 /// newline, so `is_admitted` decides in each dialect whether the line reads back.
 ///
+/// ```text
+/// the line of  m a=007i                         appends m a=7i⏎   and returns None
+/// the line of  login,user=guest\⏎payments ok=t  appends nothing   and returns NotAdmitted
+/// ```
+///
 /// # Errors
 ///
 /// Returns `AllocError` if memory for `batch` was refused. `batch` may then be empty.
@@ -166,6 +179,10 @@ pub fn take_line<'a>(
 
 /// Appends the bytes of a line and a newline.
 ///
+/// ```text
+/// of  m f=1i  appends m f=1i⏎
+/// ```
+///
 /// # Errors
 ///
 /// Returns `AllocError` if memory was refused. Nothing is then appended, or a front of these bytes.
@@ -181,6 +198,12 @@ pub fn copy_line(batch: &mut Vec<u8>, line: &[u8]) -> Result<(), AllocError>
 
 /// Reads a trimmed text and writes its line again, at the end of `batch`. Returns `None` if the line was written. Returns the
 /// reason, and leaves `batch` as it was, if the text is not a line or a name of the line is not admitted.
+///
+/// ```text
+/// of  m a=007i       appends m a=7i⏎          and returns None
+/// of  cpu usage=64i  appends cpu usage=64i⏎   and returns None
+/// of  m 5            appends nothing          and returns the fault `No fields were provided`
+/// ```
 ///
 /// # Errors
 ///
@@ -301,8 +324,8 @@ pub fn rebuild(alloc: Global, input: &str) -> Result<Rebuilt, AllocError>
 /// reads back in `NewlineDelimited` only if no string in it holds a newline.
 ///
 /// ```text
-/// m s="a⏎n b=01i⏎    in Crate and Strict has one item, and the fault `item 1: No fields were provided`
-///                    in NewlineDelimited has the same fault, and the batch `n b=1i⏎`
+/// m s="a⏎n b=01i    in Crate and Strict has one item, and the fault `item 1: No fields were provided`
+///                  in NewlineDelimited has the same fault, and the batch `n b=1i⏎`
 /// ```
 ///
 /// # Errors

@@ -29,6 +29,10 @@ pub trait Source {
     /// Reads the next bytes into the front of `buf`, and returns how many bytes it read. Returns 0 only at the end of the input,
     /// or if `buf` is empty.
     ///
+    /// ```text
+    /// reads of the slice b"abc" into 2 bytes return 2, then 1, and then 0
+    /// ```
+    ///
     /// # Errors
     ///
     /// Returns `DeviceFault` if the device failed. No byte of the source is lost.
@@ -83,6 +87,10 @@ pub struct Reading<R> {
 
 impl<R: Read> Reading<R> {
     /// Returns a source over `inner` that has not failed so far. Takes no memory.
+    ///
+    /// ```
+    /// let mut reader = Reading::new(rt.stdin());
+    /// ```
     pub fn new(inner: R) -> Self
         ensures inner { reading_inner result ≡ inner }
         ensures unfailed { reading_failures result ≡ 0 }
@@ -143,6 +151,10 @@ pub struct Writing<W> {
 
 impl<W: Write> Writing<W> {
     /// Returns a sink over `inner` that has not failed so far. Takes no memory.
+    ///
+    /// ```
+    /// let mut out = Writing::new(rt.stdout());
+    /// ```
     pub fn new(inner: W) -> Self
         ensures inner { writing_inner result ≡ inner }
         ensures unfailed { writing_failures result ≡ 0 }
@@ -211,6 +223,12 @@ pub struct Kept {
 
 impl Kept {
     /// Returns an empty sink that has not failed so far. Takes no memory until the first write.
+    ///
+    /// ```
+    /// let mut out = Kept::new(alloc);
+    /// write_bytes(&mut out, b"m f=1i")?;
+    /// // out.as_slice() is b"m f=1i"
+    /// ```
     pub fn new(alloc: Global) -> Self
         ensures empty { kept_bytes result ≡ [] }
         ensures unfailed { kept_failures result ≡ 0 }
@@ -224,6 +242,10 @@ impl Kept {
     }
 
     /// Returns all bytes that were written so far.
+    ///
+    /// ```text
+    /// after writes of b"m f" and b"=1i", as_slice() is b"m f=1i"
+    /// ```
     pub fn as_slice(&self) -> &[u8]
         ensures { result.now ≡ kept_bytes self.now }
     {

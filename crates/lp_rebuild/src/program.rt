@@ -107,6 +107,11 @@ pub fn read_block<R: Source>(
 /// The bytes are held once, with room for a block after them, in a buffer that grows by doubling. A reader that never ends uses
 /// up the memory.
 ///
+/// ```
+/// let mut reader = Reading::new(rt.stdin());
+/// let input = read_all(rt.alloc(), &mut reader)?;
+/// ```
+///
 /// # Errors
 ///
 /// * `Read` if and only if `reader` failed.
@@ -132,6 +137,11 @@ pub fn read_all<R: Source>(alloc: Global, reader: &mut R) -> Result<Vec<u8>, Run
 }
 
 /// Writes all of `bytes` to `sink`.
+///
+/// ```
+/// let mut out = Kept::new(alloc);
+/// write_bytes(&mut out, b"m f=1i")?;
+/// ```
 ///
 /// # Errors
 ///
@@ -195,6 +205,12 @@ pub fn run<R: Source, W: Sink, E: Sink>(
 ///
 /// [`run`] does the same by the rules of the Rust crate, and describes the order, the memory and the errors.
 ///
+/// ```text
+/// the input          in Crate and Strict         in NewlineDelimited
+/// m s="a⏎n b=01i     `out` gets nothing          `out` gets n b=1i⏎
+/// ```
+/// In each dialect, `err` gets `item 1: No fields were provided⏎`.
+///
 /// # Errors
 ///
 /// Returns the errors of [`run`].
@@ -228,6 +244,13 @@ pub fn run_in<R: Source, W: Sink, E: Sink>(
 }
 
 /// Returns the exit status of the program: 0 if every item was carried, 1 if an item was refused, and 2 if the run failed.
+///
+/// ```text
+/// a run over                  gives
+/// m a=007i⏎m a=-0i⏎           0
+/// cpu usage=64i⏎m 5⏎          1
+/// an input that is not UTF-8  2
+/// ```
 pub fn status(answer: &Result<Rebuilt, RunFault>) -> u8
     ensures { result ≡ status_of answer.now }
 {

@@ -1,4 +1,4 @@
--- Where reading stops, by the row of the answer, and which text is left there.
+-- The place where reading stops, by the row of the answer, and the text that is left there.
 use Rattle.std.specs.Prelude.{◌≡◌, ◌+◌, ℕ, List, [], ◌∷◌, ◌++◌, length, Result, Ok}
 use Rattle.lp_format.specs.format.{comma, equals, space, Dialect, Fault, Line, Text, NameKind, a_field_key, a_tag_key, answer, name, reads}
 use Rattle.lp_format.specs.format.{some_tags}

@@ -33,6 +33,10 @@ pub trait BufMut: Drop {
 
     /// Makes room for `n` more bytes. The bytes stay as they are, and the room does not shrink, even if the call fails.
     ///
+    /// ```text
+    /// an ArrayVec<u8, 8> that holds 5 bytes:  reserve(3) returns Ok(()),  and  reserve(4) returns Err(NoRoom::Full)
+    /// ```
+    ///
     /// # Errors
     ///
     /// Returns a cause of the buffer if the room was less than `n` and the buffer could not get more. The cause is never

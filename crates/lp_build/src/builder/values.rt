@@ -14,6 +14,10 @@ pub trait FieldValue: Drop {
     ghost text: { Self → List ℕ };
 
     /// Returns the length of the text, or `None` if no `usize` can hold it.
+    ///
+    /// ```text
+    /// (-7i64).fmt_len() returns Some(3): the text is `-7i`
+    /// ```
     fn fmt_len(&self) -> Option<usize>
         ensures { SomeIff result (length (text self.now) < 2 ^ 64) (length (text self.now)) };
 

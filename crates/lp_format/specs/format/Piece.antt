@@ -7,7 +7,7 @@ use Rattle.lp_format.specs.format.{Bytes.newline, Bytes.space, Bytes.quote, Byte
 abbrev pub IsHead : List ℕ → Type 0
 IsHead text = All (λ b. (b ≢ space) × (b ≢ newline)) (bare text)
 
--- these bytes hold more `=` than `,`
+-- bytes that hold more `=` than `,`
 abbrev pub HasMoreEquals : List ℕ → Type 0
 HasMoreEquals counted = count_by (λ b. b == comma) counted < count_by (λ b. b == equals) counted
 

@@ -1,4 +1,4 @@
--- Which lines servers read as the strict reader does: InfluxDB 1.x, and VictoriaMetrics, by what was measured of them.
+-- The lines that InfluxDB 1.x and VictoriaMetrics read as the strict reader does, from measurements of these servers.
 use Rattle.std.specs.Prelude.{◌≡◌, ℕ, ℤ, pos, negsuc, ◌+◌, ◌-◌, ◌==◌, ◌||◌, Bool, true, false, not, List, [], ◌∷◌, length, map, codes, nat_lt}
 use Rattle.std.specs.Prelude.{int_lt, slice_index, slice_index_or, bytes_eq, Option, Some, None, Ok}
 use Rattle.std.specs.{Float.Float, Float.Parse.parse_float, Float.binary64, Float.float_is_finite, List.list_any, List.starts_with}

@@ -1,4 +1,4 @@
--- How readers read portable lines, and what the spelling of the names of a line tells.
+-- The laws about readers of portable lines, and about the spelling of the names of a line.
 use Rattle.std.specs.Prelude.{◌≡◌, ◌↔◌, ℕ, true, false, List, [], ◌∷◌, map, Ok}
 use Rattle.std.specs.List.{AllByRecursion, list_any}
 use Rattle.lp_format.specs.format.{Dialect, Strict, HasAnswers, HasNoNewline, Line, Pair, answer, backslash, bare, equals, quote, some_tags}

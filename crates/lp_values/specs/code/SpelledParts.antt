@@ -41,13 +41,13 @@ spelled_fault (fault.CannotParseEntireLine rest) = format.cannot_parse_entire_li
 spelled_fault fault.TagSetMalformed = format.tag_set_malformed
 spelled_fault (fault.GenericParsingError kind) = format.take_while1
 
--- the result of the code is the result of a reading, where `view` maps what the code read to what the reading reads
+-- the result of the code is the result of a reading; `view` maps a part that the code read to a part of the definitions
 abbrev pub GivesSpelled : {X A : Type 0} → (X → A) → Result (Option (X × Bor (List ℕ))) SpelledFault → Reading A → Type 0
 GivesSpelled view (Ok None) reading = reading ≡ miss
 GivesSpelled view (Ok (Some p)) reading = reading ≡ reads (view p.0) p.1.now
 GivesSpelled view (Err e) reading = reading ≡ fatal (spelled_fault e)
 
--- the result of the code is the wanted part with its rest, where `view` maps what the code read to this part, or is the wanted fault
+-- the result of the code is the wanted part with its rest, or the wanted fault; `view` maps a part that the code read to this part
 abbrev pub GivesSpelledRead : {X A : Type 0} → (X → A) → Result (X × Bor (List ℕ)) SpelledFault → Result (Read A) Fault → Type 0
 GivesSpelledRead view (Ok p) wanted = wanted ≡ Ok (record { value = view p.0; rest = p.1.now })
 GivesSpelledRead view (Err e) wanted = wanted ≡ Err (spelled_fault e)

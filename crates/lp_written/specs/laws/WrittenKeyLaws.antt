@@ -1,4 +1,4 @@
--- What a key that stands in a text says about the series there.
+-- The laws about a key that stands in a text, and the series of this text.
 use Rattle.std.specs.Prelude.{◌≡◌, ◌<◌, ℕ, List, ◌∷◌, ◌++◌, length, map}
 use Rattle.lp_format.specs.format.{Pair, Point, Text, line_of, logical_tag, space}
 use Rattle.lp_lines.specs.{code.Keys.series_key, code.Keys.sorted_by, laws.BaseLaws.IsParsedSeries}

@@ -17,12 +17,12 @@ use Rattle.lp_lines.proofs.lemmas.series.SortedTags.{by_key_placed}
 use Rattle.lp_lines.proofs.lemmas.series.KeyParts.{Begins}
 use Rattle.lp_lines.proofs.lemmas.series.BasesTellSeries.{base_is, tag_parts, tags_separated, value_part, same_series_have_one_base}
 
--- a text that begins with the byte does not begin with one of those before it
+-- A text that begins with a byte does not begin with a part in which the byte does not occur.
 no_other : (c y : ℕ) (ys us vs : List ℕ) → is_one_of (y ∷ ys) c ≡ false → Begins c us → us ≡ y ∷ ys ++ vs → ⊥
 no_other c y ys [] vs none begins e = cc
 no_other c y ys (u ∷ us) vs none begins e = grind (arith, false≢true, or_parts, eq-eqb)
 
--- the first such byte fixes the part before it
+-- The first occurrence of a byte fixes the part of the text before it.
 first_part : (c : ℕ) (xs ys us vs : List ℕ) → is_one_of xs c ≡ false → is_one_of ys c ≡ false → Begins c us → Begins c vs
     → xs ++ us ≡ ys ++ vs → (xs ≡ ys) × (us ≡ vs)
 first_part c [] [] us vs h k p q e = (refl, e)
@@ -97,7 +97,7 @@ none_in_parts : (c n : ℕ) (text : List ℕ) → is_one_of text c ≡ false
 none_in_parts c n text none = or_parts (is_one_of (take n text) c) (is_one_of (drop n text) c)
     (sym (list_any-append (λ b. b == c) (take n text) (drop n text)) ∙ ap (λ xs. is_one_of xs c) (take-append-drop n text) ∙ none)
 
--- before the first bare byte that passes is none that would be bare
+-- In a text without a backslash, the part before the first bare byte that passes a test does not hold a byte that passes it.
 none_before : (passes : ℕ → Bool) (c : ℕ) (text : List ℕ) → passes c ≡ true → is_one_of text backslash ≡ false
     → is_one_of (take (bare_len passes false text) text) c ≡ false
 none_before passes c [] hit none = refl
@@ -120,7 +120,7 @@ ShowsClear Known = (t : Pair Text Text) (tags : List (Pair Text Text)) (suffix a
     → tag suffix ≡ reads t after
     → IsClearName a_tag_key equals suffix t.key × IsClearName a_tag_value comma (value_part suffix) t.value × Known tags after
 
--- tags are clear if each of them is
+-- All tags are clear if the known facts show that each of them is.
 tags_clear : (Known : List (Pair Text Text) → List ℕ → Type 0) → ShowsClear Known → (tags : List (Pair Text Text)) (text : List ℕ)
     → SeparatedAfterComma tag tags text [] → Known tags text
     → (list_any is_tag_one_escape (spelled_tags (length tags) text) ≡ false) × (list_any is_tag_delimited tags ≡ false)

@@ -1,4 +1,4 @@
--- The items and the events that calls of `next` give are those of the text, one after another.
+-- The items and the events that calls of `next` give are the items and the events of the text, one after another.
 use Rattle.std.proofs.Common.{◌≡◌, ℕ, ◌<◌, List, [], ◌∷◌, ◌++◌, length, map, refl, sym, subst, arith, append_assoc, append-nil, Some}
 use Rattle.std.proofs.Common.{Result, All, eq-eqb, ne_eqb}
 use Rattle.std.specs.Iterator.{Yields}
@@ -25,7 +25,7 @@ lines_from : (skipped : List (List ℕ)) (piece : List ℕ) (front : List (List 
     → trimmed_lines (skipped ++ piece ∷ front) ≡ trimmed piece ∷ trimmed_lines front
 lines_from skipped piece front blank some = grind (arith, flat_map-append, blank_lines, ne_eqb)
 
--- the items that calls gave are those of the pieces before the ones that are left
+-- The items that calls gave are the items of the pieces before the pieces that are left.
 given_items : (items : List (Result ParsedLine Error)) (before left : Left) (others : List (List ℕ)) → Yields GivesItem before items left
     → PiecesLeft left others
     → (front : List (List ℕ)) × PiecesLeft before (front ++ others) × AreItemsOf before.dialect (trimmed_lines front) items
@@ -49,7 +49,7 @@ items_so_far dialect text items left others steps h = given_items items (record 
 pub items_are_of_pieces : ItemsAreOfPieces
 items_are_of_pieces dialect text pieces items h drained = grind (arith, items_so_far, same_pieces, flat_map-append, blank_lines, append-nil)
 
--- the answers for pieces are those for what is left of them
+-- The answers for pieces are the answers for their trimmed texts.
 answers_of_lines : (dialect : Dialect) (pieces : List (List ℕ)) → answers_of dialect pieces ≡ map (answer dialect) (trimmed_lines pieces)
 unfolding answers_of_piece
 answers_of_lines dialect [] = refl
@@ -73,7 +73,7 @@ given_lines_were_read before after line gives =
     let gave = gives.1 left.0 left.1 in
     record { dialect = before.dialect; text = gave.piece; answered = gave.item_is.answers }
 
--- the events that came were left, and those that are left after them
+-- The events that came, followed by the events that are left, are the events that were left at the start.
 pub so_far : EventsSoFar
 so_far start reader [] others same left = subst (λ r. HasEventsLeft r others) (sym same) left
 so_far start reader (event ∷ came) others (next, given, more) left = grind (arith, so_far next reader came others more left)

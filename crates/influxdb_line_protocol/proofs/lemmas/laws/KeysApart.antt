@@ -101,7 +101,7 @@ all_admitted : (ts : List Tag) → AllByRecursion IsTag ts → list_all is_admit
 all_admitted [] all = refl
 all_admitted (t ∷ ts) all = rw (all.0, all_admitted ts all.1) refl
 
--- a key that stands in a text is that of the series that is read there
+-- A key that stands in a text is the key of the series that is read there.
 pub keys_stand_in_texts : KeysStandInTexts
 keys_stand_in_texts text m ts k read =
     let back = keys_read_back k.measurement k.tags k.named (all_admitted k.tags k.tagged) in
@@ -127,7 +127,7 @@ lines_begin_with_keys p sorted some =
           ∙ ap (λ (ts : List Tag). (spelling a_measurement p.measurement ++ flat_map built_tag ts) ++ (space ∷ after.0)) (sym sorted),
     )
 
--- a tag of these texts
+-- The tag with this key and this value.
 abbrev pair : String → String → Tag
 pair key value = record { key = codes key; value = codes value }
 

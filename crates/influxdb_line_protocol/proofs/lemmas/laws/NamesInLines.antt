@@ -77,15 +77,15 @@ text kind s = read_text (escapable kind) s
 abbrev from_field : List ℕ → List ℕ
 from_field f = f ++ equals ∷ 49 ∷ letter_i ∷ []
 
--- from the value of its tag on
+-- The line from the value of its tag on.
 abbrev from_value : List ℕ → List ℕ → List ℕ
 from_value v f = v ++ space ∷ from_field f
 
--- from the key of its tag on
+-- The line from the key of its tag on.
 abbrev from_key : List ℕ → List ℕ → List ℕ → List ℕ
 from_key k v f = k ++ equals ∷ from_value v f
 
--- all of it
+-- The whole line.
 abbrev whole : List ℕ → List ℕ → List ℕ → List ℕ → List ℕ
 whole m k v f = m ++ comma ∷ from_key k v f
 

@@ -1,4 +1,5 @@
--- Points whose lines hold no newline: those that are read from a text without one, and those that are admitted if each newline ends a line.
+-- Points whose lines hold no newline: points that are read from a text without a newline, and points that are admitted in the
+-- newline-delimited dialect.
 use Rattle.std.proofs.Common.{codes}
 use Rattle.std.proofs.Common.{◌≡◌, ◌≢◌, ℕ, length, ℤ, List, [], ◌∷◌, ◌++◌, drop, take, Bool, cond, true, false, not, ◌==◌}
 use Rattle.std.proofs.Common.{refl, sym, ap, ◌∙◌, subst, arith, Option, Some, None, Ok, Err, Result, IfSome, Contains, flat_map, take-append-drop}
@@ -95,7 +96,7 @@ module _ {A : Type 0} (Q : A → Type 0) where
   none_given : GivesOn Q miss
   none_given = record { holds = λ x rest e. absurd (cc) }
 
-  -- nor does a fault
+  -- A reading that gives a fault gives no value, so each value that it gives is on one line.
   fault_given : (f : Fault) → GivesOn Q (fatal f)
   fault_given f = record { holds = λ x rest e. absurd (cc) }
 
@@ -111,7 +112,7 @@ module _ {A : Type 0} (Q : A → Type 0) where
   one_of_two : (r s : Reading A) → GivesOn Q r → GivesOn Q s → GivesOn Q (r otherwise s)
   one_of_two r s h k = grind arith
 
--- the logical value of what is read
+-- The logical value of a value that was read is on one line.
 abbrev IsOn : Value Text → Type 0
 IsOn v = is_value_on_one_line (logical_value v) ≡ true
 
@@ -172,7 +173,7 @@ module _ {A : Type 0} (P : A → Type 0) (one : List ℕ → Reading A)
   list_read (x ∷ xs) text rest h on =
       (each text x h.0 h.1 on, many_read xs h.0 rest h.2 (end_of text h.0 (ends text x h.0 h.1) on))
 
--- a point of which no name and no string holds a newline
+-- A point whose names and strings hold no newline.
 pub record PointOn (p : Point) : Type 0 where
   measurement : OnOne p.measurement
   tags : AllByRecursion (λ t. OnOne t.key × OnOne t.value) p.tags
@@ -252,7 +253,7 @@ stamp_on : (t : Option ℤ) → IfSome t (λ z. fits_i64 z ≡ true) → OnOne (
 stamp_on None ok = refl
 stamp_on (Some z) ok = simple_on (signed_decimal z) (simple_signed z ok)
 
--- the line of such a point
+-- The line of a point whose names and strings are on one line holds no newline.
 pub point_on : (p : Point) → IsPoint p → PointOn p → HasNoNewline (line_of p)
 point_on p is on = no_newline (line_of p) (subst OnOne (sym (line_parts p))
     (joined (spelling a_measurement p.measurement) _ (escaped_on _ p.measurement on.measurement)

@@ -30,7 +30,7 @@ starts_not text word k fits h e =
     let is : text ≡ word ++ drop k text = sym (take-append-drop k text) ∙ ap (λ (w : List ℕ). w ++ drop k text) (sym e) in
     both_ways (starts_with eqb text word) h ((starts_is Decides-eqb text word (starts_with eqb text word) refl).1 (drop k text) is)
 
--- each step is such
+-- Each step of the search for the longest word takes the longer of the front and the word.
 step_is : (text : List ℕ) (n : ℕ) (word : List ℕ) → Step text n word (longer_front text n word)
 step_is text n word = grind (arith, cases_Bool, ltb-true, ltb-false, length-take-le, starts, starts_not)
 
@@ -40,7 +40,7 @@ record Longest (text : List ℕ) (n : ℕ) (words : List (List ℕ)) (len : ℕ)
   front : (k : ℕ) → k ≤ length text → Contains words (take k text) → k ≤ len
   one : (len ≡ n) ⊎ Contains words (take len text)
 
--- each longest is such
+-- The search gives the longest of a front and these words.
 longest_is : (text : List ℕ) (n : ℕ) (words : List (List ℕ)) → Longest text n words (fold (λ n word. longer_front text n word) n words)
 longest_is text n [] = record { more = omega arith; front = λ k fits h. absurd (nothing_in_nil (take k text) h); one = inl refl }
 longest_is text n (word ∷ words) =
@@ -81,5 +81,5 @@ tags_by_key_are_sorted tags entries once =
           (IsPermutation-sym (in_order tags) entries h.1) placed.0)),
     )
 
--- the laws of what is read by its longest front
+-- The laws of words and blanks that are read by their longest front.
 pub ruleset word_laws = (word_front_is_word, word_front_is_longest, trimmed_is_after, trimmed_is_longest)

@@ -1,4 +1,4 @@
--- The pieces that a stream gives, and their answers, are those of all that was pushed.
+-- The pieces that a stream gives, and their answers, are the pieces and the answers of all bytes that were pushed.
 use Rattle.std.proofs.Common.{◌≡◌, ℕ, List, [], ◌∷◌, ◌++◌, subst, sym, ◌∙◌, arith, append_assoc, append-nil, refl, ap, Result}
 use Rattle.std.proofs.Common.{All}
 use Rattle.std.proofs.lemmas.Grind.{flat_map-append}

@@ -1,5 +1,4 @@
--- Escaped texts: the first byte with a backslash, by the mask of a load, and what comes before and after it. And how many digits
--- a number has.
+-- Escaped texts: the first byte that gets a backslash, the text before it and the text after it. The number of digits of a number.
 use Rattle.std.proofs.Common.{◌≡◌, ℕ, suc, zero, ◌+◌, ◌<◌, Bool, true, false, List, [], ◌∷◌, ◌++◌, length, take, drop, get_or, arith, ap}
 use Rattle.std.proofs.Common.{refl, ◌-◌, add-one, length-drop, length-append, ◌∙◌, ◌≤◌, ◌^◌, ◌*◌, ◌/◌, take_all, decimal, not, pow-suc}
 use Rattle.std.proofs.Common.{eqb, eq-eqb, ne_eqb}

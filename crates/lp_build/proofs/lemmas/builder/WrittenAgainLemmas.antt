@@ -15,7 +15,7 @@ length_fields_after (f ∷ fields) = refl
 -- whether all are admitted, by the parsed ones
 pub ruleset sets = (list_all-map)
 
--- the text of a line is that of its point
+-- The text of a parsed line is the text of its point.
 pub line_text_is : (line : ParsedLine) → line_text line ≡ built (parsed_point line)
 unfolding line_text line_of
 line_text_is line = grind (arith, flat_map-map)

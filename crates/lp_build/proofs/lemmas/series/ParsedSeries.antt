@@ -23,7 +23,7 @@ spelled_cut : (kind : NameKind) (front kept lost : List ℕ) → spelled kind (f
     → spelled kind (front ++ kept) ≡ front
 spelled_cut kind front kept lost h = grind (arith, before_stop)
 
--- two texts that spell one name read to it
+-- Two texts with the same spelling of a name read to the same name.
 name_same : (kind : NameKind) (text other : List ℕ) (t : Text) (rest : List ℕ) → name kind text ≡ reads t rest
     → spelled kind other ≡ spelled kind text
     → name kind other ≡ reads t (drop (spelled_len kind other) other)
@@ -74,7 +74,7 @@ record SeparatedCut (tags : List (Pair Text Text)) (text rest : List ℕ) : Type
   is : text ≡ front ++ rest
   separated : SeparatedAfterComma tag tags front []
 
--- tags are in such a front
+-- Tags that are read after commas are in a front of the text.
 separated_cut : (tags : List (Pair Text Text)) (text rest : List ℕ) → SeparatedAfterComma tag tags text rest → SeparatedCut tags text rest
 separated_cut [] text rest h = record { front = []; is = h; separated = refl }
 separated_cut (t ∷ tags) text rest h =

@@ -68,7 +68,7 @@ left_is (b ∷ text) =
       | inr on ↦ other_left b text (lines_of text) refl on (left_is text)
     ]
 
--- the trimmed text of a text is what skipping byte by byte leaves of it
+-- the trimmed text of a text is the text that skipping byte by byte leaves
 pub trimmed_is : (text : List ℕ) → trimmed text ≡ left_of false text
 unfolding trimmed
 trimmed_is text = (left_is text).outside
@@ -105,7 +105,7 @@ module _ (b : ℕ) (text after : List ℕ) where
   comment_more : b ≢ newline → Inside text after → Inside (b ∷ text) after
   comment_more h f = (b ∷ f.0, f.1, ap (λ t. b ∷ t) f.2, All-cons (λ c. c ≢ newline) b f.0 h f.3, f.4, f.5)
 
--- what is left of a text follows a front of blanks and comments, and inside a comment the rest of the comment comes first
+-- the text that is left follows a front of blanks and comments; inside a comment, the rest of the comment comes before this front
 fronts_are : (text : List ℕ) → Outside text (left_of false text) × Inside text (left_of true text)
 fronts_are [] = (([], refl, empty []), ([], [], refl, All-nil (λ c. c ≢ newline), tt, empty []))
 fronts_are (b ∷ text) =

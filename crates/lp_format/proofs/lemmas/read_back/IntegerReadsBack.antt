@@ -29,7 +29,7 @@ no_space_first : (ds : List ℕ) → IsNumeral 10 ds → spaces ds ≡ 0
 no_space_first [] numeral = refl
 no_space_first (d ∷ ds) numeral = grind (arith, digit_from_value, ne_eqb)
 
--- each integer in range has such a text
+-- the text of each integer in range is as `Written` says
 pub integer_written : (z : ℤ) → fits_i64 z ≡ true → Written z
 integer_written (pos n) fits = grind (arith, fits_from_test, decimal_is_IsNumeral, unsigned_len, unsigned_value, no_space_first)
 integer_written (negsuc n) fits =

@@ -57,7 +57,7 @@ asked gives wanted = (asked, wanted)
 abbrev Computes : {A B : Type 0} → (A → B) → List (A × B) → Type 0
 Computes f rows = map (λ r. f r.0) rows ≡ map (λ r. r.1) rows
 
--- what lines are read as: whole lines, with tags and fields of each kind
+-- the answers for lines: whole lines, with tags and fields of each kind
 pub lines : Computes (λ text. answer Crate (codes text)) (
     "cpu,host=A,region=west usage_system=64i 1590488773254420000" gives
     Ok (line "cpu,host=A,region=west" (part "cpu") (tag_of "host" "A" ∷ tag_of "region" "west" ∷ [])

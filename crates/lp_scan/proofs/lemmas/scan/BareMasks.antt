@@ -64,8 +64,8 @@ borrow false after e = after && not e
 abbrev left : Place → Bool
 left p = differs (differs p.escaped p.odd) p.slash
 
--- the subtraction takes the backslashes and one borrow from the mask of the places that are odd or come after a backslash, and gives what is
--- left
+-- the subtraction takes the backslashes and one borrow from the mask of the places that are odd or come after a backslash, and gives the
+-- bits that are left
 subtracted : (odd after e : Bool) (ms : List Bool) → (e && not after) ≡ false
     → (k : ℕ) × (mask_l (map (λ p. p.after || p.odd) (places odd after e ms)) + 2 ^ length ms * k
     ≡ mask_l (map left (places odd after e ms)) + mask_l ms + cond (borrow odd after e) 1 0)
@@ -205,12 +205,12 @@ highest p at =
 pub ones_low : (p : ℕ → Bool) (at w n : ℕ) → n ≤ w → count_ones (mask_at p at w % 2 ^ n) ≡ count_by p (range_with_len at n)
 ones_low p at w n few = grind (arith, mask_mod, length-map-range_with_len, take-map-range_with_len, ones-mask_l)
 
--- a function of the places from `at + 1` on gives what it gives one place after each of the places from `at` on
+-- mapping the places from `at + 1` on is mapping the next place of each place from `at` on
 range_next : {X : Type 0} (f : ℕ → X) (n at : ℕ) → map f (range_with_len (at + 1) n) ≡ map (λ k. f (k + 1)) (range_with_len at n)
 range_next f zero at = refl
 range_next f (suc n) at = ap (λ (rest : List _). f (at + 1) ∷ rest) (range_next f n (at + 1))
 
--- the mask of the places from `at + 1` on is the mask of the places one after those from `at` on
+-- the mask of the places from `at + 1` on is the mask of the next place of each place from `at` on
 pub mask_next : (p : ℕ → Bool) (at n : ℕ) → mask_at p (at + 1) n ≡ mask_at (λ k. p (k + 1)) at n
 mask_next p at n = ap mask_l (range_next p n at)
 

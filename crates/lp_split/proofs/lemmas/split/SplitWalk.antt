@@ -1,4 +1,4 @@
--- A walk over a piece: what is known of it after one more byte.
+-- A walk over a piece: its region and its counts after one more byte.
 use Rattle.std.proofs.Common.{◌≡◌, ◌≢◌, ℕ, ◌+◌, ◌<◌, ◌≤◌, Bool, true, false, cond, eqb, List, [], ◌∷◌, ◌++◌, ◌∙◌, ap, refl, arith, add-zero, ◌&&◌}
 use Rattle.std.proofs.Common.{not, count_by, ne_eqb, ◌==◌, ◌||◌}
 use Rattle.std.proofs.lemmas.{List.Sums.sum_by-append, Bool.Decides.nat_tests}

@@ -135,7 +135,7 @@ pub tracks_cut : (dialect : Dialect) (text rest : List ℕ) (at i : ℕ) (track 
     → IsTrackOf dialect (take at text) track → TracksOn rest track (Ok i) → IsFirstCut dialect text (Some (at + i))
 tracks_cut dialect text rest at i track same within is tracks = grind (arith, get_or-drop, take-add, length-drop)
 
--- bytes after those of a track that end no piece lead to the track of the whole text
+-- bytes that end no piece, after the bytes of a track, lead to the track of the whole text
 pub tracks_on : (dialect : Dialect) (text rest : List ℕ) (at : ℕ) (from to : Track) → rest ≡ drop at text → at ≤ length text
     → IsTrackOf dialect (take at text) from → TracksOn rest from (Err to) → IsTrackOf dialect text to
 tracks_on dialect text rest at from to same within is tracks = grind (arith, take-append-drop)

@@ -86,7 +86,7 @@ byte_of_itself : (kind : TokenKind) (text : List ℕ) → 0 < length text
     → without_escapes (known_of kind) text ≡ slice_index text 0 ∷ without_escapes (known_of kind) (drop 1 text)
 byte_of_itself kind text some h = grind (arith, byte_itself)
 
--- a byte of the rest of a text, and the logical text after it, are those of the text
+-- a byte of the rest of a text, with the logical text after it, is the byte of the text at its place, with the logical text after it
 from_place : (known text : List ℕ) (at n : ℕ) → slice_index (drop at text) n ∷ without_escapes known (drop (n + 1) (drop at text))
     ≡ slice_index text (at + n) ∷ without_escapes known (drop (at + n + 1) text)
 from_place known text at n = grind (arith, get_or-drop, drop-drop)

@@ -19,7 +19,7 @@ use Rattle.lp_written.proofs.lemmas.parts.WrittenNames.{byte_left, stop_ends}
 abbrev tag_key : Tag → List ℕ
 tag_key t = t.key
 
--- an empty text is that of the empty name
+-- If the text of a name is empty, the name is empty.
 pub empty_name : (known name text : List ℕ) → length text ≡ 0 → text ≡ escaped known name → name ≡ []
 empty_name known [] text none e = refl
 empty_name known (c ∷ name) text none e = grind (arith, cases_Bool, escaped_found, escaped_plain)
@@ -53,13 +53,13 @@ pub not_less_than_nothing : (m : List ℕ) → is_lt (slice_cmp nat_cmp m []) �
 not_less_than_nothing [] = refl
 not_less_than_nothing (b ∷ m) = refl
 
--- a front of a text is what is before the rest
+-- A front of a text is the part of the text that its rest leaves.
 pub front_is : (xs ys text : List ℕ) → xs ++ ys ≡ text → take (length text - length ys) text ≡ xs
 front_is xs ys text whole =
     let n : length text - length ys ≡ length xs = omega (arith, ap length whole, length-append xs ys) in
     rw (n, ← whole) (take-append_seam xs ys)
 
--- a spelling is that of one name
+-- Two names with the same spelling are the same name.
 one_name : (kind : NameKind) (m n : List ℕ) → spelling kind m ≡ spelling kind n → m ≡ n
 one_name kind m n same = sym (logical_spelling kind m) ∙ ap (logical kind) same ∙ logical_spelling kind n
 
@@ -76,7 +76,7 @@ pub no_key : (text : List ℕ) → ((rest : List ℕ) → IsWrittenName a_tag_ke
 no_key text none t rest is whole = none _ (key_before_sign t text rest is whole)
     (stop_ends a_tag_key equals (spelling a_tag_value t.value ++ rest) refl (λ e. omega (arith, e)))
 
--- the only key at the start of a text, and what follows it, are those of each tag there
+-- The only key at the start of a text, and the rest after it, are the key and the rest of each tag there.
 pub key_of_tag : (text key_end : List ℕ) (k : IsWrittenName a_tag_key text key_end)
     → ((rest : List ℕ) → IsWrittenName a_tag_key text rest → EndsName a_tag_key rest → rest ≡ key_end)
     → (t : Tag) (rest : List ℕ) → IsTag t → tag_text t ++ rest ≡ text
@@ -134,7 +134,7 @@ tags_end kind at_comma at_space [] (b ∷ rest) ends =
     subst (λ c. EndsName kind (c ∷ rest)) (sym ends) (stop_ends kind space rest at_space (λ e. omega (arith, e)))
 tags_end kind at_comma at_space (t ∷ ts) rest ends = stop_ends kind comma _ at_comma (λ e. omega (arith, e))
 
--- the first of tags in order that a text begins with after a comma, and what follows it
+-- The first of the tags in order with which a text begins after a comma, and the rest after this tag.
 record IsFirstOf (before tag rest : List ℕ) : Type 0 where
   first : Tag
   more : List Tag
@@ -148,7 +148,7 @@ record IsFirstOf (before tag rest : List ℕ) : Type 0 where
 first_of : (before left tag rest : List ℕ) → left ≡ comma ∷ tag → AreTagsAfter before left rest → EndsSeries rest → IsFirstOf before tag rest
 first_of before left tag rest begins w ends = by_tags w.thing w.is.0 w.is.1 w.written
   where
-    -- by whether there is a tag
+    -- The first of the tags, by whether there is a tag.
     by_tags : (ts : List Tag) → AllByRecursion IsTag ts → AreInOrder before ts → flat_map built_tag ts ++ rest ≡ left → IsFirstOf before tag rest
     by_tags [] all order whole = absurd (no_comma (whole ∙ begins))
       where
@@ -186,7 +186,7 @@ tag_more before left tag after t begins is whole not_less only told = go told
         let same = only f.first _ f.is f.whole (tags_end a_tag_value refl refl f.more rest ends) in
         record { thing = f.more; is = (f.all, subst (λ (u : Tag). AreInOrder u.key f.more) same.0 f.order); written = same.1 }
 
-    -- by what is told of them
+    -- The answer for all tags, by the answer for the tags after the first tag.
     go : (told : Option (Bor (List ℕ))) → IsOnlyRest (AreTagsAfter t.key after) EndsSeries told → IsOnlyRest (AreTagsAfter before left) EndsSeries told
     go None none = λ rest w ends. none rest (others rest w ends) ends
     go (Some r) found = (
@@ -207,7 +207,7 @@ tags_left before left r missed is = (
   λ rest w ends. by_tags rest w.thing w.written ends,
 )
   where
-    -- by whether there is a tag
+    -- The rest after the tags, by whether there is a tag.
     by_tags : (rest : List ℕ) (ts : List Tag) → flat_map built_tag ts ++ rest ≡ left → EndsSeries rest → rest ≡ r.now
     by_tags rest [] whole ends = whole ∙ sym is
     by_tags rest (t ∷ ts) whole ends = absurd (byte_missing comma left missed _ (sym whole ∙ append_assoc (built_tag t) (flat_map built_tag ts) rest))

@@ -34,7 +34,7 @@ module _ {V : Type 0} (kind : NameKind) (stops : is_stop kind equals ≡ true) (
       → ((rest : List ℕ) → IsWrittenName kind text rest → EndsName kind rest → ⊥) → IsOnlyRest (Pairs text) Ends o
   pair_no_key text o e none = rw e (λ rest w ends. none _ (key_of text rest w) (sign_ends _))
 
-  -- nor if no sign follows the key
+  -- No pair is read if no equals sign follows the key.
   pub pair_no_sign : (text key_end : List ℕ) (o : Option (Bor (List ℕ))) → o ≡ None
       → ((rest : List ℕ) → IsWrittenName kind text rest → EndsName kind rest → rest ≡ key_end) → byte equals key_end ≡ miss
       → IsOnlyRest (Pairs text) Ends o
@@ -56,7 +56,7 @@ module _ {V : Type 0} (kind : NameKind) (stops : is_stop kind equals ≡ true) (
       again rest w =
           let same = key.1 _ (key_of text rest w) (sign_ends _) in record { thing = w.thing.value; is = w.is.1; written = cc (same, left) }
 
-      -- by what follows the value
+      -- The answer for the pair, by the answer for the value.
       go : (o : Option (Bor (List ℕ))) → IsOnlyRest (IsWritten print Is after) Ends o → IsOnlyRest (Pairs text) Ends o
       go None none = λ rest w ends. none rest (again rest w) ends
       go (Some r) only = (
@@ -100,7 +100,7 @@ module _ (Item : List ℕ → List ℕ → Type 0) {After Ends : List ℕ → Ty
   items_end : (text : List ℕ) → AreItems Item After text → Ends text
   items_end text more = grind (arith, end.comma_ends, end.after_ends)
 
-  -- after a comma an item comes, and then items
+  -- After a comma, an item and then more items follow.
   after_comma : (left text : List ℕ) → left ≡ comma ∷ text → AreItems Item After left → IsFollowed Item (AreItems Item After) text
   after_comma left text e more = grind (arith, end.no_comma)
 
@@ -129,7 +129,7 @@ fields_end = record { comma_ends = λ after. refl; after_ends = λ text w. grind
 pub later_fields : ItemSteps IsWrittenField IsWrittenTimestamp EndsValue
 later_fields = items_read IsWrittenField fields_end
 
--- the first field, and what comes after it
+-- A text is written fields exactly if it begins with a written field and its rest is written after a field.
 pub first_step : (text : List ℕ) (o : Option (Bor (List ℕ))) → IsOnlyRest (IsWrittenField text) EndsValue o
     → MatchOption o (AreWrittenFields text → ⊥) (λ r. IsWrittenAfterField r.now ↔ AreWrittenFields text)
 first_step text = followed_step IsWrittenField IsWrittenAfterField EndsValue (items_end IsWrittenField fields_end)
@@ -151,7 +151,7 @@ all_tags = items_read IsWrittenTag (gap_end a_tag_value refl refl)
 pub no_gap : (text : List ℕ) → byte comma text ≡ miss → byte space text ≡ miss → IsWrittenAfterName text → ⊥
 no_gap text no_comma no_space w = let g = (all_tags.last text no_comma).1 w in byte_missing space text no_space g.rest g.front
 
--- after a space the fields come
+-- After a space, the fields follow.
 pub fields_after : (text fields : List ℕ) → byte comma text ≡ miss → byte space text ≡ reads space fields
     → AreWrittenFields fields ↔ IsWrittenAfterName text
 fields_after text fields no_comma read =
@@ -184,7 +184,7 @@ timestamp_tells text number read =
     )
 
 module _ {X : Type 0} (print : X → List ℕ) (Is : X → Type 0) (After : List ℕ → Type 0) where
-  -- the texts of such things, each after a comma
+  -- The texts of these things, each after a comma.
   abbrev texts : List X → List ℕ
   texts xs = flat_map (λ x. comma ∷ print x) xs
 
@@ -239,7 +239,7 @@ field_values : (fs : List Field) → AllByRecursion AdmittedField fs → AllByRe
 field_values [] all = tt
 field_values (f ∷ fs) all = (all.0.1, field_values fs all.1)
 
--- a line is as written if it is a measurement, and what comes after it
+-- A line is as written exactly if it is a written measurement and a rest that is written after a measurement.
 line_is : (line : List ℕ) → IsAsWritten line ↔ IsFollowed (IsWrittenName a_measurement) IsWrittenAfterName line
 unfolding is_admitted_point
 line_is line = (there, back)
@@ -257,7 +257,7 @@ line_is line = (there, back)
               (after_tags p.fields p.timestamp ok.some_field ok.fields ok.timestamp);
         }
 
-    -- the point of these parts
+    -- A text with a measurement and the parts after it is the text of the point that has these parts.
     back : IsFollowed (IsWrittenName a_measurement) IsWrittenAfterName line → IsAsWritten line
     back w =
         let named = listed (pair_text a_tag_key (spelling a_tag_value)) AdmittedTag IsWrittenAfterTags w.rest w.after in

@@ -20,7 +20,7 @@ pub written_unmarked : (known : List ℕ) (stops : ℕ → Bool) (b : ℕ) (text
 unfolding written_len
 written_unmarked known stops b text plain = grind (arith)
 
--- a backslash before a byte that gets one is two bytes of it
+-- A backslash before a byte that gets a backslash makes two bytes of the token.
 pub written_escape : (known : List ℕ) (stops : ℕ → Bool) (b c : ℕ) (text : List ℕ) → (stops b || is_one_of known b) ≡ true
     → b ≡ backslash → is_one_of known c ≡ true → written_len known stops (b ∷ c ∷ text) ≡ 2 + written_len known stops text
 unfolding written_len
@@ -63,7 +63,7 @@ pub record Spelled (known : List ℕ) (stops : ℕ → Bool) (text : List ℕ) :
   pub holds : list_all (can_hold known stops) name ≡ true
   pub spelled : escaped known name ++ drop (written_len known stops text) text ≡ text
 
--- no byte is passed
+-- If no byte is passed, the passed front is the spelling of the empty name.
 spelled_none : (known : List ℕ) (stops : ℕ → Bool) (text : List ℕ) → written_len known stops text ≡ 0 → Spelled known stops text
 unfolding escaped
 spelled_none known stops text none = record { name = []; holds = refl; spelled = rw none refl }
@@ -172,7 +172,7 @@ spelling_tells other n may = rw (spelled_empty (escapable other) n, spelled_ends
 abbrev pub name_len : NameKind → List ℕ → ℕ
 name_len kind text = written_len (escapable kind) (is_stop kind) text
 
--- the spelling of a name is what is passed
+-- The spelling of a name at the start of a text is the front that is passed.
 name_passed : (kind : NameKind) (text rest : List ℕ) (w : IsWrittenName kind text rest) → EndsName kind rest
     → name_len kind text ≡ length (spelling kind w.thing)
 name_passed kind text rest w ends =
@@ -212,7 +212,7 @@ stop_ends kind stop rest stops other =
 abbrev pub is_quote : ℕ → Bool
 is_quote b = b == quote
 
--- any text can be that of a string
+-- Any text can be the text of a string.
 holds_any : (n : List ℕ) → list_all (can_hold quotable is_quote) n ≡ true
 holds_any [] = refl
 holds_any (b ∷ n) = grind (arith, common_steps, holds_any n)

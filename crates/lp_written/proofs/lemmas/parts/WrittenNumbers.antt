@@ -20,7 +20,7 @@ use Rattle.lp_written.proofs.lemmas.parts.WrittenNames.{byte_left}
 use Rattle.lp_written.specs.code.AsWritten.{EndsValue, IsOnlyRest, IsWrittenString, IsWrittenValue, has_extra_zero, is_written_integer}
 use Rattle.lp_written.specs.code.AsWritten.{is_written_unsigned}
 
--- digits without a zero before more of them are what the builder writes for their number
+-- Digits without a zero before more digits are the digits that the builder writes for their number.
 pub unsigned_again : (ds : List ℕ) → IsNumeral 10 ds → has_extra_zero ds ≡ false → digits_value 10 ds < 2 ^ 64 → decimal (digits_value 10 ds) ≡ ds
 unsigned_again ds numeral plain fits =
     decimal-digits_value (numerals_by_value (AllDigits 10) tells_digits) ds numeral.1 numeral.0 (alone ds plain numeral.0) fits
@@ -37,11 +37,11 @@ first_digit ds more = grind (arith, ne_eqb)
 minus_zero : (ds : List ℕ) → 48 < get_or ds 0 0 → has_extra_zero (minus ∷ ds) ≡ false
 minus_zero ds more = grind (arith, ne_eqb)
 
--- nor has that of an integer
+-- The digits of an integer in range have no zero too many.
 pub signed_zero : (z : ℤ) → fits_i64 z ≡ true → has_extra_zero (signed_decimal z) ≡ false
 signed_zero n fits = grind (arith, fits_from_test, decimal_digit, first_digit, minus_zero, first_decimal)
 
--- digits after a sign are what the builder writes for their number
+-- A minus sign and digits without a zero too many are the text that the builder writes for their number.
 minus_again : (ds : List ℕ) → IsNumeral 10 ds → has_extra_zero (minus ∷ ds) ≡ false
     → fits_i64 (neg_ℤ (pos (digits_value 10 ds))) ≡ true → signed_decimal (neg_ℤ (pos (digits_value 10 ds))) ≡ minus ∷ ds
 minus_again ds numeral plain fits =
@@ -51,7 +51,7 @@ minus_again ds numeral plain fits =
 plain_value : (d : ℕ) (ds : List ℕ) → IsNumeral 10 (d ∷ ds) → signed_digits_value 10 (d ∷ ds) ≡ pos (digits_value 10 (d ∷ ds))
 plain_value d ds numeral = grind (arith, digit_from_value, ne_eqb)
 
--- an integer without a zero too many is what the builder writes for its number
+-- An integer without a zero too many is the text that the builder writes for its number.
 pub integer_again : (number : List ℕ) → IsSigned (codes "-") number → has_extra_zero number ≡ false
     → fits_i64 (signed_digits_value 10 number) ≡ true → signed_decimal (signed_digits_value 10 number) ≡ number
 integer_again [] never plain fits = absurd never
@@ -115,7 +115,7 @@ no_minus : (ds : List ℕ) → IsNumeral 10 ds → (slice_index ds 0 == minus) �
 no_minus [] numeral = refl
 no_minus (d ∷ ds) numeral = grind (arith, digit_from_value, ne_eqb)
 
--- an integer that is written so is that of its number
+-- A number that passes the test for integers is the digits of an integer in range.
 pub integer_told : (number : List ℕ) → IsSigned (codes "-") number → is_written_integer number ≡ true
     → (z : ℤ) × (fits_i64 z ≡ true) × (signed_decimal z ≡ number)
 integer_told number signed ok = grind (arith, and_parts, integer_again, not-true)
@@ -163,7 +163,7 @@ module _ (text number : List ℕ) (whole : ℕ) (len : whole ≡ integer_len tex
           λ rest w ends. (only marked rest (shape text rest w ends)).1,
         )
 
-    -- after `i` the number is an integer
+    -- After the mark `i`, the answer is the rest after an integer.
     pub integer_answer : byte letter_i after ≡ reads letter_i r.now → ok ≡ is_written_integer number → IsOnlyRest (IsWrittenValue text) EndsValue o
     integer_answer read tells = mark_answer letter_i (is_written_integer number) read tells
         (λ ok. let t = integer_told number signed_number ok in (integer t.0, t.1, ap (λ (xs : List ℕ). xs ++ letter_i ∷ []) t.2))
@@ -208,7 +208,7 @@ module _ (text : List ℕ) (whole : ℕ) (len : whole ≡ integer_len text) (som
   float_only rest w ends =
       let t = shape text rest w ends in grind (arith, byte_missing letter_i (drop whole text) no_i rest, byte_missing letter_u (drop whole text) no_u rest)
 
-  -- none, if no float is read
+  -- If no float is read, no rest follows a written value.
   pub no_float : (o : Option (Bor (List ℕ))) → o ≡ None → float_at text ≡ miss → IsOnlyRest (IsWrittenValue text) EndsValue o
   no_float o e missed = rw e (λ rest w ends. let x = float_only rest w ends in absurd (cc (missed, x.1)))
 
@@ -220,7 +220,7 @@ module _ (text : List ℕ) (whole : ℕ) (len : whole ≡ integer_len text) (som
 -- the steps of a reader of a float
 pub ruleset float_steps = (no_float, float_answer)
 
--- after a quote the builder writes no value but a string
+-- After a quote, the builder writes only a string.
 pub value_string : (text rest : List ℕ) → integer_len text ≡ 0 → slice_index text 0 ≡ quote → IsWrittenValue text rest → EndsValue rest
     → IsWrittenString text rest
 value_string text rest whole first w ends = grind (arith, shape)
@@ -230,7 +230,7 @@ pub value_word : (text rest : List ℕ) → integer_len text ≡ 0 → slice_ind
     → (b : Bool) × (text ≡ built_value (boolean b) ++ rest)
 value_word text rest whole first w ends = let t = shape text rest w ends in grind (arith)
 
--- two words at the start of a text are the same, and so is what follows them
+-- Two words for booleans at the start of one text are the same word, and the same rest follows them.
 word_same : (a b : Bool) (rest left : List ℕ) → built_value (boolean a) ++ rest ≡ built_value (boolean b) ++ left → rest ≡ left
 word_same x0 x1 rest left e = grind (arith)
 
@@ -244,7 +244,7 @@ word_answer b text left whole first s =
       λ rest w ends. let x = value_word text rest whole first w ends in word_same x.0 b rest left (sym x.1 ∙ e),
     )
 
--- if the word for true is not there, what follows that for false is the only rest of a value
+-- If the word for true is not there, the rest after the word for false is the only rest after a value.
 pub last_word : (text : List ℕ) (o : Option (Bor (List ℕ))) → integer_len text ≡ 0 → slice_index text 0 ≢ quote
     → LacksTextAt (codes "true") text 0
     → MatchOption o (LacksTextAt (codes "false") text 0) (λ r. StripsPrefix (FindsTextPrefix (codes "false")) text r.now)
@@ -252,7 +252,7 @@ pub last_word : (text : List ℕ) (o : Option (Bor (List ℕ))) → integer_len 
 last_word text (Some r) whole first no_true found = word_answer false text r.now whole first found
 last_word text None whole first no_true no_false = λ rest w ends. let x = value_word text rest whole first w ends in grind (arith)
 
--- after a quote, what follows a string is the only rest of a value
+-- After a quote, the rest after a string is the only rest after a value.
 pub string_only_value : (text : List ℕ) (o : Option (Bor (List ℕ))) → integer_len text ≡ 0 → slice_index text 0 ≡ quote
     → IsOnlyRest (IsWrittenString text) (λ rest. Unit) o → IsOnlyRest (IsWrittenValue text) EndsValue o
 string_only_value text None whole first none = λ rest w ends. none rest (value_string text rest whole first w ends) tt

@@ -1,5 +1,5 @@
--- The logical texts of each line that is answered are a point: it has a field, and its values and its timestamp fit. And the lines
--- that are as the builder writes them are those that it writes again.
+-- The logical texts of each line that is answered are a point: it has a field, and its values and its timestamp fit. The lines that are as
+-- the builder writes them are the lines that it writes again byte for byte.
 use Rattle.std.proofs.Common.{◌≡◌, ◌≢◌, ℕ, ◌<◌, List, [], length, take, drop, Bool, true, false, cond, subst, arith, Option, Ok}
 use Rattle.std.proofs.Common.{◌==◌, ℤ, IfSome, ◌∷◌, ◌++◌, ap}
 use Rattle.std.specs.List.{AllByRecursion}
