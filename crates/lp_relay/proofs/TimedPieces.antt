@@ -3,6 +3,7 @@ use Rattle.std.proofs.Common.{◌≡◌, ◌<◌, ◌∙◌, ℕ, false, List, l
 use Rattle.std.specs.Borrow.{Bor}
 use Rattle.std.specs.{Str.IsUtf8, Result.result_unwrap_or}
 use Rattle.influxdb_line_protocol.specs.code.Rules.{rules_of}
+use Rattle.influxdb_line_protocol.specs.format.Dialects.{Dialect}
 use Rattle.influxdb_line_protocol.specs.format.Lines.{Line, answer}
 use Rattle.influxdb_line_protocol.specs.format.Readings.{Fault}
 use Rattle.influxdb_line_protocol.specs.format.Trimming.{trimmed}
@@ -33,12 +34,12 @@ use Rattle.lp_faults.proofs.ItemLemmas.{untimed_item, untimed_types}
 use Rattle.lp_relay.proofs.TypeLemmas.{types_kept}
 
 -- the item of a fault, however lines go out
-fault_of_form : (lines : LineForm) (piece : List ℕ) (e : Fault) → item_of lines piece (Err e) ≡ answered (front_of piece) (Err e)
-fault_of_form Rebuilt piece e = refl
-fault_of_form Verbatim piece e = refl
-fault_of_form Canonical piece e = refl
-fault_of_form Keyed piece e = refl
-fault_of_form (OfShard shard) piece e = refl
+fault_of_form : (dialect : Dialect) (lines : LineForm) (piece : List ℕ) (e : Fault) → item_of dialect lines piece (Err e) ≡ answered (front_of piece) (Err e)
+fault_of_form dialect Rebuilt piece e = refl
+fault_of_form dialect Verbatim piece e = refl
+fault_of_form dialect Canonical piece e = refl
+fault_of_form dialect Keyed piece e = refl
+fault_of_form dialect (OfShard shard) piece e = refl
 
 -- whatever servers it is to be portable to
 fault_allowed : (portable : Option Portable) (lines : LineForm) (piece : List ℕ) (e : Fault)
@@ -56,7 +57,7 @@ fault_typed (Some strict) types front e item = refl
 fault_item : (s : Settings) (types : Types) (piece : List ℕ) (e : Fault) → typed_item s types piece (Err e) ≡ answered (front_of piece) (Err e)
 fault_item s types piece e =
     fault_typed s.types types (front_of piece) e (item_by s piece (Err e))
-    ∙ ap (allowed s.portable s.lines piece) (fault_of_form s.lines piece e) ∙ fault_allowed s.portable s.lines piece e
+    ∙ ap (allowed s.portable s.lines piece) (fault_of_form (rules_of s.dialect) s.lines piece e) ∙ fault_allowed s.portable s.lines piece e
 
 -- it changes no types
 fault_keeps : (strict : Option StrictTypes) (types : Types) (e : Fault) (item : Item)

@@ -12,7 +12,7 @@ ghost use Rattle.lp_conditions.specs.LineTimes.{relayed, timed, front_of};
 ghost use Rattle.lp_conditions.specs.FieldTypes.{Types, types_of};
 ghost use Rattle.lp_relay.specs.Taking.{EndsPiece, KeepsItem, RefusesPiece, TakesItem, TakesPiece};
 ghost use Rattle.lp_faults.specs.Refusals.{GaveSame, IsKnown, IsLineOf, given_of, line_piece, reason_of, refusal_kind};
-ghost use Rattle.lp_faults.specs.Relaying.{Item, allowed, canonical_item, copies, if_portable, is_of_shard, item_line, item_of, keyed_item, kept_of, line_in, line_of};
+ghost use Rattle.lp_faults.specs.Relaying.{Item, answered, unchanged_item, allowed, canonical_item, copies, if_portable, is_of_shard, item_line, item_of, keyed_item, kept_of, line_in, line_of};
 ghost use Rattle.lp_faults.specs.FaultsTold.{first_line, is_told, line_after, told_at, told_fault};
 ghost use Rattle.lp_relay.specs.RelaySteps.{EndsAhead, HoldsLess, TakesAhead, TakesBy, TakesGiven, after_given, items_before, made};
 ghost use Rattle.lp_faults.specs.Objects.{len_given, newlines_given};
@@ -25,6 +25,7 @@ use influxdb_line_protocol::{
 use lp_conditions::differing::{differing_part, part_text};
 use lp_conditions::field_types::{KnownTypes, StrictTypes};
 use lp_conditions::kinds::{Kind, KindCounts};
+use lp_conditions::line_ends::ends_at_newline;
 use lp_conditions::portable::{Portable, is_shown_portable, told_of_bytes};
 use lp_conditions::settings::{LineForm, Numbering, Settings, Shard};
 use lp_conditions::times::{TimeChange, Times, change_of, piece_at};
@@ -132,26 +133,6 @@ pub(crate) fn nothing_made(alloc: Global, settings: Settings<'_>, types: KnownTy
     }
 }
 
-// Takes a line as it came, with what its piece has before it.
-#[inline(always)]
-fn take_verbatim<'a>(
-    batch: &mut Vec<u8>,
-    dialect: Dialect,
-    piece: &'a str,
-    text: &'a str,
-) -> Result<Taken<'a>, AllocError>
-    ensures { IfOk result (λ taken. TakesItem taken (item_of LineForm.Verbatim piece.now (answer (rules_of dialect) text.now))
-        batch.old.items batch.new.items) }
-{
-    match fault_of(dialect, text) {
-        None => {
-            copy_line(batch, piece.as_bytes())?;
-            Ok(Taken::Carried)
-        }
-        Some(fault) => Ok(Taken::Refused(Refusal::Line(LineRefusal::Fault(fault)))),
-    }
-}
-
 // Takes a line that is not as the builder writes it: it is written again, to find the part that is not so, and taken back.
 #[inline(always)]
 fn take_canonical<'a>(
@@ -163,7 +144,7 @@ fn take_canonical<'a>(
     requires text { text.now ≡ trimmed piece.now }
     requires unwritten { ¬ (IsAsWritten text.now) }
     ensures taken { IfOk result (λ taken. TakesItem taken
-        (item_of LineForm.Canonical piece.now (answer (rules_of reader.old.dialect) text.now)) batch.old.items batch.new.items) }
+        (item_of (rules_of reader.old.dialect) LineForm.Canonical piece.now (answer (rules_of reader.old.dialect) text.now)) batch.old.items batch.new.items) }
     ensures dialect { reader.new.dialect ≡ reader.old.dialect }
 {
     laws::written_lines_stay();
@@ -187,12 +168,38 @@ fn take_rebuilt<'a>(
 ) -> Result<Taken<'a>, AllocError>
     requires { text.now ≡ trimmed piece.now }
     ensures taken { IfOk result (λ taken. TakesItem taken
-        (item_of LineForm.Rebuilt piece.now (answer (rules_of reader.old.dialect) text.now)) batch.old.items batch.new.items) }
+        (item_of (rules_of reader.old.dialect) LineForm.Rebuilt piece.now (answer (rules_of reader.old.dialect) text.now)) batch.old.items batch.new.items) }
     ensures dialect { reader.new.dialect ≡ reader.old.dialect }
 {
     match batch::take_text(batch, reader, text)? {
         None => Ok(Taken::Carried),
         Some(refusal) => Ok(Taken::Refused(Refusal::Line(refusal))),
+    }
+}
+
+// Takes a line as it came, with what its piece has before it. It is written again if no newline ends its piece.
+#[inline(always)]
+fn take_verbatim<'a>(
+    batch: &mut Vec<u8>,
+    reader: &mut LineReader<'a>,
+    piece: &'a str,
+    text: &'a str,
+) -> Result<Taken<'a>, AllocError>
+    requires { text.now ≡ trimmed piece.now }
+    ensures taken { IfOk result (λ taken. TakesItem taken
+        (item_of (rules_of reader.old.dialect) LineForm.Verbatim piece.now (answer (rules_of reader.old.dialect) text.now))
+        batch.old.items batch.new.items) }
+    ensures dialect { reader.new.dialect ≡ reader.old.dialect }
+{
+    if !ends_at_newline(reader.dialect, piece.as_bytes()) {
+        return take_rebuilt(batch, reader, piece, text);
+    }
+    match fault_of(reader.dialect, text) {
+        None => {
+            copy_line(batch, piece.as_bytes())?;
+            Ok(Taken::Carried)
+        }
+        Some(fault) => Ok(Taken::Refused(Refusal::Line(LineRefusal::Fault(fault)))),
     }
 }
 
@@ -215,7 +222,7 @@ fn put_by_key<'a>(
     text: &str,
 ) -> Result<Taken<'a>, AllocError>
     requires { text.now ≡ trimmed piece.now }
-    ensures { IfOk result (λ taken. TakesItem taken (item_of LineForm.Keyed piece.now (Ok (line_read line.now))) batch.old.items batch.new.items) }
+    ensures { IfOk result (λ taken. TakesItem taken (keyed_item (front_of piece.now) (trimmed piece.now) (line_read line.now)) batch.old.items batch.new.items) }
 {
     if !is_admitted(line) {
         return Ok(Taken::Refused(Refusal::Line(LineRefusal::NotAdmitted)));
@@ -235,7 +242,7 @@ fn take_keyed<'a>(
 ) -> Result<Taken<'a>, AllocError>
     requires { text.now ≡ trimmed piece.now }
     ensures taken { IfOk result (λ taken. TakesItem taken
-        (item_of LineForm.Keyed piece.now (answer (rules_of reader.old.dialect) text.now)) batch.old.items batch.new.items) }
+        (item_of (rules_of reader.old.dialect) LineForm.Keyed piece.now (answer (rules_of reader.old.dialect) text.now)) batch.old.items batch.new.items) }
     ensures dialect { reader.new.dialect ≡ reader.old.dialect }
 {
     if let Some(fault) = reader.read(text)? {
@@ -252,22 +259,41 @@ fn is_of_shard(alloc: Global, shard: Shard, line: &ParsedLine<'_>) -> Result<boo
     Ok(hash % shard.count.max(1) == shard.number)
 }
 
-// Takes a line that was read: its piece goes out if it is of a shard.
-#[inline(always)]
+// Takes a line that was read: it goes out as it came, or is written again if no newline ends its piece.
+fn put_unchanged<'a>(
+    alloc: Global,
+    dialect: Dialect,
+    batch: &mut Vec<u8>,
+    line: &ParsedLine<'_>,
+    piece: &str,
+) -> Result<Taken<'a>, AllocError>
+    requires { 0 < length line.now.field_set.items }
+    ensures { IfOk result (λ taken. TakesItem taken (unchanged_item (rules_of dialect) piece.now (line_read line.now)) batch.old.items batch.new.items) }
+{
+    if !ends_at_newline(dialect, piece.as_bytes()) {
+        return put_rebuilt(alloc, batch, line, piece);
+    }
+    copy_line(batch, piece.as_bytes())?;
+    Ok(Taken::Carried)
+}
+
+// Takes a line that was read: it goes out if it is of a shard.
 fn put_if_of_shard<'a>(
     alloc: Global,
+    dialect: Dialect,
     shard: Shard,
     batch: &mut Vec<u8>,
     line: &ParsedLine<'_>,
     piece: &str,
 ) -> Result<Taken<'a>, AllocError>
+    requires { 0 < length line.now.field_set.items }
     ensures { IfOk result (λ taken.
-        TakesItem taken (item_of (LineForm.OfShard shard) piece.now (Ok (line_read line.now))) batch.old.items batch.new.items) }
+        TakesItem taken (item_of (rules_of dialect) (LineForm.OfShard shard) piece.now (Ok (line_read line.now))) batch.old.items batch.new.items) }
 {
-    if is_of_shard(alloc, shard, line)? {
-        copy_line(batch, piece.as_bytes())?;
+    if !is_of_shard(alloc, shard, line)? {
+        return Ok(Taken::Carried);
     }
-    Ok(Taken::Carried)
+    put_unchanged(alloc, dialect, batch, line, piece)
 }
 
 // Takes a line: it goes out as it came if it is of a shard.
@@ -280,13 +306,16 @@ fn take_of_shard<'a>(
     text: &'a str,
 ) -> Result<Taken<'a>, AllocError>
     ensures taken { IfOk result (λ taken. TakesItem taken
-        (item_of (LineForm.OfShard shard) piece.now (answer (rules_of reader.old.dialect) text.now)) batch.old.items batch.new.items) }
+        (item_of (rules_of reader.old.dialect) (LineForm.OfShard shard) piece.now (answer (rules_of reader.old.dialect) text.now))
+        batch.old.items batch.new.items) }
     ensures dialect { reader.new.dialect ≡ reader.old.dialect }
 {
+    laws::lines_are_points();
     if let Some(fault) = reader.read(text)? {
         return Ok(Taken::Refused(Refusal::Line(LineRefusal::Fault(fault))));
     }
-    put_if_of_shard(reader.alloc, shard, batch, reader.line(), piece)
+    let (alloc, dialect) = (reader.alloc, reader.dialect);
+    put_if_of_shard(alloc, dialect, shard, batch, reader.line(), piece)
 }
 
 // Takes a line: it goes out by the settings, or is refused.
@@ -302,12 +331,12 @@ fn take_line<'a>(
     requires dialect { reader.old.dialect ≡ settings.now.dialect }
     requires unwritten { settings.now.lines ≡ LineForm.Canonical → ¬ (IsAsWritten text.now) }
     ensures taken { IfOk result (λ taken. TakesItem taken
-        (item_of settings.now.lines piece.now (answer (rules_of settings.now.dialect) text.now)) batch.old.items batch.new.items) }
+        (item_of (rules_of settings.now.dialect) settings.now.lines piece.now (answer (rules_of settings.now.dialect) text.now)) batch.old.items batch.new.items) }
     ensures dialect { reader.new.dialect ≡ reader.old.dialect }
 {
     match settings.lines {
         LineForm::Rebuilt => take_rebuilt(batch, reader, piece, text),
-        LineForm::Verbatim => take_verbatim(batch, reader.dialect, piece, text),
+        LineForm::Verbatim => take_verbatim(batch, reader, piece, text),
         LineForm::Canonical => take_canonical(batch, reader, piece, text),
         LineForm::Keyed => take_keyed(batch, reader, piece, text),
         LineForm::OfShard(shard) => take_of_shard(shard, batch, reader, piece, text),
@@ -322,7 +351,7 @@ fn put_rebuilt<'a>(
     piece: &str,
 ) -> Result<Taken<'a>, AllocError>
     requires { 0 < length line.now.field_set.items }
-    ensures { IfOk result (λ taken. TakesItem taken (item_of LineForm.Rebuilt piece.now (Ok (line_read line.now))) batch.old.items batch.new.items) }
+    ensures { IfOk result (λ taken. TakesItem taken (answered (front_of piece.now) (Ok (line_read line.now))) batch.old.items batch.new.items) }
 {
     match batch::take_line(alloc, batch, line)? {
         None => Ok(Taken::Carried),
@@ -340,7 +369,7 @@ fn put_canonical<'a>(
 ) -> Result<Taken<'a>, AllocError>
     requires text { text.now ≡ trimmed piece.now }
     requires some { 0 < length read.now.field_set.items }
-    ensures { IfOk result (λ taken. TakesItem taken (item_of LineForm.Canonical piece.now (Ok (line_read read.now))) batch.old.items batch.new.items) }
+    ensures { IfOk result (λ taken. TakesItem taken (canonical_item (front_of piece.now) (trimmed piece.now) (line_read read.now)) batch.old.items batch.new.items) }
 {
     let start = batch.len();
     if let Some(refusal) = batch::take_line(alloc, batch, read)? {
@@ -360,7 +389,7 @@ fn put_canonical<'a>(
 // Takes a line that was read, and has this piece and this text: it goes out by the settings, or is refused.
 fn put_read<'a>(
     alloc: Global,
-    lines: LineForm,
+    settings: &Settings<'_>,
     batch: &mut Vec<u8>,
     line: &ParsedLine<'_>,
     piece: &str,
@@ -368,17 +397,16 @@ fn put_read<'a>(
 ) -> Result<Taken<'a>, AllocError>
     requires text { text.now ≡ trimmed piece.now }
     requires some { 0 < length line.now.field_set.items }
-    ensures { IfOk result (λ taken. TakesItem taken (item_of lines piece.now (Ok (line_read line.now))) batch.old.items batch.new.items) }
+    ensures { IfOk result (λ taken. TakesItem taken (item_of (rules_of settings.now.dialect) settings.now.lines piece.now (Ok (line_read line.now))) batch.old.items batch.new.items) }
 {
-    match lines {
+    match settings.lines {
         LineForm::Rebuilt => put_rebuilt(alloc, batch, line, piece),
-        LineForm::Verbatim => {
-            copy_line(batch, piece.as_bytes())?;
-            Ok(Taken::Carried)
-        }
+        LineForm::Verbatim => put_unchanged(alloc, settings.dialect, batch, line, piece),
         LineForm::Canonical => put_canonical(alloc, batch, line, piece, text),
         LineForm::Keyed => put_by_key(alloc, batch, line, piece, text),
-        LineForm::OfShard(shard) => put_if_of_shard(alloc, shard, batch, line, piece),
+        LineForm::OfShard(shard) => {
+            put_if_of_shard(alloc, settings.dialect, shard, batch, line, piece)
+        },
     }
 }
 
@@ -807,7 +835,7 @@ fn take_read(
     let alloc = pending.alloc;
     let batch = &mut pending.so_far.batch;
     let start = batch.len();
-    let added = put_read(alloc, settings.lines, batch, line, piece, text)?;
+    let added = put_read(alloc, settings, batch, line, piece, text)?;
     let allowed = allow(alloc, settings, batch, start, text, added)?;
     let types = &mut pending.types;
     let taken = keep_if_read(alloc, settings, types, batch, line, start, allowed)?;

@@ -13,7 +13,7 @@ pub returns-in-Verbatim-clause-taken : goal.returns-in-Verbatim-clause-taken
 returns-in-Verbatim-clause-taken c =
     IfOk-weaker c.take_verbatim.result _ _
     (λ taken. takes_by c.args.settings.now c.args.piece.now c.args.text.now taken _ _ Verbatim _ c.in-Verbatim.is c.requires.dialect)
-    c.take_verbatim.ensures
+    c.take_verbatim.ensures.taken
 
 pub returns-in-Canonical-clause-taken : goal.returns-in-Canonical-clause-taken
 returns-in-Canonical-clause-taken c =

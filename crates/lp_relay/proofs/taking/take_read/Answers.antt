@@ -1,5 +1,6 @@
 use Rattle.std.proofs.Common.{◌≡◌, Ok, length, arith}
 use Rattle.std.proofs.lemmas.Result.{on_ok_weaker}
+use Rattle.influxdb_line_protocol.specs.code.Rules.{rules_of}
 use Rattle.influxdb_line_protocol.specs.code.Parsed.{line_read}
 use Rattle.lp_conditions.specs.FieldTypes.{types_of}
 use Rattle.lp_faults.specs.Relaying.{item_by, item_of}
@@ -14,7 +15,7 @@ returns-clause-taken c =
     let line = line_read c.args.line.now in
     let here : c.len-start.result ≡ length before = omega (arith, c.len-start.ensures) in
     let types = types_of c.args.pending.now.types in
-    let allowed = c.in_ok-allowed.ensures (item_of s.lines piece (Ok line)) before piece here c.requires.text c.in_ok-added.ensures in
+    let allowed = c.in_ok-allowed.ensures (item_of (rules_of s.dialect) s.lines piece (Ok line)) before piece here c.requires.text c.in_ok-added.ensures in
     let kept = c.in_ok-taken.ensures (item_by s piece (Ok line)) before piece here allowed in
     on_ok_weaker c.end_piece.result
     (λ ends. ends before types

@@ -33,7 +33,7 @@ returns-then-is_as_written-clause-taken c =
     let types = types_of c.args.pending.now.types in
     let untimed = untimed_is s.times c.in_default.not-Some in
     let line = c.line_of-line.result.now in
-    let item = item_of s.lines line (answer (rules_of s.dialect) text) in
+    let item = item_of (rules_of s.dialect) s.lines line (answer (rules_of s.dialect) text) in
     let some = not_blank text line c.is_empty.result c.trimmed-text.ensures c.is_empty.ensures c.if-is_empty.false in
     let allowed = c.in_ok-allowed.ensures item before line here c.trimmed-text.ensures
     (takes_copied s.lines (rules_of s.dialect) line text before c.copy_line.new.batch.items (sym c.if-copies.ensures) c.trimmed-text.ensures
