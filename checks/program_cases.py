@@ -565,6 +565,8 @@ def files_on_the_device(room):
         (room.path / name).unlink()
     run, trace = room.traced(f"-o out --refused refused {10 * 'long '} b", calls)
     same("new files, of which one has 2 MB", (run.status, done(trace)), (1, "link unlink link unlink fsync fsync link unlink link unlink fsync fsync".split()))
+    run, trace = room.traced("--check --refused refused --append b", calls)
+    same("a file that grows", (run.status, done(trace)), (1, ["fsync"]))
     (room.path / "out").unlink()
     with open(room.path / "b", "rb") as source:
         run, _ = room.traced("-o out", "link", None, ["-e", "inject=link:error=EPERM:when=1"], stdin=source)
