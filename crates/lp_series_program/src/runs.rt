@@ -1,5 +1,6 @@
 //! Does what the words ask for.
-ghost use Rattle.std.specs.Prelude.{◌≡◌, IfNone};
+ghost use Rattle.std.specs.Prelude.{◌≡◌, false, IfNone};
+ghost use Rattle.lp_rebuild.specs.declared.program.RunFault.TheVariants.{Read};
 ghost use Rattle.lp_series_program.specs.Words.{asked_task};
 
 use crate::counting::Counting;
@@ -33,7 +34,10 @@ fn answer_of<'n>(
 }
 
 // Why nothing is counted if the system gives no random numbers: they are read before the inputs.
-fn no_random_numbers<'n>(error: io::Error) -> Failure<'n> {
+fn no_random_numbers<'n>(error: io::Error) -> Failure<'n>
+    ensures fault { result.fault ≡ Read }
+    ensures pipe { result.is_pipe_closed ≡ false }
+{
     Failure {
         fault: RunFault::Read,
         device: Device {
