@@ -56,7 +56,7 @@ export class NotAdmitted extends Error {
     }
 }
 
-/** Whether this engine has the 64-bit memory that the module needs. */
+/** Whether this engine has the 64-bit memory that the proved module needs. */
 export function hasWideMemory() {
     return typeof WebAssembly === "object" && WebAssembly.validate(new Uint8Array([0, 97, 115, 109, 1, 0, 0, 0, 5, 3, 1, 4, 1]));
 }
@@ -123,7 +123,7 @@ class Border {
         this.unsigned = new BigUint64Array(buffer);
     }
 
-    // Older engines count the pages of such a memory by a number.
+    // A memory of 64 bits counts its pages by a bigint, but in older engines by a number, as a memory of 32 bits does.
     grow(pages) {
         try {
             this.calls.memory.grow(BigInt(pages));
@@ -797,11 +797,13 @@ function iterated(source) {
 
 /** Instantiates the module of these bytes, or one that was compiled. */
 export async function connect(source) {
-    if (!hasWideMemory()) {
-        throw new Error("this engine has no 64-bit memory for WebAssembly: Node below 24 has it with --experimental-wasm-memory64,"
-            + " Chrome from 133 on, and Firefox from 134 on");
+    let module = source;
+    if (!(source instanceof WebAssembly.Module)) {
+        module = await WebAssembly.compile(source).catch(cause => {
+            if (hasWideMemory()) throw cause;
+            throw new Error("this engine has no 64-bit memory for WebAssembly, which lp_page.wasm needs: lp_page_32.wasm needs none", { cause });
+        });
     }
-    const module = source instanceof WebAssembly.Module ? source : await WebAssembly.compile(source);
     return new LineProtocol(await WebAssembly.instantiate(module, {}));
 }
 

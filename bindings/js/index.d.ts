@@ -149,10 +149,11 @@ export class NotAdmitted extends Error {
     readonly index: number;
 }
 
-/** Whether this engine has the 64-bit memory that the module needs. */
+/** Whether this engine has the 64-bit memory that the proved module lp_page.wasm needs. */
 export function hasWideMemory(): boolean;
 
-/** The same calls over the module of these bytes, for a page that holds it. */
+/** The same calls over the module of these bytes: lp_page_32.wasm, or the proved lp_page.wasm. Throws Error if the engine has no 64-bit memory,
+ * and the module needs it. */
 export function connect(source: BufferSource | WebAssembly.Module): Promise<LineProtocol>;
 
 export class LineProtocol {

@@ -5,7 +5,7 @@ export { CLAUSES, LineProtocol, NotAdmitted, connect, hasWideMemory, seriesKey }
 
 // Node reads the file, and a browser fetches it.
 async function moduleBytes() {
-    const place = new URL("./lp_page.wasm", import.meta.url);
+    const place = new URL("./lp_page_32.wasm", import.meta.url);
     if (place.protocol === "file:" && typeof process === "object") {
         const { readFile } = await import("node:fs/promises");
         return readFile(place);

@@ -92,11 +92,13 @@ same([...parse(new DataView(new TextEncoder().encode("m f=1\nn f=2").buffer, 6))
 same([...parse(`m f=1 ${"x".repeat(2000)}`)][0].text.length, 2001, "a long rest");
 same([isPortable("m,a=b f=1 2000000"), isPortable("m,a=b f=1", "all", { tags: 0 }), isPortable("m f=1 2000000", "all", { latest: 1_000_000n })], [true, false, false], "limits");
 same(await gathered((function* () { yield "m f=1\n"; throw new Error("gone"); })()).catch(error => error.message), "gone", "the error of a source");
-const { connect } = await import(pathToFileURL(`${folder}/core.js`)), { validate } = WebAssembly, module = readFileSync(`${folder}/lp_page.wasm`);
-same((await connect(module)).index(`${ofWindows.repeat(3)}n f=2`).at.length, 60_001, "an index of several windows");
-WebAssembly.validate = () => false;
-same((await connect(module).catch(error => error.message)).slice(0, 34), "this engine has no 64-bit memory f", "an engine without wide memory");
-WebAssembly.validate = validate;
+// Over the proved module too, if this engine has its memory, or else says that it has not.
+const { connect, hasWideMemory } = await import(pathToFileURL(`${folder}/core.js`)), ofModule = name => connect(readFileSync(`${folder}/${name}`));
+same((await ofModule("lp_page_32.wasm")).index(`${ofWindows.repeat(3)}n f=2`).at.length, 60_001, "an index of several windows");
+const proved = await ofModule("lp_page.wasm").catch(error => error);
+if (hasWideMemory()) same([...proved.parse("m f=1")].length, 1, "a line, by the proved module");
+else same(proved.message.slice(0, 34), "this engine has no 64-bit memory f", "an engine without wide memory");
+same((await connect(new Uint8Array(9)).catch(error => error)) instanceof Error, true, "bytes that are no module");
 throws(() => write(line, { dialect: "newline-delimited" }), NotAdmitted, "the string of field 4 of line 1 would not read back", "a string with a newline");
 throws(() => write([line, { measurement: "m", tags: { k: "v\\" }, fields: { f: 1 } }]), NotAdmitted, "the value of tag 1 of line 2 would not read back", "a backslash");
 throws(() => write({ measurement: "#m", fields: { f: 1 } }), NotAdmitted, "the measurement of line 1 would not read back", "a comment");
