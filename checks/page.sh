@@ -52,7 +52,7 @@ fi
 corpus=()
 if python3 "$top/bench/corpora.py" --seed page --size 8000000 --out "$work" telegraf >/dev/null 2>&1; then
     corpus=("$work/telegraf.lp")
-    echo "page: Node: a worker makes objects of $(node "$here/page/speed.mjs" "$package" "${corpus[0]}")"
+    node "$here/page/speed.mjs" "$package" "${corpus[0]}"
 fi
 chromium=$(command -v chromium || command -v chromium-browser || command -v google-chrome) || chromium=
 if [ -n "$chromium" ]; then

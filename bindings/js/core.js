@@ -36,13 +36,18 @@ const ROW_LINE = 0, ROW_TIMESTAMP = 2, ROW_KEY = 4, ROW_PIECE = 8, ROW_MEASUREME
 const ROW_TAGS = 15, ROW_FIELDS = 16, ROW_ROOM_LEN = 17, ROW_ANSWER = 18, ROW_FAULT = 19, ROW_SIDE = 20;
 const ROW_MEASUREMENT_COPIED = 42, ROW_HAS_TIMESTAMP = 43;
 const PART_KEY = 0, PART_TEXT = 2, PART_NUMBER = 4, PART_KIND = 6, PART_KEY_COPIED = 14, PART_TEXT_COPIED = 15;
-const BLOCK_LINE = 0, BLOCK_AT = 2, BLOCK_ROWS = 3;
+const BLOCK_LINE = 0, BLOCK_AT = 2, BLOCK_ROWS = 3, BLOCK_ROOM = 5;
 
 // How much of a text is read at once, and the most bytes that a piece of a stream may have, if nothing else is asked for.
 const WINDOW = 1 << 16, LONGEST = 1 << 24;
 
+// A string of at most so many characters that are all ASCII is moved one by one: that takes less time than to ask for its bytes.
+const SHORT = 1 << 12, ASCII = /^[\0-\x7f]*$/;
+
 const encoder = new TextEncoder();
 const decoder = new TextDecoder("utf-8", { ignoreBOM: true });
+// The powers of ten that are exact as numbers.
+const POWERS = Array.from({ length: 23 }, (_, n) => Number(`1e${n}`));
 const HALF = /(\p{Surrogate})/u;
 
 /** A name or a string of a line cannot be written: the line would not read back, or the text holds half of a surrogate pair. `what` names the
@@ -95,27 +100,69 @@ function limitOf(most) {
     return most;
 }
 
+/* A text of bytes as a string, of which parts are asked for by the places of their bytes: mostly one after another. */
+class Decoded {
+    // Takes the `len` bytes from a place on. `string` is what they are, if that is known.
+    take(bytes, from, len, string = decoder.decode(bytes.subarray(from, from + len))) {
+        this.bytes = bytes;
+        this.from = from;
+        this.string = string;
+        this.isAscii = string.length === len;
+        // Bytes that are not UTF-8 are no certain number of units. A character that the end of the bytes cuts does not matter.
+        const bad = this.isAscii ? -1 : string.indexOf("\ufffd");
+        this.isUtf8 = bad < 0 || bad === string.length - 1;
+        this.mark = this.markUnit = this.byte = this.unit = 0;
+    }
+
+    // How many units of the string come before a byte: counted from the last byte that was asked for, or from the mark.
+    unitBefore(byte) {
+        if (byte < this.byte) {
+            this.byte = byte < this.mark ? 0 : this.mark;
+            this.unit = byte < this.mark ? 0 : this.markUnit;
+        }
+        const { bytes, from } = this;
+        let unit = this.unit;
+        for (let at = from + this.byte; at < from + byte; at++) unit += (bytes[at] & 0xc0) === 0x80 ? 0 : bytes[at] >= 0xf0 ? 2 : 1;
+        this.byte = byte;
+        this.unit = unit;
+        return unit;
+    }
+
+    // Sets the mark: most bytes that are asked for from now on come after it.
+    markAt(byte) {
+        if (this.isAscii || !this.isUtf8) return;
+        this.markUnit = this.unitBefore(byte);
+        this.mark = byte;
+    }
+
+    slice(at, len) {
+        if (this.isAscii) return this.string.substring(at, at + len);
+        if (!this.isUtf8) return decoder.decode(this.bytes.subarray(this.from + at, this.from + at + len));
+        const unit = this.unitBefore(at);
+        return this.string.substring(unit, this.unitBefore(at + len));
+    }
+}
+
 /* The memory of the module, behind its own: a block, a search for cuts with the place of a cut, rows, parts, a room for texts without their
  * escapes, and a text. */
 class Border {
     constructor(calls) {
         this.calls = calls;
         this.base = (Number(calls.__heap_base.value) + 15) & ~15;
+        // The text as a string, and the room, if a text that lies there was asked for.
+        this.window = new Decoded();
+        this.copies = new Decoded();
         this.lay(WINDOW, 512, 8192, WINDOW);
     }
 
     // Lays out places for so many bytes of text, rows, parts and bytes of room. What was there is lost.
     lay(text, rows, parts, room) {
-        Object.assign(this, { textSize: text, rowCount: rows, partCount: parts, roomSize: room });
-        this.search = this.base + BLOCK;
-        this.cut = this.search + CUTS;
-        this.rows = this.cut + 8;
-        this.parts = this.rows + ROW * rows;
-        this.room = this.parts + PART * parts;
-        this.text = this.room + ((room + 15) & ~15);
-        const missing = this.text + text - this.calls.memory.buffer.byteLength;
+        const search = this.base + BLOCK, cut = search + CUTS, rowsAt = cut + 8, partsAt = rowsAt + ROW * rows, roomAt = partsAt + PART * parts;
+        const textAt = roomAt + ((room + 15) & ~15), missing = textAt + text - this.calls.memory.buffer.byteLength;
         if (missing > 0) this.grow(Math.ceil(missing / 65536));
         const buffer = this.calls.memory.buffer;
+        Object.assign(this, { textSize: text, rowCount: rows, partCount: parts, roomSize: room, search, cut, rows: rowsAt, parts: partsAt, room: roomAt, text: textAt });
+        this.addresses = [textAt, this.base, roomAt, room, rowsAt, rows, partsAt, parts].map(BigInt);
         this.bytes = new Uint8Array(buffer);
         this.words = new Uint32Array(buffer);
         this.halves = new Uint16Array(buffer);
@@ -133,10 +180,12 @@ class Border {
         }
     }
 
-    // Puts a text into its place.
-    put(bytes) {
-        if (bytes.length > this.textSize) this.lay(bytes.length, this.rowCount, this.partCount, this.roomSize);
-        this.bytes.set(bytes, this.text);
+    // Puts a text into its place: bytes, or a string that is all ASCII.
+    put(text) {
+        if (text.length > this.textSize) this.lay(text.length, this.rowCount, this.partCount, this.roomSize);
+        const { bytes, text: at } = this;
+        if (typeof text === "string") for (let n = 0; n < text.length; n++) bytes[at + n] = text.charCodeAt(n);
+        else bytes.set(text, at);
     }
 
     // Reads rows of the first `len` bytes of the text, from `at` on, which is in this line. Gives the answer.
@@ -144,9 +193,8 @@ class Border {
         const block = this.base >> 2;
         this.unsigned[(block + BLOCK_LINE) >> 1] = line;
         this.words[block + BLOCK_AT] = at;
-        return this.calls.lp_offsets_block(
-            BigInt(this.text), BigInt(len), dialect, last ? 1 : 0, BigInt(this.base), BigInt(this.room), BigInt(this.roomSize), BigInt(this.rows),
-            BigInt(this.rowCount), BigInt(this.parts), BigInt(this.partCount));
+        const [text, own, room, roomSize, rows, rowCount, parts, partCount] = this.addresses;
+        return this.calls.lp_offsets_block(text, BigInt(len), dialect, last ? 1 : 0, own, room, roomSize, rows, rowCount, parts, partCount);
     }
 
     // Makes places for the row that did not fit, though no other took any.
@@ -158,7 +206,7 @@ class Border {
 
     // Tells each of so many rows the key of its series, where that stands in the text.
     tellKeys(len, rows) {
-        this.calls.lp_offsets_keys(BigInt(this.text), BigInt(len), BigInt(this.rows), BigInt(rows));
+        this.calls.lp_offsets_keys(this.addresses[0], BigInt(len), this.addresses[4], BigInt(rows));
     }
 
     // Begins a search for the ends of pieces that may have so many bytes. Gives its state.
@@ -203,26 +251,25 @@ class Walk {
         this.line = 1n;
         this.offset = 0;
         this.items = 0;
+        this.text = border.window;
+        this.hasCopies = false;
     }
 
     // Reads the pieces of a window that end in it, or, if the text ends with it, all; and gives how many bytes they take. What is
-    // made of each item is appended to `out`.
-    step(bytes, last, out) {
-        const border = this.border, len = bytes.length;
-        border.put(bytes);
-        this.window = decoder.decode(border.bytes.subarray(border.text, border.text + len));
-        this.isAscii = this.window.length === len;
-        this.windowAt = 0;
-        const isAscii = this.isAscii;
+    // made of each item is appended to `out`. The window is bytes, or a string that is all ASCII.
+    step(window, last, out) {
+        const border = this.border, len = window.length;
+        border.put(window);
+        this.text.take(border.bytes, border.text, len, typeof window === "string" ? window : undefined);
         let at = 0;
         for (;;) {
             const answer = border.read(len, this.dialect, last, at, this.line);
             const block = border.base >> 2, rows = border.words[block + BLOCK_ROWS];
             if (this.withKeys) border.tellKeys(len, rows);
+            this.hasCopies = false;
             for (let row = 0; row < rows; row++) {
                 this.items += 1;
-                if (!isAscii) this.look(row);
-                out.push(this.take(row));
+                out.push(this.take((border.rows + ROW * row) >> 2));
             }
             at = border.words[block + BLOCK_AT];
             this.line = border.unsigned[(block + BLOCK_LINE) >> 1];
@@ -230,7 +277,8 @@ class Walk {
             if (answer === MORE_PARTS || answer === MORE_ROOM) {
                 if (rows === 0) {
                     border.enlarge();
-                    border.put(bytes);
+                    border.put(window);
+                    this.text.take(border.bytes, border.text, len, this.text.string);
                 }
             } else if (answer !== LINE) {
                 throw new Error(`the module answers ${answer}`);
@@ -240,54 +288,55 @@ class Walk {
         return at;
     }
 
-    // Of a window that is not all ASCII, the text of the piece of a row takes its place.
-    look(row) {
-        const border = this.border, words = (border.rows + ROW * row) >> 2;
-        const at = border.words[words + ROW_PIECE], len = border.words[words + ROW_PIECE + 1];
-        this.window = decoder.decode(border.bytes.subarray(border.text + at, border.text + at + len));
-        this.isAscii = this.window.length === len;
-        this.windowAt = at;
-    }
-
     // The text at a place.
     textAt(at, len, copied) {
+        if (copied === 0) return this.text.slice(at, len);
         const border = this.border;
-        if (copied !== 0) return decoder.decode(border.bytes.subarray(border.room + at, border.room + at + len));
-        if (this.isAscii) return this.window.substring(at - this.windowAt, at - this.windowAt + len);
-        return decoder.decode(border.bytes.subarray(border.text + at, border.text + at + len));
+        if (!this.hasCopies) border.copies.take(border.bytes, border.room, border.words[(border.base >> 2) + BLOCK_ROOM]);
+        this.hasCopies = true;
+        return border.copies.slice(at, len);
     }
 
-    // The item of a row.
-    take(row) {
-        const answer = this.border.words[((this.border.rows + ROW * row) >> 2) + ROW_ANSWER];
-        return answer === LINE ? this.lineOf(row) : this.faultOf(row, answer);
+    // The item of the row at a word.
+    take(word) {
+        const { words } = this.border, answer = words[word + ROW_ANSWER];
+        this.text.markAt(words[word + ROW_PIECE]);
+        return answer === LINE ? this.lineOf(word) : this.faultOf(word, answer);
     }
 
-    lineOf(row) {
-        const { words, halves, longs, rows } = this.border, word = (rows + ROW * row) >> 2, half = 2 * word;
-        const tagCount = words[word + ROW_TAGS], fieldCount = words[word + ROW_FIELDS];
-        const tags = [], fields = [], window = this.window, from = this.windowAt, isAscii = this.isAscii;
-        let part = (this.border.parts + PART * words[word + ROW_PARTS_AT]) >> 2;
-        for (const end = part + (PART >> 2) * tagCount; part < end; part += PART >> 2) {
-            // Most texts are parts of the window, as they stand.
-            if (isAscii && halves[2 * part + PART_KEY_COPIED] === 0 && halves[2 * part + PART_TEXT_COPIED] === 0) {
-                const key = words[part + PART_KEY] - from, value = words[part + PART_TEXT] - from;
-                tags.push([window.substring(key, key + words[part + PART_KEY + 1]), window.substring(value, value + words[part + PART_TEXT + 1])]);
-            } else {
-                tags.push([this.keyOf(part), this.partText(part)]);
-            }
-        }
-        for (const end = part + (PART >> 2) * fieldCount; part < end; part += PART >> 2) {
-            fields.push([this.keyOf(part), this.valueOf(part, words[part + PART_KIND])]);
-        }
+    lineOf(word) {
+        const { words, halves, longs, parts } = this.border;
+        const measurement = this.textAt(words[word + ROW_MEASUREMENT], words[word + ROW_MEASUREMENT + 1], halves[2 * word + ROW_MEASUREMENT_COPIED]);
+        const part = (parts + PART * words[word + ROW_PARTS_AT]) >> 2, tags = words[word + ROW_TAGS];
         const line = {
-            measurement: this.textAt(words[word + ROW_MEASUREMENT], words[word + ROW_MEASUREMENT + 1], halves[half + ROW_MEASUREMENT_COPIED]),
-            tags,
-            fields,
-            timestamp: halves[half + ROW_HAS_TIMESTAMP] === 1 ? longs[(word + ROW_TIMESTAMP) >> 1] : null,
+            measurement,
+            tags: this.tagsOf(part, tags),
+            fields: this.fieldsOf(part + (PART >> 2) * tags, words[word + ROW_FIELDS]),
+            timestamp: halves[2 * word + ROW_HAS_TIMESTAMP] === 1 ? longs[(word + ROW_TIMESTAMP) >> 1] : null,
         };
         if (this.hasMore) this.addMore(line, word);
         return line;
+    }
+
+    // So many tags, of which the first is at a word.
+    tagsOf(first, count) {
+        const { words } = this.border, { isAscii, string } = this.text, tags = new Array(count);
+        for (let n = 0, part = first; n < count; n++, part += PART >> 2) {
+            // Most texts are parts of the window, as they stand.
+            if (isAscii && words[part + (PART_KEY_COPIED >> 1)] === 0) {
+                const key = words[part + PART_KEY], value = words[part + PART_TEXT];
+                tags[n] = [string.substring(key, key + words[part + PART_KEY + 1]), string.substring(value, value + words[part + PART_TEXT + 1])];
+            } else {
+                tags[n] = [this.keyOf(part), this.partText(part)];
+            }
+        }
+        return tags;
+    }
+
+    fieldsOf(first, count) {
+        const fields = new Array(count);
+        for (let n = 0, part = first; n < count; n++, part += PART >> 2) fields[n] = [this.keyOf(part), this.valueOf(part)];
+        return fields;
     }
 
     // The key of a part, and its value or literal, if that is a text.
@@ -312,15 +361,33 @@ class Walk {
         }
     }
 
-    valueOf(part, kind) {
+    valueOf(part) {
         const { words, longs, unsigned } = this.border, number = part + PART_NUMBER;
-        if (kind === INTEGER) return longs[number >> 1];
-        if (kind === FLOAT) {
-            const literal = this.partText(part), value = Number(literal);
-            return this.withLiterals || !Number.isFinite(value) ? { float: literal } : value;
+        switch (words[part + PART_KIND]) {
+            case INTEGER: return longs[number >> 1];
+            case FLOAT: return this.floatOf(part);
+            case STRING: return this.partText(part);
+            case UNSIGNED: return { unsigned: unsigned[number >> 1] };
+            default: return words[number] === 1;
         }
-        if (kind === STRING) return this.partText(part);
-        return kind === UNSIGNED ? { unsigned: unsigned[number >> 1] } : words[number] === 1;
+    }
+
+    // The nearest number of a float. One of few digits is a whole number and a power of ten, which are exact: so their quotient is the nearest.
+    floatOf(part) {
+        const { bytes, words, text } = this.border, start = text + words[part + PART_TEXT], end = start + words[part + PART_TEXT + 1];
+        let digits = 0, point = 0;
+        if (!this.withLiterals) {
+            for (let at = bytes[start] === 45 ? start + 1 : start; at < end; at++) {
+                const digit = bytes[at] - 48;
+                if (digit >= 0 && digit <= 9) digits = 10 * digits + digit;
+                else if (digit === -2) point = at + 1;
+                else digits = Infinity;
+            }
+            const places = point === 0 ? 0 : end - point;
+            if (digits < 2 ** 53 && places < POWERS.length) return (bytes[start] === 45 ? -digits : digits) / POWERS[places];
+        }
+        const literal = this.partText(part), value = Number(literal);
+        return this.withLiterals || !Number.isFinite(value) ? { float: literal } : value;
     }
 
     // Where an item is: its number, the line and the byte at which its text begins and its piece does, and how long its text is.
@@ -336,8 +403,8 @@ class Walk {
         };
     }
 
-    faultOf(row, answer) {
-        const { words, bytes, text } = this.border, word = (this.border.rows + ROW * row) >> 2;
+    faultOf(word, answer) {
+        const { words, bytes, text } = this.border;
         const place = this.placeOf(word), at = words[word + ROW_LINE_AT], end = words[word + ROW_PIECE] + words[word + ROW_PIECE + 1];
         const refused = bytes.slice(text + words[word + ROW_PIECE], text + end), stop = words[word + ROW_STOP_AT];
         const fault = answer === NOT_UTF8 ? "not_utf8" : FAULTS[words[word + ROW_FAULT]];
@@ -517,17 +584,17 @@ function compareByBytes(a, b) {
 /* The items of a text. Those of a window are made at once, so that others may use the memory of the module in between. */
 class Items {
     #walk;
-    #bytes;
+    #text;
     #length;
     #from = 0;
     #size = WINDOW;
     #made = [];
     #next = 0;
 
-    constructor(walk, bytes) {
+    constructor(walk, text) {
         this.#walk = walk;
-        this.#bytes = bytes;
-        this.#length = bytes.length;
+        this.#text = typeof text === "string" && text.length <= SHORT && ASCII.test(text) ? text : bytesOf(text);
+        this.#length = this.#text.length;
     }
 
     [Symbol.iterator]() {
@@ -549,11 +616,12 @@ class Items {
     }
 
     #step() {
-        if (this.#bytes.length !== this.#length) throw new TypeError("the buffer of the text was detached or resized while the text was read");
+        const text = this.#text;
+        if (text.length !== this.#length) throw new TypeError("the buffer of the text was detached or resized while the text was read");
         const to = Math.min(this.#from + this.#size, this.#length), isLast = to === this.#length;
         this.#made = [];
         this.#next = 0;
-        const passed = this.#walk.step(this.#bytes.subarray(this.#from, to), isLast, this.#made);
+        const passed = this.#walk.step(typeof text === "string" ? text : text.subarray(this.#from, to), isLast, this.#made);
         this.#from = isLast ? to : this.#from + passed;
         this.#size = passed === 0 ? 2 * this.#size : WINDOW;
     }
@@ -569,7 +637,7 @@ export class LineProtocol {
 
     /** The items of a text, lines and faults, one after another. */
     parse(text, options = {}) {
-        return new Items(new Walk(this.#border, numberOf(options.dialect ?? "crate"), options), bytesOf(text));
+        return new Items(new Walk(this.#border, numberOf(options.dialect ?? "crate"), options), text);
     }
 
     /** The items of a stream, as its parts come. */

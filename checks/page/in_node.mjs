@@ -79,6 +79,23 @@ for (const dialect of ["crate", "strict", "newline-delimited"]) {
     }
 }
 
+// A float is the number that JavaScript makes of its literal, whatever its digits.
+let seed = 64;
+const dice = n => (seed = (seed * 1103515245 + 12345) % 2147483648) % n, digits = n => Array.from({ length: n }, () => dice(10)).join("");
+const literals = ["0", "-0", "-0.0", "9007199254740991", "9007199254740993", "0.9007199254740993", "9007199254740993.0", `1.${"0".repeat(30)}`, `0.${"0".repeat(25)}1`];
+for (let n = 0; n < 20_000; n++) literals.push(`${dice(2) ? "-" : ""}${digits(1 + dice(18))}${dice(3) ? `.${digits(1 + dice(18))}` : ""}${dice(9) ? "" : `e${dice(40) - 20}`}`);
+[...parse(literals.map(literal => `m f=${literal}\n`).join(""))].forEach((item, n) => same(Object.is(item.fields[0][1], Number(literals[n])), true, literals[n]));
+
+// Texts in a window that is not ASCII, or not UTF-8 in some line, are those of the line alone.
+const mixed = Array.from({ length: 3000 }, (_, n) => ["m,é=😀\\ x f=1,流量=\"a\\\"é\"", "m,a=\ufffd\\,\ufffd f=2", "n,a=b,c=é f=\"😀\"", "plain f=1", `x,${"é".repeat(40)}=1 f=1`][(7 * n) % 5]);
+const wrong = Buffer.from([0x6d, 0x20, 0xf0, 0x9f, 0x3d, 0x31, 0x0a]), options_ = { keys: true, places: true, literals: true };
+for (const bytes of [Buffer.from(mixed.join("\n")), Buffer.concat([Buffer.from(`${mixed.slice(0, 2000).join("\n")}\n`), wrong, Buffer.from(mixed.join("\n"))])]) {
+    for (const item of parse(bytes, options_)) {
+        if (item.fault) same([item.fault, item.line], ["not_utf8", 2001], "the line that is not UTF-8");
+        else same({ ...item, item: 0, line: 0, offset: 0, pieceLine: 0, pieceOffset: 0 }, { ...[...parse(bytes.subarray(item.offset, item.offset + item.length), options_)][0], item: 0, line: 0, offset: 0, pieceLine: 0, pieceOffset: 0 }, "a line among others");
+    }
+}
+
 // What is written is what was meant, and what may not be written is refused.
 const line = { measurement: "m x", tags: { b: "1,2", a: "=" }, fields: [["i", -5n], ["u", { unsigned: 2n ** 64n - 1n }], ["f", -0], ["s", 'q"\\\n'], ["t", true]], timestamp: new Date(5) };
 same(write(line), 'm\\ x,b=1\\,2,a=\\= i=-5i,u=18446744073709551615u,f=-0,s="q\\"\\\\\n",t=true 5000000\n', "a line that is written");
@@ -122,8 +139,7 @@ same(lines.join(""), printed, "what the first program prints");
 
 // Faults are those that lp_relay tells, at the same places: of the texts of the table, and of hostile ones.
 if (relay) {
-    let seed = 64, faults = 0;
-    const dice = n => (seed = (seed * 1103515245 + 12345) % 2147483648) % n;
+    let faults = 0;
     const parts = ["m", ",", " ", "=", '"', "\\", "\n", "\n", "f=1i", "t=v", "#", "\t", "9".repeat(25), "é", "f=", " 5", "x"].map(part => Buffer.from(part)).concat(Buffer.from([0xff]));
     const hostile = Array.from({ length: 60 }, () => Buffer.concat(Array.from({ length: 60 }, () => parts[dice(parts.length)])));
     for (const text of [Buffer.from(texts.join("\n")), ...hostile]) {
