@@ -26,7 +26,7 @@ const MESSAGES = {
 
 // The numbers of the header include/influxdb_line_protocol.h, which checks/documents.py compares with it: of answers and of kinds of parts;
 const END = 0, LINE = 1, MORE_PARTS = 3, MORE_ROOM = 4, NOT_UTF8 = 8, MORE_TEXT = 10, TOO_LONG = 11;
-const INTEGER = 1, UNSIGNED = 2, FLOAT = 3, STRING = 4;
+const INTEGER = 1, UNSIGNED = 2, FLOAT = 3, STRING = 4, BOOLEAN = 5;
 
 // how many bytes a row, a part, a block and a search for cuts take;
 const ROW = 88, PART = 32, BLOCK = 24, CUTS = 48;
@@ -50,14 +50,18 @@ const decoder = new TextDecoder("utf-8", { ignoreBOM: true });
 const POWERS = Array.from({ length: 23 }, (_, n) => Number(`1e${n}`));
 const HALF = /(\p{Surrogate})/u;
 
-/** A name or a string of a line cannot be written: the line would not read back, or the text holds half of a surrogate pair. `what` names the
- * part, and `index` is the number of the line, counted from 0. */
+const SHOWN = 60;
+
+/** A name or a string of a line cannot be written: the line would not read back, or the text holds half of a surrogate pair. `part` says which
+ * part rules the line out, `key` is the key of its tag or field if it is a value, and `value` is its text; `what` is the part in words, and
+ * `index` the number of the line, counted from 0. */
 export class NotAdmitted extends Error {
-    constructor(what, index, why = "would not read back") {
-        super(`${what} of line ${index + 1} ${why}`);
-        this.name = "NotAdmitted";
-        this.what = what;
-        this.index = index;
+    constructor({ part = null, number, key = null, value = null }, index, why = "would not read back") {
+        const [beside, thing] = part === null ? ["", "part"] : part.split(" ").reverse();
+        const what = part === null ? "a part" : part === "measurement" ? "the measurement" : `the ${beside} of ${thing} ${number}`;
+        const shown = text => JSON.stringify(text.length > SHOWN ? `${text.slice(0, SHOWN)}..` : text);
+        super(`${what} of line ${index + 1} ${why}${value === null ? "" : `: ${shown(value)}`}${key === null ? "" : `, of the key ${shown(key)}`}`);
+        Object.assign(this, { name: "NotAdmitted", what, index, part, key, value });
     }
 }
 
@@ -445,51 +449,53 @@ class Walk {
     }
 }
 
-// How names and values are spelled.
-const spelledMeasurement = name => name.replace(/[, \\]/g, "\\$&");
-const spelledKey = name => name.replace(/[,= \\]/g, "\\$&");
-const spelledString = text => `"${text.replace(/["\\]/g, "\\$&")}"`;
+// How names and values are spelled. Most names are spelled as they are.
+const spelledMeasurement = name => (/[, \\]/.test(name) ? name.replace(/[, \\]/g, "\\$&") : name);
+const spelledName = name => (/[,= \\]/.test(name) ? name.replace(/[,= \\]/g, "\\$&") : name);
+const spelledString = text => `"${/["\\]/.test(text) ? text.replace(/["\\]/g, "\\$&") : text}"`;
 const LITERAL = /^-?[0-9]+(\.[0-9]+)?([eE][+-]?[0-9]+)?$/;
+const LEAST = -(2n ** 63n), MOST = 2n ** 63n - 1n, MOST_UNSIGNED = 2n ** 64n - 1n;
 
 function inRange(value, least, greatest, what) {
     if (value < least || value > greatest) throw new RangeError(`${value} is no ${what} of 64 bits`);
     return value;
 }
 
-// A value as it is meant: its kind, and what that holds.
-function meant(value) {
+// Adds a value as it is meant: its kind, and a bigint, a Boolean, or the text of a string or of a float.
+function putMeant(list, value) {
     switch (typeof value) {
-        case "bigint": return { kind: "i", value: inRange(value, -(2n ** 63n), 2n ** 63n - 1n, "integer") };
-        case "string": return { kind: "s", value };
-        case "boolean": return { kind: "b", value };
+        case "bigint": return list.push(INTEGER, inRange(value, LEAST, MOST, "integer"));
+        case "string": return list.push(STRING, value);
+        case "boolean": return list.push(BOOLEAN, value);
         case "number":
             if (!Number.isFinite(value)) throw new RangeError(`${value} is no float that can be written`);
-            return { kind: "f", value: Object.is(value, -0) ? "-0" : String(value) };
+            return list.push(FLOAT, Object.is(value, -0) ? "-0" : String(value));
         default:
     }
-    if (value && typeof value.unsigned === "bigint") return { kind: "u", value: inRange(value.unsigned, 0n, 2n ** 64n - 1n, "unsigned integer") };
+    if (value && typeof value.unsigned === "bigint") return list.push(UNSIGNED, inRange(value.unsigned, 0n, MOST_UNSIGNED, "unsigned integer"));
     if (value && typeof value.float === "string") {
         if (!LITERAL.test(value.float)) throw new RangeError(`${value.float} is no literal of a float`);
-        return { kind: "f", value: value.float };
+        return list.push(FLOAT, value.float);
     }
     throw new TypeError("a value is a bigint, a number, a string, a boolean, { unsigned } or { float }");
 }
 
-function spelledValue({ kind, value }) {
+function spelledValue(kind, value) {
     switch (kind) {
-        case "i": return `${value}i`;
-        case "u": return `${value}u`;
-        case "s": return spelledString(value);
+        case INTEGER: return `${value}i`;
+        case UNSIGNED: return `${value}u`;
+        case STRING: return spelledString(value);
         default: return String(value);
     }
 }
 
-// The pairs of tags or fields, which may be pairs, a Map or an object.
-function pairsOf(pairs, what) {
-    if (pairs === undefined || pairs === null) return [];
-    const list = typeof pairs[Symbol.iterator] === "function" ? [...pairs] : Object.entries(pairs);
-    for (const pair of list) {
+// The keys and values of tags or fields, in turns. These may be pairs, a Map or an object.
+function listOf(pairs, what) {
+    const list = [];
+    if (pairs === undefined || pairs === null) return list;
+    for (const pair of typeof pairs[Symbol.iterator] === "function" ? pairs : Object.entries(pairs)) {
         if (!Array.isArray(pair) || pair.length !== 2 || typeof pair[0] !== "string") throw new TypeError(`${what} are pairs of a key and a value`);
+        list.push(pair[0], pair[1]);
     }
     return list;
 }
@@ -498,76 +504,123 @@ function pairsOf(pairs, what) {
 function seriesOf(line) {
     const measurement = line?.measurement;
     if (typeof measurement !== "string") throw new TypeError("a line has a measurement, which is a string");
-    const tags = pairsOf(line.tags, "tags").map(([key, value]) => {
-        if (typeof value !== "string") throw new TypeError(`the value of the tag ${key} is no string`);
-        return [key, value];
-    });
+    const tags = listOf(line.tags, "tags");
+    for (let n = 1; n < tags.length; n += 2) if (typeof tags[n] !== "string") throw new TypeError(`the value of the tag ${tags[n - 1]} is no string`);
     return { measurement, tags };
 }
 
-// A line as it is meant.
+// A line as it is meant. Its fields are a list of keys, kinds and values, in turns.
 function pointOf(line) {
-    const series = seriesOf(line), fields = pairsOf(line.fields, "fields").map(([key, value]) => [key, meant(value)]);
+    const { measurement, tags } = seriesOf(line), given = listOf(line.fields, "fields"), fields = [];
+    for (let n = 0; n < given.length; n += 2) {
+        fields.push(given[n]);
+        putMeant(fields, given[n + 1]);
+    }
     if (fields.length === 0) throw new TypeError("a line has a field");
-    let time = line.timestamp ?? null;
-    if (time instanceof Date) time = BigInt(time.getTime()) * 1_000_000n;
-    if (time !== null && typeof time !== "bigint") throw new TypeError("a timestamp is a bigint of nanoseconds, or a Date");
-    if (time !== null) inRange(time, -(2n ** 63n), 2n ** 63n - 1n, "timestamp");
-    return { ...series, fields, timestamp: time };
+    let timestamp = line.timestamp ?? null;
+    if (timestamp instanceof Date) timestamp = BigInt(timestamp.getTime()) * 1_000_000n;
+    if (timestamp !== null && typeof timestamp !== "bigint") throw new TypeError("a timestamp is a bigint of nanoseconds, or a Date");
+    if (timestamp !== null) inRange(timestamp, LEAST, MOST, "timestamp");
+    return { measurement, tags, fields, timestamp };
 }
 
-// Each text of a line as it is meant, after what it is in words.
+// Each text of a line as it is meant: of which part it is, the number of its tag or field, the key beside a value, and the text.
 function* textsOf({ measurement, tags, fields = [] }) {
-    yield ["the measurement", measurement];
-    for (const [n, [key, value]] of tags.entries()) {
-        yield [`the key of tag ${n + 1}`, key];
-        yield [`the value of tag ${n + 1}`, value];
+    yield { part: "measurement", value: measurement };
+    for (let n = 0; n < tags.length; n += 2) {
+        yield { part: "tag key", number: n / 2 + 1, value: tags[n] };
+        yield { part: "tag value", number: n / 2 + 1, key: tags[n], value: tags[n + 1] };
     }
-    for (const [n, [key, { kind, value }]] of fields.entries()) {
-        yield [`the key of field ${n + 1}`, key];
-        if (kind === "s") yield [`the string of field ${n + 1}`, value];
+    for (let n = 0; n < fields.length; n += 3) {
+        yield { part: "field key", number: n / 3 + 1, value: fields[n] };
+        if (fields[n + 1] === STRING) yield { part: "field value", number: n / 3 + 1, key: fields[n], value: fields[n + 2] };
     }
 }
 
 // Refuses a line if some text of it holds half of a surrogate pair.
 function refuseHalves(point, index) {
-    for (const [what, text] of textsOf(point)) if (!text.isWellFormed()) throw new NotAdmitted(what, index, "holds half of a surrogate pair");
+    for (const text of textsOf(point)) if (!text.value.isWellFormed()) throw new NotAdmitted(text, index, "holds half of a surrogate pair");
 }
 
-const spelledSeries = ({ measurement, tags }) =>
-    spelledMeasurement(measurement) + tags.map(([key, value]) => `,${spelledKey(key)}=${spelledKey(value)}`).join("");
+function spelledSeries({ measurement, tags }) {
+    let text = spelledMeasurement(measurement);
+    for (let n = 0; n < tags.length; n += 2) text += `,${spelledName(tags[n])}=${spelledName(tags[n + 1])}`;
+    return text;
+}
 
 function spelledLine(point) {
-    const fields = point.fields.map(([key, value]) => `${spelledKey(key)}=${spelledValue(value)}`).join(",");
-    return `${spelledSeries(point)} ${fields}${point.timestamp === null ? "" : ` ${point.timestamp}`}`;
+    const { fields, timestamp } = point;
+    let text = spelledSeries(point), before = " ";
+    for (let n = 0; n < fields.length; n += 3) {
+        text += `${before}${spelledName(fields[n])}=${spelledValue(fields[n + 1], fields[n + 2])}`;
+        before = ",";
+    }
+    return timestamp === null ? text : `${text} ${timestamp}`;
 }
 
-// Whether two lines say the same, the first as it is meant, and the second as it was read with the literals of its floats.
-function isSame(point, line) {
-    const isSamePair = ([key, value], [otherKey, other]) => {
-        if (key !== otherKey) return false;
-        if (typeof value === "string") return value === other;
-        const { kind, value: own } = meant(other);
-        return value.kind === kind && value.value === own;
-    };
-    const areSame = (pairs, others) => pairs.length === others.length && pairs.every((pair, n) => isSamePair(pair, others[n]));
-    return point.measurement === line.measurement && areSame(point.tags, line.tags) && areSame(point.fields, line.fields)
-        && point.timestamp === line.timestamp;
-}
-
-// What of a line may not be written, in words.
+// The text of a line that may not be written, if there is one.
 function notAdmitted(point, dialect) {
-    const isName = name => name !== "" && !/[\t\n]/.test(name) && !name.endsWith("\\");
-    if (!isName(point.measurement) || point.measurement.startsWith("#") || point.measurement.includes("\0")) return "the measurement";
-    for (const [n, [key, value]] of point.tags.entries()) {
-        if (!isName(key)) return `the key of tag ${n + 1}`;
-        if (!isName(value)) return `the value of tag ${n + 1}`;
+    for (const text of textsOf(point)) {
+        const { part, value } = text, isString = part === "field value";
+        if (isString && dialect === 2 && value.includes("\n")) return text;
+        if (!isString && (value === "" || /[\t\n]|\\$/.test(value) || (part === "measurement" && /^#|\0/.test(value)))) return text;
     }
-    for (const [n, [key, value]] of point.fields.entries()) {
-        if (!isName(key)) return `the key of field ${n + 1}`;
-        if (dialect === 2 && value.kind === "s" && value.value.includes("\n")) return `the string of field ${n + 1}`;
+    return null;
+}
+
+/* A walk over lines that were written, which tells of each whether it says what is meant, and is as the builder writes it. */
+class Proof extends Walk {
+    constructor(border, dialect, points) {
+        super(border, dialect, {});
+        this.points = points;
     }
-    return "";
+
+    take(word) {
+        const { words } = this.border, point = this.points[this.items - 1], at = words[word + ROW_LINE_AT];
+        this.text.markAt(words[word + ROW_PIECE]);
+        return point !== undefined && words[word + ROW_ANSWER] === LINE && this.hasSeries(word, point) && this.hasFields(word, point)
+            && this.border.isAsWritten(at, words[word + ROW_STOP_AT] - at);
+    }
+
+    // Whether a text at a place is this one.
+    isText(place, copied, text) {
+        const at = this.border.words[place], len = this.border.words[place + 1];
+        if (copied !== 0 || !this.text.isAscii) return this.textAt(at, len, copied) === text;
+        return len === text.length && this.text.string.startsWith(text, at);
+    }
+
+    hasSeries(word, { measurement, tags }) {
+        const { words, halves, parts } = this.border;
+        if (2 * words[word + ROW_TAGS] !== tags.length) return false;
+        if (!this.isText(word + ROW_MEASUREMENT, halves[2 * word + ROW_MEASUREMENT_COPIED], measurement)) return false;
+        let part = (parts + PART * words[word + ROW_PARTS_AT]) >> 2;
+        for (let n = 0; n < tags.length; n += 2, part += PART >> 2) {
+            if (!this.isText(part + PART_KEY, halves[2 * part + PART_KEY_COPIED], tags[n])) return false;
+            if (!this.isText(part + PART_TEXT, halves[2 * part + PART_TEXT_COPIED], tags[n + 1])) return false;
+        }
+        return true;
+    }
+
+    hasFields(word, { fields, timestamp }) {
+        const { words, halves, longs, parts } = this.border;
+        if (3 * words[word + ROW_FIELDS] !== fields.length) return false;
+        let part = (parts + PART * (words[word + ROW_PARTS_AT] + words[word + ROW_TAGS])) >> 2;
+        for (let n = 0; n < fields.length; n += 3, part += PART >> 2) {
+            if (!this.isText(part + PART_KEY, halves[2 * part + PART_KEY_COPIED], fields[n])) return false;
+            if (words[part + PART_KIND] !== fields[n + 1] || !this.hasValue(part, fields[n + 1], fields[n + 2])) return false;
+        }
+        return halves[2 * word + ROW_HAS_TIMESTAMP] === 1 ? longs[(word + ROW_TIMESTAMP) >> 1] === timestamp : timestamp === null;
+    }
+
+    hasValue(part, kind, value) {
+        const { words, halves, longs, unsigned } = this.border, number = part + PART_NUMBER;
+        switch (kind) {
+            case INTEGER: return longs[number >> 1] === value;
+            case UNSIGNED: return unsigned[number >> 1] === value;
+            case BOOLEAN: return (words[number] === 1) === value;
+            default: return this.isText(part + PART_TEXT, halves[2 * part + PART_TEXT_COPIED], value);
+        }
+    }
 }
 
 // The order of texts by their bytes: of UTF-16 the units of pairs come after all others.
@@ -652,29 +705,40 @@ export class LineProtocol {
 
     /** A line, or each line of a list, as text: each with its newline. It is read again before it is handed out. */
     write(lines, options = {}) {
-        const dialect = numberOf(options.dialect ?? "crate");
-        const list = lines && typeof lines.measurement === "string" ? [lines] : [...lines];
-        const points = list.map(pointOf);
+        const dialect = numberOf(options.dialect ?? "crate"), points = [];
+        for (const line of lines && typeof lines.measurement === "string" ? [lines] : lines) points.push(pointOf(line));
+        let text = "";
+        for (const point of points) text += `${spelledLine(point)}\n`;
+        const wrong = text.isWellFormed() ? this.#firstWrong(points, text, dialect) : 0;
+        if (wrong >= 0) this.#refuse(points, dialect, wrong);
+        return text;
+    }
+
+    // The number of the first line that does not say what is meant, or that is not as the builder writes it; -1 if there is none.
+    #firstWrong(points, text, dialect) {
+        let count = 0;
+        for (const isRight of new Items(new Proof(this.#border, dialect, points), text)) {
+            if (!isRight) return Math.min(count, points.length - 1);
+            count += 1;
+        }
+        return count === points.length ? -1 : 0;
+    }
+
+    // Throws what rules a line out: of the first line that has such a text.
+    #refuse(points, dialect, wrong) {
         points.forEach((point, index) => {
             refuseHalves(point, index);
-            const what = notAdmitted(point, dialect);
-            if (what) throw new NotAdmitted(what, index);
+            const text = notAdmitted(point, dialect);
+            if (text) throw new NotAdmitted(text, index);
         });
-        const texts = points.map(point => `${spelledLine(point)}\n`), text = texts.join("");
-        const read = [...this.parse(text, { dialect: DIALECTS[dialect], places: true, literals: true, written: true })];
-        points.forEach((point, index) => {
-            if (read.length !== points.length || !read[index].asWritten || !isSame(point, read[index])) throw new NotAdmitted("a part", index);
-        });
-        return text;
+        throw new NotAdmitted({}, wrong);
     }
 
     /** The line that was read so, as it is written again; `null` if it may not be written. */
     #again(line, dialect) {
         if (line.asWritten) return line.text;
-        const point = pointOf(line);
-        if (notAdmitted(point, dialect)) return null;
-        const text = spelledLine(point), items = [...this.parse(`${text}\n`, { dialect: DIALECTS[dialect], literals: true, written: true })];
-        return items.length === 1 && items[0].asWritten && isSame(point, items[0]) ? text : null;
+        const point = pointOf(line), text = spelledLine(point);
+        return !notAdmitted(point, dialect) && this.#firstWrong([point], `${text}\n`, dialect) < 0 ? text : null;
     }
 
     /** Each line of a text in one spelling, and a line for each item that is refused; and how many there are of each. */
@@ -757,8 +821,8 @@ export class LineProtocol {
 export function seriesKey(line) {
     const { measurement, tags } = seriesOf(line);
     refuseHalves({ measurement, tags }, 0);
-    tags.sort(([key], [other]) => compareByBytes(key, other));
-    return spelledSeries({ measurement, tags });
+    const places = Array.from({ length: tags.length / 2 }, (_, n) => 2 * n).sort((one, other) => compareByBytes(tags[one], tags[other]));
+    return spelledSeries({ measurement, tags: places.flatMap(at => [tags[at], tags[at + 1]]) });
 }
 
 /* Bytes that wait for more. They are moved only as often as their memory doubles. */
