@@ -1,8 +1,9 @@
 #!/usr/bin/env bash
 # Tests the package for JavaScript in Node, and the page in Chromium: the table of answers in both, also as the cards show it; the text of each
 # card of the examples; faults and their places, beside those of lp_relay, if that is built; the items of random texts in parts, with limits,
-# beside a model; that the module with 32-bit memory gives what the proved one gives; each control, by clicks and by the keyboard alone; 10 MB of pasted text; and that the console says nothing, and nothing is
-# fetched. What is portable is compared by checks/portable.sh.
+# beside a model; that the module with 32-bit memory gives what the proved one gives; `require`, and bundles by esbuild and rollup, in Chromium;
+# each control, by clicks and by the keyboard alone; 10 MB of pasted text; and that the console says nothing, and nothing is fetched. What is
+# portable is compared by checks/portable.sh.
 #
 #     checks/page.sh [FOLDER [PICTURES]]
 #     checks/page.sh --can-run              status 0 if the package can be made and run: there are wasm-opt and Node 20 or later
@@ -43,8 +44,9 @@ if command -v tsc >/dev/null; then
     mkdir -p "$work/node_modules"
     ln -s "$package" "$work/node_modules/influxdb-line-protocol"
     cp "$here/page/types.ts" "$work/types.ts"
+    echo 'import { parse } from "influxdb-line-protocol"; for (const item of parse("m f=1")) console.log(item);' >"$work/types.cts"
     echo '{"type":"module"}' >"$work/package.json"
-    (cd "$work" && tsc --noEmit --strict --target es2022 --module nodenext --moduleResolution nodenext --lib es2022,dom,dom.iterable types.ts)
+    (cd "$work" && tsc --noEmit --strict --target es2022 --module nodenext --moduleResolution nodenext --lib es2022,dom,dom.iterable types.ts types.cts)
     echo "page: the types take a program that uses each call, says $(tsc --version)"
 else
     left_out "types of bindings/js" "there is no tsc"
@@ -55,6 +57,11 @@ if python3 "$top/bench/corpora.py" --seed page --size 8000000 --out "$work" tele
     node "$here/page/speed.mjs" "$package" "${corpus[0]}"
 fi
 chromium=$(command -v chromium || command -v chromium-browser || command -v google-chrome) || chromium=
+if command -v esbuild >/dev/null && command -v rollup >/dev/null; then
+    node "$here/page/bundles.mjs" "$package" "$work/bundles" ${chromium:+"$chromium"}
+else
+    left_out "bundles of bindings/js" "there is no esbuild or no rollup"
+fi
 if [ -n "$chromium" ]; then
     node "$here/page/in_chromium.mjs" "$chromium" "$(realpath "$folder/try.html")" "$table" "$(realpath "$pictures")" "${corpus[@]}"
 else

@@ -2,7 +2,7 @@
  *
  * The module reads: it cuts a text into pieces, and tells of each its item by offsets; and it says whether a text is as the library's
  * builder writes it. What is here moves bytes in and makes objects of what comes out. It also spells lines, but hands none out that the module
- * does not read back as what was meant. This file imports nothing, so a page or a worker may hold it as a text. */
+ * does not read back as what was meant. This file imports nothing, so a page or a worker may hold it as a text. It stands in index.cjs too. */
 
 const DIALECTS = ["crate", "strict", "newline-delimited"];
 const FAULTS = [
@@ -927,6 +927,11 @@ function iterated(source) {
     })();
 }
 
+/** Compiles and instantiates the module of these bytes at once. The main thread of a browser may not do this, if it is old. */
+export function connectNow(bytes) {
+    return new LineProtocol(new WebAssembly.Instance(new WebAssembly.Module(bytes)));
+}
+
 /** Instantiates the module of these bytes, or one that was compiled. */
 export async function connect(source) {
     let module = source;
@@ -937,6 +942,33 @@ export async function connect(source) {
         });
     }
     return new LineProtocol(await WebAssembly.instantiate(module, {}));
+}
+
+/** What the package exports over the calls of one module: a function for each call, and the class of a stream. */
+export function exportsOf(calls) {
+    /** The items of a stream, as its parts come. */
+    class Reader {
+        #source;
+        #options;
+
+        constructor(source, options = {}) {
+            this.#source = source;
+            this.#options = options;
+        }
+
+        [Symbol.asyncIterator]() {
+            return calls.read(this.#source, this.#options);
+        }
+    }
+
+    return {
+        Reader,
+        parse: (text, options) => calls.parse(text, options),
+        write: (lines, options) => calls.write(lines, options),
+        rebuild: (text, options) => calls.rebuild(text, options),
+        brokenClauses: (text, limits) => calls.brokenClauses(text, limits),
+        isPortable: (text, to, limits) => calls.isPortable(text, to, limits),
+    };
 }
 
 // What is portable.

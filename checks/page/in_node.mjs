@@ -11,7 +11,7 @@ import { inspect } from "node:util";
 import { answered, countsOf, rowsOf } from "./answers.mjs";
 
 const [folder, what, relay] = process.argv.slice(2);
-const package_ = await import(pathToFileURL(`${folder}/index.js`));
+const package_ = await import(pathToFileURL(`${folder}/node.js`));
 const { CLAUSES, NotAdmitted, Reader, brokenClauses, isPortable, parse, rebuild, seriesKey, write } = package_;
 
 function same(got, wanted, of) {

@@ -19,7 +19,7 @@ const WAYS = {
 };
 
 async function time(way, folder, file) {
-    const { parse, write } = await import(pathToFileURL(`${folder}/index.js`)), all = readFileSync(file).subarray(0, 1 << 20);
+    const { parse, write } = await import(pathToFileURL(`${folder}/node.js`)), all = readFileSync(file).subarray(0, 1 << 20);
     const given = { bytes: new Uint8Array(all.subarray(0, all.lastIndexOf(10) + 1)), parse, write };
     const wanted = count(parse(given.bytes));
     if (way !== "parse" && way !== "plain JavaScript") given.lines = [...parse(given.bytes)];

@@ -8,7 +8,7 @@ import { deepStrictEqual } from "node:assert";
 import { pathToFileURL } from "node:url";
 
 const [folder, count = "10000", seed = "1"] = process.argv.slice(2);
-const { NotAdmitted, Reader, brokenClauses, isPortable, parse, rebuild, seriesKey, write } = await import(pathToFileURL(`${folder}/index.js`));
+const { NotAdmitted, Reader, brokenClauses, isPortable, parse, rebuild, seriesKey, write } = await import(pathToFileURL(`${folder}/node.js`));
 const DIALECTS = ["crate", "strict", "newline-delimited"];
 const [TAB, NEWLINE, SPACE, QUOTE, HASH, COMMA, EQUALS, BACKSLASH] = Buffer.from('\t\n "#,=\\');
 
