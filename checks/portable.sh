@@ -45,7 +45,7 @@ compare() {
     python3 -B "$here/verdicts.py" "$made/lp_c.so" <"$made/texts" >"$made/given"
     same "$what" "the library"
     [ -n "$package" ] || return 0
-    "$here/page.sh" --node "$here/page/in_node.mjs" "$package" --bits <"$made/texts" >"$made/given"
+    node "$here/page/in_node.mjs" "$package" --bits <"$made/texts" >"$made/given"
     same "$what" "brokenClauses in JavaScript"
 }
 

@@ -135,7 +135,7 @@ def failed_js(bug, made):
         plant(bug, package)
         tests = {"in_node": [TOP / "checks" / "tables" / "answers.tsv", *filter(None, [os.environ.get("LP_RELAY")])], "streams": []}
         return {test for test, words in tests.items()
-                if not run([TOP / "checks" / "page.sh", "--node", TOP / "checks" / "page" / f"{test}.mjs", package, *words], room)[0]}
+                if not run(["node", TOP / "checks" / "page" / f"{test}.mjs", package, *words], room)[0]}
 
 
 def main(arguments):

@@ -48,7 +48,7 @@ def gate_of(log):
 def record(folder, arch, time, log, given, verdicts, *files):
     folder, kit, commit = pathlib.Path(folder), said_by("rt", "version"), said_by("git", "-C", str(TOP), "rev-parse", "HEAD")
     tools = [os.environ.get("CC", "cc"), os.environ.get("STRIP", "strip"), "dpkg-deb", "gzip", os.environ.get("PYTHON", "python3"),
-             *["aarch64-linux-gnu-gcc"] * (arch == "all")]
+             *["aarch64-linux-gnu-gcc"] * (arch == "all"), *["wasm-opt"] * ("try.html" in files)]
     processors = [found[1] for name in files if (found := re.fullmatch(r"influxdb-line-protocol-[0-9.]+-(\w+)-linux\.tar\.gz", name))]
     processors += ["wasm64"] * ("try.html" in files)
     return {

@@ -2,7 +2,7 @@
  *
  * The module reads: it cuts a text into pieces, and tells of each its item by offsets; and it says whether a text is as the library's
  * builder writes it. What is here moves bytes in and makes objects of what comes out. It also spells lines, but hands none out that the module
- * does not read back as what was meant. This file imports nothing, so a page or a worker may hold it as a text. */
+ * does not read back as what was meant. This file imports nothing, so a page or a worker may hold it as a text. It stands in index.cjs too. */
 
 const DIALECTS = ["crate", "strict", "newline-delimited"];
 const FAULTS = [
@@ -26,7 +26,7 @@ const MESSAGES = {
 
 // The numbers of the header include/influxdb_line_protocol.h, which checks/documents.py compares with it: of answers and of kinds of parts;
 const END = 0, LINE = 1, MORE_PARTS = 3, MORE_ROOM = 4, NOT_UTF8 = 8, MORE_TEXT = 10, TOO_LONG = 11;
-const INTEGER = 1, UNSIGNED = 2, FLOAT = 3, STRING = 4;
+const INTEGER = 1, UNSIGNED = 2, FLOAT = 3, STRING = 4, BOOLEAN = 5;
 
 // how many bytes a row, a part, a block and a search for cuts take;
 const ROW = 88, PART = 32, BLOCK = 24, CUTS = 48;
@@ -36,27 +36,36 @@ const ROW_LINE = 0, ROW_TIMESTAMP = 2, ROW_KEY = 4, ROW_PIECE = 8, ROW_MEASUREME
 const ROW_TAGS = 15, ROW_FIELDS = 16, ROW_ROOM_LEN = 17, ROW_ANSWER = 18, ROW_FAULT = 19, ROW_SIDE = 20;
 const ROW_MEASUREMENT_COPIED = 42, ROW_HAS_TIMESTAMP = 43;
 const PART_KEY = 0, PART_TEXT = 2, PART_NUMBER = 4, PART_KIND = 6, PART_KEY_COPIED = 14, PART_TEXT_COPIED = 15;
-const BLOCK_LINE = 0, BLOCK_AT = 2, BLOCK_ROWS = 3;
+const BLOCK_LINE = 0, BLOCK_AT = 2, BLOCK_ROWS = 3, BLOCK_ROOM = 5;
 
 // How much of a text is read at once, and the most bytes that a piece of a stream may have, if nothing else is asked for.
 const WINDOW = 1 << 16, LONGEST = 1 << 24;
 
+// A string of at most so many characters that are all ASCII is moved one by one: that takes less time than to ask for its bytes.
+const SHORT = 1 << 12, ASCII = /^[\0-\x7f]*$/;
+
 const encoder = new TextEncoder();
 const decoder = new TextDecoder("utf-8", { ignoreBOM: true });
+// The powers of ten that are exact as numbers.
+const POWERS = Array.from({ length: 23 }, (_, n) => Number(`1e${n}`));
 const HALF = /(\p{Surrogate})/u;
 
-/** A name or a string of a line cannot be written: the line would not read back, or the text holds half of a surrogate pair. `what` names the
- * part, and `index` is the number of the line, counted from 0. */
+const SHOWN = 60;
+
+/** A name or a string of a line cannot be written: the line would not read back, or the text holds half of a surrogate pair. `part` says which
+ * part rules the line out, `key` is the key of its tag or field if it is a value, and `value` is its text; `what` is the part in words, and
+ * `index` the number of the line, counted from 0. */
 export class NotAdmitted extends Error {
-    constructor(what, index, why = "would not read back") {
-        super(`${what} of line ${index + 1} ${why}`);
-        this.name = "NotAdmitted";
-        this.what = what;
-        this.index = index;
+    constructor({ part = null, number, key = null, value = null }, index, why = "would not read back") {
+        const [beside, thing] = part === null ? ["", "part"] : part.split(" ").reverse();
+        const what = part === null ? "a part" : part === "measurement" ? "the measurement" : `the ${beside} of ${thing} ${number}`;
+        const shown = text => JSON.stringify(text.length > SHOWN ? `${text.slice(0, SHOWN)}..` : text);
+        super(`${what} of line ${index + 1} ${why}${value === null ? "" : `: ${shown(value)}`}${key === null ? "" : `, of the key ${shown(key)}`}`);
+        Object.assign(this, { name: "NotAdmitted", what, index, part, key, value });
     }
 }
 
-/** Whether this engine has the 64-bit memory that the module needs. */
+/** Whether this engine has the 64-bit memory that the proved module needs. */
 export function hasWideMemory() {
     return typeof WebAssembly === "object" && WebAssembly.validate(new Uint8Array([0, 97, 115, 109, 1, 0, 0, 0, 5, 3, 1, 4, 1]));
 }
@@ -95,27 +104,69 @@ function limitOf(most) {
     return most;
 }
 
+/* A text of bytes as a string, of which parts are asked for by the places of their bytes: mostly one after another. */
+class Decoded {
+    // Takes the `len` bytes from a place on. `string` is what they are, if that is known.
+    take(bytes, from, len, string = decoder.decode(bytes.subarray(from, from + len))) {
+        this.bytes = bytes;
+        this.from = from;
+        this.string = string;
+        this.isAscii = string.length === len;
+        // Bytes that are not UTF-8 are no certain number of units. A character that the end of the bytes cuts does not matter.
+        const bad = this.isAscii ? -1 : string.indexOf("\ufffd");
+        this.isUtf8 = bad < 0 || bad === string.length - 1;
+        this.mark = this.markUnit = this.byte = this.unit = 0;
+    }
+
+    // How many units of the string come before a byte: counted from the last byte that was asked for, or from the mark.
+    unitBefore(byte) {
+        if (byte < this.byte) {
+            this.byte = byte < this.mark ? 0 : this.mark;
+            this.unit = byte < this.mark ? 0 : this.markUnit;
+        }
+        const { bytes, from } = this;
+        let unit = this.unit;
+        for (let at = from + this.byte; at < from + byte; at++) unit += (bytes[at] & 0xc0) === 0x80 ? 0 : bytes[at] >= 0xf0 ? 2 : 1;
+        this.byte = byte;
+        this.unit = unit;
+        return unit;
+    }
+
+    // Sets the mark: most bytes that are asked for from now on come after it.
+    markAt(byte) {
+        if (this.isAscii || !this.isUtf8) return;
+        this.markUnit = this.unitBefore(byte);
+        this.mark = byte;
+    }
+
+    slice(at, len) {
+        if (this.isAscii) return this.string.substring(at, at + len);
+        if (!this.isUtf8) return decoder.decode(this.bytes.subarray(this.from + at, this.from + at + len));
+        const unit = this.unitBefore(at);
+        return this.string.substring(unit, this.unitBefore(at + len));
+    }
+}
+
 /* The memory of the module, behind its own: a block, a search for cuts with the place of a cut, rows, parts, a room for texts without their
  * escapes, and a text. */
 class Border {
     constructor(calls) {
         this.calls = calls;
         this.base = (Number(calls.__heap_base.value) + 15) & ~15;
+        // The text as a string, and the room, if a text that lies there was asked for.
+        this.window = new Decoded();
+        this.copies = new Decoded();
         this.lay(WINDOW, 512, 8192, WINDOW);
     }
 
     // Lays out places for so many bytes of text, rows, parts and bytes of room. What was there is lost.
     lay(text, rows, parts, room) {
-        Object.assign(this, { textSize: text, rowCount: rows, partCount: parts, roomSize: room });
-        this.search = this.base + BLOCK;
-        this.cut = this.search + CUTS;
-        this.rows = this.cut + 8;
-        this.parts = this.rows + ROW * rows;
-        this.room = this.parts + PART * parts;
-        this.text = this.room + ((room + 15) & ~15);
-        const missing = this.text + text - this.calls.memory.buffer.byteLength;
+        const search = this.base + BLOCK, cut = search + CUTS, rowsAt = cut + 8, partsAt = rowsAt + ROW * rows, roomAt = partsAt + PART * parts;
+        const textAt = roomAt + ((room + 15) & ~15), missing = textAt + text - this.calls.memory.buffer.byteLength;
         if (missing > 0) this.grow(Math.ceil(missing / 65536));
         const buffer = this.calls.memory.buffer;
+        Object.assign(this, { textSize: text, rowCount: rows, partCount: parts, roomSize: room, search, cut, rows: rowsAt, parts: partsAt, room: roomAt, text: textAt });
+        this.addresses = [textAt, this.base, roomAt, room, rowsAt, rows, partsAt, parts].map(BigInt);
         this.bytes = new Uint8Array(buffer);
         this.words = new Uint32Array(buffer);
         this.halves = new Uint16Array(buffer);
@@ -123,7 +174,7 @@ class Border {
         this.unsigned = new BigUint64Array(buffer);
     }
 
-    // Older engines count the pages of such a memory by a number.
+    // A memory of 64 bits counts its pages by a bigint, but in older engines by a number, as a memory of 32 bits does.
     grow(pages) {
         try {
             this.calls.memory.grow(BigInt(pages));
@@ -133,10 +184,12 @@ class Border {
         }
     }
 
-    // Puts a text into its place.
-    put(bytes) {
-        if (bytes.length > this.textSize) this.lay(bytes.length, this.rowCount, this.partCount, this.roomSize);
-        this.bytes.set(bytes, this.text);
+    // Puts a text into its place: bytes, or a string that is all ASCII.
+    put(text) {
+        if (text.length > this.textSize) this.lay(text.length, this.rowCount, this.partCount, this.roomSize);
+        const { bytes, text: at } = this;
+        if (typeof text === "string") for (let n = 0; n < text.length; n++) bytes[at + n] = text.charCodeAt(n);
+        else bytes.set(text, at);
     }
 
     // Reads rows of the first `len` bytes of the text, from `at` on, which is in this line. Gives the answer.
@@ -144,9 +197,8 @@ class Border {
         const block = this.base >> 2;
         this.unsigned[(block + BLOCK_LINE) >> 1] = line;
         this.words[block + BLOCK_AT] = at;
-        return this.calls.lp_offsets_block(
-            BigInt(this.text), BigInt(len), dialect, last ? 1 : 0, BigInt(this.base), BigInt(this.room), BigInt(this.roomSize), BigInt(this.rows),
-            BigInt(this.rowCount), BigInt(this.parts), BigInt(this.partCount));
+        const [text, own, room, roomSize, rows, rowCount, parts, partCount] = this.addresses;
+        return this.calls.lp_offsets_block(text, BigInt(len), dialect, last ? 1 : 0, own, room, roomSize, rows, rowCount, parts, partCount);
     }
 
     // Makes places for the row that did not fit, though no other took any.
@@ -158,7 +210,7 @@ class Border {
 
     // Tells each of so many rows the key of its series, where that stands in the text.
     tellKeys(len, rows) {
-        this.calls.lp_offsets_keys(BigInt(this.text), BigInt(len), BigInt(this.rows), BigInt(rows));
+        this.calls.lp_offsets_keys(this.addresses[0], BigInt(len), this.addresses[4], BigInt(rows));
     }
 
     // Begins a search for the ends of pieces that may have so many bytes. Gives its state.
@@ -203,26 +255,25 @@ class Walk {
         this.line = 1n;
         this.offset = 0;
         this.items = 0;
+        this.text = border.window;
+        this.hasCopies = false;
     }
 
     // Reads the pieces of a window that end in it, or, if the text ends with it, all; and gives how many bytes they take. What is
-    // made of each item is appended to `out`.
-    step(bytes, last, out) {
-        const border = this.border, len = bytes.length;
-        border.put(bytes);
-        this.window = decoder.decode(border.bytes.subarray(border.text, border.text + len));
-        this.isAscii = this.window.length === len;
-        this.windowAt = 0;
-        const isAscii = this.isAscii;
+    // made of each item is appended to `out`. The window is bytes, or a string that is all ASCII.
+    step(window, last, out) {
+        const border = this.border, len = window.length;
+        border.put(window);
+        this.text.take(border.bytes, border.text, len, typeof window === "string" ? window : undefined);
         let at = 0;
         for (;;) {
             const answer = border.read(len, this.dialect, last, at, this.line);
             const block = border.base >> 2, rows = border.words[block + BLOCK_ROWS];
             if (this.withKeys) border.tellKeys(len, rows);
+            this.hasCopies = false;
             for (let row = 0; row < rows; row++) {
                 this.items += 1;
-                if (!isAscii) this.look(row);
-                out.push(this.take(row));
+                out.push(this.take((border.rows + ROW * row) >> 2));
             }
             at = border.words[block + BLOCK_AT];
             this.line = border.unsigned[(block + BLOCK_LINE) >> 1];
@@ -230,7 +281,8 @@ class Walk {
             if (answer === MORE_PARTS || answer === MORE_ROOM) {
                 if (rows === 0) {
                     border.enlarge();
-                    border.put(bytes);
+                    border.put(window);
+                    this.text.take(border.bytes, border.text, len, this.text.string);
                 }
             } else if (answer !== LINE) {
                 throw new Error(`the module answers ${answer}`);
@@ -240,54 +292,55 @@ class Walk {
         return at;
     }
 
-    // Of a window that is not all ASCII, the text of the piece of a row takes its place.
-    look(row) {
-        const border = this.border, words = (border.rows + ROW * row) >> 2;
-        const at = border.words[words + ROW_PIECE], len = border.words[words + ROW_PIECE + 1];
-        this.window = decoder.decode(border.bytes.subarray(border.text + at, border.text + at + len));
-        this.isAscii = this.window.length === len;
-        this.windowAt = at;
-    }
-
     // The text at a place.
     textAt(at, len, copied) {
+        if (copied === 0) return this.text.slice(at, len);
         const border = this.border;
-        if (copied !== 0) return decoder.decode(border.bytes.subarray(border.room + at, border.room + at + len));
-        if (this.isAscii) return this.window.substring(at - this.windowAt, at - this.windowAt + len);
-        return decoder.decode(border.bytes.subarray(border.text + at, border.text + at + len));
+        if (!this.hasCopies) border.copies.take(border.bytes, border.room, border.words[(border.base >> 2) + BLOCK_ROOM]);
+        this.hasCopies = true;
+        return border.copies.slice(at, len);
     }
 
-    // The item of a row.
-    take(row) {
-        const answer = this.border.words[((this.border.rows + ROW * row) >> 2) + ROW_ANSWER];
-        return answer === LINE ? this.lineOf(row) : this.faultOf(row, answer);
+    // The item of the row at a word.
+    take(word) {
+        const { words } = this.border, answer = words[word + ROW_ANSWER];
+        this.text.markAt(words[word + ROW_PIECE]);
+        return answer === LINE ? this.lineOf(word) : this.faultOf(word, answer);
     }
 
-    lineOf(row) {
-        const { words, halves, longs, rows } = this.border, word = (rows + ROW * row) >> 2, half = 2 * word;
-        const tagCount = words[word + ROW_TAGS], fieldCount = words[word + ROW_FIELDS];
-        const tags = [], fields = [], window = this.window, from = this.windowAt, isAscii = this.isAscii;
-        let part = (this.border.parts + PART * words[word + ROW_PARTS_AT]) >> 2;
-        for (const end = part + (PART >> 2) * tagCount; part < end; part += PART >> 2) {
-            // Most texts are parts of the window, as they stand.
-            if (isAscii && halves[2 * part + PART_KEY_COPIED] === 0 && halves[2 * part + PART_TEXT_COPIED] === 0) {
-                const key = words[part + PART_KEY] - from, value = words[part + PART_TEXT] - from;
-                tags.push([window.substring(key, key + words[part + PART_KEY + 1]), window.substring(value, value + words[part + PART_TEXT + 1])]);
-            } else {
-                tags.push([this.keyOf(part), this.partText(part)]);
-            }
-        }
-        for (const end = part + (PART >> 2) * fieldCount; part < end; part += PART >> 2) {
-            fields.push([this.keyOf(part), this.valueOf(part, words[part + PART_KIND])]);
-        }
+    lineOf(word) {
+        const { words, halves, longs, parts } = this.border;
+        const measurement = this.textAt(words[word + ROW_MEASUREMENT], words[word + ROW_MEASUREMENT + 1], halves[2 * word + ROW_MEASUREMENT_COPIED]);
+        const part = (parts + PART * words[word + ROW_PARTS_AT]) >> 2, tags = words[word + ROW_TAGS];
         const line = {
-            measurement: this.textAt(words[word + ROW_MEASUREMENT], words[word + ROW_MEASUREMENT + 1], halves[half + ROW_MEASUREMENT_COPIED]),
-            tags,
-            fields,
-            timestamp: halves[half + ROW_HAS_TIMESTAMP] === 1 ? longs[(word + ROW_TIMESTAMP) >> 1] : null,
+            measurement,
+            tags: this.tagsOf(part, tags),
+            fields: this.fieldsOf(part + (PART >> 2) * tags, words[word + ROW_FIELDS]),
+            timestamp: halves[2 * word + ROW_HAS_TIMESTAMP] === 1 ? longs[(word + ROW_TIMESTAMP) >> 1] : null,
         };
         if (this.hasMore) this.addMore(line, word);
         return line;
+    }
+
+    // So many tags, of which the first is at a word.
+    tagsOf(first, count) {
+        const { words } = this.border, { isAscii, string } = this.text, tags = new Array(count);
+        for (let n = 0, part = first; n < count; n++, part += PART >> 2) {
+            // Most texts are parts of the window, as they stand.
+            if (isAscii && words[part + (PART_KEY_COPIED >> 1)] === 0) {
+                const key = words[part + PART_KEY], value = words[part + PART_TEXT];
+                tags[n] = [string.substring(key, key + words[part + PART_KEY + 1]), string.substring(value, value + words[part + PART_TEXT + 1])];
+            } else {
+                tags[n] = [this.keyOf(part), this.partText(part)];
+            }
+        }
+        return tags;
+    }
+
+    fieldsOf(first, count) {
+        const fields = new Array(count);
+        for (let n = 0, part = first; n < count; n++, part += PART >> 2) fields[n] = [this.keyOf(part), this.valueOf(part)];
+        return fields;
     }
 
     // The key of a part, and its value or literal, if that is a text.
@@ -312,15 +365,33 @@ class Walk {
         }
     }
 
-    valueOf(part, kind) {
+    valueOf(part) {
         const { words, longs, unsigned } = this.border, number = part + PART_NUMBER;
-        if (kind === INTEGER) return longs[number >> 1];
-        if (kind === FLOAT) {
-            const literal = this.partText(part), value = Number(literal);
-            return this.withLiterals || !Number.isFinite(value) ? { float: literal } : value;
+        switch (words[part + PART_KIND]) {
+            case INTEGER: return longs[number >> 1];
+            case FLOAT: return this.floatOf(part);
+            case STRING: return this.partText(part);
+            case UNSIGNED: return { unsigned: unsigned[number >> 1] };
+            default: return words[number] === 1;
         }
-        if (kind === STRING) return this.partText(part);
-        return kind === UNSIGNED ? { unsigned: unsigned[number >> 1] } : words[number] === 1;
+    }
+
+    // The nearest number of a float. One of few digits is a whole number and a power of ten, which are exact: so their quotient is the nearest.
+    floatOf(part) {
+        const { bytes, words, text } = this.border, start = text + words[part + PART_TEXT], end = start + words[part + PART_TEXT + 1];
+        let digits = 0, point = 0;
+        if (!this.withLiterals) {
+            for (let at = bytes[start] === 45 ? start + 1 : start; at < end; at++) {
+                const digit = bytes[at] - 48;
+                if (digit >= 0 && digit <= 9) digits = 10 * digits + digit;
+                else if (digit === -2) point = at + 1;
+                else digits = Infinity;
+            }
+            const places = point === 0 ? 0 : end - point;
+            if (digits < 2 ** 53 && places < POWERS.length) return (bytes[start] === 45 ? -digits : digits) / POWERS[places];
+        }
+        const literal = this.partText(part), value = Number(literal);
+        return this.withLiterals || !Number.isFinite(value) ? { float: literal } : value;
     }
 
     // Where an item is: its number, the line and the byte at which its text begins and its piece does, and how long its text is.
@@ -336,8 +407,8 @@ class Walk {
         };
     }
 
-    faultOf(row, answer) {
-        const { words, bytes, text } = this.border, word = (this.border.rows + ROW * row) >> 2;
+    faultOf(word, answer) {
+        const { words, bytes, text } = this.border;
         const place = this.placeOf(word), at = words[word + ROW_LINE_AT], end = words[word + ROW_PIECE] + words[word + ROW_PIECE + 1];
         const refused = bytes.slice(text + words[word + ROW_PIECE], text + end), stop = words[word + ROW_STOP_AT];
         const fault = answer === NOT_UTF8 ? "not_utf8" : FAULTS[words[word + ROW_FAULT]];
@@ -378,51 +449,53 @@ class Walk {
     }
 }
 
-// How names and values are spelled.
-const spelledMeasurement = name => name.replace(/[, \\]/g, "\\$&");
-const spelledKey = name => name.replace(/[,= \\]/g, "\\$&");
-const spelledString = text => `"${text.replace(/["\\]/g, "\\$&")}"`;
+// How names and values are spelled. Most names are spelled as they are.
+const spelledMeasurement = name => (/[, \\]/.test(name) ? name.replace(/[, \\]/g, "\\$&") : name);
+const spelledName = name => (/[,= \\]/.test(name) ? name.replace(/[,= \\]/g, "\\$&") : name);
+const spelledString = text => `"${/["\\]/.test(text) ? text.replace(/["\\]/g, "\\$&") : text}"`;
 const LITERAL = /^-?[0-9]+(\.[0-9]+)?([eE][+-]?[0-9]+)?$/;
+const LEAST = -(2n ** 63n), MOST = 2n ** 63n - 1n, MOST_UNSIGNED = 2n ** 64n - 1n;
 
 function inRange(value, least, greatest, what) {
     if (value < least || value > greatest) throw new RangeError(`${value} is no ${what} of 64 bits`);
     return value;
 }
 
-// A value as it is meant: its kind, and what that holds.
-function meant(value) {
+// Adds a value as it is meant: its kind, and a bigint, a Boolean, or the text of a string or of a float.
+function putMeant(list, value) {
     switch (typeof value) {
-        case "bigint": return { kind: "i", value: inRange(value, -(2n ** 63n), 2n ** 63n - 1n, "integer") };
-        case "string": return { kind: "s", value };
-        case "boolean": return { kind: "b", value };
+        case "bigint": return list.push(INTEGER, inRange(value, LEAST, MOST, "integer"));
+        case "string": return list.push(STRING, value);
+        case "boolean": return list.push(BOOLEAN, value);
         case "number":
             if (!Number.isFinite(value)) throw new RangeError(`${value} is no float that can be written`);
-            return { kind: "f", value: Object.is(value, -0) ? "-0" : String(value) };
+            return list.push(FLOAT, Object.is(value, -0) ? "-0" : String(value));
         default:
     }
-    if (value && typeof value.unsigned === "bigint") return { kind: "u", value: inRange(value.unsigned, 0n, 2n ** 64n - 1n, "unsigned integer") };
+    if (value && typeof value.unsigned === "bigint") return list.push(UNSIGNED, inRange(value.unsigned, 0n, MOST_UNSIGNED, "unsigned integer"));
     if (value && typeof value.float === "string") {
         if (!LITERAL.test(value.float)) throw new RangeError(`${value.float} is no literal of a float`);
-        return { kind: "f", value: value.float };
+        return list.push(FLOAT, value.float);
     }
     throw new TypeError("a value is a bigint, a number, a string, a boolean, { unsigned } or { float }");
 }
 
-function spelledValue({ kind, value }) {
+function spelledValue(kind, value) {
     switch (kind) {
-        case "i": return `${value}i`;
-        case "u": return `${value}u`;
-        case "s": return spelledString(value);
+        case INTEGER: return `${value}i`;
+        case UNSIGNED: return `${value}u`;
+        case STRING: return spelledString(value);
         default: return String(value);
     }
 }
 
-// The pairs of tags or fields, which may be pairs, a Map or an object.
-function pairsOf(pairs, what) {
-    if (pairs === undefined || pairs === null) return [];
-    const list = typeof pairs[Symbol.iterator] === "function" ? [...pairs] : Object.entries(pairs);
-    for (const pair of list) {
+// The keys and values of tags or fields, in turns. These may be pairs, a Map or an object.
+function listOf(pairs, what) {
+    const list = [];
+    if (pairs === undefined || pairs === null) return list;
+    for (const pair of typeof pairs[Symbol.iterator] === "function" ? pairs : Object.entries(pairs)) {
         if (!Array.isArray(pair) || pair.length !== 2 || typeof pair[0] !== "string") throw new TypeError(`${what} are pairs of a key and a value`);
+        list.push(pair[0], pair[1]);
     }
     return list;
 }
@@ -431,76 +504,123 @@ function pairsOf(pairs, what) {
 function seriesOf(line) {
     const measurement = line?.measurement;
     if (typeof measurement !== "string") throw new TypeError("a line has a measurement, which is a string");
-    const tags = pairsOf(line.tags, "tags").map(([key, value]) => {
-        if (typeof value !== "string") throw new TypeError(`the value of the tag ${key} is no string`);
-        return [key, value];
-    });
+    const tags = listOf(line.tags, "tags");
+    for (let n = 1; n < tags.length; n += 2) if (typeof tags[n] !== "string") throw new TypeError(`the value of the tag ${tags[n - 1]} is no string`);
     return { measurement, tags };
 }
 
-// A line as it is meant.
+// A line as it is meant. Its fields are a list of keys, kinds and values, in turns.
 function pointOf(line) {
-    const series = seriesOf(line), fields = pairsOf(line.fields, "fields").map(([key, value]) => [key, meant(value)]);
+    const { measurement, tags } = seriesOf(line), given = listOf(line.fields, "fields"), fields = [];
+    for (let n = 0; n < given.length; n += 2) {
+        fields.push(given[n]);
+        putMeant(fields, given[n + 1]);
+    }
     if (fields.length === 0) throw new TypeError("a line has a field");
-    let time = line.timestamp ?? null;
-    if (time instanceof Date) time = BigInt(time.getTime()) * 1_000_000n;
-    if (time !== null && typeof time !== "bigint") throw new TypeError("a timestamp is a bigint of nanoseconds, or a Date");
-    if (time !== null) inRange(time, -(2n ** 63n), 2n ** 63n - 1n, "timestamp");
-    return { ...series, fields, timestamp: time };
+    let timestamp = line.timestamp ?? null;
+    if (timestamp instanceof Date) timestamp = BigInt(timestamp.getTime()) * 1_000_000n;
+    if (timestamp !== null && typeof timestamp !== "bigint") throw new TypeError("a timestamp is a bigint of nanoseconds, or a Date");
+    if (timestamp !== null) inRange(timestamp, LEAST, MOST, "timestamp");
+    return { measurement, tags, fields, timestamp };
 }
 
-// Each text of a line as it is meant, after what it is in words.
+// Each text of a line as it is meant: of which part it is, the number of its tag or field, the key beside a value, and the text.
 function* textsOf({ measurement, tags, fields = [] }) {
-    yield ["the measurement", measurement];
-    for (const [n, [key, value]] of tags.entries()) {
-        yield [`the key of tag ${n + 1}`, key];
-        yield [`the value of tag ${n + 1}`, value];
+    yield { part: "measurement", value: measurement };
+    for (let n = 0; n < tags.length; n += 2) {
+        yield { part: "tag key", number: n / 2 + 1, value: tags[n] };
+        yield { part: "tag value", number: n / 2 + 1, key: tags[n], value: tags[n + 1] };
     }
-    for (const [n, [key, { kind, value }]] of fields.entries()) {
-        yield [`the key of field ${n + 1}`, key];
-        if (kind === "s") yield [`the string of field ${n + 1}`, value];
+    for (let n = 0; n < fields.length; n += 3) {
+        yield { part: "field key", number: n / 3 + 1, value: fields[n] };
+        if (fields[n + 1] === STRING) yield { part: "field value", number: n / 3 + 1, key: fields[n], value: fields[n + 2] };
     }
 }
 
 // Refuses a line if some text of it holds half of a surrogate pair.
 function refuseHalves(point, index) {
-    for (const [what, text] of textsOf(point)) if (!text.isWellFormed()) throw new NotAdmitted(what, index, "holds half of a surrogate pair");
+    for (const text of textsOf(point)) if (!text.value.isWellFormed()) throw new NotAdmitted(text, index, "holds half of a surrogate pair");
 }
 
-const spelledSeries = ({ measurement, tags }) =>
-    spelledMeasurement(measurement) + tags.map(([key, value]) => `,${spelledKey(key)}=${spelledKey(value)}`).join("");
+function spelledSeries({ measurement, tags }) {
+    let text = spelledMeasurement(measurement);
+    for (let n = 0; n < tags.length; n += 2) text += `,${spelledName(tags[n])}=${spelledName(tags[n + 1])}`;
+    return text;
+}
 
 function spelledLine(point) {
-    const fields = point.fields.map(([key, value]) => `${spelledKey(key)}=${spelledValue(value)}`).join(",");
-    return `${spelledSeries(point)} ${fields}${point.timestamp === null ? "" : ` ${point.timestamp}`}`;
+    const { fields, timestamp } = point;
+    let text = spelledSeries(point), before = " ";
+    for (let n = 0; n < fields.length; n += 3) {
+        text += `${before}${spelledName(fields[n])}=${spelledValue(fields[n + 1], fields[n + 2])}`;
+        before = ",";
+    }
+    return timestamp === null ? text : `${text} ${timestamp}`;
 }
 
-// Whether two lines say the same, the first as it is meant, and the second as it was read with the literals of its floats.
-function isSame(point, line) {
-    const isSamePair = ([key, value], [otherKey, other]) => {
-        if (key !== otherKey) return false;
-        if (typeof value === "string") return value === other;
-        const { kind, value: own } = meant(other);
-        return value.kind === kind && value.value === own;
-    };
-    const areSame = (pairs, others) => pairs.length === others.length && pairs.every((pair, n) => isSamePair(pair, others[n]));
-    return point.measurement === line.measurement && areSame(point.tags, line.tags) && areSame(point.fields, line.fields)
-        && point.timestamp === line.timestamp;
-}
-
-// What of a line may not be written, in words.
+// The text of a line that may not be written, if there is one.
 function notAdmitted(point, dialect) {
-    const isName = name => name !== "" && !/[\t\n]/.test(name) && !name.endsWith("\\");
-    if (!isName(point.measurement) || point.measurement.startsWith("#") || point.measurement.includes("\0")) return "the measurement";
-    for (const [n, [key, value]] of point.tags.entries()) {
-        if (!isName(key)) return `the key of tag ${n + 1}`;
-        if (!isName(value)) return `the value of tag ${n + 1}`;
+    for (const text of textsOf(point)) {
+        const { part, value } = text, isString = part === "field value";
+        if (isString && dialect === 2 && value.includes("\n")) return text;
+        if (!isString && (value === "" || /[\t\n]|\\$/.test(value) || (part === "measurement" && /^#|\0/.test(value)))) return text;
     }
-    for (const [n, [key, value]] of point.fields.entries()) {
-        if (!isName(key)) return `the key of field ${n + 1}`;
-        if (dialect === 2 && value.kind === "s" && value.value.includes("\n")) return `the string of field ${n + 1}`;
+    return null;
+}
+
+/* A walk over lines that were written, which tells of each whether it says what is meant, and is as the builder writes it. */
+class Proof extends Walk {
+    constructor(border, dialect, points) {
+        super(border, dialect, {});
+        this.points = points;
     }
-    return "";
+
+    take(word) {
+        const { words } = this.border, point = this.points[this.items - 1], at = words[word + ROW_LINE_AT];
+        this.text.markAt(words[word + ROW_PIECE]);
+        return point !== undefined && words[word + ROW_ANSWER] === LINE && this.hasSeries(word, point) && this.hasFields(word, point)
+            && this.border.isAsWritten(at, words[word + ROW_STOP_AT] - at);
+    }
+
+    // Whether a text at a place is this one.
+    isText(place, copied, text) {
+        const at = this.border.words[place], len = this.border.words[place + 1];
+        if (copied !== 0 || !this.text.isAscii) return this.textAt(at, len, copied) === text;
+        return len === text.length && this.text.string.startsWith(text, at);
+    }
+
+    hasSeries(word, { measurement, tags }) {
+        const { words, halves, parts } = this.border;
+        if (2 * words[word + ROW_TAGS] !== tags.length) return false;
+        if (!this.isText(word + ROW_MEASUREMENT, halves[2 * word + ROW_MEASUREMENT_COPIED], measurement)) return false;
+        let part = (parts + PART * words[word + ROW_PARTS_AT]) >> 2;
+        for (let n = 0; n < tags.length; n += 2, part += PART >> 2) {
+            if (!this.isText(part + PART_KEY, halves[2 * part + PART_KEY_COPIED], tags[n])) return false;
+            if (!this.isText(part + PART_TEXT, halves[2 * part + PART_TEXT_COPIED], tags[n + 1])) return false;
+        }
+        return true;
+    }
+
+    hasFields(word, { fields, timestamp }) {
+        const { words, halves, longs, parts } = this.border;
+        if (3 * words[word + ROW_FIELDS] !== fields.length) return false;
+        let part = (parts + PART * (words[word + ROW_PARTS_AT] + words[word + ROW_TAGS])) >> 2;
+        for (let n = 0; n < fields.length; n += 3, part += PART >> 2) {
+            if (!this.isText(part + PART_KEY, halves[2 * part + PART_KEY_COPIED], fields[n])) return false;
+            if (words[part + PART_KIND] !== fields[n + 1] || !this.hasValue(part, fields[n + 1], fields[n + 2])) return false;
+        }
+        return halves[2 * word + ROW_HAS_TIMESTAMP] === 1 ? longs[(word + ROW_TIMESTAMP) >> 1] === timestamp : timestamp === null;
+    }
+
+    hasValue(part, kind, value) {
+        const { words, halves, longs, unsigned } = this.border, number = part + PART_NUMBER;
+        switch (kind) {
+            case INTEGER: return longs[number >> 1] === value;
+            case UNSIGNED: return unsigned[number >> 1] === value;
+            case BOOLEAN: return (words[number] === 1) === value;
+            default: return this.isText(part + PART_TEXT, halves[2 * part + PART_TEXT_COPIED], value);
+        }
+    }
 }
 
 // The order of texts by their bytes: of UTF-16 the units of pairs come after all others.
@@ -517,17 +637,17 @@ function compareByBytes(a, b) {
 /* The items of a text. Those of a window are made at once, so that others may use the memory of the module in between. */
 class Items {
     #walk;
-    #bytes;
+    #text;
     #length;
     #from = 0;
     #size = WINDOW;
     #made = [];
     #next = 0;
 
-    constructor(walk, bytes) {
+    constructor(walk, text) {
         this.#walk = walk;
-        this.#bytes = bytes;
-        this.#length = bytes.length;
+        this.#text = typeof text === "string" && text.length <= SHORT && ASCII.test(text) ? text : bytesOf(text);
+        this.#length = this.#text.length;
     }
 
     [Symbol.iterator]() {
@@ -549,11 +669,12 @@ class Items {
     }
 
     #step() {
-        if (this.#bytes.length !== this.#length) throw new TypeError("the buffer of the text was detached or resized while the text was read");
+        const text = this.#text;
+        if (text.length !== this.#length) throw new TypeError("the buffer of the text was detached or resized while the text was read");
         const to = Math.min(this.#from + this.#size, this.#length), isLast = to === this.#length;
         this.#made = [];
         this.#next = 0;
-        const passed = this.#walk.step(this.#bytes.subarray(this.#from, to), isLast, this.#made);
+        const passed = this.#walk.step(typeof text === "string" ? text : text.subarray(this.#from, to), isLast, this.#made);
         this.#from = isLast ? to : this.#from + passed;
         this.#size = passed === 0 ? 2 * this.#size : WINDOW;
     }
@@ -569,7 +690,7 @@ export class LineProtocol {
 
     /** The items of a text, lines and faults, one after another. */
     parse(text, options = {}) {
-        return new Items(new Walk(this.#border, numberOf(options.dialect ?? "crate"), options), bytesOf(text));
+        return new Items(new Walk(this.#border, numberOf(options.dialect ?? "crate"), options), text);
     }
 
     /** The items of a stream, as its parts come. */
@@ -584,29 +705,40 @@ export class LineProtocol {
 
     /** A line, or each line of a list, as text: each with its newline. It is read again before it is handed out. */
     write(lines, options = {}) {
-        const dialect = numberOf(options.dialect ?? "crate");
-        const list = lines && typeof lines.measurement === "string" ? [lines] : [...lines];
-        const points = list.map(pointOf);
+        const dialect = numberOf(options.dialect ?? "crate"), points = [];
+        for (const line of lines && typeof lines.measurement === "string" ? [lines] : lines) points.push(pointOf(line));
+        let text = "";
+        for (const point of points) text += `${spelledLine(point)}\n`;
+        const wrong = text.isWellFormed() ? this.#firstWrong(points, text, dialect) : 0;
+        if (wrong >= 0) this.#refuse(points, dialect, wrong);
+        return text;
+    }
+
+    // The number of the first line that does not say what is meant, or that is not as the builder writes it; -1 if there is none.
+    #firstWrong(points, text, dialect) {
+        let count = 0;
+        for (const isRight of new Items(new Proof(this.#border, dialect, points), text)) {
+            if (!isRight) return Math.min(count, points.length - 1);
+            count += 1;
+        }
+        return count === points.length ? -1 : 0;
+    }
+
+    // Throws what rules a line out: of the first line that has such a text.
+    #refuse(points, dialect, wrong) {
         points.forEach((point, index) => {
             refuseHalves(point, index);
-            const what = notAdmitted(point, dialect);
-            if (what) throw new NotAdmitted(what, index);
+            const text = notAdmitted(point, dialect);
+            if (text) throw new NotAdmitted(text, index);
         });
-        const texts = points.map(point => `${spelledLine(point)}\n`), text = texts.join("");
-        const read = [...this.parse(text, { dialect: DIALECTS[dialect], places: true, literals: true, written: true })];
-        points.forEach((point, index) => {
-            if (read.length !== points.length || !read[index].asWritten || !isSame(point, read[index])) throw new NotAdmitted("a part", index);
-        });
-        return text;
+        throw new NotAdmitted({}, wrong);
     }
 
     /** The line that was read so, as it is written again; `null` if it may not be written. */
     #again(line, dialect) {
         if (line.asWritten) return line.text;
-        const point = pointOf(line);
-        if (notAdmitted(point, dialect)) return null;
-        const text = spelledLine(point), items = [...this.parse(`${text}\n`, { dialect: DIALECTS[dialect], literals: true, written: true })];
-        return items.length === 1 && items[0].asWritten && isSame(point, items[0]) ? text : null;
+        const point = pointOf(line), text = spelledLine(point);
+        return !notAdmitted(point, dialect) && this.#firstWrong([point], `${text}\n`, dialect) < 0 ? text : null;
     }
 
     /** Each line of a text in one spelling, and a line for each item that is refused; and how many there are of each. */
@@ -689,8 +821,8 @@ export class LineProtocol {
 export function seriesKey(line) {
     const { measurement, tags } = seriesOf(line);
     refuseHalves({ measurement, tags }, 0);
-    tags.sort(([key], [other]) => compareByBytes(key, other));
-    return spelledSeries({ measurement, tags });
+    const places = Array.from({ length: tags.length / 2 }, (_, n) => 2 * n).sort((one, other) => compareByBytes(tags[one], tags[other]));
+    return spelledSeries({ measurement, tags: places.flatMap(at => [tags[at], tags[at + 1]]) });
 }
 
 /* Bytes that wait for more. They are moved only as often as their memory doubles. */
@@ -795,14 +927,48 @@ function iterated(source) {
     })();
 }
 
+/** Compiles and instantiates the module of these bytes at once. The main thread of a browser may not do this, if it is old. */
+export function connectNow(bytes) {
+    return new LineProtocol(new WebAssembly.Instance(new WebAssembly.Module(bytes)));
+}
+
 /** Instantiates the module of these bytes, or one that was compiled. */
 export async function connect(source) {
-    if (!hasWideMemory()) {
-        throw new Error("this engine has no 64-bit memory for WebAssembly: Node below 24 has it with --experimental-wasm-memory64,"
-            + " Chrome from 133 on, and Firefox from 134 on");
+    let module = source;
+    if (!(source instanceof WebAssembly.Module)) {
+        module = await WebAssembly.compile(source).catch(cause => {
+            if (hasWideMemory()) throw cause;
+            throw new Error("this engine has no 64-bit memory for WebAssembly, which lp_page.wasm needs: lp_page_32.wasm needs none", { cause });
+        });
     }
-    const module = source instanceof WebAssembly.Module ? source : await WebAssembly.compile(source);
     return new LineProtocol(await WebAssembly.instantiate(module, {}));
+}
+
+/** What the package exports over the calls of one module: a function for each call, and the class of a stream. */
+export function exportsOf(calls) {
+    /** The items of a stream, as its parts come. */
+    class Reader {
+        #source;
+        #options;
+
+        constructor(source, options = {}) {
+            this.#source = source;
+            this.#options = options;
+        }
+
+        [Symbol.asyncIterator]() {
+            return calls.read(this.#source, this.#options);
+        }
+    }
+
+    return {
+        Reader,
+        parse: (text, options) => calls.parse(text, options),
+        write: (lines, options) => calls.write(lines, options),
+        rebuild: (text, options) => calls.rebuild(text, options),
+        brokenClauses: (text, limits) => calls.brokenClauses(text, limits),
+        isPortable: (text, to, limits) => calls.isPortable(text, to, limits),
+    };
 }
 
 // What is portable.

@@ -142,17 +142,22 @@ export function brokenClauses(text: Text, limits?: Limits): string[];
 /** Whether servers read a line as this reader does in the dialect "strict". */
 export function isPortable(text: Text, to?: "influx1" | "victoria" | "all", limits?: Limits): boolean;
 
-/** A line cannot be written. `what` names the part that rules it out, as in "the value of tag 1", and `index` is the number of the line,
- * counted from 0. */
+/** A line cannot be written. `part` is the part that rules it out, `value` its text, and `key` the key of its tag or field if it is a value, else
+ * `null`. `what` names the part in words, as in "the value of tag 1", and `index` is the number of the line, counted from 0. All of `part`, `key`
+ * and `value` are `null` if no single part rules the line out. */
 export class NotAdmitted extends Error {
+    readonly part: "measurement" | "tag key" | "tag value" | "field key" | "field value" | null;
+    readonly key: string | null;
+    readonly value: string | null;
     readonly what: string;
     readonly index: number;
 }
 
-/** Whether this engine has the 64-bit memory that the module needs. */
+/** Whether this engine has the 64-bit memory that the proved module lp_page.wasm needs. */
 export function hasWideMemory(): boolean;
 
-/** The same calls over the module of these bytes, for a page that holds it. */
+/** The same calls over the module of these bytes: lp_page_32.wasm, or the proved lp_page.wasm. Throws Error if the engine has no 64-bit memory,
+ * and the module needs it. */
 export function connect(source: BufferSource | WebAssembly.Module): Promise<LineProtocol>;
 
 export class LineProtocol {

@@ -5,13 +5,13 @@ import { tmpdir } from "node:os";
 import { join } from "node:path";
 
 /* Begins a browser with one page. Gives what evaluates in it, what sends it a command, all that its console said and what it asked of the
- * network, and what ends it. */
+ * network, its handlers of other events, and what ends it. */
 export async function openedPage(program) {
     const profile = mkdtempSync(join(tmpdir(), "lp-page-"));
     const words = ["--headless=new", "--no-sandbox", "--disable-gpu", "--disable-dev-shm-usage", "--no-first-run", "--disable-extensions",
         "--disable-background-networking", "--disable-component-update", "--remote-debugging-pipe", `--user-data-dir=${profile}`, "about:blank"];
     const child = spawn(program, words, { stdio: ["ignore", "ignore", "ignore", "pipe", "pipe"] });
-    const waiting = new Map(), said = [], asked = [];
+    const waiting = new Map(), said = [], asked = [], handlers = {};
     let buffer = "", last = 0, session;
     child.stdio[4].setEncoding("utf8").on("data", part => {
         buffer += part;
@@ -31,6 +31,8 @@ export async function openedPage(program) {
             said.push(params.entry.text);
         } else if (method === "Network.requestWillBeSent") {
             asked.push(params.request.url);
+        } else {
+            handlers[method]?.(params);
         }
     }
     const tell = (method, params, sessionId) => new Promise((resolve, reject) => {
@@ -55,5 +57,5 @@ export async function openedPage(program) {
         await ended;
         rmSync(profile, { recursive: true, force: true, maxRetries: 5 });
     };
-    return { send, evaluate, key, close, said, asked };
+    return { send, evaluate, key, close, said, asked, handlers };
 }

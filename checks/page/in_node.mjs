@@ -11,7 +11,7 @@ import { inspect } from "node:util";
 import { answered, countsOf, rowsOf } from "./answers.mjs";
 
 const [folder, what, relay] = process.argv.slice(2);
-const package_ = await import(pathToFileURL(`${folder}/index.js`));
+const package_ = await import(pathToFileURL(`${folder}/node.js`));
 const { CLAUSES, NotAdmitted, Reader, brokenClauses, isPortable, parse, rebuild, seriesKey, write } = package_;
 
 function same(got, wanted, of) {
@@ -79,6 +79,23 @@ for (const dialect of ["crate", "strict", "newline-delimited"]) {
     }
 }
 
+// A float is the number that JavaScript makes of its literal, whatever its digits.
+let seed = 64;
+const dice = n => (seed = (seed * 1103515245 + 12345) % 2147483648) % n, digits = n => Array.from({ length: n }, () => dice(10)).join("");
+const literals = ["0", "-0", "-0.0", "9007199254740991", "9007199254740993", "0.9007199254740993", "9007199254740993.0", `1.${"0".repeat(30)}`, `0.${"0".repeat(25)}1`];
+for (let n = 0; n < 20_000; n++) literals.push(`${dice(2) ? "-" : ""}${digits(1 + dice(18))}${dice(3) ? `.${digits(1 + dice(18))}` : ""}${dice(9) ? "" : `e${dice(40) - 20}`}`);
+[...parse(literals.map(literal => `m f=${literal}\n`).join(""))].forEach((item, n) => same(Object.is(item.fields[0][1], Number(literals[n])), true, literals[n]));
+
+// Texts in a window that is not ASCII, or not UTF-8 in some line, are those of the line alone.
+const mixed = Array.from({ length: 3000 }, (_, n) => ["m,é=😀\\ x f=1,流量=\"a\\\"é\"", "m,a=\ufffd\\,\ufffd f=2", "n,a=b,c=é f=\"😀\"", "plain f=1", `x,${"é".repeat(40)}=1 f=1`][(7 * n) % 5]);
+const wrong = Buffer.from([0x6d, 0x20, 0xf0, 0x9f, 0x3d, 0x31, 0x0a]), options_ = { keys: true, places: true, literals: true };
+for (const bytes of [Buffer.from(mixed.join("\n")), Buffer.concat([Buffer.from(`${mixed.slice(0, 2000).join("\n")}\n`), wrong, Buffer.from(mixed.join("\n"))])]) {
+    for (const item of parse(bytes, options_)) {
+        if (item.fault) same([item.fault, item.line], ["not_utf8", 2001], "the line that is not UTF-8");
+        else same({ ...item, item: 0, line: 0, offset: 0, pieceLine: 0, pieceOffset: 0 }, { ...[...parse(bytes.subarray(item.offset, item.offset + item.length), options_)][0], item: 0, line: 0, offset: 0, pieceLine: 0, pieceOffset: 0 }, "a line among others");
+    }
+}
+
 // What is written is what was meant, and what may not be written is refused.
 const line = { measurement: "m x", tags: { b: "1,2", a: "=" }, fields: [["i", -5n], ["u", { unsigned: 2n ** 64n - 1n }], ["f", -0], ["s", 'q"\\\n'], ["t", true]], timestamp: new Date(5) };
 same(write(line), 'm\\ x,b=1\\,2,a=\\= i=-5i,u=18446744073709551615u,f=-0,s="q\\"\\\\\n",t=true 5000000\n', "a line that is written");
@@ -92,14 +109,23 @@ same([...parse(new DataView(new TextEncoder().encode("m f=1\nn f=2").buffer, 6))
 same([...parse(`m f=1 ${"x".repeat(2000)}`)][0].text.length, 2001, "a long rest");
 same([isPortable("m,a=b f=1 2000000"), isPortable("m,a=b f=1", "all", { tags: 0 }), isPortable("m f=1 2000000", "all", { latest: 1_000_000n })], [true, false, false], "limits");
 same(await gathered((function* () { yield "m f=1\n"; throw new Error("gone"); })()).catch(error => error.message), "gone", "the error of a source");
-const { connect } = await import(pathToFileURL(`${folder}/core.js`)), { validate } = WebAssembly, module = readFileSync(`${folder}/lp_page.wasm`);
-same((await connect(module)).index(`${ofWindows.repeat(3)}n f=2`).at.length, 60_001, "an index of several windows");
-WebAssembly.validate = () => false;
-same((await connect(module).catch(error => error.message)).slice(0, 34), "this engine has no 64-bit memory f", "an engine without wide memory");
-WebAssembly.validate = validate;
-throws(() => write(line, { dialect: "newline-delimited" }), NotAdmitted, "the string of field 4 of line 1 would not read back", "a string with a newline");
-throws(() => write([line, { measurement: "m", tags: { k: "v\\" }, fields: { f: 1 } }]), NotAdmitted, "the value of tag 1 of line 2 would not read back", "a backslash");
-throws(() => write({ measurement: "#m", fields: { f: 1 } }), NotAdmitted, "the measurement of line 1 would not read back", "a comment");
+// Over the proved module too, if this engine has its memory, or else says that it has not.
+const { connect, hasWideMemory } = await import(pathToFileURL(`${folder}/core.js`)), ofModule = name => connect(readFileSync(`${folder}/${name}`));
+same((await ofModule("lp_page_32.wasm")).index(`${ofWindows.repeat(3)}n f=2`).at.length, 60_001, "an index of several windows");
+const proved = await ofModule("lp_page.wasm").catch(error => error);
+if (hasWideMemory()) same([...proved.parse("m f=1")].length, 1, "a line, by the proved module");
+else same(proved.message.slice(0, 34), "this engine has no 64-bit memory f", "an engine without wide memory");
+same((await connect(new Uint8Array(9)).catch(error => error)) instanceof Error, true, "bytes that are no module");
+throws(() => write(line, { dialect: "newline-delimited" }), NotAdmitted, `the value of field 4 of line 1 would not read back: ${JSON.stringify('q"\\\n')}, of the key "s"`, "a string with a newline");
+throws(() => write([line, { measurement: "m", tags: { k: "v\\" }, fields: { f: 1 } }]), NotAdmitted, String.raw`the value of tag 1 of line 2 would not read back: "v\\", of the key "k"`, "a backslash");
+throws(() => write({ measurement: "#m", fields: { f: 1 } }), NotAdmitted, `the measurement of line 1 would not read back: "#m"`, "a comment");
+throws(() => write({ measurement: "m", fields: { [`${"k".repeat(99)}\t`]: 1 } }), NotAdmitted, `the key of field 1 of line 1 would not read back: "${"k".repeat(60)}.."`, "a long key");
+throws(() => write({ measurement: "m", tags: { "": "v" }, fields: { f: 1 } }), NotAdmitted, 'the key of tag 1 of line 1 would not read back: ""', "an empty key");
+const told = call => { try { return call(); } catch ({ part, key, value, index, what }) { return [part, key, value, index, what]; } };
+same(told(() => write([line, { measurement: "m", tags: { k: "v\\" }, fields: { f: 1 } }])), ["tag value", "k", "v\\", 1, "the value of tag 1"], "which part, with key and value");
+same(told(() => write({ measurement: "m", fields: { "a\n": 1 } })), ["field key", null, "a\n", 0, "the key of field 1"], "a key that is not admitted");
+same(told(() => write(line, { dialect: "newline-delimited" })), ["field value", "s", 'q"\\\n', 0, "the value of field 4"], "a string that is not admitted");
+same(told(() => seriesKey({ measurement: "\ud800" })), ["measurement", null, "\ud800", 0, "the measurement"], "half of a pair");
 throws(() => write({ measurement: "m", fields: {} }), TypeError, "a line has a field", "no field");
 throws(() => write({ measurement: "m", fields: { f: 2n ** 63n } }), RangeError, "9223372036854775808 is no integer of 64 bits", "a large integer");
 throws(() => write({ measurement: "m", fields: { f: NaN } }), RangeError, "NaN is no float that can be written", "no number");
@@ -120,8 +146,7 @@ same(lines.join(""), printed, "what the first program prints");
 
 // Faults are those that lp_relay tells, at the same places: of the texts of the table, and of hostile ones.
 if (relay) {
-    let seed = 64, faults = 0;
-    const dice = n => (seed = (seed * 1103515245 + 12345) % 2147483648) % n;
+    let faults = 0;
     const parts = ["m", ",", " ", "=", '"', "\\", "\n", "\n", "f=1i", "t=v", "#", "\t", "9".repeat(25), "é", "f=", " 5", "x"].map(part => Buffer.from(part)).concat(Buffer.from([0xff]));
     const hostile = Array.from({ length: 60 }, () => Buffer.concat(Array.from({ length: 60 }, () => parts[dice(parts.length)])));
     for (const text of [Buffer.from(texts.join("\n")), ...hostile]) {

@@ -8,7 +8,7 @@ import { deepStrictEqual } from "node:assert";
 import { pathToFileURL } from "node:url";
 
 const [folder, count = "10000", seed = "1"] = process.argv.slice(2);
-const { NotAdmitted, Reader, brokenClauses, isPortable, parse, rebuild, seriesKey, write } = await import(pathToFileURL(`${folder}/index.js`));
+const { NotAdmitted, Reader, brokenClauses, isPortable, parse, rebuild, seriesKey, write } = await import(pathToFileURL(`${folder}/node.js`));
 const DIALECTS = ["crate", "strict", "newline-delimited"];
 const [TAB, NEWLINE, SPACE, QUOTE, HASH, COMMA, EQUALS, BACKSLASH] = Buffer.from('\t\n "#,=\\');
 
@@ -175,15 +175,15 @@ if (moved > 10 * 2000 * 64) throw new Error(`of a piece of 128,000 bytes ${moved
 
 // Half of a surrogate pair is never replaced: what writes refuses it, and what reads refuses its line.
 for (const half of ["\ud800", "\udbff", "\udc00", "\udfff"]) {
-    const kept = "is 😀 é", reason = "holds half of a surrogate pair";
-    throws(() => write({ measurement: half, fields: { f: 1 } }), NotAdmitted, `the measurement of line 1 ${reason}`);
+    const kept = "is 😀 é", reason = "holds half of a surrogate pair", escaped = JSON.stringify(half).slice(1, -1), shown = before => `"${before}${escaped}"`;
+    throws(() => write({ measurement: half, fields: { f: 1 } }), NotAdmitted, `the measurement of line 1 ${reason}: ${shown("")}`);
     throws(() => write([{ measurement: kept, fields: { f: 1 } }, { measurement: "m", tags: { a: kept, b: `x${half}` }, fields: { f: 1 } }]),
-        NotAdmitted, `the value of tag 2 of line 2 ${reason}`);
-    throws(() => write({ measurement: "m", tags: [[`${half}x`, "v"]], fields: { f: 1 } }), NotAdmitted, `the key of tag 1 of line 1 ${reason}`);
-    throws(() => write({ measurement: "m", fields: [["f", 1], [half, 1]] }), NotAdmitted, `the key of field 2 of line 1 ${reason}`);
-    throws(() => write({ measurement: "m", fields: { f: `${half}😀` } }), NotAdmitted, `the string of field 1 of line 1 ${reason}`);
-    throws(() => seriesKey({ measurement: half }), NotAdmitted, `the measurement of line 1 ${reason}`);
-    throws(() => seriesKey({ measurement: "m", tags: { a: half } }), NotAdmitted, `the value of tag 1 of line 1 ${reason}`);
+        NotAdmitted, `the value of tag 2 of line 2 ${reason}: ${shown("x")}, of the key "b"`);
+    throws(() => write({ measurement: "m", tags: [[`${half}x`, "v"]], fields: { f: 1 } }), NotAdmitted, `the key of tag 1 of line 1 ${reason}: "${escaped}x"`);
+    throws(() => write({ measurement: "m", fields: [["f", 1], [half, 1]] }), NotAdmitted, `the key of field 2 of line 1 ${reason}: ${shown("")}`);
+    throws(() => write({ measurement: "m", fields: { f: `${half}😀` } }), NotAdmitted, `the value of field 1 of line 1 ${reason}: "${escaped}😀", of the key "f"`);
+    throws(() => seriesKey({ measurement: half }), NotAdmitted, `the measurement of line 1 ${reason}: ${shown("")}`);
+    throws(() => seriesKey({ measurement: "m", tags: { a: half } }), NotAdmitted, `the value of tag 1 of line 1 ${reason}: ${shown("")}, of the key "a"`);
     const text = `m f=1\nm,a=x${half}é f=2\nm f=3 😀\n`, wanted = [1, "not_utf8 2:6", "cannot_parse_entire_line 3:6"];
     const told = item => (item.fault ? `${item.fault} ${item.stopLine}:${item.stopColumn}` : item.fields[0][1]);
     deepStrictEqual([...parse(text)].map(told), wanted);

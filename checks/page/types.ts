@@ -26,7 +26,7 @@ try {
     console.log(batch, refused, items, seriesKey({ measurement: "m", tags: { a: "b" } }));
     console.log(brokenClauses(text, { tags: 3 }), isPortable(text, "victoria"), CLAUSES[0].means, hasWideMemory());
 } catch (error) {
-    if (error instanceof NotAdmitted) console.log(error.what, error.index);
+    if (error instanceof NotAdmitted) console.log(error.what, error.index, error.part === "tag value", error.key, error.value);
 }
 const calls = core.hasWideMemory() ? await core.connect(new Uint8Array(8)) : await connect(new Uint8Array(8));
 for (const item of calls.parse("x")) console.log(item);

@@ -5,7 +5,8 @@
 #     packaging/page/build.sh FOLDER BUILT     takes the module lp_page.wasm of the folder BUILT; without one nothing is made
 #
 # FOLDER then has try.html, the folder influxdb-line-protocol-js, and `verdict`: what the kit says of the crate for WebAssembly, if it was built
-# now. `rt` takes no crate for WebAssembly into the gate. So the crate is proved and built for x86-64 as any other, and then proved and compiled
+# now. The proved module lp_page.wasm has 64-bit memory. wasm-opt, of Debian's package binaryen, makes lp_page_32.wasm of it: the same code with
+# 32-bit memory, which each engine can load. The package and the page load that module. `rt` takes no crate for WebAssembly into the gate. So the crate is proved and built for x86-64 as any other, and then proved and compiled
 # here for wasm64: of the libraries below the kit keeps proved code, which is compiled for any processor.
 set -euo pipefail
 . "$(dirname "$(readlink -f "$0")")/../../launch.sh"
@@ -44,6 +45,7 @@ compile() {
 }
 
 [ $# = 1 ] || [ $# = 2 ] || { echo "usage: packaging/page/build.sh FOLDER [BUILT]" >&2; exit 2; }
+command -v wasm-opt >/dev/null || { echo "page: there is no wasm-opt, which Debian's package binaryen has" >&2; exit 1; }
 made=$(mktemp -d)
 trap 'rm -rf "$made"' EXIT
 if [ -n "${2-}" ]; then
@@ -55,11 +57,14 @@ else
     kit=$(kit)
     compile "$made/lp_page.wasm"
 fi
+python3 -B "$here/narrow.py" "$made/lp_page.wasm" "$made/lp_page_32.wasm"
 package=$1/influxdb-line-protocol-js
 rm -rf "$package"
 mkdir -p "$package"
-cp "$top"/bindings/js/{core.js,core.d.ts,index.js,index.d.ts,README.md} "$top"/LICENSE-* "$made/lp_page.wasm" "$package/"
+cp "$top"/bindings/js/{core.js,core.d.ts,index.js,index.d.ts,node.js,README.md} "$top"/LICENSE-* "$made"/lp_page{,_32}.wasm "$package/"
+cp "$top/bindings/js/index.d.ts" "$package/index.d.cts"
+sed 's/^export //' "$top"/bindings/js/{core.js,require.js} >"$package/index.cjs"
 sed "s/\"version\": \"[^\"]*\"/\"version\": \"$(version)\"/" "$top/bindings/js/package.json" >"$package/package.json"
 chmod -R u=rwX,go=rX "$package"
-"$here/make.sh" "$made/lp_page.wasm" "$(version)" >"$1/try.html"
+"$here/make.sh" "$made/lp_page_32.wasm" "$(version)" >"$1/try.html"
 [ ! -f "$made/verdict" ] || cp "$made/verdict" "$1/verdict"

@@ -3,7 +3,7 @@
 #
 #     packaging/page/make.sh MODULE VERSION
 #
-# MODULE is lp_page.wasm. The calls of bindings/js/core.js are in the page as a text, of which its worker is made: so it needs no web server.
+# MODULE is lp_page_32.wasm. The calls of bindings/js/core.js are in the page as a text, of which its worker is made: so it needs no web server.
 set -eu
 [ $# = 2 ] || { echo "usage: packaging/page/make.sh MODULE VERSION" >&2; exit 2; }
 here=$(cd "$(dirname "$0")" && pwd)
