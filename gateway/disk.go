@@ -21,8 +21,8 @@ type Disk interface {
 	Create(name string, write func(io.Writer) error) error
 	// Read reads bytes of a file from a place on. It returns io.EOF or io.ErrUnexpectedEOF if the file ends before.
 	Read(name string, at int64, into []byte) error
-	// Overwrite writes bytes over bytes that the file has, and syncs them.
-	Overwrite(name string, at int64, bytes []byte) error
+	// Overwrite writes bytes over bytes that each of some files has, in no order, and syncs them.
+	Overwrite(names []string, at int64, bytes []byte) error
 	// Rename gives a file another name. The name may be lost until Sync.
 	Rename(from, to string) error
 	// Remove removes a file. It may come back until Sync.
@@ -98,7 +98,24 @@ func (f *folder) Read(name string, at int64, into []byte) error {
 	return err
 }
 
-func (f *folder) Overwrite(name string, at int64, bytes []byte) error {
+func (f *folder) Overwrite(names []string, at int64, bytes []byte) error {
+	if len(names) == 1 {
+		return f.overwrite(names[0], at, bytes)
+	}
+	errs := make([]error, len(names))
+	var all sync.WaitGroup
+	for n, name := range names {
+		all.Add(1)
+		go func(n int, name string) {
+			defer all.Done()
+			errs[n] = f.overwrite(name, at, bytes)
+		}(n, name)
+	}
+	all.Wait()
+	return firstOf(errs...)
+}
+
+func (f *folder) overwrite(name string, at int64, bytes []byte) error {
 	file, err := os.OpenFile(f.in(name), os.O_WRONLY, 0)
 	if err != nil {
 		return err

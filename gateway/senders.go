@@ -7,8 +7,6 @@ import (
 	"net/url"
 	"strings"
 	"time"
-
-	"yomskafi.example/lineprotocol/v3"
 )
 
 // The waits before the server is asked again; the bytes and the files that go to it together; how many calls, and for how long, find the lines of a
@@ -66,12 +64,19 @@ func (x *sender) run(ctx context.Context) {
 	}
 }
 
-// sendAll sends the lines of all entries that are there. An entry that cannot be read stays, and so do those of a database that takes no lines now; the
-// others are sent.
+// sendAll sends the lines of all entries that are there. Those of a database that takes no lines now stay, and the others are sent. An entry that cannot
+// be read holds up its database for a minute, and then itself alone.
 func (x *sender) sendAll(ctx context.Context) (left error) {
+	if err := x.spool.settle(x.of); err != nil {
+		return fmt.Errorf("what was sent cannot be noted: %w", err)
+	}
 	isSick := map[string]bool{}
 	unread := map[*entry]bool{}
-	skips := func(e *entry) bool { return unread[e] || e.to != nil && isSick[e.to.db()] }
+	isBlocked := false // by an entry that waits, and may be of any database
+	skips := func(e *entry) bool {
+		isBlocked = isBlocked || e.to == nil && len(isSick) > 0 && !unread[e]
+		return isBlocked || unread[e] || e.to != nil && isSick[e.to.db()]
+	}
 	for at, alone := 0, 0; ctx.Err() == nil; alone-- {
 		most := batchMost
 		if alone > 0 {
@@ -83,7 +88,15 @@ func (x *sender) sendAll(ctx context.Context) (left error) {
 		}
 		b, err := x.read(entries)
 		if b == nil {
-			unread[entries[0]], left = true, err
+			e := entries[0]
+			switch left = err; {
+			case x.spool.isLost(e):
+				unread[e] = true
+			case e.to == nil: // it may be of any database
+				return err
+			default:
+				isSick[e.to.db()] = true
+			}
 			continue
 		}
 		switch err := x.sendBatch(ctx, b); {
@@ -183,8 +196,8 @@ func (x *sender) sendLines(ctx context.Context, to *target, lines []byte) error 
 // middle returns how many lines a text has, and a place between two of them: before the line in which the middle of the text is, or after this line
 // if it is the first. The place is the end of the text if there is one line alone.
 func middle(text []byte) (at, lines int) {
-	d := lineprotocol.NewDecoderWithBytes(text)
-	d.SetDialect(lineprotocol.Strict)
+	d := decoderOf(text)
+	defer strictDecoders.Put(d)
 	for end := 0; d.Next(); lines++ {
 		if end += len(d.Raw()) + 1; at == 0 || end <= len(text)/2 {
 			at = end

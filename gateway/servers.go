@@ -206,28 +206,31 @@ var patience = time.Second
 // goes on after that holds up the senders until it ends, so no line that came later is stored before it. `uses` counts who reads the lines.
 // It takes the room that the spool reserved.
 func (s *server) store(ctx context.Context, room int64, b *stored) error {
-	kept := make(chan []*entry, 1) // what the spool has of the lines while the call goes on
-	if !b.isSpooled && s.pause.Load() < time.Now().UnixNano() && s.spool.tryDirect() {
+	kept := make(chan keeping, 1) // what becomes of the lines while the call goes on
+	isDirect := !b.isSpooled && s.pause.Load() < time.Now().UnixNano() && s.spool.tryDirect()
+	if isDirect {
 		if told, err := s.storeDirect(ctx, b, kept); told && (err == nil || statusOf(err)/100 == 4) {
-			kept <- nil
+			kept <- keeping{}
 			s.spool.release(room)
 			return err
 		}
 	}
 	entries, err := s.spool.put(room, b.to, b.at, b.lines)
 	if err != nil {
-		kept <- nil
+		if isDirect {
+			kept <- s.spool.orphan()
+		}
 		s.log.printf("%s: lines cannot be kept: %v", s.name, err)
 		return fmt.Errorf("cannot keep the lines: %w", err)
 	}
 	s.metrics.spooled.Add(1)
-	kept <- entries
+	kept <- keeping{entries: entries}
 	return nil
 }
 
 // storeDirect calls the server past the spool, and returns its answer if it comes soon enough. If the server takes the lines in the end, the spool
 // forgets them.
-func (s *server) storeDirect(ctx context.Context, b *stored, kept <-chan []*entry) (told bool, err error) {
+func (s *server) storeDirect(ctx context.Context, b *stored, kept <-chan keeping) (told bool, err error) {
 	answered := make(chan error, 1)
 	b.hold()
 	go func() {
@@ -237,11 +240,7 @@ func (s *server) storeDirect(ctx context.Context, b *stored, kept <-chan []*entr
 			s.metrics.stored.Add(b.count)
 		}
 		answered <- err
-		entries := <-kept
-		if err != nil {
-			entries = nil
-		}
-		s.spool.endDirect(entries)
+		s.spool.endDirect(<-kept, err == nil)
 	}()
 	timer := time.NewTimer(patience)
 	defer timer.Stop()

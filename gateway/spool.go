@@ -59,6 +59,7 @@ type entry struct {
 	to           *target // nil if the file could not be read yet
 	left         laneSet // lanes whose lines the server does not have yet
 	ready        bool
+	unread       time.Time // since when it cannot be read
 }
 
 func (e *entry) name() string { return fmt.Sprintf("%020d.batch", e.number) }
@@ -75,9 +76,13 @@ type spool struct {
 	queue   []*entry // in the order of their numbers
 	gone    int      // how many entries were taken off the front of the queue
 	direct  int      // calls that go to the server past the spool
-	failure error    // why the last file could not be written
-	targets map[string]*target
-	wake    []chan struct{} // one for each sender
+	orphans int      // those of them whose lines are not in the spool, though their clients were answered
+	debts   []debt
+	failure error // why the last file could not be written
+	// The names of files that were removed after an error may not be gone on the device.
+	isUnsure bool
+	targets  map[string]*target
+	wake     []chan struct{} // one for each sender
 }
 
 // openSpool reads what an earlier run left on a disk: lanes that are not sent yet. It removes files that were not finished.
@@ -96,10 +101,18 @@ func openSpool(disk Disk, most int64, senders int) (*spool, error) {
 		case wrong == nil && strings.HasSuffix(name, ".batch"):
 			size, gone := disk.Size(name)
 			e := &entry{number: number, size: size + perFile, left: allLanes, ready: true}
-			if h, _, unread := s.readHead(e); unread == nil {
-				// A note may be on the disk though the note of an earlier file is not: both are sent again.
+			h, _, unread := s.readHead(e)
+			for tries := 0; unread != nil && tries < 2; tries++ {
+				h, _, unread = s.readHead(e)
+			}
+			if unread == nil {
+				// A note may be on the disk though the note of an earlier file is not: both are sent again, and so the note must go first.
 				e.left = h.left() | h.filled()&open[h.To.db()]
-				open[h.To.db()] |= e.left
+				if open[h.To.db()] |= e.left; e.left != h.left() {
+					err = firstOf(err, disk.Overwrite([]string{name}, doneAt, e.left.notes()))
+				}
+			} else {
+				e.unread = time.Unix(1, 0) // it holds up no others
 			}
 			if err = firstOf(err, gone); e.left == 0 {
 				err = firstOf(err, disk.Remove(name))
@@ -109,6 +122,14 @@ func openSpool(disk Disk, most int64, senders int) (*spool, error) {
 		}
 	}
 	return s, err
+}
+
+// notes returns the notes of a file of which these lanes are not sent.
+func (set laneSet) notes() (text []byte) {
+	for lane := 0; lane < lanes; lane++ {
+		text = append(text, '1'-byte(set>>lane&1))
+	}
+	return text
 }
 
 // filled returns the lanes that have lines.
@@ -162,8 +183,11 @@ func (s *spool) readHead(e *entry) (h *head, begin int64, err error) {
 	if err == nil && (sum != size || len(h.Done) != lanes) {
 		err = fmt.Errorf("%s: it has %d bytes, and not %d", e.name(), size, sum)
 	}
-	if err == nil && e.to == nil {
-		e.at, e.to = h.At, s.shared(&h.To)
+	if err == nil {
+		to := s.shared(&h.To)
+		s.mu.Lock()
+		e.at, e.to = h.At, to
+		s.mu.Unlock()
 	}
 	return h, begin, err
 }
@@ -220,8 +244,8 @@ func (s *spool) put(room int64, to *target, at time.Time, lines []byte) (entries
 	if err == nil {
 		err = s.name(entries, parts)
 	} else {
-		for _, part := range parts {
-			_ = s.disk.Remove(part)
+		for n, part := range parts {
+			_, entries[n].left = s.disk.Remove(part), 0
 		}
 	}
 	s.mu.Lock()
@@ -229,10 +253,8 @@ func (s *spool) put(room int64, to *target, at time.Time, lines []byte) (entries
 	s.failure = err
 	s.held -= room
 	for _, e := range entries {
-		if e.ready = true; err == nil {
+		if e.ready = true; e.left != 0 {
 			s.held += e.size
-		} else {
-			e.left = 0
 		}
 	}
 	s.shorten()
@@ -265,29 +287,44 @@ func (s *spool) write(e *entry, h *head, lines []byte) (rest []byte, part string
 }
 
 // name gives files their names, and entries their places in the queue: the queue is in the order of the numbers, also after the next start. After an
-// error there are no such files.
+// error the files are removed. A file that cannot be removed keeps its place in the queue, so that it is not sent after lines that came later.
 func (s *spool) name(entries []*entry, parts []string) (err error) {
 	s.mu.Lock()
 	named := 0
 	for ; named < len(entries) && err == nil; named++ {
+		e := entries[named]
 		if now := time.Now().UnixNano(); now > s.last {
 			s.last = now
 		} else {
 			s.last++
 		}
-		entries[named].number = s.last
-		err = s.disk.Rename(parts[named], entries[named].name())
-	}
-	if err == nil {
-		s.queue = append(s.queue, entries...)
+		e.number = s.last
+		if err = s.disk.Rename(parts[named], e.name()); err != nil {
+			break
+		}
+		s.queue = append(s.queue, e)
 	}
 	s.mu.Unlock()
 	if err == nil {
 		err = s.disk.Sync()
 	}
-	for n := range entries {
-		if err != nil {
-			_, _ = s.disk.Remove(entries[n].name()), s.disk.Remove(parts[n]) // one of them is there
+	if err == nil {
+		return nil
+	}
+	isGone := make([]bool, len(entries))
+	for n, e := range entries {
+		if n < named {
+			isGone[n] = s.disk.Remove(e.name()) == nil
+		} else {
+			_, isGone[n] = s.disk.Remove(parts[n]), true
+		}
+	}
+	s.mu.Lock()
+	defer s.mu.Unlock()
+	s.isUnsure = true
+	for n, e := range entries {
+		if isGone[n] {
+			e.left = 0
 		}
 	}
 	return err
@@ -318,8 +355,8 @@ const mostFile = 4 << 20
 // sort finds the lane of each line that a file takes, and returns the pieces of the text that each lane has, and the rest of the text. The lines must be
 // lines that the strict dialect reads.
 func (h *head) sort(text []byte) (order [lanes][][]byte, rest []byte, err error) {
-	d := lineprotocol.NewDecoderWithBytes(text)
-	d.SetDialect(lineprotocol.Strict)
+	d := decoderOf(text)
+	defer strictDecoders.Put(d)
 	var key []byte
 	begin := 0
 	for begin < mostFile && d.Next() {
@@ -342,6 +379,20 @@ func (h *head) sort(text []byte) (order [lanes][][]byte, rest []byte, err error)
 	return order, text[begin:], firstOf(err, d.Err())
 }
 
+// Decoders that read lines by the strict rules.
+var strictDecoders = sync.Pool{New: func() any {
+	d := lineprotocol.NewDecoderWithBytes(nil)
+	d.SetDialect(lineprotocol.Strict)
+	return d
+}}
+
+// decoderOf returns a decoder of these lines. The caller must put it back.
+func decoderOf(text []byte) *lineprotocol.Decoder {
+	d := strictDecoders.Get().(*lineprotocol.Decoder)
+	d.ResetBytes(text)
+	return d
+}
+
 var castagnoli = crc32.MakeTable(crc32.Castagnoli)
 
 // join appends a piece to pieces, or makes the last one longer if the piece begins where that ends in the same text.
@@ -355,61 +406,98 @@ func join(pieces [][]byte, piece []byte) [][]byte {
 	return append(pieces, piece)
 }
 
-// tryDirect tells whether a call may go to the server past the spool: nothing is in the spool. The caller must call endDirect after the call.
+// tryDirect tells whether a call may go to the server past the spool: nothing is in the spool, and no call goes on whose client was told to come again.
+// The caller must call endDirect after the call.
 func (s *spool) tryDirect() bool {
 	s.mu.Lock()
 	defer s.mu.Unlock()
-	if len(s.queue) > 0 {
+	if s.isUnsure { // a file that was removed could come back after lines that the server has by then
+		s.isUnsure = s.disk.Sync() != nil
+	}
+	if len(s.queue) > 0 || s.orphans > 0 || s.isUnsure {
 		return false
 	}
 	s.direct++
 	return true
 }
 
-// endDirect says that a call past the spool has ended. If the server has the lines of entries by this call, these go.
-func (s *spool) endDirect(sent []*entry) {
-	_ = s.note(sent, allLanes) // after an error the lines are sent once more
+// A keeping is what became of lines while their call past the spool went on: entries of the spool, or none. An orphan's client was told to come again.
+type keeping struct {
+	entries  []*entry
+	isOrphan bool
+}
+
+// orphan says that a call goes on whose lines cannot be kept.
+func (s *spool) orphan() keeping {
 	s.mu.Lock()
 	defer s.mu.Unlock()
-	s.direct--
+	s.orphans++
+	return keeping{isOrphan: true}
+}
+
+// endDirect says that a call past the spool has ended. If the server has its lines, their entries go.
+func (s *spool) endDirect(kept keeping, isStored bool) {
+	if isStored && len(kept.entries) > 0 {
+		_ = s.note(kept.entries, allLanes) // after an error a sender tries again
+	}
+	s.mu.Lock()
+	defer s.mu.Unlock()
+	if s.direct--; kept.isOrphan {
+		s.orphans--
+	}
 	s.rouse()
 }
 
-// note notes that the server has the lines of these lanes, and removes the files whose lines it has all.
+// A debt is a note that could not be written: the server has these lines, so they must not be sent before it is.
+type debt struct {
+	entries []*entry
+	of      laneSet
+}
+
+// note notes that the server has the lines of these lanes, and removes the files whose lines it has all. After an error settle tries again.
 func (s *spool) note(entries []*entry, of laneSet) error {
-	errs := make([]error, len(entries))
-	var all sync.WaitGroup
-	for n, e := range entries {
-		low, high := bits.TrailingZeros16(uint16(of)), bits.Len16(uint16(of))
-		all.Add(1)
-		run := func(n int, e *entry) {
-			defer all.Done()
-			errs[n] = s.disk.Overwrite(e.name(), doneAt+int64(low), bytes.Repeat([]byte{'1'}, high-low))
-		}
-		if len(entries) == 1 {
-			run(n, e)
-		} else {
-			go run(n, e)
-		}
+	var names []string
+	for _, e := range entries {
+		names = append(names, e.name())
 	}
-	all.Wait()
-	if err := firstOf(errs...); err != nil {
-		return err
-	}
+	low, high := bits.TrailingZeros16(uint16(of)), bits.Len16(uint16(of))
+	err := s.disk.Overwrite(names, doneAt+int64(low), bytes.Repeat([]byte{'1'}, high-low))
 	s.mu.Lock()
 	var ended []*entry
-	for _, e := range entries {
-		if e.left &^= of; e.left == 0 {
-			ended = append(ended, e)
-			s.held -= e.size
+	if err != nil {
+		s.debts = append(s.debts, debt{entries, of})
+	} else {
+		for _, e := range entries {
+			if e.left &^= of; e.left == 0 {
+				ended = append(ended, e)
+				s.held -= e.size
+			}
 		}
+		s.shorten()
 	}
-	s.shorten()
 	s.mu.Unlock()
 	for _, e := range ended {
 		_ = s.disk.Remove(e.name()) // the next start removes it if this fails
 	}
-	return nil
+	return err
+}
+
+// settle writes the notes of these lanes that could not be written before.
+func (s *spool) settle(of laneSet) (err error) {
+	s.mu.Lock()
+	debts := s.debts
+	s.debts = nil
+	s.mu.Unlock()
+	for n, each := range debts {
+		if each.of&of == 0 || err != nil {
+			s.mu.Lock()
+			s.debts = append(s.debts, debts[n])
+			s.mu.Unlock()
+		} else {
+			err = s.note(each.entries, each.of)
+		}
+	}
+	return err
 }
 
 // some returns up to `most` entries of one target with lines of these lanes, which follow one another from a place of the queue on, and the place after
@@ -453,6 +541,16 @@ func (s *spool) read(e *entry, of laneSet) (text []byte, lines int64, err error)
 		at += size
 	}
 	return text, lines, nil
+}
+
+// isLost tells whether an entry, which cannot be read now, could not be read for more than a minute.
+func (s *spool) isLost(e *entry) bool {
+	s.mu.Lock()
+	defer s.mu.Unlock()
+	if e.unread.IsZero() {
+		e.unread = time.Now()
+	}
+	return time.Since(e.unread) > time.Minute
 }
 
 // state returns how many bytes the spool takes, how many bodies it has, since when it has the oldest one, and why the last body could not be kept.
