@@ -741,3 +741,12 @@ func TestFull(t *testing.T) {
 	s.set(false, false)
 	wait(t, "the spool is sent", func() bool { return s.taken() == "m f=2 2\nm f=3 3\n" })
 }
+
+func unpack(packed []byte) []byte {
+	r, err := gzip.NewReader(bytes.NewReader(packed))
+	if err != nil {
+		return nil
+	}
+	text, _ := io.ReadAll(r)
+	return text
+}
