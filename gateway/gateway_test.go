@@ -33,6 +33,7 @@ type stub struct {
 	answers    map[string]int
 	password   string
 	text       string // of these answers
+	isPacked   bool   // bodies must be packed
 }
 
 func newStub(t *testing.T) *stub {
@@ -46,6 +47,11 @@ func (s *stub) serve(w http.ResponseWriter, r *http.Request) {
 	s.mu.Lock()
 	defer s.mu.Unlock()
 	text, _ := io.ReadAll(r.Body)
+	if r.Header.Get("Content-Encoding") == "gzip" {
+		text = unpack(text)
+	} else if s.isPacked {
+		text = []byte("not packed")
+	}
 	s.asked = append(s.asked, r)
 	for part, code := range s.answers {
 		if bytes.Contains(text, []byte(part)) {
