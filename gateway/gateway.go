@@ -232,7 +232,7 @@ func (g *gateway) run(ctx context.Context, again <-chan os.Signal) error {
 			}
 		}()
 	}
-	g.send(ctx)
+	sending := g.send(ctx)
 	for {
 		select {
 		case <-again:
@@ -244,7 +244,9 @@ func (g *gateway) run(ctx context.Context, again <-chan os.Signal) error {
 		case err := <-failed:
 			return err
 		case <-ctx.Done():
-			return g.end(ended)
+			err := g.end(ended)
+			sending.Wait()
+			return err
 		}
 	}
 }

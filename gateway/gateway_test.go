@@ -114,7 +114,7 @@ func (s *stub) taken() string {
 // begin makes a gateway before a stub, of which nothing runs.
 func begin(t *testing.T, s *stub, dir string, words ...string) (*gateway, error) {
 	// A later word is for an earlier one.
-	words = append([]string{"-server", s.URL + "/", "-rejected", filepath.Join(dir, "rejected"), "-spool", filepath.Join(dir, "spool")}, words...)
+	words = append([]string{"--server", s.URL + "/", "--rejected", filepath.Join(dir, "rejected"), "--spool", filepath.Join(dir, "spool")}, words...)
 	o, err := readOptions(words, io.Discard)
 	if err != nil {
 		return nil, err
@@ -275,7 +275,7 @@ func pack(text string) string {
 
 func TestAnswers(t *testing.T) {
 	s, folder := newStub(t), t.TempDir()
-	address, _ := start(t, s, folder, "-max-body", "1000", "-max-line", "100", "-max-body-rejected", "2500")
+	address, _ := start(t, s, folder, "--max-body", "1000", "--max-line", "100", "--max-body-rejected", "2500")
 	write := address + "/write?db=x"
 	long := "m s=\"" + strings.Repeat("x", 100) + `"`
 	for _, row := range []struct{ body, answer string }{
@@ -309,18 +309,18 @@ func TestAnswers(t *testing.T) {
 // A quote that a line leaves open takes in no other line by the rules that end a line at each newline.
 func TestDialect(t *testing.T) {
 	s, folder := newStub(t), t.TempDir()
-	address, _ := start(t, s, folder, "-dialect", "newline-delimited")
+	address, _ := start(t, s, folder, "--dialect", "newline-delimited")
 	want(t, "an open quote", post(t, address+"/write?db=x", "m f=\"open\nm f=6\nm f=7i,"),
 		`400 {"error":"partial write: line 1: unable to parse 'm f=\"open': `+faultText("m f=\"")+
 			`\nline 3: unable to parse 'm f=7i,': `+faultIn(lineprotocol.NewlineDelimited, "m f=7i,")+` dropped=2"}`)
 	want(t, "what goes on", unstamped(s.taken()), "m f=6\n")
-	_, err := begin(t, s, t.TempDir(), "-dialect", "crate")
+	_, err := begin(t, s, t.TempDir(), "--dialect", "crate")
 	want(t, "another one", fmt.Sprint(err), `--dialect is "crate", and not strict or newline-delimited`)
 }
 
 func TestTargets(t *testing.T) {
 	s, folder := newStub(t), t.TempDir()
-	address, _ := start(t, s, folder, "-max-body", "1000")
+	address, _ := start(t, s, folder, "--max-body", "1000")
 	for _, row := range []struct{ path, header, answer, query string }{
 		{"/write?db=x&rp=y&u=me&p=a+b&precision=us&q=1", "Authorization: Basic abc", "204", "db=x&p=a+b&precision=u&rp=y&u=me"},
 		{"/api/v2/write?bucket=x/y&org=o&precision=s", "Authorization: Token a:b", "204", "db=x&precision=s&rp=y"},
@@ -353,7 +353,7 @@ func TestTargets(t *testing.T) {
 // What is not portable is refused, also by the time that it has in its precision.
 func TestPortable(t *testing.T) {
 	s, folder := newStub(t), t.TempDir()
-	address, _ := start(t, s, folder, "-portable", "all", "-spool", filepath.Join(folder, "spool"))
+	address, _ := start(t, s, folder, "--portable", "all", "--spool", filepath.Join(folder, "spool"))
 	for _, row := range []struct{ precision, line, why string }{
 		{"n", "m f=1,f=t", "two fields have one key"},
 		{"n", "m f=1 999999", "the timestamp is before or after what is kept"},
@@ -378,7 +378,7 @@ func TestSpool(t *testing.T) {
 	s, folder := newStub(t), t.TempDir()
 	spool := filepath.Join(folder, "spool")
 	s.set(true, false)
-	address, end := start(t, s, folder, "-spool", spool)
+	address, end := start(t, s, folder, "--spool", spool)
 	var wanted, poisons []string
 	for n := 0; n < 20; n++ {
 		before, after := fmt.Sprintf("m f=%d %d\n", n, n), fmt.Sprintf("m g=%d %d\n", n, n)
@@ -393,7 +393,7 @@ func TestSpool(t *testing.T) {
 	if err := os.WriteFile(filepath.Join(spool, strings.NewReplacer("http://", "", ":", "_").Replace(s.URL), "00000000000000000000.part"), []byte("{}\nm f="), 0o600); err != nil {
 		t.Fatal(err)
 	}
-	start(t, s, folder, "-spool", spool)
+	start(t, s, folder, "--spool", spool)
 	s.set(false, true) // it answers 500 to all, and no line is to be blamed
 	time.Sleep(100 * time.Millisecond)
 	want(t, "what is refused of a sick server", fmt.Sprint(rejected(t, folder)), "[]")
@@ -424,7 +424,7 @@ func inSpool(folder string) int {
 func TestProbe(t *testing.T) {
 	s, folder := newStub(t), t.TempDir()
 	spool := filepath.Join(folder, "spool")
-	address, _ := start(t, s, folder, "-spool", spool)
+	address, _ := start(t, s, folder, "--spool", spool)
 	s.set(true, false)
 	want(t, "a point, and its next value", post(t, address+"/write?db=x", "m f=1 5\nm f=2 5"), "204")
 	panics := "m panic=\"" + strings.Repeat("x", 99) + "\" 6"
@@ -441,7 +441,7 @@ func TestProbe(t *testing.T) {
 func TestSick(t *testing.T) {
 	s, folder := newStub(t), t.TempDir()
 	spool := filepath.Join(folder, "spool")
-	address, _ := start(t, s, folder, "-spool", spool)
+	address, _ := start(t, s, folder, "--spool", spool)
 	s.answer(500, "f=1 ", "lp_gateway_probe")
 	want(t, "a line for which the server fails", post(t, address+"/write?db=x", "m f=1 5"), "204")
 	want(t, "the next value of the point", post(t, address+"/write?db=x&u=other", "m f=2 5"), "204")
@@ -459,7 +459,7 @@ func TestSick(t *testing.T) {
 func TestManyRefused(t *testing.T) {
 	s, folder := newStub(t), t.TempDir()
 	spool := filepath.Join(folder, "spool")
-	address, _ := start(t, s, folder, "-spool", spool)
+	address, _ := start(t, s, folder, "--spool", spool)
 	s.set(true, false)
 	all, some := strings.Repeat("m conflict=1 1\n", 20000), strings.Repeat("m conflict=1 2\nm f=1 2\n", 2000)
 	for _, body := range []string{all, some, "m f=3 3\n"} {
@@ -483,7 +483,7 @@ func TestManyRefused(t *testing.T) {
 func TestHangs(t *testing.T) {
 	s, folder := newStub(t), t.TempDir()
 	spool := filepath.Join(folder, "spool")
-	address, _ := start(t, s, folder, "-spool", spool)
+	address, _ := start(t, s, folder, "--spool", spool)
 	s.mu.Lock()
 	began := time.Now()
 	want(t, "a client that waits", post(t, address+"/write?db=x", "m f=1 5"), "204")
@@ -502,7 +502,7 @@ func TestGone(t *testing.T) {
 	patience = time.Hour
 	s, folder := newStub(t), t.TempDir()
 	spool := filepath.Join(folder, "spool")
-	address, _ := start(t, s, folder, "-spool", spool)
+	address, _ := start(t, s, folder, "--spool", spool)
 	s.mu.Lock()
 	ctx, cancel := context.WithTimeout(context.Background(), shortest)
 	defer cancel()
@@ -528,7 +528,7 @@ func raw(t *testing.T, address, text string) net.Conn {
 // Connections on which nothing is done, and bodies that come slowly, keep no client out: each that is too many goes, the oldest or largest first.
 func TestDoor(t *testing.T) {
 	s, folder := newStub(t), t.TempDir()
-	address, _ := start(t, s, folder, "-max-connections", "10", "-max-body", "100000", "-max-in-flight", "600000", "-spool", filepath.Join(folder, "spool"))
+	address, _ := start(t, s, folder, "--max-connections", "10", "--max-body", "100000", "--max-in-flight", "600000", "--spool", filepath.Join(folder, "spool"))
 	const head = "POST /write?db=x HTTP/1.1\r\nHost: x\r\nContent-Length: 90000\r\n"
 	for _, row := range []struct {
 		what, text string
@@ -581,7 +581,7 @@ func TestDoor(t *testing.T) {
 // The file of refused lines has a limit, and lines that came last.
 func TestMostRefused(t *testing.T) {
 	s, folder := newStub(t), t.TempDir()
-	address, _ := start(t, s, folder, "-max-body-rejected", "1000", "-max-rejected", "4000")
+	address, _ := start(t, s, folder, "--max-body-rejected", "1000", "--max-rejected", "4000")
 	for n := 0; n < 100; n++ {
 		post(t, address+"/write?db=x", fmt.Sprintf("x%d", n))
 	}
@@ -610,7 +610,7 @@ func TestEscapes(t *testing.T) {
 	bad := httptest.NewServer(http.HandlerFunc(func(w http.ResponseWriter, r *http.Request) {
 		http.Error(w, "x\nendpoint: all is well \x1b[31m", 502)
 	}))
-	address, end := start(t, &stub{Server: bad}, t.TempDir(), "-spool", filepath.Join(t.TempDir(), "spool"))
+	address, end := start(t, &stub{Server: bad}, t.TempDir(), "--spool", filepath.Join(t.TempDir(), "spool"))
 	want(t, "a line that stays", post(t, address+"/write?db=x", "m f=1 1"), "204")
 	time.Sleep(3 * shortest)
 	end()
@@ -628,7 +628,7 @@ func TestEnding(t *testing.T) {
 	}
 	free.Close()
 	address := "http://" + free.Addr().String()
-	g, err := begin(t, s, t.TempDir(), "-listen", address)
+	g, err := begin(t, s, t.TempDir(), "--listen", address)
 	if err != nil {
 		t.Fatal(err)
 	}
@@ -674,7 +674,7 @@ func TestOneSpool(t *testing.T) {
 func TestBusy(t *testing.T) {
 	for _, code := range []int{408, 429, 500, 503} {
 		s, folder := newStub(t), t.TempDir()
-		address, _ := start(t, s, folder, "-spool", filepath.Join(folder, "spool"))
+		address, _ := start(t, s, folder, "--spool", filepath.Join(folder, "spool"))
 		s.text = `{"error":"timeout"}`
 		s.answer(code, "m")
 		want(t, fmt.Sprint(code), post(t, address+"/write?db=x", "m f=1 5"), "204")
@@ -688,7 +688,7 @@ func TestBusy(t *testing.T) {
 func TestKept(t *testing.T) {
 	s, folder := newStub(t), t.TempDir()
 	spool := filepath.Join(folder, "spool")
-	address, _ := start(t, s, folder, "-spool", spool)
+	address, _ := start(t, s, folder, "--spool", spool)
 	s.password = "Token its password"
 	s.set(true, false)
 	before := time.Now()
@@ -709,7 +709,7 @@ func TestKept(t *testing.T) {
 func TestRefusedLater(t *testing.T) {
 	s, folder := newStub(t), t.TempDir()
 	spool, refusedFile := filepath.Join(folder, "spool"), filepath.Join(folder, "rejected")
-	address, _ := start(t, s, folder, "-spool", spool)
+	address, _ := start(t, s, folder, "--spool", spool)
 	s.set(true, false)
 	want(t, "a line of another type", post(t, address+"/write?db=x", "m conflict=1 1"), "204")
 	os.Remove(refusedFile)
@@ -726,7 +726,7 @@ func TestRefusedLater(t *testing.T) {
 // Where nothing can be kept, nothing is sent, and the client is told to come again.
 func TestFull(t *testing.T) {
 	s, folder := newStub(t), t.TempDir()
-	address, _ := start(t, s, folder, "-spool", filepath.Join(folder, "spool"), "-max-spool", "13500")
+	address, _ := start(t, s, folder, "--spool", filepath.Join(folder, "spool"), "--max-spool", "13500")
 	refusedFile := filepath.Join(folder, "rejected")
 	if err := os.WriteFile(refusedFile, []byte(`{"raw":"of a run that was killed`), 0o600); err != nil {
 		t.Fatal(err)

@@ -363,7 +363,7 @@ func TestSendUnread(t *testing.T) {
 	os.WriteFile(good, []byte("m f=4 4\nm\nm f=5 5"), 0o600)
 	os.Chdir(t.TempDir())
 	r = newRoom(t)
-	status := run([]string{"send", "--url", r.url, "--wait", "1ms", "/proc/self/mem", good}, io.Discard, &r.said)
+	status := run([]string{"send", "--url", r.url, "--wait", "1ms", "--dead", "dead", "/proc/self/mem", good}, io.Discard, &r.said)
 	want(t, "a file cannot be read", fmt.Sprint(status, r.calls), "2 [204:4,5]")
 	letters, _ := os.ReadFile("dead/good.lp")
 	want(t, "its bad line", string(letters), "# good: at line 2:2: A generic parsing error occurred: TakeWhile1\nm\n")

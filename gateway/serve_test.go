@@ -31,7 +31,7 @@ import (
 // An answer and the file of rejected lines have the place of each fault, as `lp_relay --faults json` tells it.
 func TestFaults(t *testing.T) {
 	s, folder := newStub(t), t.TempDir()
-	address, _ := start(t, s, folder, "-portable", "influx1", "-max-line", "100")
+	address, _ := start(t, s, folder, "--portable", "influx1", "--max-line", "100")
 	response, err := http.Post(address+"/write?db=x&rp=y&precision=s", "", strings.NewReader("m f=1 1\nm s=\"a\nb\",f= 2\nm f=1u 3\n"+strings.Repeat("x", 200)))
 	if err != nil {
 		t.Fatal(err)
@@ -65,7 +65,7 @@ func writeSecrets(t *testing.T, path, text string) string {
 func TestCredentials(t *testing.T) {
 	s, folder := newStub(t), t.TempDir()
 	path := writeSecrets(t, filepath.Join(folder, "known"), "# of clients\nclient basic me pass:word\nclient token abc\nserver token its\n")
-	g, address, _ := startAll(t, s, folder, "-credentials", path)
+	g, address, _ := startAll(t, s, folder, "--credentials", path)
 	write := address + "/write?db=x"
 	for _, row := range []struct{ query, header, answer string }{
 		{"", "A: b", `401 {"error":"authorization failed"}`},
@@ -104,7 +104,7 @@ func TestOwnCredentials(t *testing.T) {
 	s, folder := newStub(t), t.TempDir()
 	s.password = "Token right"
 	path := writeSecrets(t, filepath.Join(folder, "known"), "server token wrong\n")
-	g, address, _ := startAll(t, s, folder, "-credentials", path)
+	g, address, _ := startAll(t, s, folder, "--credentials", path)
 	want(t, "a line", post(t, address+"/write?db=x", "m f=1 1"), "204")
 	time.Sleep(3 * shortest)
 	want(t, "what is rejected", fmt.Sprint(rejected(t, folder)), "[]")
@@ -144,8 +144,8 @@ func TestListeners(t *testing.T) {
 	s, folder := newStub(t), t.TempDir()
 	certificate, key := makeCertificate(t, folder, "first")
 	secure, lines, socket := freeAddress(t), freeAddress(t), filepath.Join(folder, "socket")
-	g, err := begin(t, s, folder, "-certificate", certificate, "-key", key, "-listen", "https://"+secure+"?precision=s",
-		"-listen", "unix://"+socket+"?dialect=newline-delimited&mode=600", "-listen", "tcp://"+lines+"?db=x&precision=ms&seconds=0.05&lines=3")
+	g, err := begin(t, s, folder, "--certificate", certificate, "--key", key, "--listen", "https://"+secure+"?precision=s",
+		"--listen", "unix://"+socket+"?dialect=newline-delimited&mode=600", "--listen", "tcp://"+lines+"?db=x&precision=ms&seconds=0.05&lines=3")
 	if err != nil {
 		t.Fatal(err)
 	}
@@ -205,7 +205,7 @@ func TestListeners(t *testing.T) {
 func TestTCP(t *testing.T) {
 	s, folder := newStub(t), t.TempDir()
 	lines := freeAddress(t)
-	g, err := begin(t, s, folder, "-listen", "tcp://"+lines+"?db=x&bytes=100000", "-max-line", "1000")
+	g, err := begin(t, s, folder, "--listen", "tcp://"+lines+"?db=x&bytes=100000", "--max-line", "1000")
 	if err != nil {
 		t.Fatal(err)
 	}
@@ -227,12 +227,12 @@ func TestTCP(t *testing.T) {
 	want(t, "whole lines are kept at the end", fmt.Sprint(inSpool(filepath.Join(folder, "spool")) == 1 || strings.Contains(s.taken(), "m f=2 2")), "true")
 	c.Close()
 	for _, text := range []string{"tcp://:1", "tcp://:1?db=x&dialect=strict", "ftp://x", "http://", "http://x?seconds=0", "http://x?color=red", "https://x", "unix:"} {
-		if _, err := begin(t, s, t.TempDir(), "-listen", text); err == nil {
+		if _, err := begin(t, s, t.TempDir(), "--listen", text); err == nil {
 			t.Errorf("%s is a listener", text)
 		}
 	}
 	known := writeSecrets(t, filepath.Join(folder, "known"), "client token x\n")
-	if _, err := begin(t, s, t.TempDir(), "-listen", "tcp://:1?db=x", "-credentials", known); err == nil {
+	if _, err := begin(t, s, t.TempDir(), "--listen", "tcp://:1?db=x", "--credentials", known); err == nil {
 		t.Error("lines of TCP are taken without credentials")
 	}
 }
@@ -241,7 +241,7 @@ func TestTCP(t *testing.T) {
 func TestServers(t *testing.T) {
 	near, far, folder := newStub(t), newStub(t), t.TempDir()
 	far.set(true, false)
-	address, end := start(t, near, folder, "-server", far.URL)
+	address, end := start(t, near, folder, "--server", far.URL)
 	for n := 0; n < 20; n++ {
 		want(t, "a line", post(t, address+"/write?db=x", fmt.Sprintf("m f=%d 5", n)), "204")
 	}
@@ -257,7 +257,7 @@ func TestServers(t *testing.T) {
 	end()
 	// No room in one spool: no server has the lines.
 	folder = t.TempDir()
-	g, address, _ := startAll(t, near, folder, "-server", far.URL, "-max-spool", "13500")
+	g, address, _ := startAll(t, near, folder, "--server", far.URL, "--max-spool", "13500")
 	g.servers[1].spool.reserve(5000)
 	had := near.taken()
 	if answer := post(t, address+"/write?db=x", "m f=20 5"); !strings.HasPrefix(answer, "503 ") {
@@ -270,7 +270,7 @@ func TestServers(t *testing.T) {
 func TestSenders(t *testing.T) {
 	s, folder := newStub(t), t.TempDir()
 	s.set(true, false)
-	address, _ := start(t, s, folder, "-gzip", "-senders", "8")
+	address, _ := start(t, s, folder, "--gzip", "--senders", "8")
 	for n := 0; n < 30; n++ {
 		text := ""
 		for series := 0; series < 40; series++ {
@@ -323,7 +323,7 @@ func TestRetryAfter(t *testing.T) {
 func TestRate(t *testing.T) {
 	s, folder := newStub(t), t.TempDir()
 	s.set(true, false)
-	address, _ := start(t, s, folder, "-rate", "100000", "-senders", "1")
+	address, _ := start(t, s, folder, "--rate", "100000", "--senders", "1")
 	for n := 0; n < 3; n++ {
 		want(t, "a body", post(t, address+"/write?db=x", fmt.Sprintf("m s=\"%s\" %d", strings.Repeat("x", 50000), n)), "204")
 	}
@@ -338,7 +338,7 @@ func TestRate(t *testing.T) {
 // The metrics have a help and a type for each name, and count what goes in and out.
 func TestMetrics(t *testing.T) {
 	s, folder := newStub(t), t.TempDir()
-	address, _ := start(t, s, folder, "-portable", "influx1")
+	address, _ := start(t, s, folder, "--portable", "influx1")
 	post(t, address+"/write?db=x", "m f=1 1\nm f=2 2\nm f=\nm f=1u 3\n")
 	s.set(true, false)
 	post(t, address+"/write?db=x", "m f=3 3")
@@ -368,7 +368,7 @@ func TestMetrics(t *testing.T) {
 // /health fails while nothing can be stored.
 func TestHealth(t *testing.T) {
 	s, folder := newStub(t), t.TempDir()
-	g, address, _ := startAll(t, s, folder, "-max-spool", "20000")
+	g, address, _ := startAll(t, s, folder, "--max-spool", "20000")
 	want(t, "a gateway that is well", get(t, address+"/health"), `{"name":"lp_gateway","status":"pass"}`+"\n")
 	room, _ := g.servers[0].spool.reserve(5000)
 	if said := get(t, address+"/health"); !strings.Contains(said, `"status":"fail"`) || !strings.Contains(said, "the spool is full") {

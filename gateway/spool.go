@@ -78,7 +78,8 @@ type spool struct {
 	direct  int      // calls that go to the server past the spool
 	orphans int      // those of them whose lines are not in the spool, though their clients were answered
 	debts   []debt
-	failure error // why the last file could not be written
+	paying  sync.Mutex // held while debts are settled
+	failure error      // why the last file could not be written
 	// The names of files that were removed after an error may not be gone on the device.
 	isUnsure bool
 	targets  map[string]*target
@@ -468,7 +469,8 @@ func (s *spool) note(entries []*entry, of laneSet) error {
 		s.debts = append(s.debts, debt{entries, of})
 	} else {
 		for _, e := range entries {
-			if e.left &^= of; e.left == 0 {
+			had := e.left
+			if e.left &^= of; e.left == 0 && had != 0 { // a debt may be of lanes that were noted since
 				ended = append(ended, e)
 				s.held -= e.size
 			}
@@ -484,6 +486,8 @@ func (s *spool) note(entries []*entry, of laneSet) error {
 
 // settle writes the notes of these lanes that could not be written before.
 func (s *spool) settle(of laneSet) (err error) {
+	s.paying.Lock()
+	defer s.paying.Unlock()
 	s.mu.Lock()
 	debts := s.debts
 	s.debts = nil
