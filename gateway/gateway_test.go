@@ -7,12 +7,12 @@ import (
 	"encoding/json"
 	"fmt"
 	"io"
-	"log"
 	"net"
 	"net/http"
 	"net/http/httptest"
 	"os"
 	"path/filepath"
+	"regexp"
 	"strings"
 	"sync"
 	"testing"
@@ -21,7 +21,7 @@ import (
 	"yomskafi.example/lineprotocol/v3"
 )
 
-// A stub is in the place of the server. It keeps what it takes, in order, but for the endpoint's own line; it does not take lines with `conflict`
+// A stub is in the place of the server. It keeps what it takes, in order, but for the gateway's own line; it does not take lines with `conflict`
 // or `panic`, as InfluxDB does not; while it is away, or sick, it takes nothing; `answers` has the status that bodies with a text are answered
 // by; and it may ask for credentials.
 type stub struct {
@@ -33,6 +33,7 @@ type stub struct {
 	answers    map[string]int
 	password   string
 	text       string // of these answers
+	isPacked   bool   // bodies must be packed
 }
 
 func newStub(t *testing.T) *stub {
@@ -46,6 +47,11 @@ func (s *stub) serve(w http.ResponseWriter, r *http.Request) {
 	s.mu.Lock()
 	defer s.mu.Unlock()
 	text, _ := io.ReadAll(r.Body)
+	if r.Header.Get("Content-Encoding") == "gzip" {
+		text = unpack(text)
+	} else if s.isPacked {
+		text = []byte("not packed")
+	}
 	s.asked = append(s.asked, r)
 	for part, code := range s.answers {
 		if bytes.Contains(text, []byte(part)) {
@@ -68,7 +74,7 @@ func (s *stub) serve(w http.ResponseWriter, r *http.Request) {
 		w.WriteHeader(400)
 		fmt.Fprintf(w, `{"error":"partial write: field type conflict dropped=%d"}`, bytes.Count(text, []byte("conflict")))
 	default:
-		if !bytes.HasPrefix(text, []byte("endpoint_probe ")) {
+		if !bytes.HasPrefix(text, []byte("lp_gateway_probe ")) {
 			s.got = append(s.got, string(text))
 		}
 		w.WriteHeader(204)
@@ -105,22 +111,67 @@ func (s *stub) taken() string {
 	return strings.Join(s.got, "")
 }
 
-// start makes an endpoint before a stub. It ends with the test, or before that.
-func start(t *testing.T, s *stub, folder string, words ...string) (address string, end func()) {
-	e, err := newEndpoint(append([]string{"-server", s.URL + "/", "-refused", filepath.Join(folder, "refused")}, words...))
+// begin makes a gateway before a stub, of which nothing runs.
+func begin(t *testing.T, s *stub, dir string, words ...string) (*gateway, error) {
+	// A later word is for an earlier one.
+	words = append([]string{"--server", s.URL + "/", "--rejected", filepath.Join(dir, "rejected"), "--spool", filepath.Join(dir, "spool")}, words...)
+	o, err := readOptions(words, io.Discard)
+	if err != nil {
+		return nil, err
+	}
+	return newGateway(o, &logged)
+}
+
+// logged has what gateways log.
+var logged safeBuffer
+
+type safeBuffer struct {
+	mu   sync.Mutex
+	text bytes.Buffer
+}
+
+func (b *safeBuffer) Write(text []byte) (int, error) {
+	b.mu.Lock()
+	defer b.mu.Unlock()
+	return b.text.Write(text)
+}
+
+func (b *safeBuffer) String() string {
+	b.mu.Lock()
+	defer b.mu.Unlock()
+	return b.text.String()
+}
+
+// start makes a gateway before a stub. It ends with the test, or before that.
+func start(t *testing.T, s *stub, dir string, words ...string) (address string, end func()) {
+	g, address, end := startAll(t, s, dir, words...)
+	_ = g
+	return address, end
+}
+
+func startAll(t *testing.T, s *stub, dir string, words ...string) (g *gateway, address string, end func()) {
+	g, err := begin(t, s, dir, words...)
 	if err != nil {
 		t.Fatal(err)
 	}
 	ctx, cancel := context.WithCancel(context.Background())
 	server := httptest.NewUnstartedServer(nil)
-	server.Config = e.web()
+	server.Config = g.web(g.listeners[0])
 	server.Start()
-	var sending sync.WaitGroup
-	sending.Add(1)
-	go func() { (&sender{endpoint: e}).run(ctx); sending.Done() }()
-	end = func() { server.Close(); cancel(); sending.Wait(); e.spool.lock.Close() }
+	sending := g.send(ctx)
+	var once sync.Once
+	end = func() {
+		once.Do(func() {
+			server.Close()
+			cancel()
+			sending.Wait()
+			for _, each := range g.servers {
+				each.spool.disk.(*folder).lock.Close()
+			}
+		})
+	}
 	t.Cleanup(end)
-	return server.URL, end
+	return g, server.URL, end
 }
 
 // post gives the status of an answer, and its text.
@@ -142,8 +193,12 @@ func post(t *testing.T, address, body string, header ...string) string {
 	if err != nil {
 		t.Fatal(err)
 	}
-	return strings.TrimSpace(fmt.Sprint(response.StatusCode, " ", string(text)))
+	said := strings.TrimSpace(fmt.Sprint(response.StatusCode, " ", string(text)))
+	return faultsOf.ReplaceAllString(said, "")
 }
+
+// The faults of an answer as objects: TestFaults has them.
+var faultsOf = regexp.MustCompile(`"faults":.*?\}\],|,"faults":.*?\}\]`)
 
 // get gives the text of an answer.
 func get(t *testing.T, address string) string {
@@ -160,7 +215,7 @@ func get(t *testing.T, address string) string {
 }
 
 // fault gives what the module says of a line.
-func fault(line string) string { return faultIn(lineprotocol.Crate, line) }
+func faultText(line string) string { return faultIn(lineprotocol.Crate, line) }
 
 func faultIn(dialect lineprotocol.Dialect, line string) string {
 	d := lineprotocol.NewDecoderWithBytes([]byte(line))
@@ -168,6 +223,11 @@ func faultIn(dialect lineprotocol.Dialect, line string) string {
 	d.Next()
 	return d.Fault().Err.Error()
 }
+
+// unstamped drops the times of arrival.
+func unstamped(text string) string { return arrivals.ReplaceAllString(text, "\n") }
+
+var arrivals = regexp.MustCompile(` [0-9]{19}\n`)
 
 func want(t *testing.T, what, got, wanted string) {
 	t.Helper()
@@ -177,20 +237,21 @@ func want(t *testing.T, what, got, wanted string) {
 }
 
 // refused gives the raw lines of the file of refused lines.
-func refused(t *testing.T, folder string) (all []string) {
-	text, err := os.ReadFile(filepath.Join(folder, "refused"))
+func rejected(t *testing.T, folder string) (all []string) {
+	text, err := os.ReadFile(filepath.Join(folder, "rejected"))
 	if err != nil {
 		t.Fatal(err)
 	}
 	for _, line := range strings.SplitAfter(string(text), "\n") {
 		var letter struct {
-			Raw   string
-			Bytes []byte `json:"raw_base64"`
+			Piece string
+			Start string `json:"piece_start"`
+			Bytes []byte `json:"piece_base64"`
 		}
-		if line != "" && json.Unmarshal([]byte(line), &letter) != nil || letter.Raw == "" && letter.Bytes == nil && line != "" {
+		if line != "" && json.Unmarshal([]byte(line), &letter) != nil || letter.Piece+letter.Start == "" && letter.Bytes == nil && line != "" {
 			all = append(all, "no letter: "+line)
 		} else if line != "" {
-			all = append(all, letter.Raw+string(letter.Bytes))
+			all = append(all, letter.Piece+letter.Start+string(letter.Bytes))
 		}
 	}
 	return all
@@ -214,53 +275,52 @@ func pack(text string) string {
 
 func TestAnswers(t *testing.T) {
 	s, folder := newStub(t), t.TempDir()
-	address, _ := start(t, s, folder, "-max-body", "1000", "-max-line", "100")
+	address, _ := start(t, s, folder, "--max-body", "1000", "--max-line", "100", "--max-body-rejected", "2500")
 	write := address + "/write?db=x"
 	long := "m s=\"" + strings.Repeat("x", 100) + `"`
 	for _, row := range []struct{ body, answer string }{
 		{"m f=1\n", ""},
 		{"", ""},
 		{"# it's \"\n\nm f=2", ""},
-		{"m f=3\nm f=\nm s=\"a\nb\" 3\n", "partial write: line 2: unable to parse 'm f=': " + fault("m f=") + " dropped=1"},
-		{"m f=1\r\n", "line 1: unable to parse 'm f=1\r': " + fault("m f=1\r")},
-		{"\xff f=1", "line 1: unable to parse '\xff f=1': " + fault("\xff")},
+		{"m f=3\nm f=\nm s=\"a\nb\" 3\n", "partial write: line 2: unable to parse 'm f=': " + faultText("m f=") + " dropped=1"},
+		{"m f=1\r\n", "line 1: unable to parse 'm f=1\r': " + faultText("m f=1\r")},
+		{"\xff f=1", "line 1: unable to parse '\xff f=1': " + faultText("\xff")},
 		{long, "line 1: unable to parse '" + long[:100] + "': the line is too long"},
 		{"m f=4\n m=\" f=5", "partial write: line 2: unable to parse ' m=\" f=5': what is there is not one line for the strict reader dropped=1"},
-		{"m f=\"open\nm f=6", "line 1: unable to parse 'm f=\"open\nm f=6': " + fault("m f=\"")},
+		{"m f=\"open\nm f=6", "line 1: unable to parse 'm f=\"open\nm f=6': " + faultText("m f=\"")},
 		{"\ufeffm f=9\nm f=9", "partial write: line 1: unable to parse '\ufeffm f=9': the body begins with a byte order mark dropped=1"},
 		{"m f=7i,", "line 1: unable to parse 'm f=7i,': " + faultIn(lineprotocol.Strict, "m f=7i,")},
 		{"# a=\"\nm f=8\n", ""},
 		{"m conflict=1", "partial write: field type conflict dropped=1"},
-		{"m f=\nm conflict=1", "partial write: line 1: unable to parse 'm f=': " + fault("m f=") + "\nfield type conflict dropped=1 dropped=1"},
+		{"m f=\nm conflict=1", "partial write: line 1: unable to parse 'm f=': " + faultText("m f=") + "\nfield type conflict dropped=1 dropped=1"},
 	} {
 		wanted := "204"
 		if row.answer != "" {
-			wanted = "400 " + string(inJSON(map[string]string{"error": row.answer}))
+			wanted = "400 " + string(appendJSON(nil, map[string]string{"error": row.answer}))
 		}
 		want(t, fmt.Sprintf("%.40q", row.body), post(t, write, row.body), wanted)
 	}
-	want(t, "a panic of the server", post(t, write, "m panic=1"), `500 {"error":""}`)
 	want(t, "a body too large", post(t, write, strings.Repeat("m f=1\n", 200)), `413 {"error":"Request Entity Too Large"}`)
 	want(t, "too much to keep", post(t, write, strings.Repeat("m\n", 100)), `413 {"error":"Request Entity Too Large"}`)
-	want(t, "what goes on", s.taken(), "m f=1\nm f=2\nm f=3\nm s=\"a\nb\" 3\nm f=4\nm f=9\nm f=8\n")
-	want(t, "what is kept", fmt.Sprintf("%q", refused(t, folder)), fmt.Sprintf("%q", []string{"m f=", "m f=1\r", "\xff f=1", long[:100], " m=\" f=5", "m f=\"open\nm f=6", "\ufeffm f=9", "m f=7i,", "m f="}))
+	want(t, "what goes on", unstamped(s.taken()), "m f=1\nm f=2\nm f=3\nm s=\"a\nb\" 3\nm f=4\nm f=9\nm f=8\n")
+	want(t, "what is kept", fmt.Sprintf("%q", rejected(t, folder)), fmt.Sprintf("%q", []string{"m f=", "m f=1\r", "\xff f=1", long[:100], " m=\" f=5", "m f=\"open\nm f=6", "\ufeffm f=9", "m f=7i,", "m f="}))
 }
 
 // A quote that a line leaves open takes in no other line by the rules that end a line at each newline.
 func TestDialect(t *testing.T) {
 	s, folder := newStub(t), t.TempDir()
-	address, _ := start(t, s, folder, "-dialect", "newline-delimited")
+	address, _ := start(t, s, folder, "--dialect", "newline-delimited")
 	want(t, "an open quote", post(t, address+"/write?db=x", "m f=\"open\nm f=6\nm f=7i,"),
-		`400 {"error":"partial write: line 1: unable to parse 'm f=\"open': `+fault("m f=\"")+
+		`400 {"error":"partial write: line 1: unable to parse 'm f=\"open': `+faultText("m f=\"")+
 			`\nline 3: unable to parse 'm f=7i,': `+faultIn(lineprotocol.NewlineDelimited, "m f=7i,")+` dropped=2"}`)
-	want(t, "what goes on", s.taken(), "m f=6\n")
-	_, err := newEndpoint([]string{"-dialect", "crate"})
-	want(t, "another one", fmt.Sprint(err), `-dialect is "crate", and not strict or newline-delimited`)
+	want(t, "what goes on", unstamped(s.taken()), "m f=6\n")
+	_, err := begin(t, s, t.TempDir(), "--dialect", "crate")
+	want(t, "another one", fmt.Sprint(err), `--dialect is "crate", and not strict or newline-delimited`)
 }
 
 func TestTargets(t *testing.T) {
 	s, folder := newStub(t), t.TempDir()
-	address, _ := start(t, s, folder, "-max-body", "1000")
+	address, _ := start(t, s, folder, "--max-body", "1000")
 	for _, row := range []struct{ path, header, answer, query string }{
 		{"/write?db=x&rp=y&u=me&p=a+b&precision=us&q=1", "Authorization: Basic abc", "204", "db=x&p=a+b&precision=u&rp=y&u=me"},
 		{"/api/v2/write?bucket=x/y&org=o&precision=s", "Authorization: Token a:b", "204", "db=x&precision=s&rp=y"},
@@ -276,7 +336,7 @@ func TestTargets(t *testing.T) {
 	for _, row := range []struct{ path, body, header, answer string }{
 		{"/write", "", "A: b", `400 {"error":"database is required"}`},
 		{"/write?db=x&precision=d", "", "A: b", `400 {"error":"invalid precision \"d\" (use n, u, ms, s, m or h)"}`},
-		{"/api/v2/write?bucket=x", "m", "A: b", `400 {"code":"invalid","message":"line 1: unable to parse 'm': ` + fault("m") + `"}`},
+		{"/api/v2/write?bucket=x", "m", "A: b", `400 {"code":"invalid","message":"line 1: unable to parse 'm': ` + faultText("m") + `"}`},
 		{"/api/v2/write?bucket=x", pack(strings.Repeat("m", 1001)), "Content-Encoding: gzip", `413 {"code":"request too large","message":"Request Entity Too Large"}`},
 		{"/write?db=x", pack("m f=1")[:20], "Content-Encoding: gzip", `400 {"error":"the body cannot be read: unexpected EOF"}`},
 		{"/write?db=x", "m f=1", "Content-Encoding: gzip", `400 {"error":"gzip: unexpected EOF"}`},
@@ -293,7 +353,7 @@ func TestTargets(t *testing.T) {
 // What is not portable is refused, also by the time that it has in its precision.
 func TestPortable(t *testing.T) {
 	s, folder := newStub(t), t.TempDir()
-	address, _ := start(t, s, folder, "-portable", "all", "-spool", filepath.Join(folder, "spool"))
+	address, _ := start(t, s, folder, "--portable", "all", "--spool", filepath.Join(folder, "spool"))
 	for _, row := range []struct{ precision, line, why string }{
 		{"n", "m f=1,f=t", "two fields have one key"},
 		{"n", "m f=1 999999", "the timestamp is before or after what is kept"},
@@ -318,7 +378,7 @@ func TestSpool(t *testing.T) {
 	s, folder := newStub(t), t.TempDir()
 	spool := filepath.Join(folder, "spool")
 	s.set(true, false)
-	address, end := start(t, s, folder, "-spool", spool)
+	address, end := start(t, s, folder, "--spool", spool)
 	var wanted, poisons []string
 	for n := 0; n < 20; n++ {
 		before, after := fmt.Sprintf("m f=%d %d\n", n, n), fmt.Sprintf("m g=%d %d\n", n, n)
@@ -330,15 +390,17 @@ func TestSpool(t *testing.T) {
 	want(t, "without a time", post(t, address+"/write?db=x&precision=h", "m f=1"), "204")
 	wanted, poisons = append(wanted, fmt.Sprintf("m f=1 %d\n", time.Now().Unix()/3600)), append(poisons, "m f=1 1\nm f=2 2")
 	end()
-	if err := os.WriteFile(filepath.Join(spool, "00000000000000000000.part"), []byte("{}\nm f="), 0o600); err != nil {
+	if err := os.WriteFile(filepath.Join(spool, strings.NewReplacer("http://", "", ":", "_").Replace(s.URL), "00000000000000000000.part"), []byte("{}\nm f="), 0o600); err != nil {
 		t.Fatal(err)
 	}
-	start(t, s, folder, "-spool", spool)
+	start(t, s, folder, "--spool", spool)
 	s.set(false, true) // it answers 500 to all, and no line is to be blamed
 	time.Sleep(100 * time.Millisecond)
-	want(t, "what is refused of a sick server", fmt.Sprint(refused(t, folder)), "[]")
+	want(t, "what is refused of a sick server", fmt.Sprint(rejected(t, folder)), "[]")
 	s.set(false, false)
-	wait(t, "the spool is empty", func() bool { files, err := os.ReadDir(spool); return err == nil && len(files) == 0 })
+	wait(t, "the spool is empty", func() bool { return inSpool(spool) == 0 })
+	parts, _ := filepath.Glob(filepath.Join(spool, "*", "*.part"))
+	want(t, "what was not finished", fmt.Sprint(parts), "[]")
 	var came []string // each line once: some are sent again
 	for _, line := range strings.SplitAfter(s.taken(), "\n") {
 		if !strings.Contains(strings.Join(came, ""), line) {
@@ -346,23 +408,23 @@ func TestSpool(t *testing.T) {
 		}
 	}
 	want(t, "what the server has", strings.Join(came, ""), strings.Join(wanted, ""))
-	want(t, "what is refused", fmt.Sprintf("%q", refused(t, folder)), fmt.Sprintf("%q", poisons))
-	if text, _ := os.ReadFile(filepath.Join(folder, "refused")); bytes.Contains(text, []byte("secret")) {
+	want(t, "what is refused", fmt.Sprintf("%q", rejected(t, folder)), fmt.Sprintf("%q", poisons))
+	if text, _ := os.ReadFile(filepath.Join(folder, "rejected")); bytes.Contains(text, []byte("secret")) {
 		t.Error("a password is kept with a refused line")
 	}
 }
 
 // inSpool gives how many bodies are in a spool.
 func inSpool(folder string) int {
-	files, _ := filepath.Glob(filepath.Join(folder, "*.batch"))
+	files, _ := filepath.Glob(filepath.Join(folder, "*", "*.batch"))
 	return len(files)
 }
 
-// To tell a line that the server cannot take from a sick server, it is sent a line of the endpoint's own, and no other line once more.
+// To tell a line that the server cannot take from a sick server, it is sent a line of the gateway's own, and no other line once more.
 func TestProbe(t *testing.T) {
 	s, folder := newStub(t), t.TempDir()
 	spool := filepath.Join(folder, "spool")
-	address, _ := start(t, s, folder, "-spool", spool)
+	address, _ := start(t, s, folder, "--spool", spool)
 	s.set(true, false)
 	want(t, "a point, and its next value", post(t, address+"/write?db=x", "m f=1 5\nm f=2 5"), "204")
 	panics := "m panic=\"" + strings.Repeat("x", 99) + "\" 6"
@@ -370,7 +432,7 @@ func TestProbe(t *testing.T) {
 	s.set(false, false)
 	wait(t, "the spool is empty", func() bool { return inSpool(spool) == 0 })
 	want(t, "what the server has", s.taken(), "m f=1 5\nm f=2 5\n")
-	want(t, "what is refused", fmt.Sprintf("%q", refused(t, folder)), fmt.Sprintf("%q", []string{panics}))
+	want(t, "what is refused", fmt.Sprintf("%q", rejected(t, folder)), fmt.Sprintf("%q", []string{panics}))
 	asked := s.asked[len(s.asked)-1]
 	want(t, "the last call", fmt.Sprint(asked.URL.Query().Encode(), " ", asked.ContentLength > int64(len(panics))), "db=x&precision=h true")
 }
@@ -379,8 +441,8 @@ func TestProbe(t *testing.T) {
 func TestSick(t *testing.T) {
 	s, folder := newStub(t), t.TempDir()
 	spool := filepath.Join(folder, "spool")
-	address, _ := start(t, s, folder, "-spool", spool)
-	s.answer(500, "f=1 ", "endpoint_probe")
+	address, _ := start(t, s, folder, "--spool", spool)
+	s.answer(500, "f=1 ", "lp_gateway_probe")
 	want(t, "a line for which the server fails", post(t, address+"/write?db=x", "m f=1 5"), "204")
 	want(t, "the next value of the point", post(t, address+"/write?db=x&u=other", "m f=2 5"), "204")
 	want(t, "a line of another database", post(t, address+"/write?db=y", "m f=3 5"), "204")
@@ -390,14 +452,14 @@ func TestSick(t *testing.T) {
 	s.answer(500)
 	wait(t, "the spool is empty", func() bool { return inSpool(spool) == 0 })
 	want(t, "what the server has then", s.taken(), "m f=3 5\nm f=1 5\nm f=2 5\n")
-	want(t, "what is refused", fmt.Sprint(refused(t, folder)), "[]")
+	want(t, "what is refused", fmt.Sprint(rejected(t, folder)), "[]")
 }
 
 // Lines that the server refuses hold back no others for more than mostCalls calls, and those that it had to make then.
 func TestManyRefused(t *testing.T) {
 	s, folder := newStub(t), t.TempDir()
 	spool := filepath.Join(folder, "spool")
-	address, _ := start(t, s, folder, "-spool", spool)
+	address, _ := start(t, s, folder, "--spool", spool)
 	s.set(true, false)
 	all, some := strings.Repeat("m conflict=1 1\n", 20000), strings.Repeat("m conflict=1 2\nm f=1 2\n", 2000)
 	for _, body := range []string{all, some, "m f=3 3\n"} {
@@ -409,7 +471,7 @@ func TestManyRefused(t *testing.T) {
 	if more := s.times() - asked; more < mostCalls || more > mostCalls+50 {
 		t.Errorf("the server was asked %d times", more)
 	}
-	text := strings.Join(refused(t, folder), "\n")
+	text := strings.Join(rejected(t, folder), "\n")
 	want(t, "lines that are refused", fmt.Sprint(strings.Count(text, "conflict=1 1"), " ", strings.Count(text, "conflict=1 2")), "20000 2000")
 	stored := strings.Count(s.taken(), "m f=1 2\n")
 	if stored == 0 || stored+strings.Count(text, "m f=1 2") != 2000 || !strings.HasSuffix(s.taken(), "m f=3 3\n") || strings.Contains(text, "m f=3") {
@@ -421,7 +483,7 @@ func TestManyRefused(t *testing.T) {
 func TestHangs(t *testing.T) {
 	s, folder := newStub(t), t.TempDir()
 	spool := filepath.Join(folder, "spool")
-	address, _ := start(t, s, folder, "-spool", spool)
+	address, _ := start(t, s, folder, "--spool", spool)
 	s.mu.Lock()
 	began := time.Now()
 	want(t, "a client that waits", post(t, address+"/write?db=x", "m f=1 5"), "204")
@@ -440,7 +502,7 @@ func TestGone(t *testing.T) {
 	patience = time.Hour
 	s, folder := newStub(t), t.TempDir()
 	spool := filepath.Join(folder, "spool")
-	address, _ := start(t, s, folder, "-spool", spool)
+	address, _ := start(t, s, folder, "--spool", spool)
 	s.mu.Lock()
 	ctx, cancel := context.WithTimeout(context.Background(), shortest)
 	defer cancel()
@@ -466,7 +528,7 @@ func raw(t *testing.T, address, text string) net.Conn {
 // Connections on which nothing is done, and bodies that come slowly, keep no client out: each that is too many goes, the oldest or largest first.
 func TestDoor(t *testing.T) {
 	s, folder := newStub(t), t.TempDir()
-	address, _ := start(t, s, folder, "-max-connections", "10", "-max-body", "100000", "-max-in-flight", "600000", "-spool", filepath.Join(folder, "spool"))
+	address, _ := start(t, s, folder, "--max-connections", "10", "--max-body", "100000", "--max-in-flight", "600000", "--spool", filepath.Join(folder, "spool"))
 	const head = "POST /write?db=x HTTP/1.1\r\nHost: x\r\nContent-Length: 90000\r\n"
 	for _, row := range []struct {
 		what, text string
@@ -488,7 +550,7 @@ func TestDoor(t *testing.T) {
 		want(t, "a client beside "+row.what, post(t, address+"/write?db=x", "m f=1 1"), "204")
 		want(t, "it is answered soon", fmt.Sprint(time.Since(began) < time.Second), "true")
 		var connections int
-		_, told, _ := strings.Cut(get(t, address+"/metrics"), "endpoint_connections ")
+		_, told, _ := strings.Cut(get(t, address+"/metrics"), "lp_gateway_connections ")
 		if fmt.Sscan(told, &connections); connections > 10 {
 			t.Errorf("%s: %d are open", row.what, connections)
 		}
@@ -516,48 +578,20 @@ func TestDoor(t *testing.T) {
 	want(t, "many short lines", post(t, address+"/write?db=x", pack(strings.Repeat("m f=1\n", 16000)), "Content-Encoding: gzip"), `413 {"error":"Request Entity Too Large"}`)
 }
 
-// The page has the figures of the program.
-func TestPage(t *testing.T) {
-	e, err := newEndpoint([]string{"-refused", filepath.Join(t.TempDir(), "refused")})
-	text, unread := os.ReadFile("README.md")
-	if err = firstOf(err, unread); err != nil {
-		t.Fatal(err)
-	}
-	page := strings.Join(strings.Fields(string(text)), " ")
-	for _, sentence := range []string{
-		fmt.Sprintf("`-max-connections` | %d | that one is closed", e.door.mostConnections),
-		fmt.Sprintf("`-max-connections NUMBER` | %d |", e.door.mostConnections),
-		fmt.Sprintf("the header of a request | %d KiB, in %.0f seconds |", mostHeader>>10, e.web().ReadHeaderTimeout.Seconds()),
-		fmt.Sprintf("the time until the next one | %.0f minute for each |", mostWait.Minutes()),
-		fmt.Sprintf("`-max-in-flight` | %d MiB |", e.door.most>>20),
-		fmt.Sprintf("and %d KiB for each body", perRequest>>10),
-		fmt.Sprintf("`-max-refused` | %d GiB together |", e.refusals.most>>30),
-		fmt.Sprintf("`-max-spool` | %d GiB |", e.spool.most>>30),
-		fmt.Sprintf("by at most %d calls for a body", mostCalls+50),
-		fmt.Sprintf("After %d calls for a body", mostCalls),
-		fmt.Sprintf("after %.0f second, or once the client is gone", patience.Seconds()),
-		fmt.Sprintf("the first %d refused lines", mostTold),
-	} {
-		if !strings.Contains(page, sentence) {
-			t.Errorf("README.md does not have: %s", sentence)
-		}
-	}
-}
-
 // The file of refused lines has a limit, and lines that came last.
 func TestMostRefused(t *testing.T) {
 	s, folder := newStub(t), t.TempDir()
-	address, _ := start(t, s, folder, "-max-body", "1000", "-max-refused", "4000")
+	address, _ := start(t, s, folder, "--max-body-rejected", "1000", "--max-rejected", "4000")
 	for n := 0; n < 100; n++ {
 		post(t, address+"/write?db=x", fmt.Sprintf("x%d", n))
 	}
-	first, _ := os.ReadFile(filepath.Join(folder, "refused.1"))
-	last, _ := os.ReadFile(filepath.Join(folder, "refused"))
-	if len(first) > 2000 || len(first) < 1800 || len(last) > 2000 || !strings.HasSuffix(string(last), "\"why\":\""+fault("x99")+"\"}\n") {
+	first, _ := os.ReadFile(filepath.Join(folder, "rejected.1"))
+	last, _ := os.ReadFile(filepath.Join(folder, "rejected"))
+	if len(first) > 2000 || len(first) < 1800 || len(last) > 2000 || !strings.HasSuffix(string(last), "\"piece\":\"x99\"}\n") {
 		t.Errorf("the files have %d and %d bytes, and end with %.200q", len(first), len(last), last)
 	}
-	lines := strings.Count(string(first)+string(last), "\"raw\":\"x")
-	want(t, "the oldest that is kept", fmt.Sprint(strings.Contains(string(first), fmt.Sprintf("\"raw\":\"x%d\"", 100-lines))), "true")
+	lines := strings.Count(string(first)+string(last), "\"piece\":\"x")
+	want(t, "the oldest that is kept", fmt.Sprint(strings.Contains(string(first), fmt.Sprintf("\"piece\":\"x%d\"", 100-lines))), "true")
 }
 
 // Characters that a terminal would act on come to no answer, no log and no file.
@@ -566,24 +600,21 @@ func TestEscapes(t *testing.T) {
 	address, _ := start(t, s, folder)
 	const line = "m \u009b31m\u202e\u007f\U000e0001"
 	answer := post(t, address+"/write?db=x", line)
-	file, _ := os.ReadFile(filepath.Join(folder, "refused"))
+	file, _ := os.ReadFile(filepath.Join(folder, "rejected"))
 	for _, text := range []string{answer, string(file)} {
 		if !strings.Contains(text, `m \u009b31m\u202e\u007f\udb40\udc01`) || strings.ContainsAny(text, "\u009b\u202e\u007f\U000e0001") {
 			t.Errorf("not as escapes: %q", text)
 		}
 	}
-	want(t, "what is kept", refused(t, folder)[0], line)
-	var logged bytes.Buffer
-	log.SetOutput(&logged)
+	want(t, "what is kept", rejected(t, folder)[0], line)
 	bad := httptest.NewServer(http.HandlerFunc(func(w http.ResponseWriter, r *http.Request) {
 		http.Error(w, "x\nendpoint: all is well \x1b[31m", 502)
 	}))
-	address, end := start(t, &stub{Server: bad}, t.TempDir(), "-spool", filepath.Join(t.TempDir(), "spool"))
+	address, end := start(t, &stub{Server: bad}, t.TempDir(), "--spool", filepath.Join(t.TempDir(), "spool"))
 	want(t, "a line that stays", post(t, address+"/write?db=x", "m f=1 1"), "204")
 	time.Sleep(3 * shortest)
 	end()
-	log.SetOutput(os.Stderr)
-	if text := logged.String(); !strings.Contains(text, `x\nendpoint: all is well \x1b[31m`) || strings.Contains(text, "\nendpoint: all") {
+	if text := logged.String(); !strings.Contains(text, `x\u000aendpoint: all is well \u001b[31m`) || strings.Contains(text, "\nendpoint: all") {
 		t.Errorf("the log has %q", text)
 	}
 }
@@ -597,13 +628,13 @@ func TestEnding(t *testing.T) {
 	}
 	free.Close()
 	address := "http://" + free.Addr().String()
-	e, err := newEndpoint([]string{"-listen", free.Addr().String(), "-server", s.URL, "-refused", filepath.Join(t.TempDir(), "refused")})
+	g, err := begin(t, s, t.TempDir(), "--listen", address)
 	if err != nil {
 		t.Fatal(err)
 	}
 	ctx, cancel := context.WithCancel(context.Background())
 	ended, answered := make(chan error), make(chan string)
-	go func() { ended <- e.run(ctx) }()
+	go func() { ended <- g.run(ctx, nil) }()
 	wait(t, "it listens", func() bool {
 		response, err := http.Get(address + "/ping")
 		return err == nil && response.Body.Close() == nil
@@ -618,7 +649,7 @@ func TestEnding(t *testing.T) {
 		}
 		answered <- err.Error()
 	}()
-	wait(t, "a body is at hand", func() bool { return e.counts.requests.Load() > 0 })
+	wait(t, "a body is at hand", func() bool { bytes, _ := g.door.state(); return bytes > perRequest })
 	cancel()
 	time.Sleep(100 * time.Millisecond)
 	s.mu.Unlock()
@@ -626,22 +657,24 @@ func TestEnding(t *testing.T) {
 	want(t, "how it ends", fmt.Sprint(<-ended), "<nil>")
 }
 
-// A spool is of one endpoint: a second one would write over its files.
+// A spool is of one process: a second one would write over its files.
 func TestOneSpool(t *testing.T) {
 	s, folder := newStub(t), t.TempDir()
-	words := []string{"-refused", filepath.Join(folder, "refused"), "-spool", filepath.Join(folder, "spool")}
-	_, end := start(t, s, folder, words...)
-	_, err := newEndpoint(words)
-	want(t, "a second endpoint", fmt.Sprint(err), "another endpoint has the spool "+words[3]+": resource temporarily unavailable")
+	address, end := start(t, s, folder)
+	want(t, "a line", post(t, address+"/write?db=x", "m f=1 1"), "204")
+	_, err := begin(t, s, folder)
+	if err == nil || !strings.Contains(err.Error(), "another process has the spool ") {
+		t.Errorf("a second gateway: %v", err)
+	}
 	end()
-	start(t, s, folder, words...)
+	start(t, s, folder)
 }
 
 // A server that has too much to do, or no time, is asked again by the spool: no client is, and no line is refused.
 func TestBusy(t *testing.T) {
 	for _, code := range []int{408, 429, 500, 503} {
 		s, folder := newStub(t), t.TempDir()
-		address, _ := start(t, s, folder, "-spool", filepath.Join(folder, "spool"))
+		address, _ := start(t, s, folder, "--spool", filepath.Join(folder, "spool"))
 		s.text = `{"error":"timeout"}`
 		s.answer(code, "m")
 		want(t, fmt.Sprint(code), post(t, address+"/write?db=x", "m f=1 5"), "204")
@@ -655,7 +688,7 @@ func TestBusy(t *testing.T) {
 func TestKept(t *testing.T) {
 	s, folder := newStub(t), t.TempDir()
 	spool := filepath.Join(folder, "spool")
-	address, _ := start(t, s, folder, "-spool", spool)
+	address, _ := start(t, s, folder, "--spool", spool)
 	s.password = "Token its password"
 	s.set(true, false)
 	before := time.Now()
@@ -675,8 +708,8 @@ func TestKept(t *testing.T) {
 // What the server refuses of the spool stays there while it cannot be kept elsewhere.
 func TestRefusedLater(t *testing.T) {
 	s, folder := newStub(t), t.TempDir()
-	spool, refusedFile := filepath.Join(folder, "spool"), filepath.Join(folder, "refused")
-	address, _ := start(t, s, folder, "-spool", spool)
+	spool, refusedFile := filepath.Join(folder, "spool"), filepath.Join(folder, "rejected")
+	address, _ := start(t, s, folder, "--spool", spool)
 	s.set(true, false)
 	want(t, "a line of another type", post(t, address+"/write?db=x", "m conflict=1 1"), "204")
 	os.Remove(refusedFile)
@@ -687,30 +720,39 @@ func TestRefusedLater(t *testing.T) {
 	want(t, "what the spool has", fmt.Sprint(inSpool(spool)), "1")
 	os.Remove(refusedFile)
 	wait(t, "the spool is empty", func() bool { return inSpool(spool) == 0 })
-	want(t, "what is kept", fmt.Sprintf("%q", refused(t, folder)), `["m conflict=1 1"]`)
+	want(t, "what is kept", fmt.Sprintf("%q", rejected(t, folder)), `["m conflict=1 1"]`)
 }
 
 // Where nothing can be kept, nothing is sent, and the client is told to come again.
 func TestFull(t *testing.T) {
 	s, folder := newStub(t), t.TempDir()
-	address, _ := start(t, s, folder, "-spool", filepath.Join(folder, "spool"), "-max-spool", "9000")
-	refusedFile := filepath.Join(folder, "refused")
+	address, _ := start(t, s, folder, "--spool", filepath.Join(folder, "spool"), "--max-spool", "13500")
+	refusedFile := filepath.Join(folder, "rejected")
 	if err := os.WriteFile(refusedFile, []byte(`{"raw":"of a run that was killed`), 0o600); err != nil {
 		t.Fatal(err)
 	}
-	want(t, "after a part of a line", post(t, address+"/write?db=x", "m"), `400 {"error":"line 1: unable to parse 'm': `+fault("m")+`"}`)
-	want(t, "what is kept", fmt.Sprintf("%q", refused(t, folder)[1:]), `["m"]`)
+	want(t, "after a part of a line", post(t, address+"/write?db=x", "m"), `400 {"error":"line 1: unable to parse 'm': `+faultText("m")+`"}`)
+	want(t, "what is kept", fmt.Sprintf("%q", rejected(t, folder)[1:]), `["m"]`)
 	os.Remove(refusedFile)
 	os.Mkdir(refusedFile, 0o700)
-	if answer := post(t, address+"/write?db=x", "m f=1\nm"); !strings.HasPrefix(answer, `503 {"error":"open `) {
+	if answer := post(t, address+"/write?db=x", "m f=1\nm"); !strings.HasPrefix(answer, `503 {"error":"cannot keep the rejected lines: open `) {
 		t.Errorf("where refused lines cannot be kept: %s", answer)
 	}
 	s.set(true, false)
 	want(t, "one body", post(t, address+"/write?db=x", "m f=2 2"), "204")
 	want(t, "the next one", post(t, address+"/write?db=x", "m f=3 3"), "204")
-	if answer := post(t, address+"/write?db=x", "m f=4 4"); !strings.HasPrefix(answer, `503 {"error":"cannot keep the lines: the spool would have `) {
+	if answer := post(t, address+"/write?db=x", "m f=4 4"); !strings.HasPrefix(answer, `503 {"error":"cannot keep the lines: the spool is full: it would have `) {
 		t.Errorf("where the spool is full: %s", answer)
 	}
 	s.set(false, false)
 	wait(t, "the spool is sent", func() bool { return s.taken() == "m f=2 2\nm f=3 3\n" })
+}
+
+func unpack(packed []byte) []byte {
+	r, err := gzip.NewReader(bytes.NewReader(packed))
+	if err != nil {
+		return nil
+	}
+	text, _ := io.ReadAll(r)
+	return text
 }

@@ -1,10 +1,10 @@
 #!/usr/bin/env python3
-"""Tries the program of examples/endpoint before influxd, which this starts and ends. checks/endpoint.sh calls it.
+"""Tries lp_gateway before influxd, which this starts and ends. checks/gateway.sh calls it.
 
-    checks/servers/endpoint.py ENDPOINT FOLDER [TRIAL..]
+    checks/servers/gateway.py GATEWAY FOLDER [TRIAL..]
 
-ENDPOINT: the program, built. FOLDER: an empty folder for what it writes, and for the data of influxd. TRIAL: a name of TRIALS, if not all are
-wanted. It needs influxdb-python. Status 1: something is not as the page of the example says.
+GATEWAY: the program, built. FOLDER: an empty folder for what it writes, and for the data of influxd. TRIAL: a name of TRIALS, if not all are
+wanted. It needs influxdb-python. Status 1: something is not as docs/GATEWAY.md says.
 """
 
 import base64
@@ -12,6 +12,7 @@ import contextlib
 import gzip
 import json
 import os
+import random
 import resource
 import shutil
 import signal
@@ -64,29 +65,30 @@ class Influx(client.Influx):
 
 
 class Trial:
-    """A database of its own and, before it, an endpoint with options of its own."""
+    """A database of its own and, before it, a gateway with options of its own."""
 
     def __init__(self, influx, folder, program, name, *options, most_file=None):
         self.influx, self.db, self.folder = influx, name, folder / name
         self.folder.mkdir()
         influx.rows(f"CREATE DATABASE {name}")
-        self.refused_path = self.folder / "refused.jsonl"
+        self.refused_path = self.folder / "rejected.jsonl"
         (port,) = free_ports(1)
-        words = [program, "-listen", f"127.0.0.1:{port}", "-server", influx.url, "-refused", str(self.refused_path), *options]
-        self.endpoint = Program(port, words, self.folder / "log", most_file)
+        options = list(options) + ([] if "-spool" in options else ["-spool", str(self.folder / "spool")])
+        words = [program, "serve", "-listen", f"http://127.0.0.1:{port}", "-server", influx.url, "-rejected", str(self.refused_path), *options]
+        self.gateway = Program(port, words, self.folder / "log", most_file)
 
     def __enter__(self):
         return self
 
     def __exit__(self, *_):
-        self.endpoint.end(signal.SIGKILL)
+        self.gateway.end(signal.SIGKILL)
 
     def write(self, body, path="/write", headers=None, **query):
         """The status and the text of an answer to a body."""
         query = {"db": self.db, "u": USER, "p": PASSWORD, **query}
         body = body if isinstance(body, bytes) else body.encode()
         words = urllib.parse.urlencode({name: value for name, value in query.items() if value is not None})
-        status, text, headers = call("POST", f"{self.endpoint.url}{path}?{words}", body, headers)
+        status, text, headers = call("POST", f"{self.gateway.url}{path}?{words}", body, headers)
         want(f"Retry-After of {status}", headers.get("Retry-After"), "1" if status == 503 else None)
         said = json.loads(text) if text else {}
         return status, said.get("error", said.get("message", ""))
@@ -97,15 +99,20 @@ class Trial:
         want("the end of the file of refused lines", text[-1:] in ("", "\n"), True)
         return [json.loads(line) for line in text.split("\n")[:-1]]
 
+    def spool(self):
+        """The folder of the spool of the server."""
+        return self.folder / "spool" / self.influx.url.removeprefix("http://").replace(":", "_")
+
     def raw(self):
-        return [line["raw"] for line in self.refused()]
+        return [line.get("piece", line.get("piece_start")) for line in self.refused()]
 
     def metric(self, name):
-        text = call("GET", self.endpoint.url + "/metrics")[1]
-        return int(dict(line.split() for line in text.splitlines())["endpoint_" + name])
+        text = call("GET", self.gateway.url + "/metrics")[1]
+        values = dict(line.rsplit(" ", 1) for line in text.splitlines() if line[0] != "#")
+        return int(sum(float(value) for each, value in values.items() if each.split("{")[0] == "lp_gateway_" + name))
 
     def drained(self):
-        until("the spool is empty", lambda: self.metric("spool_bytes") == 0, 300)
+        until(f"{self.db}: the spool is empty", lambda: self.metric("spool_bytes") == 0, 100)
 
 
 class Load:
@@ -113,6 +120,7 @@ class Load:
 
     def __init__(self, trial, threads=4):
         self.trial, self.taken, self.going = trial, [[] for _ in range(threads)], True
+        self.last = [0] * threads  # the value of a point of each thread that was taken last
         self.threads = [threading.Thread(target=self.write, args=(number,)) for number in range(threads)]
         for thread in self.threads:
             thread.start()
@@ -122,9 +130,10 @@ class Load:
         while self.going:
             lines = range(number, number + 1 + number % 7)
             number = lines.stop
-            body = "".join(f"m,w={thread} n={n}i {n}\n" for n in lines)
+            body = "".join(f"m,w={thread} n={n}i {n}\n" for n in lines) + f"last,w={thread} n={lines[-1]}i 1\n"
             if self.trial.write(body)[0] == 204:
                 self.taken[thread] += lines
+                self.last[thread] = lines[-1]
 
     def stop(self):
         """Ends the threads, and gives what was taken."""
@@ -132,6 +141,19 @@ class Load:
         for thread in self.threads:
             thread.join()
         return {n for taken in self.taken for n in taken}
+
+    def check(self):
+        """Ends the threads, and sees that the server has all lines, and no value that is older than the one that was taken last. Gives how many lines."""
+        taken, trial = self.stop(), self.trial
+        trial.drained()
+        if taken - set(trial.influx.values(trial.db)):  # of two writes that make a shard, InfluxDB 1.6.7 may show one only after it starts again
+            trial.influx.start_again()
+        want(f"the lines that were lost of {len(taken)}", taken - set(trial.influx.values(trial.db)), set())
+        rows = trial.influx.results('SELECT n FROM last GROUP BY w', trial.db)[0].get("series", [])
+        had = {int(each["tags"]["w"]): each["values"][-1][1] for each in rows}
+        old = {thread: (had.get(thread), value) for thread, value in enumerate(self.last) if value > had.get(thread, 0)}
+        want("points that have an older value", old, {})
+        return len(taken)
 
     def go_on(self, more):
         """Waits until so many more lines were taken."""
@@ -142,8 +164,8 @@ class Load:
 def answers(make):
     """What is answered, kept and stored of bodies that come one by one."""
     with make("answers") as trial:
-        writer = influxdb.InfluxDBClient("127.0.0.1", trial.endpoint.port, USER, PASSWORD, trial.db)
-        want("ping", writer.ping(), "endpoint")
+        writer = influxdb.InfluxDBClient("127.0.0.1", trial.gateway.port, USER, PASSWORD, trial.db)
+        want("ping", writer.ping(), "lp_gateway")
         want("write_points", writer.write_points([{"measurement": "m", "tags": {"t": "a b"}, "fields": {"n": 1}, "time": 1}]), True)
         try:
             writer.write(["m n=2i 2", "m n=", "m n=3i 3"], {"db": trial.db}, 204, "line")
@@ -153,17 +175,17 @@ def answers(make):
             want("a partial batch", (error.code, said), (400, f"partial write: line 2: unable to parse 'm n=': {MISSING} dropped=1"))
         want("what is stored", trial.influx.values(trial.db), [1, 2, 3])
         (kept,) = trial.refused()
-        want("what is kept", (kept["raw"], kept["line"], kept["db"], kept["why"]), ("m n=", 2, "answers", MISSING))
+        want("what is kept", (kept["piece"], kept["line"], kept["db"], kept["text"]), ("m n=", 2, "answers", MISSING))
         want("an empty body", trial.write(""), (204, ""))
         want("comments and blank lines", trial.write("# m n=4i 4\n\n \n# it's \"\nm n=4i 4"), (204, ""))
         want("carriage returns", trial.write("m n=9i 9\r\nm n=5i 5\r")[0], 400)
         want("no good line", trial.write("m n="), (400, f"line 1: unable to parse 'm n=': {MISSING}"))
         said = "partial write: line 2: unable to parse '\ufffd n=1': the line is not UTF-8 dropped=1"
         want("what is not UTF-8", trial.write(b"m n=6i 6\n\xff n=1"), (400, said))
-        want("how it is kept", trial.refused()[-1]["raw_base64"], "/yBuPTE=")
+        want("how it is kept", trial.refused()[-1]["piece_base64"], "/yBuPTE=")
         path = "/api/v2/write"
         want("version 2", trial.write("m n=7i 7", path, db=None, bucket=f"{trial.db}/autogen", precision="ns"), (204, ""))
-        status, text, _ = call("POST", f"{trial.endpoint.url}{path}?bucket={trial.db}&u={USER}&p={urllib.parse.quote(PASSWORD)}", b"m n=8i 8\nm")
+        status, text, _ = call("POST", f"{trial.gateway.url}{path}?bucket={trial.db}&u={USER}&p={urllib.parse.quote(PASSWORD)}", b"m n=8i 8\nm")
         want("its answer", (status, json.loads(text)["code"]), (400, "invalid"))
         want("what is stored then", trial.influx.values(trial.db), [1, 2, 3, 4, 6, 7, 8])
         want("no database", trial.write("m n=1", db=None), (400, "database is required"))
@@ -171,10 +193,10 @@ def answers(make):
         want("another password", trial.write("m n=1", p="x")[0], 401)
         said = 'partial write: field type conflict: input field "n" on measurement "m" is type boolean, already exists as type integer dropped=1'
         want("a type that differs", trial.write("m n=t 9"), (400, said))
-        want("GET", call("GET", trial.endpoint.url + "/write?db=x")[0], 405)
-        want("another path", call("GET", trial.endpoint.url + "/query")[0], 404)
-        want("health", json.loads(call("GET", trial.endpoint.url + "/health")[1])["status"], "pass")
-        want("the count of refused lines", trial.metric("refused_lines_total"), len(trial.refused()))
+        want("GET", call("GET", trial.gateway.url + "/write?db=x")[0], 405)
+        want("another path", call("GET", trial.gateway.url + "/query")[0], 404)
+        want("health", json.loads(call("GET", trial.gateway.url + "/health")[1])["status"], "pass")
+        want("the count of refused lines", trial.metric("lines_rejected_total"), len(trial.refused()))
 
 
 def bodies(make):
@@ -188,7 +210,7 @@ def bodies(make):
         for name, line in ("one line", b"\0"), ("refused lines", b"x" * 99 + b"\n"), ("good lines", b"m n=2i\n"):
             want(f"a bomb of {name}", trial.write(gzip.compress(line * (6 * 10**6 // len(line)), 1), headers=packed)[0], 413)
         want("a long line", trial.write("m n=2i 2\nm s=\"" + "x" * 100000 + '"')[0], 400)
-        want("what is kept of it", [len(line["raw"]) for line in trial.refused()], [100000])
+        want("what is kept of it", [len(line["piece_start"]) for line in trial.refused()], [100000])
         units = {"n": 1, "ns": 1, "u": 10**3, "us": 10**3, "ms": 10**6, "s": 10**9, "m": 60 * 10**9, "h": 3600 * 10**9}
         for name, unit in units.items():
             want(f"precision {name}", trial.write(f"p,u={name} n={unit}i 400000", precision=name), (204, ""))
@@ -202,10 +224,12 @@ def bodies(make):
         want("bytes in flight", trial.metric("in_flight_bytes"), 0)
 
 
+MOST_MEMORY = 256  # MiB
 # What clients hold open that mean no good: how many, a header and a body of each.
 HEAD = b"POST /write?db=bounds HTTP/1.1\r\nHost: x\r\nContent-Length: 24000000\r\n"
 MANY_REFUSED = gzip.compress(b"x\n" * 160000)
 HOSTILE = {
+    "nothing": (2000, b"", b""),
     "headers of 900 KB": (1000, HEAD, b"A:\r\n" * 225000),
     "bodies that do not begin": (3000, HEAD, b"\r\n"),
     "packed refused lines": (20, HEAD.replace(b"24000000", b"%d" % len(MANY_REFUSED)), b"Content-Encoding: gzip\r\n\r\n" + MANY_REFUSED),
@@ -221,49 +245,98 @@ def bounds(make):
     for number, (what, (count, head, body)) in enumerate(HOSTILE.items()):
         with make(f"bounds{number}", "-spool", "spool") as trial, contextlib.ExitStack() as stack:
             for _ in range(count):
-                held = stack.enter_context(socket.create_connection(("127.0.0.1", trial.endpoint.port), 30))
+                held = stack.enter_context(socket.create_connection(("127.0.0.1", trial.gateway.port), 30))
                 with contextlib.suppress(OSError):  # it was closed for another one
                     held.sendall(head + body)
             want(f"a client beside {what}", trial.write("m n=1i 1")[0], 204)
-            want(f"connections beside {what}", trial.metric("connections") <= 500, True)
-            peaks.append(trial.endpoint.peak() >> 10)
-            want(f"beside {what}, less than five times what is in flight", (peaks[-1] < 5 * 64, peaks), (True, peaks))
+            want(f"connections beside {what}", trial.metric("connections") <= 2000, True)
+            peaks.append(trial.gateway.peak() >> 10)
+            want(f"beside {what}, less than {MOST_MEMORY} MiB", (peaks[-1] < MOST_MEMORY, peaks), (True, peaks))
     return f"at most {max(peaks)} MiB of {peaks}"
 
 
 def killed(make):
-    """The endpoint and the server are killed under load, the endpoint also while lines are in its spool."""
+    """The gateway and the server are killed under load, the gateway also while lines are in its spool."""
     with make("killed", "-spool", "spool") as trial:
         load = Load(trial)
         load.go_on(100)
         trial.influx.end(signal.SIGKILL)
         load.go_on(100)
-        trial.endpoint.end(signal.SIGKILL)
-        part = trial.folder / "spool" / f"{1 << 60:020d}.part"
+        trial.gateway.end(signal.SIGKILL)
+        part = trial.spool() / f"{1 << 60:020d}.part"
         part.write_text("{}\nm n=5i 5")
-        trial.endpoint.start()
+        trial.gateway.start()
         load.go_on(100)
         trial.influx.start()
         load.go_on(100)
-        trial.endpoint.end(signal.SIGKILL)
-        trial.endpoint.start()
+        trial.gateway.end(signal.SIGKILL)
+        trial.gateway.start()
         load.go_on(100)
-        taken = load.stop()
-        trial.drained()
-        lost = taken - set(trial.influx.values(trial.db))
-        want(f"the lines that were lost of {len(taken)}", lost, set())
-        want("what a killed endpoint has not finished is there", part.exists(), False)
-        return len(taken)
+        count = load.check()
+        want("what a killed gateway has not finished is there", part.exists(), False)
+        return count
+
+
+def kills(make):
+    """The gateway and the server are killed at random, by SIGKILL and SIGTERM, while 8 clients write. KILLS says how often."""
+    count, chance = int(os.environ.get("KILLS", "8")), random.Random(int(os.environ.get("SEED", "1")))
+    with make("kills", "-spool", "spool") as trial:
+        load = Load(trial, 8)
+        for _ in range(count):
+            time.sleep(chance.random() / 2)
+            if chance.random() < 0.7:
+                trial.gateway.end(chance.choice((signal.SIGKILL, signal.SIGTERM)))
+                trial.gateway.start()
+            else:
+                trial.influx.end(chance.choice((signal.SIGKILL, signal.SIGTERM)))
+                time.sleep(chance.random() / 2)
+                trial.influx.start()
+        return f"{load.check()} lines, {count} kills"
+
+
+def each_call(make):
+    """Each system call by which the spool changes files fails once, and is the last one of a process that is killed."""
+    if not can_watch():
+        return "left out"
+    done = 0
+    for call in ("openat", "write", "fsync", "renameat", "pwrite64", "fdatasync", "unlinkat"):
+        for how in ("error=EIO", "error=ENOSPC", "signal=KILL"):
+            with make(f"each_{call}_{how.partition('=')[2]}", "-spool", "spool") as trial:
+                done += call_fails(trial, call, how)
+    return done
+
+
+def call_fails(trial, call, how):
+    """The next two such calls end so, while clients write and the server does not answer, and then answers again. Gives 1 if one was met."""
+    trial.influx.process.send_signal(signal.SIGSTOP)
+    told = trial.folder / "strace"
+    words = ["strace", "-f", "-p", str(trial.gateway.process.pid), "-e", f"trace={call}", "-e", f"inject={call}:{how}:when=3..4"]
+    try:
+        with open(told, "wb") as log, subprocess.Popen(words, stdout=log, stderr=log) as watching:
+            until("strace watches", lambda: " attached" in told.read_text(errors="replace"))
+            load = Load(trial, 2)
+            time.sleep(1.4)
+            trial.influx.process.send_signal(signal.SIGCONT)
+            time.sleep(0.3)
+            watching.send_signal(signal.SIGINT)
+    finally:
+        trial.influx.process.send_signal(signal.SIGCONT)
+    load.stop()
+    with contextlib.suppress(subprocess.TimeoutExpired):  # a write of Go's own that fails ends the program
+        trial.gateway.process.wait(0.2)
+        trial.gateway.start()
+    load.check()
+    return int("INJECTED" in told.read_text(errors="replace") or "killed by" in told.read_text(errors="replace"))
 
 
 def ended(make):
-    """The endpoint ends by SIGTERM under load, without a spool and with one."""
+    """The gateway ends by SIGTERM under load, twice."""
     count = 0
-    for name, *options in ("ended",), ("ended_spool", "-spool", "spool"):
-        with make(name, *options) as trial:
+    for name in ("ended", "ended_again"):
+        with make(name, "-spool", "spool") as trial:
             load = Load(trial)
             load.go_on(100)
-            want("the status of an endpoint that ended", trial.endpoint.end(), 0)
+            want("the status of a gateway that ended", trial.gateway.end(), 0)
             taken = load.stop()
             want("the lines that were lost", taken - set(trial.influx.values(trial.db)), set())
             count += len(taken)
@@ -272,20 +345,14 @@ def ended(make):
 
 def away(make):
     """The server is away, and comes back: lines come in order, each as the same point however often it is sent."""
-    with make("away") as trial:
-        trial.influx.end()
-        want("an answer without a spool", trial.write("m n=1i 1")[0], 503)
-        trial.influx.start()
-        want("the next one", trial.write("m n=2i 2"), (204, ""))
-        want("what is stored", trial.influx.values(trial.db), [2])
     with make("away_spool", "-spool", "spool") as trial:
         trial.influx.end()
         for n in range(100):
             want("an answer with a spool", trial.write(f"m n={n}i 5\nt,u=ms n={n}i", precision="ms"), (204, ""))
         want("a refused line meanwhile", trial.write("m n=\nm n=101i 6", precision="ms")[0], 400)
         came = time.time_ns()
-        trial.endpoint.end()
-        trial.endpoint.start()
+        trial.gateway.end()
+        trial.gateway.start()
         trial.influx.start()
         trial.drained()
         want("the last value of one time", trial.influx.values(trial.db), [99, 101])
@@ -326,12 +393,12 @@ def poisoned(make):
         wanted = [0] + [number * 100 + n for number in range(1, len(poisons) + 1) for n in range(20)] + [9999]
         want("what is stored", trial.influx.values(trial.db), wanted)
         want("what is kept", sorted(trial.raw()), sorted([*poisons, PANIC, "m n=1i 1\nm n=2i 2", "m n=1i 1"]))
-        want("the count of these", trial.metric("refused_later_total"), len(poisons) + 3)
+        want("the count of these", trial.metric("lines_refused_total"), len(poisons) + 4)
 
 
 def portable(make):
     """No line that is let out as portable makes the server fail."""
-    texts = [*(row.text() for row in oracle.rows()), *oracle.random_texts(1, 1500)]
+    texts = [*(row.text() for row in oracle.rows()), *oracle.random_texts(1, 500)]
     with make("portable", "-spool", "spool", "-portable", "influx1") as trial:
         said = f"partial write: line 2: unable to parse '{PANIC[:200]}': not portable: the tags are 100, 200, 400, 800 and so on dropped=1"
         want("a line at which the server panics", trial.write(f"m n=1i 1\n{PANIC}"), (400, said))
@@ -342,7 +409,7 @@ def portable(make):
             counts[status] = counts.get(status, 0) + 1
         want("answers by other statuses than 204 and 400", set(counts) - {204, 400}, set())
         trial.drained()  # what the server did not take within a second
-        later = [line["why"] for line in trial.refused() if line["line"] == 0]
+        later = [line["text"] for line in trial.refused() if line["kind"] == "refused_by_server"]
         want("lines that the server does not take, but for their types", [why for why in later if "field type conflict" not in why], [])
         return counts
 
@@ -376,18 +443,23 @@ def full_spool(trial):
     trial.influx.end()
     taken, busy = fill(trial, lambda n: "".join(f'm,w={n} n={n}i,s="{"x" * 300}"\n' for _ in range(n)))
     want("files that were not finished", list(trial.folder.glob("**/*.part")), [])
-    trial.endpoint.end(signal.SIGKILL)
-    trial.endpoint.start()
+    trial.gateway.end(signal.SIGKILL)
+    trial.gateway.start()
     trial.influx.start()
     trial.drained()
     want("what is stored", sorted(trial.influx.values(trial.db)), taken)
     return len(taken)
 
 
+def can_watch():
+    """Whether strace is there, and may watch."""
+    return shutil.which("strace") and not subprocess.run(["strace", "-o", os.devnull, "true"], stderr=subprocess.DEVNULL, check=False).returncode
+
+
 def failing(trial, path, tell):
     """What a body is answered while no sync of this path succeeds, as strace has it."""
     told = trial.folder / "strace"
-    words = ["strace", "-f", "-p", str(trial.endpoint.process.pid), "-P", str(path), "-e", "trace=fsync", "-e", "inject=fsync:error=EIO"]
+    words = ["strace", "-f", "-p", str(trial.gateway.process.pid), "-P", str(path), "-e", "trace=fsync", "-e", "inject=fsync:error=EIO"]
     with open(told, "wb") as log, subprocess.Popen(words, stdout=log, stderr=log) as watching:
         until("strace watches", lambda: " attached" in told.read_text())
         said = tell()
@@ -398,10 +470,10 @@ def failing(trial, path, tell):
 
 def synced(make):
     """What the device does not have is not answered by 204: the file of refused lines, a file of the spool, and the names of both."""
-    if shutil.which("strace") is None or subprocess.run(["strace", "-o", os.devnull, "true"], stderr=subprocess.DEVNULL, check=False).returncode:
+    if not can_watch():
         return "left out"
     with make("synced", "-spool", "spool") as trial:
-        spool = trial.folder / "spool"
+        spool = trial.spool()
         want("a refused line", failing(trial, trial.refused_path, lambda: trial.write("m n=1i 1\nm"))[0], 503)
         want("the name of the file of refused lines", failing(trial, trial.folder, lambda: trial.write("m n=2i 2\nm"))[0], 503)
         want("what is stored of them", trial.influx.rows("SELECT n FROM m", trial.db), [])
@@ -426,8 +498,8 @@ def full(make):
     with make("full_spool", "-spool", "spool", "-max-spool", "100000") as trial:
         counts.append(full_spool(trial))
     if os.path.ismount(DISK):
-        with make("full_disk", "-refused", f"{DISK}/refused.jsonl") as trial:
-            trial.refused_path = DISK / "refused.jsonl"
+        with make("full_disk", "-rejected", f"{DISK}/rejected.jsonl") as trial:
+            trial.refused_path = DISK / "rejected.jsonl"
             counts.append(full_refusals(trial))
             os.remove(trial.refused_path)
         with make("full_disk_spool", "-spool", f"{DISK}/spool") as trial:
@@ -435,7 +507,7 @@ def full(make):
     return counts
 
 
-TRIALS = [answers, bodies, bounds, hung, killed, ended, synced, full, poisoned, portable, away]
+TRIALS = [answers, bodies, bounds, hung, killed, kills, each_call, ended, synced, full, poisoned, portable, away]
 
 
 def main():
@@ -451,9 +523,9 @@ def main():
             if trial.__name__ in (sys.argv[3:] or [trial.__name__]):
                 began = time.monotonic()
                 said = trial(make)
-                print(f"endpoint: {trial.__name__}: {said or 'done'}, {time.monotonic() - began:.1f} s", flush=True)
+                print(f"gateway: {trial.__name__}: {said or 'done'}, {time.monotonic() - began:.1f} s", flush=True)
     except Fault as fault:
-        print(f"endpoint: {fault}")
+        print(f"gateway: {fault}")
         return 1
     finally:
         influx.end()
