@@ -438,3 +438,38 @@ func TestOptions(t *testing.T) {
 
 // pathOf returns the folder of the spool of the first server.
 func pathOf(g *gateway) string { return g.servers[0].spool.disk.(*folder).path }
+
+// The page has the figures of the program.
+func TestPage(t *testing.T) {
+	o, err := readOptions(nil, io.Discard)
+	text, unread := os.ReadFile("../docs/GATEWAY.md")
+	if err = firstOf(err, unread); err != nil {
+		t.Fatal(err)
+	}
+	page := strings.Join(strings.Fields(string(text)), " ")
+	comma := func(n int64) string {
+		return regexp.MustCompile(`(\d)(\d{3})$`).ReplaceAllString(fmt.Sprint(n), "$1,$2")
+	}
+	g := &gateway{options: o}
+	for _, sentence := range []string{
+		fmt.Sprintf("`--max-connections` | %s | the connection", comma(int64(o.maxConnections))),
+		fmt.Sprintf("the header of a request | %d KiB, in %.0f seconds |", mostHeader>>10, g.web(&listener{}).ReadHeaderTimeout.Seconds()),
+		fmt.Sprintf("the time until the next one | %.0f minute for each |", mostWait.Minutes()),
+		fmt.Sprintf("`--max-in-flight` | %d MiB |", o.maxInFlight>>20),
+		fmt.Sprintf("`--max-body` | %d,000,000 bytes |", o.maxBody/1e6),
+		fmt.Sprintf("`--max-line` | %d MiB |", o.maxLine>>20),
+		fmt.Sprintf("`--max-body-rejected` | %d,000,000 bytes |", o.maxBodyRejected/1e6),
+		fmt.Sprintf("`--max-rejected` | %d GiB together |", o.maxRejected>>30),
+		fmt.Sprintf("`--max-spool` | %d GiB |", o.maxSpool>>30),
+		fmt.Sprintf("| %d calls or %.0f seconds |", mostCalls, mostSearch.Seconds()),
+		fmt.Sprintf("After %.0f second, or once the client is gone", patience.Seconds()),
+		fmt.Sprintf("the first %d rejected lines", mostTold),
+		fmt.Sprintf("(default %d, at most %d)", o.senders, lanes),
+		fmt.Sprintf("one of %d lanes", lanes),
+		fmt.Sprintf("%d MiB beside the file of rejected lines are in reserve", reserveBytes>>20),
+	} {
+		if !strings.Contains(page, sentence) {
+			t.Errorf("docs/GATEWAY.md does not have: %s", sentence)
+		}
+	}
+}
