@@ -37,6 +37,7 @@ relay=${LP_RELAY:-$top/crates/lp_relay_program/out/lp_relay_program}
 [ -x "$relay" ] || { relay='' && left_out "faults by checks/page.sh" "lp_relay is not built"; }
 node "$here/page/in_node.mjs" "$package" "$table" ${relay:+"$relay"}
 node "$here/page/streams.mjs" "$package"
+node "$here/page/memory.mjs" "$package"
 wide=--experimental-wasm-memory64
 [ "$node" -lt 24 ] || wide=--no-warnings
 node "$wide" "$here/page/both.mjs" "$package" 20000

@@ -9,7 +9,7 @@
 
 ARCHIVE is liblp_c.a. FOLDER is one that packaging/page/build.sh made. Each bug is planted alone in a copy of the sources outside the repository,
 and the tests run over the copy: the modules of the Python tests but test_packing, up to the first test that fails; `cargo test`, up to the first
-program of tests that fails; `go test`; or checks/page/in_node.mjs and streams.mjs. A line for each bug names the module, the tests or the files
+program of tests that fails; `go test`; or in_node.mjs, streams.mjs and memory.mjs of checks/page. A line for each bug names the module, the tests or the files
 that fail, or says `NO TEST`. Before, the tests run without a bug: if one fails, no bug is planted. The status is 1 if a bug is seen by no test, or
 makes a package that cannot be built. A name is what goes wrong, with `_` in place of each space. JOBS copies, 3 by default, are tested side by side,
 by the Python that runs this script. LP_RELAY can be the absolute path of a built lp_relay; without it, and without pandas, the tests that need it
@@ -133,7 +133,7 @@ def failed_js(bug, made):
         package = Path(room) / "package"
         shutil.copytree(Path(made) / "influxdb-line-protocol-js", package)
         plant(bug, package)
-        tests = {"in_node": [TOP / "checks" / "tables" / "answers.tsv", *filter(None, [os.environ.get("LP_RELAY")])], "streams": []}
+        tests = {"in_node": [TOP / "checks" / "tables" / "answers.tsv", *filter(None, [os.environ.get("LP_RELAY")])], "streams": [], "memory": []}
         return {test for test, words in tests.items()
                 if not run(["node", TOP / "checks" / "page" / f"{test}.mjs", package, *words], room)[0]}
 

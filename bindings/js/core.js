@@ -41,11 +41,14 @@ const BLOCK_LINE = 0, BLOCK_AT = 2, BLOCK_ROWS = 3, BLOCK_ROOM = 5;
 // How much of a text is read at once, and the most bytes that a piece of a stream may have, if nothing else is asked for.
 const WINDOW = 1 << 16, LONGEST = 1 << 24;
 
+// A memory with more bytes than these is let go once little is left in it.
+const LARGE = 1 << 22;
+
 // A string of at most so many characters that are all ASCII is moved one by one: that takes less time than to ask for its bytes.
 const SHORT = 1 << 12, ASCII = /^[\0-\x7f]*$/;
 
 const encoder = new TextEncoder();
-const decoder = new TextDecoder("utf-8", { ignoreBOM: true });
+const decoder = new TextDecoder("utf-8", { ignoreBOM: true }), strictDecoder = new TextDecoder("utf-8", { ignoreBOM: true, fatal: true });
 // The powers of ten that are exact as numbers.
 const POWERS = Array.from({ length: 23 }, (_, n) => Number(`1e${n}`));
 const HALF = /(\p{Surrogate})/u;
@@ -104,6 +107,43 @@ function limitOf(most) {
     return most;
 }
 
+// A value of a field in JSON, which has no bigint and no -0.
+function jsonOf(value) {
+    if (typeof value === "bigint") return { integer: String(value) };
+    if (typeof value === "number") return Object.is(value, -0) ? { float: "-0" } : value;
+    return value.unsigned === undefined ? value : { unsigned: String(value.unsigned) };
+}
+
+/* A line that was read. In JSON an integer is `{ integer }`, and each number of 64 bits is a text: so `write` takes what JSON.parse gives. */
+class Line {
+    constructor(measurement, tags, fields, timestamp) {
+        this.measurement = measurement;
+        this.tags = tags;
+        this.fields = fields;
+        this.timestamp = timestamp;
+    }
+
+    toJSON() {
+        const fields = this.fields.map(([key, value]) => [key, jsonOf(value)]);
+        return { ...this, fields, timestamp: this.timestamp === null ? null : String(this.timestamp) };
+    }
+}
+
+/* A piece that is no line. In JSON `refused` is a text, or a list of bytes if these are not UTF-8. */
+class Fault {
+    constructor(members) {
+        Object.assign(this, members);
+    }
+
+    toJSON() {
+        try {
+            return { ...this, refused: strictDecoder.decode(this.refused) };
+        } catch {
+            return { ...this, refused: [...this.refused] };
+        }
+    }
+}
+
 /* A text of bytes as a string, of which parts are asked for by the places of their bytes: mostly one after another. */
 class Decoded {
     // Takes the `len` bytes from a place on. `string` is what they are, if that is known.
@@ -147,16 +187,32 @@ class Decoded {
     }
 }
 
-/* The memory of the module, behind its own: a block, a search for cuts with the place of a cut, rows, parts, a room for texts without their
+/* An instance of the module and its memory, behind its own: a block, a search for cuts with the place of a cut, rows, parts, a room for texts without their
  * escapes, and a text. */
 class Border {
-    constructor(calls) {
-        this.calls = calls;
-        this.base = (Number(calls.__heap_base.value) + 15) & ~15;
+    constructor(instance, module) {
+        this.module = module;
         // The text as a string, and the room, if a text that lies there was asked for.
         this.window = new Decoded();
         this.copies = new Decoded();
+        this.begin(instance);
+    }
+
+    begin(instance) {
+        this.calls = instance.exports;
+        this.base = (Number(this.calls.__heap_base.value) + 15) & ~15;
+        this.window.take(new Uint8Array(0), 0, 0, "");
         this.lay(WINDOW, 512, 8192, WINDOW);
+    }
+
+    // Lets go of the memory that a large text took. A memory cannot shrink, so a new instance takes its place; an old browser makes none at once.
+    settle() {
+        if (this.bytes.length <= LARGE) return;
+        try {
+            this.begin(new WebAssembly.Instance(this.module));
+        } catch (error) {
+            if (!(error instanceof RangeError)) throw error;
+        }
     }
 
     // Lays out places for so many bytes of text, rows, parts and bytes of room. What was there is lost.
@@ -289,6 +345,7 @@ class Walk {
             }
         }
         this.offset += at;
+        border.settle();
         return at;
     }
 
@@ -312,12 +369,9 @@ class Walk {
         const { words, halves, longs, parts } = this.border;
         const measurement = this.textAt(words[word + ROW_MEASUREMENT], words[word + ROW_MEASUREMENT + 1], halves[2 * word + ROW_MEASUREMENT_COPIED]);
         const part = (parts + PART * words[word + ROW_PARTS_AT]) >> 2, tags = words[word + ROW_TAGS];
-        const line = {
-            measurement,
-            tags: this.tagsOf(part, tags),
-            fields: this.fieldsOf(part + (PART >> 2) * tags, words[word + ROW_FIELDS]),
-            timestamp: halves[2 * word + ROW_HAS_TIMESTAMP] === 1 ? longs[(word + ROW_TIMESTAMP) >> 1] : null,
-        };
+        const line = new Line(
+            measurement, this.tagsOf(part, tags), this.fieldsOf(part + (PART >> 2) * tags, words[word + ROW_FIELDS]),
+            halves[2 * word + ROW_HAS_TIMESTAMP] === 1 ? longs[(word + ROW_TIMESTAMP) >> 1] : null);
         if (this.hasMore) this.addMore(line, word);
         return line;
     }
@@ -416,20 +470,20 @@ class Walk {
         for (let n = at; n < stop; n++) if (bytes[text + n] === 10) { stopLine += 1; lineAt = n + 1; }
         if (stopLine === place.line) while (lineAt > 0 && bytes[text + lineAt - 1] !== 10) lineAt -= 1;
         const named = this.namedBy(fault, stop, end);
-        return {
+        return new Fault({
             fault, message: MESSAGES[fault](named), text: named, side: SIDES[words[word + ROW_SIDE]], ...place, stopOffset: this.offset + stop, stopLine,
             stopColumn: stop - lineAt + 1, refused,
-        };
+        });
     }
 
     // The item of a piece that has more bytes than the limit, of which these came so far. It is not read, so reading stopped at its first byte.
     longFault(bytes, limit) {
         this.items += 1;
         const line = Number(this.line), offset = this.offset;
-        return {
+        return new Fault({
             fault: "too_long", message: MESSAGES.too_long(), text: "", side: "", item: this.items, line, offset, length: limit, pieceLine: line,
             pieceOffset: offset, pieceLength: limit, stopOffset: offset, stopLine: line, stopColumn: 1, refused: bytes.slice(0, limit), longerThan: limit,
-        };
+        });
     }
 
     // Passes bytes that are not read.
@@ -461,6 +515,12 @@ function inRange(value, least, greatest, what) {
     return value;
 }
 
+// A whole number, or its digits, as JSON has it; else undefined.
+function wholeOf(it) {
+    if (typeof it === "bigint") return it;
+    return typeof it === "string" && /^-?[0-9]+$/.test(it) ? BigInt(it) : undefined;
+}
+
 // Adds a value as it is meant: its kind, and a bigint, a Boolean, or the text of a string or of a float.
 function putMeant(list, value) {
     switch (typeof value) {
@@ -472,12 +532,14 @@ function putMeant(list, value) {
             return list.push(FLOAT, Object.is(value, -0) ? "-0" : String(value));
         default:
     }
-    if (value && typeof value.unsigned === "bigint") return list.push(UNSIGNED, inRange(value.unsigned, 0n, MOST_UNSIGNED, "unsigned integer"));
+    const integer = wholeOf(value?.integer), unsigned = wholeOf(value?.unsigned);
+    if (integer !== undefined) return list.push(INTEGER, inRange(integer, LEAST, MOST, "integer"));
+    if (unsigned !== undefined) return list.push(UNSIGNED, inRange(unsigned, 0n, MOST_UNSIGNED, "unsigned integer"));
     if (value && typeof value.float === "string") {
         if (!LITERAL.test(value.float)) throw new RangeError(`${value.float} is no literal of a float`);
         return list.push(FLOAT, value.float);
     }
-    throw new TypeError("a value is a bigint, a number, a string, a boolean, { unsigned } or { float }");
+    throw new TypeError("a value is a bigint, a number, a string, a boolean, { integer }, { unsigned } or { float }");
 }
 
 function spelledValue(kind, value) {
@@ -519,7 +581,8 @@ function pointOf(line) {
     if (fields.length === 0) throw new TypeError("a line has a field");
     let timestamp = line.timestamp ?? null;
     if (timestamp instanceof Date) timestamp = BigInt(timestamp.getTime()) * 1_000_000n;
-    if (timestamp !== null && typeof timestamp !== "bigint") throw new TypeError("a timestamp is a bigint of nanoseconds, or a Date");
+    if (timestamp !== null) timestamp = wholeOf(timestamp);
+    if (timestamp === undefined) throw new TypeError("a timestamp is a bigint of nanoseconds, its digits, or a Date");
     if (timestamp !== null) inRange(timestamp, LEAST, MOST, "timestamp");
     return { measurement, tags, fields, timestamp };
 }
@@ -684,8 +747,8 @@ class Items {
 export class LineProtocol {
     #border;
 
-    constructor(instance) {
-        this.#border = new Border(instance.exports);
+    constructor(instance, module) {
+        this.#border = new Border(instance, module);
     }
 
     /** The items of a text, lines and faults, one after another. */
@@ -695,12 +758,28 @@ export class LineProtocol {
 
     /** The items of a stream, as its parts come. */
     async *read(source, options = {}) {
-        const feed = new Feed(new Walk(this.#border, numberOf(options.dialect ?? "crate"), options), limitOf(options.maxLine ?? LONGEST));
-        for await (const part of partsOf(source)) {
-            feed.held.add(part);
+        const feed = this.#feed(options);
+        for await (const part of iterated(source)) {
+            feed.take(part);
             yield* feed.items(false);
         }
         yield* feed.items(true);
+    }
+
+    /** What a TransformStream takes: parts go in, and items come out. */
+    transformer(options = {}) {
+        const feed = this.#feed(options), put = (to, isLast) => { for (const item of feed.items(isLast)) to.enqueue(item); };
+        return {
+            transform(part, to) {
+                feed.take(part);
+                put(to, false);
+            },
+            flush: to => put(to, true),
+        };
+    }
+
+    #feed(options) {
+        return new Feed(new Walk(this.#border, numberOf(options.dialect ?? "crate"), options), limitOf(options.maxLine ?? LONGEST));
     }
 
     /** A line, or each line of a list, as text: each with its newline. It is read again before it is handed out. */
@@ -813,6 +892,7 @@ export class LineProtocol {
             if (last) break;
             size = passed === 0 ? 2 * size : WINDOW * 4;
         }
+        border.settle();
         return { at: Float64Array.from(at), len: Float64Array.from(len), line: Float64Array.from(lines), kind: Uint8Array.from(kinds), names: [...FAULTS, "not_utf8"] };
     }
 }
@@ -852,6 +932,10 @@ class Held {
 
     pass(count) {
         this.from += count;
+        if (this.memory.length <= LARGE || this.to - this.from > WINDOW) return;
+        const memory = new Uint8Array(2 * WINDOW);
+        memory.set(this.bytes);
+        Object.assign(this, { memory, from: 0, to: this.to - this.from });
     }
 }
 
@@ -859,13 +943,25 @@ class Held {
 class Feed {
     constructor(walk, limit) {
         Object.assign(this, { walk, limit, held: new Held(), search: walk.border.beginSearch(walk.dialect, limit) });
+        // The first half of a surrogate pair that ended a string.
+        this.half = "";
         // How many of the held bytes were searched, and whether the piece that goes on is too long: of that one nothing is held.
         this.searched = 0;
         this.isLong = false;
     }
 
+    // Takes a part of a stream. The first half of a surrogate pair that ends a string waits for the string that comes next.
+    take(part) {
+        const isText = typeof part === "string", text = isText ? this.half + part : this.half;
+        this.half = isText && /[\ud800-\udbff]$/.test(text) ? text.slice(-1) : "";
+        if (text !== this.half) this.held.add(encoded(this.half ? text.slice(0, -1) : text));
+        if (!isText) this.held.add(bytesOf(part));
+    }
+
     // The items of what is held, as far as pieces have ended.
     *items(isLast) {
+        if (isLast && this.half) this.held.add(encoded(this.half));
+
         for (let items = this.next(isLast); items; items = this.next(isLast)) yield* items;
     }
 
@@ -896,18 +992,6 @@ class Feed {
     }
 }
 
-// The parts of a stream as bytes. The first half of a surrogate pair that ends a string waits for the string that comes next.
-async function* partsOf(source) {
-    let half = "";
-    for await (const part of iterated(source)) {
-        const isText = typeof part === "string", text = isText ? half + part : half;
-        half = isText && /[\ud800-\udbff]$/.test(text) ? text.slice(-1) : "";
-        if (text !== half) yield encoded(half ? text.slice(0, -1) : text);
-        if (!isText) yield bytesOf(part);
-    }
-    if (half) yield encoded(half);
-}
-
 // Some engines cannot go over a ReadableStream.
 function iterated(source) {
     if (typeof source === "string" || source instanceof Uint8Array) return [source];
@@ -929,7 +1013,8 @@ function iterated(source) {
 
 /** Compiles and instantiates the module of these bytes at once. The main thread of a browser may not do this, if it is old. */
 export function connectNow(bytes) {
-    return new LineProtocol(new WebAssembly.Instance(new WebAssembly.Module(bytes)));
+    const module = new WebAssembly.Module(bytes);
+    return new LineProtocol(new WebAssembly.Instance(module), module);
 }
 
 /** Instantiates the module of these bytes, or one that was compiled. */
@@ -941,10 +1026,10 @@ export async function connect(source) {
             throw new Error("this engine has no 64-bit memory for WebAssembly, which lp_page.wasm needs: lp_page_32.wasm needs none", { cause });
         });
     }
-    return new LineProtocol(await WebAssembly.instantiate(module, {}));
+    return new LineProtocol(await WebAssembly.instantiate(module, {}), module);
 }
 
-/** What the package exports over the calls of one module: a function for each call, and the class of a stream. */
+/** What the package exports over the calls of one module: a function for each call, and the classes of streams. */
 export function exportsOf(calls) {
     /** The items of a stream, as its parts come. */
     class Reader {
@@ -961,7 +1046,15 @@ export function exportsOf(calls) {
         }
     }
 
+    /** A TransformStream of parts into items. */
+    class ItemStream extends TransformStream {
+        constructor(options = {}) {
+            super(calls.transformer(options));
+        }
+    }
+
     return {
+        ItemStream,
         Reader,
         parse: (text, options) => calls.parse(text, options),
         write: (lines, options) => calls.write(lines, options),

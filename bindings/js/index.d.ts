@@ -24,14 +24,27 @@ export interface Line {
     fields: [string, Value][];
     timestamp: bigint | null;
     key?: string;
+    /** What JSON.stringify writes. A line that you make, or that postMessage copied, has no such call. */
+    toJSON?(): LineJson;
 }
 
-/** A line that is handed in. */
+/** A value in JSON: a number of 64 bits is its digits, since JSON.parse would round it, and an integer names its type, as a float is a number. */
+export type ValueJson = { integer: string } | { unsigned: string } | number | { float: string } | string | boolean;
+
+/** A line in JSON, which `write` takes. It also has what the options added: its place, and its key. */
+export interface LineJson {
+    measurement: string;
+    tags: [string, string][];
+    fields: [string, ValueJson][];
+    timestamp: string | null;
+}
+
+/** A line that is handed in. A timestamp is nanoseconds, as a bigint or as a text of its digits, or a Date. */
 export interface LineLike {
     measurement: string;
     tags?: Iterable<readonly [string, string]> | Record<string, string> | null;
-    fields: Iterable<readonly [string, Value]> | Record<string, Value>;
-    timestamp?: bigint | Date | null;
+    fields: Iterable<readonly [string, Value | ValueJson]> | Record<string, Value | ValueJson>;
+    timestamp?: bigint | Date | string | null;
 }
 
 export type FaultKind =
@@ -63,6 +76,8 @@ export interface Fault extends Place {
     stopColumn: number;
     refused: Uint8Array;
     longerThan?: number;
+    /** What JSON.stringify writes: `refused` is a text, or a list of bytes if these are not UTF-8. */
+    toJSON?(): Omit<Fault, "refused" | "toJSON"> & { refused: string | number[] };
 }
 
 export type Item = Line | Fault;
@@ -104,6 +119,11 @@ export function parse(text: Text, options?: ParseOptions): IterableIterator<Item
 export class Reader implements AsyncIterable<Item> {
     constructor(source: ReadableStream<Uint8Array | string> | AsyncIterable<Uint8Array | string> | Iterable<Uint8Array | string>, options?: ReadOptions);
     [Symbol.asyncIterator](): AsyncIterableIterator<Item>;
+}
+
+/** A TransformStream of parts, as a Reader takes them, into items. The readable side fails where the iteration of a Reader throws. */
+export class ItemStream extends TransformStream<Uint8Array | string, Item> {
+    constructor(options?: ReadOptions);
 }
 
 /** A line, or lines, as text that is read as these and as nothing else, whatever comes after it. Throws NotAdmitted, and writes nothing, if
@@ -165,6 +185,7 @@ export class LineProtocol {
     parse(text: Text, options: ParseOptions & { places: true }): IterableIterator<(Line & Place) | Fault>;
     parse(text: Text, options?: ParseOptions): IterableIterator<Item>;
     read(source: ReadableStream<Uint8Array | string> | AsyncIterable<Uint8Array | string> | Iterable<Uint8Array | string>, options?: ReadOptions): AsyncIterableIterator<Item>;
+    transformer(options?: ReadOptions): Transformer<Uint8Array | string, Item>;
     write(lines: LineLike | Iterable<LineLike>, options?: Options): string;
     rebuild(text: Text, options?: Options): { batch: string; faults: string; carried: number; refused: number };
     brokenClauses(text: Text, limits?: Limits): string[];

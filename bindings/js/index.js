@@ -6,4 +6,4 @@ export { CLAUSES, LineProtocol, NotAdmitted, connect, hasWideMemory, seriesKey }
 const place = new URL("./lp_page_32.wasm", import.meta.url), answer = await fetch(place);
 if (!answer.ok) throw new Error(`${place} was not fetched: ${answer.status}`);
 
-export const { Reader, brokenClauses, isPortable, parse, rebuild, write } = exportsOf(await connect(await answer.arrayBuffer()));
+export const { ItemStream, Reader, brokenClauses, isPortable, parse, rebuild, write } = exportsOf(await connect(await answer.arrayBuffer()));

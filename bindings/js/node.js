@@ -6,4 +6,4 @@ export { CLAUSES, LineProtocol, NotAdmitted, connect, hasWideMemory, seriesKey }
 
 const bytes = readFileSync(new URL("./lp_page_32.wasm", import.meta.url));
 
-export const { Reader, brokenClauses, isPortable, parse, rebuild, write } = exportsOf(connectNow(bytes));
+export const { ItemStream, Reader, brokenClauses, isPortable, parse, rebuild, write } = exportsOf(connectNow(bytes));

@@ -138,11 +138,26 @@ same(bad.map(it => it.measurement ?? [it.fault, it.line, it.stopColumn]), ["m", 
 throws(() => seriesKey({ measurement: "m", tags: { a: 1 } }), TypeError, "the value of the tag a is no string", "a key of a number");
 console.log(`page: ${texts.length} texts as one stream, in ${streams} cuts, ${keys} keys, and what is written and refused`);
 
-// The first program of the page of the package prints what it says.
-const [, program, printed] = /```js\n(.*?)```.*?```text\n(.*?)```/s.exec(readFileSync(`${folder}/README.md`, "utf8"));
-const lines = [], asPrinted = it => (typeof it === "string" ? it : inspect(it));
-await new (async () => {}).constructor("parse", "console", program.replace(/^import .*\n/, ""))(parse, { log: (...words) => lines.push(`${words.map(asPrinted).join(" ")}\n`) });
-same(lines.join(""), printed, "what the first program prints");
+// JSON keeps all of a line: what JSON.parse gives is written as the line was.
+const told64 = 'm,a=b i=-9223372036854775808i,u=18446744073709551615u,f=-0,g=1.5,h=1e+400,s="\ud83d\ude00\n",t=true 9223372036854775807\n';
+const [ofJson] = parse(told64, { keys: true, places: true });
+same(JSON.stringify(ofJson).slice(0, 150), '{"measurement":"m","tags":[["a","b"]],"fields":[["i",{"integer":"-9223372036854775808"}],["u",{"unsigned":"18446744073709551615"}],["f",{"float":"-0"}', "a line in JSON");
+same([write(JSON.parse(JSON.stringify(ofJson))), JSON.parse(JSON.stringify(ofJson)).timestamp, JSON.parse(JSON.stringify(ofJson)).key], [told64, "9223372036854775807", "m,a=b"], "a line of JSON");
+same(write(JSON.parse(JSON.stringify([...parse("m f=1\nn f=2i")]))), "m f=1\nn f=2i\n", "lines of JSON");
+const [badText, badBytes] = JSON.parse(JSON.stringify([...parse("m é\n"), ...parse(Uint8Array.of(109, 0xff))]));
+same([badText.fault, badText.refused, badBytes.fault, badBytes.refused], ["field_set_missing", "m é", "not_utf8", [109, 255]], "faults in JSON");
+throws(() => write({ measurement: "m", fields: { f: { integer: "1.5" } } }), TypeError, "a value is a bigint, a number, a string, a boolean, { integer }, { unsigned } or { float }", "digits of a float");
+throws(() => write({ measurement: "m", fields: { f: { integer: "9223372036854775808" } } }), RangeError, "9223372036854775808 is no integer of 64 bits", "digits of a large integer");
+throws(() => write({ measurement: "m", fields: { f: 1 }, timestamp: "soon" }), TypeError, "a timestamp is a bigint of nanoseconds, its digits, or a Date", "a time that is no number");
+
+// Each program of the page of the package that says what it prints prints it.
+const programs = [...readFileSync(`${folder}/README.md`, "utf8").matchAll(/```js\n([^`]*(?:`[^`]+`[^`]*)*?)```\n\nprints\n\n```text\n(.*?)```/gs)];
+same(programs.length, 3, "programs of the page that say what they print");
+for (const [, program, printed] of programs) {
+    const lines = [], asPrinted = it => (typeof it === "string" ? it : inspect(it)), log = (...words) => lines.push(`${words.map(asPrinted).join(" ")}\n`);
+    await new (async () => {}).constructor(...Object.keys(package_), "console", program.replace(/^import .*\n/gm, ""))(...Object.values(package_), { log });
+    same(lines.join(""), printed, "what a program of the page prints");
+}
 
 // Faults are those that lp_relay tells, at the same places: of the texts of the table, and of hostile ones.
 if (relay) {

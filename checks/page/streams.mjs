@@ -8,7 +8,7 @@ import { deepStrictEqual } from "node:assert";
 import { pathToFileURL } from "node:url";
 
 const [folder, count = "10000", seed = "1"] = process.argv.slice(2);
-const { NotAdmitted, Reader, brokenClauses, isPortable, parse, rebuild, seriesKey, write } = await import(pathToFileURL(`${folder}/node.js`));
+const { ItemStream, NotAdmitted, Reader, brokenClauses, isPortable, parse, rebuild, seriesKey, write } = await import(pathToFileURL(`${folder}/node.js`));
 const DIALECTS = ["crate", "strict", "newline-delimited"];
 const [TAB, NEWLINE, SPACE, QUOTE, HASH, COMMA, EQUALS, BACKSLASH] = Buffer.from('\t\n "#,=\\');
 
@@ -98,9 +98,9 @@ function wantedOf(bytes, dialect, limit) {
 async function compare(bytes, parts, dialect, limit) {
     const whole = new Map([...parse(bytes, { dialect, places: true })].map(item => [item.pieceOffset, item]));
     const got = (await gathered(parts, { dialect, places: true, maxLine: limit })).map(it => {
-        if (it.fault === "too_long") return it;
+        if (it.fault === "too_long") return { ...it };
         const { item, line, offset, length, pieceLine, pieceOffset, pieceLength } = it;
-        deepStrictEqual(it, { ...whole.get(pieceOffset), item });
+        deepStrictEqual({ ...it }, { ...whole.get(pieceOffset), item });
         return { item, line, offset, length, pieceLine, pieceOffset, pieceLength };
     });
     const wanted = wantedOf(bytes, dialect, limit);
@@ -157,6 +157,18 @@ for (const [maxLine, kind, message] of [
     deepStrictEqual([error instanceof kind, error?.message], [true, message]);
 }
 console.log("page: a limit is one of the piece, and the items after a piece that is too long come");
+
+// A TransformStream gives the items that a Reader gives, also of a pair that two strings share, and fails where a Reader throws.
+const piped = parts => gathered_(new ReadableStream({ start(to) { for (const part of parts) to.enqueue(part); to.close(); } }).pipeThrough(new ItemStream({ places: true, maxLine: 30 })));
+const gathered_ = async stream => { const items = []; for await (const item of stream) items.push(item); return items; };
+for (let n = 0; n < 300; n++) {
+    const parts = [...cut(new Uint8Array(Buffer.concat(Array.from({ length: 1 + dice(40) }, () => words[dice(words.length)]))))];
+    deepStrictEqual(await piped(parts), await gathered(parts, { places: true, maxLine: 30 }));
+}
+deepStrictEqual((await piped(["m,a=\ud83d", "\ude00 f=1\nm f=\ud800"])).map(item => item.fault ?? item.tags[0][1]), ["😀", "not_utf8"]);
+deepStrictEqual(await piped([5]).then(() => null, error => error.constructor), TypeError);
+
+console.log("page: a TransformStream gives what a Reader gives");
 
 // A ReadableStream that is left in the middle is canceled, also in an engine that cannot go over one.
 for (const over of [stream => stream, stream => ({ getReader: () => stream.getReader() })]) {

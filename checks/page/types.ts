@@ -1,6 +1,6 @@
 /* What the types of the package let a program say. It is not run: checks/page.sh asks TypeScript whether it is right. */
 import {
-    CLAUSES, Item, Line, NotAdmitted, Reader, brokenClauses, connect, hasWideMemory, isPortable, parse, rebuild, seriesKey, write,
+    CLAUSES, Item, ItemStream, Line, LineJson, NotAdmitted, Reader, brokenClauses, connect, hasWideMemory, isPortable, parse, rebuild, seriesKey, write,
 } from "influxdb-line-protocol";
 import * as core from "influxdb-line-protocol/core.js";
 
@@ -19,6 +19,7 @@ for (const item of parse("m f=1i", { dialect: "newline-delimited", places: true 
     else console.log(item.measurement, item.fields[0][1], at);
 }
 
+export const items: ReadableStream<Item> = new ReadableStream<string>().pipeThrough(new ItemStream({ maxLine: 5 }));
 const line: Line = { measurement: "m", tags: [["a", "b"]], fields: [["f", 1n], ["u", { unsigned: 1n }], ["x", { float: "1e400" }]], timestamp: null };
 try {
     const text: string = write([line, { measurement: "m", fields: { f: true }, timestamp: new Date() }], { dialect: "crate" });
@@ -26,6 +27,7 @@ try {
     console.log(batch, refused, items, seriesKey({ measurement: "m", tags: { a: "b" } }));
     console.log(brokenClauses(text, { tags: 3 }), isPortable(text, "victoria"), CLAUSES[0].means, hasWideMemory());
 } catch (error) {
+    write(JSON.parse(JSON.stringify(line)) as LineJson);
     if (error instanceof NotAdmitted) console.log(error.what, error.index, error.part === "tag value", error.key, error.value);
 }
 const calls = core.hasWideMemory() ? await core.connect(new Uint8Array(8)) : await connect(new Uint8Array(8));
