@@ -28,8 +28,7 @@ pub const USAGE: &str =
        lp_series --help | --version";
 
 /// What `--help` prints after that, without the last newline.
-pub const HELP: &str =
-    "Reads lines of InfluxDB line protocol from each FILE, one after another, or
+pub const HELP: &str = "Reads lines of InfluxDB line protocol from each FILE, one after another, or
 from standard input. Counts their series, or writes the lines by their series to
 standard output. Writes an error for each bad line to standard error. An error
 begins with `item N:`; an item is one line of the format, whose strings can hold
