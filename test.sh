@@ -78,7 +78,8 @@ check_bindings() {
     LP_LIB_DIR=$made part bindings/rust bindings/rust/test.sh
     part bindings/go bindings/go/test.sh "$made/liblp_c.a"
     part bindings/python bindings/python/test.sh "$made/liblp_c.a"
-    part checks/endpoint.sh checks/endpoint.sh "$made/liblp_c.a"
+    part gateway gateway/test.sh "$made/liblp_c.a"
+    part checks/gateway.sh checks/gateway.sh "$made/liblp_c.a"
     part checks/instructions.sh checks/instructions.sh "$made/liblp_c.a"
 }
 check_page() {

@@ -248,11 +248,50 @@ static uint64_t by_offsets_write(const uint8_t *text, size_t len) {
     return sum;
 }
 
+/* What a line is grouped by: the longest that is put out has as many bytes as `bytes`. */
+static uint64_t put_out(uint32_t (*put)(const lp_line *, const lp_part *, size_t, uint8_t *, size_t, size_t *), const lp_line *line,
+                        const lp_part *own) {
+    size_t len = 0;
+    while (put(line, own, line->tags + line->fields, bytes, bytes_len, &len) == LP_MORE_ROOM) lend(0, len);
+    return len;
+}
+
+/* The bases of all lines, of those that are safe to group by: the text of the series where that is the base. */
+static uint64_t by_bases(const uint8_t *text, size_t len) {
+    uint64_t sum = 0;
+    read_lines(text, len);
+    for (size_t at = 0; at < kept.rows_len; at++) {
+        const lp_line *line = &kept.rows[at].line;
+        const lp_part *own = kept.parts + kept.rows[at].parts_at;
+        bool safe = false;
+        if (lp_line_is_base_safe(line, own, line->tags + line->fields, &safe) != LP_WRITTEN || !safe) continue;
+        sum += line->series_is_base ? line->series.len : put_out(lp_line_base, line, own);
+    }
+    return sum;
+}
+
+/* The keys of all lines: the start of the line where that is the key. */
+static uint64_t by_keys(const uint8_t *text, size_t len) {
+    uint64_t sum = 0;
+    read_offsets(text, len);
+    lp_offsets_keys(text, len, offsets.rows, rows_read);
+    for (size_t at = 0; at < rows_read; at++) {
+        const lp_offset_row *row = &offsets.rows[at];
+        sum += row->key;
+        if (row->key) continue;
+        read_lines(text + row->line_at, row->stop_at - row->line_at);
+        sum += put_out(lp_line_key, &kept.rows[0].line, kept.parts);
+    }
+    return sum;
+}
+
 const struct call calls[] = {
     { "lp_lines_next", by_next },
     { "lp_lines_block", by_block },
     { "lp_offsets_block", by_offsets },
     { "lp_offsets_keys", with_keys },
+    { "bases", by_bases },
+    { "keys", by_keys },
     { "lp_offsets_verdicts", with_verdicts_after },
     { "lp_offsets_block_verdicts", with_verdicts },
     { "lp_cuts_next", cuts },

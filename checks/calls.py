@@ -33,7 +33,7 @@ FOREIGN = ["lp_c", "lp_page"]
 # Crates whose public functions the page has too, though no library hands them on.
 BESIDE = {"lp_influx": "A reader that reads as InfluxDB 1.x does", **dict.fromkeys(SHARED, "What the programs share"),
           "lp_relay_program": "The program of the relay", "lp_series_program": "The program that counts series"}
-MOST_SILENT = 6  # so many public calls may lack a first sentence that can be read alone
+MOST_SILENT = 1  # so many public calls may lack a first sentence that can be read alone
 GOES_ON = re.compile(r"(?:The same|So|And)\b")
 
 HEAD = """\

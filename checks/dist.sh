@@ -50,7 +50,8 @@ operating=
 [ ! -e "$top/docs/OPERATING.md" ] || operating=$documents/OPERATING.md$'\n'
 
 # What is installed, a name in each line.
-installed="bin/lp_rebuild
+installed="bin/lp_gateway
+bin/lp_rebuild
 bin/lp_relay
 bin/lp_series
 include/influxdb_line_protocol.h
@@ -62,6 +63,7 @@ lib/libinfluxdb_line_protocol.so
 lib/libinfluxdb_line_protocol.so.${version%%.*}
 lib/libinfluxdb_line_protocol.so.$version
 lib/pkgconfig/influxdb_line_protocol.pc
+lib/systemd/system/lp-gateway.service
 share/bash-completion/completions/lp_rebuild
 share/bash-completion/completions/lp_relay
 share/bash-completion/completions/lp_series
@@ -69,6 +71,7 @@ $documents/CALLS.md
 $documents/CHANGELOG.md
 $documents/DEFINITIONS.md
 $documents/FORMAT.md
+$documents/GATEWAY.md
 $documents/INTEROP.md
 $documents/LICENSE-APACHE
 $documents/LICENSE-MIT
@@ -77,9 +80,7 @@ $documents/SOURCES
 $documents/TRUST.md
 $documents/VERDICTS
 $documents/examples/apart.sh
-$documents/examples/endpoint/README.md
-$documents/examples/endpoint/go.mod
-$documents/examples/endpoint/main.go
+$documents/examples/lp_gateway.options
 $documents/examples/parts.sh
 $documents/examples/send.sh
 $documents/examples/slurm/nodes.sh
@@ -92,6 +93,7 @@ $documents/examples/two_lines.lp
 share/fish/vendor_completions.d/lp_rebuild.fish
 share/fish/vendor_completions.d/lp_relay.fish
 share/fish/vendor_completions.d/lp_series.fish
+share/man/man1/lp_gateway.1
 share/man/man1/lp_rebuild.1
 share/man/man1/lp_relay.1
 share/man/man1/lp_series.1
@@ -108,7 +110,7 @@ equal() {
 # Copies what bin/install and bin/dist read.
 copy_sources() {
     mkdir -p "$1/bindings" "$1/docs"
-    (cd "$top" && cp -R --parents bin include man packaging tables examples checks launch.sh CHANGELOG.md LICENSE-* crates/*/{src,specs} "$1" && cp docs/*.md "$1/docs")
+    (cd "$top" && cp -R --parents bin gateway include man packaging tables examples checks launch.sh CHANGELOG.md LICENSE-* crates/*/{src,specs} "$1" && cp docs/*.md "$1/docs")
     cp -R "$top"/bindings/{build.sh,c,go,python,rust} "$1/bindings"
 }
 
@@ -513,9 +515,9 @@ build_go() {
             fail "over $how no program in Go was built: $(cat "$work/log")"
         equal "what a program in Go prints" $' at line 1:2: A generic parsing error occurred: TakeWhile1\nm <nil>' "$(LD_LIBRARY_PATH=$prefix/lib "$work/go/prog")"
     done
-    cp -R "$prefix/$documents/examples/endpoint" "$work/go"
-    (cd "$work/go/endpoint" && go mod edit -replace "yomskafi.example/lineprotocol/v3=$module" && go build -o endpoint .) >"$work/log" 2>&1 ||
-        fail "the endpoint of the examples is not built over the packed module: $(cat "$work/log")"
+    cp -R "$top/gateway" "$work/go"
+    (cd "$work/go/gateway" && go mod edit -replace "yomskafi.example/lineprotocol/v3=$module" && go build -o gateway .) >"$work/log" 2>&1 ||
+        fail "lp_gateway is not built over the packed module: $(cat "$work/log")"
     # A library of another version ends the program as it starts.
     cp -R "$module" "$work/go/other"
     make_other "$work/go/other/liblp_c.a"
@@ -524,7 +526,7 @@ build_go() {
     ! "$work/go/other_prog" >"$work/out" 2>"$work/err" || fail "a program in Go runs over the library of another version"
     equal "what a program in Go says of another version" "panic: lineprotocol: the library is of version 2.1.0: this module needs one of version 3" \
         "$(head -n 1 "$work/err")"
-    told+=("a program in Go over the packed module and over the installed library, and the endpoint of the examples")
+    told+=("a program in Go over the packed module and over the installed library, and lp_gateway")
 }
 
 # Builds a program in Rust that names the original crate, over the packed crate, and over the installed library.

@@ -930,6 +930,30 @@ def warning_of_style(tree):
 
 # Calls
 
+# Functions of programs without clauses
+
+WITHOUT, MOST_WITHOUT = "tables/without_ensures.tsv", 165
+WHYS = ("acts", "cell", "main", "message", "report", "owed")
+FUNCTION = re.compile(r"^( *)(?:pub(?:\([a-z]+\))? )?fn (\w+)((?:(?!;\n).)*?)(?:\n\1\{| \{)$", re.M | re.S)
+
+
+def check_ensures(tree):
+    """Compares the functions of the programs' crates that have no `ensures`, and are of no impl of a trait, with tables/without_ensures.tsv."""
+    rows = [line.split("\t") for line in tree.text(WITHOUT).splitlines() if not line.startswith("#")]
+    listed = Counter((crate, file, name) for crate, file, _, names in rows for name in names.split())
+    tree.looked_at["functions without an ensures"] += sum(listed.values())
+    yield from (f"{WITHOUT}: {why} is no reason" for _, _, why, _ in rows if why not in WHYS)
+    found = Counter()
+    for crate in sorted({row[0] for row in rows}):
+        for path in tree.glob(f"crates/{crate}/src/*.rt"):
+            text = re.sub(r"^impl\b[^{]*? for .*?^\}$", "", tree.text(path), flags=re.M | re.S)
+            found.update((crate, path.split("/")[-1], name) for _, name, head in FUNCTION.findall(text) if "ensures" not in head)
+    yield from (f"{WITHOUT}: {' '.join(one)} has an ensures, or is not there" for one in (listed - found).elements())
+    yield from (f"{' '.join(one)} has no ensures: {WITHOUT} does not have it" for one in (found - listed).elements())
+    if sum(listed.values()) > MOST_WITHOUT:
+        yield f"{WITHOUT}: {sum(listed.values())} functions, more than {MOST_WITHOUT}"
+
+
 def calls_page(tree):
     """The text of docs/CALLS.md, by checks/calls.py, which needs this file."""
     return importlib.import_module("calls").page(tree)
@@ -939,7 +963,7 @@ def calls_page(tree):
 
 CHECKS = {"versions": check_versions, "definitions": check_definitions, "settings": check_settings, "blocks": check_blocks,
           "links": check_links, "names": check_names, "layers": check_layers, "lemmas": check_lemmas, "header": check_header,
-          "bindings": check_bindings}
+          "bindings": check_bindings, "ensures": check_ensures}
 SCRIPTS = {name: f"checks/{name}.py" for name in ("calls", "reading", "bugs", "what_sees", "what_programs_see")} | {"tables": "tables/generate.py"}
 WRITERS = {"blocks": block_texts, "definitions": lambda tree: {DEFINITIONS: definitions_page(tree)}, "calls": lambda tree: {CALLS: calls_page(tree)}}
 

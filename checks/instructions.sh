@@ -1,8 +1,8 @@
 #!/usr/bin/env bash
 # Counts by callgrind how many instructions each way to read a text takes, and compares them with checks/instructions.tsv: of a call over no
 # line, and how many more a line takes, ten lines, and 64 KiB of lines, of three corpora of the bench. Fails if a count is more than 1.05
-# times the recorded one. Counts depend on no other work of the machine, but on the compiler: the table says which one there was as it was
-# recorded, and what another one made is left out.
+# times the recorded one, or if the keys of lines take more than 1.1 times their bases: both are texts to group lines by. Counts depend on no
+# other work of the machine, but on the compiler: the table says which one there was as it was recorded, and what another one made is left out.
 #
 #   checks/instructions.sh [--write] [ARCHIVE]     --write records the counts
 #
@@ -76,7 +76,7 @@ count() {
 c=(-I"$top/include" "$top"/bindings/c/{heap,empty}.c "$archive")
 if has C cc; then
     cc -O2 "$top"/bench/{driver,callers}.c "${c[@]}" -o "$built/callers"
-    for call in lp_lines_{next,block} lp_offsets_{block,keys,verdicts,block_verdicts}; do
+    for call in lp_lines_{next,block} lp_offsets_{block,keys,verdicts,block_verdicts} bases keys; do
         count "C, $call" "$built/callers" --once "$call"
     done
 fi
@@ -178,6 +178,13 @@ awk -F '\t' '
       for (at = 2; at <= NF; at++)
           if ($at <= 0 || $at > 1.05 * old[at]) {
               printf "instructions: %s, column %d: %d, and %d were recorded\n", $1, at, $at, old[at]
+              failed = 1
+          } }
+    $1 == "C, bases" { split($0, bases) }
+    $1 == "C, keys" {
+      for (at = 3; at <= NF; at++)
+          if ($at > 1.1 * bases[at]) {
+              printf "instructions: column %d: %d for keys, and %d for bases\n", at, $at, bases[at]
               failed = 1
           } }
     END { if (!failed) print "instructions: no count is over 1.05 times the recorded one"; exit failed }' "$table" "$built/counted"

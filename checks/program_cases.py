@@ -171,18 +171,25 @@ def fault_lines(word, numbers, text=X):
 # What each program says of itself.
 @case
 def helps(room):
-    """--help prints the usage of docs/OPERATING.md, a line for each option, and all of its text; -h prints the same."""
+    """--help all prints the usage of docs/OPERATING.md, a line for each option, and all of its text; --help at most 24 lines of 80 columns,
+    with the options that tables/options.txt marks; -h prints the same."""
     usage = re.search(r"^usage: lp_relay .*?\n(?=```$)", (TOP / "docs/OPERATING.md").read_text(), re.M | re.S)[0].encode()
-    done = room.run("--help")
-    same("the status and the messages", (done.status, done.err), (0, b""))
+    done, short = room.run("--help all"), room.run("--help")
+    same("the status and the messages", (done.status, done.err, short.status, short.err), (0, b"", 0, b""))
     same("the beginning of the help", done.out[:len(usage)], usage)
-    same("the last line", done.out.splitlines()[-1], b"nothing reads the output, which is said by no message.")
-    for option in re.findall(r"^option: (\S+)", (TOP / "tables/options.txt").read_text(), re.M):
-        if not re.search(rf"^  {option}( [A-Z.]+)?(, -[a-z])?(  |$)", done.out.decode(), re.M):
-            raise Wrong(f"--help does not say what {option} does")
-    same("what -h prints", room.run("-h"), done)
+    same("the end", done.out.split(b"Exit status")[1].split()[-5:], b"if nothing reads the output.".split())
+    records = re.findall(r"^option: (\S+).*\n((?:.+\n)*)", (TOP / "tables/options.txt").read_text(), re.M)
+    for option, fields in records:
+        head = re.compile(rf"^  {option}( [A-Z.]+| strict)?(, -[a-z])?(  |$)".encode(), re.M)
+        if not head.search(done.out):
+            raise Wrong(f"--help all does not say what {option} does")
+        same(f"whether --help has {option}", bool(head.search(short.out)), "\noften: yes\n" in f"\n{fields}")
+    lines = short.out.splitlines()
+    same("whether the short help fits on a screen", (len(lines) <= 24, max(map(len, lines)) <= 80), (True, True))
+    same("the last line of the short help", lines[-1][-34:], b"all options, `man lp_relay` explains them."[-34:])
+    same("what -h prints", (room.run("-h"), room.run("-h all")), (short, done))
     series = room.run("--help", program=room.series)
-    same("the last line of lp_series", series.out.splitlines()[-1], b"wrong; 141: nothing reads the output, which is said by no message.")
+    same("the end of lp_series", series.out.split()[-5:], b"if nothing reads the output.".split())
     same("what -h of lp_series prints", room.run("-h", program=room.series), Done(0, series.out))
 
 
@@ -191,7 +198,7 @@ def helps(room):
 def unread_outputs(room):
     """If nothing reads the output, lp_relay and lp_series end with status 141 and say nothing; lp_rebuild ends with 2, and says it."""
     long = LINE * 100000
-    for words in ("", "--cut 2", "--help", "-h", "--version"):
+    for words in ("", "--cut 2", "--help", "-h", "--help all", "--version"):
         same(f"lp_relay {words}", room.unread(words, long), Done(141))
     room.write("out", b"old\n")
     same("if nothing reads standard error", room.unread("-o out", b"m b=2i\nx\n", stream="stderr"), Done(141))
@@ -558,6 +565,8 @@ def files_on_the_device(room):
         (room.path / name).unlink()
     run, trace = room.traced(f"-o out --refused refused {10 * 'long '} b", calls)
     same("new files, of which one has 2 MB", (run.status, done(trace)), (1, "link unlink link unlink fsync fsync link unlink link unlink fsync fsync".split()))
+    run, trace = room.traced("--check --refused refused --append b", calls)
+    same("a file that grows", (run.status, done(trace)), (1, ["fsync"]))
     (room.path / "out").unlink()
     with open(room.path / "b", "rb") as source:
         run, _ = room.traced("-o out", "link", None, ["-e", "inject=link:error=EPERM:when=1"], stdin=source)

@@ -1,5 +1,5 @@
 #!/usr/bin/env bash
-# Asks systemd-analyze of the units of examples/systemd, whether it can read them and how much they let a service do. With a relay, runs what
+# Asks systemd-analyze of the units of examples/systemd and of gateway, whether it can read them and how much they let a service do. With a relay, runs what
 # lp-relay@.service runs, over TCP as its socket does, and compares what comes; kills it, and sees what left.sh makes of what is left then;
 # turns its faults by logrotate; and runs the lines of docs/OPERATING.md.
 #
@@ -40,8 +40,8 @@ same() {
 
 # Copies of the units and of what they name, with folders and programs that are here.
 mkdir -p "$work/units" "$work/log" "$work/lib"/{spool,refused}
-for unit in "$top"/examples/systemd/lp*; do
-    sed -e "s|/usr/bin/lp_relay|${relay:-/bin/true}|" -e "s|/usr/local/lib/lp_relay/send.sh|$top/examples/send.sh|" \
+for unit in "$top"/examples/systemd/lp* "$top/gateway/lp-gateway.service"; do
+    sed -e "s|^ExecStart=lp_gateway |ExecStart=/bin/true |" -e "s|^ExecReload=kill |ExecReload=/bin/kill |" -e "s|/usr/bin/lp_relay|${relay:-/bin/true}|" -e "s|/usr/local/lib/lp_relay/send.sh|$top/examples/send.sh|" \
         -e "s|/usr/local/lib/lp_relay/left.sh|$top/examples/systemd/left.sh|" -e "s|/var/log/lp_relay|$work/log|" \
         -e "s|/var/lib/lp_relay|$work/lib|g" "$unit" >"$work/units/${unit##*/}"
 done
@@ -64,6 +64,7 @@ if [[ $(systemd-analyze --help 2>/dev/null) = *--threshold* ]]; then
     exposed=()
     least lp-relay@.service 5
     least lp-send.service 15
+    least lp-gateway.service 15
     echo "systemd: the units can be read, and their exposure is, of 10: $(printf '%s, ' "${exposed[@]}" | sed 's/, $//')"
 else
     left_out "units of systemd" "there is no systemd-analyze of systemd 250 or later, for checks/systemd.sh"

@@ -11,18 +11,10 @@ import re
 import sys
 from pathlib import Path
 
-from options import ALONE, DIALECTS, FIRST, programs
-from records import Fault, read
+from options import ALONE, DIALECTS, FIRST, brief, programs
+from records import read
 
 FILES = {"bash": "bash/{}", "zsh": "zsh/_{}", "fish": "fish/{}.fish"}
-
-
-def brief(option):
-    """What completion says of an option."""
-    said = option.get("brief") or re.split(r"[:.;]", option.get("does").replace("`", ""))[0]
-    if set(said) & set("'\"[]$`\\"):
-        raise Fault(f"completion cannot say this of {option.word}: {said}")
-    return said
 
 
 def odds_of(option, found):

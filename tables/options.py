@@ -7,6 +7,7 @@ each word of a few that comes after one, must be told in CHANGELOG.md, and in a 
 """
 
 import re
+import textwrap
 from dataclasses import dataclass
 from typing import NamedTuple
 
@@ -15,12 +16,12 @@ from records import TOP, Fault, Place, read
 
 DATA, SERIES = "tables/options.txt", "tables/series_options.txt"
 FIELDS = ("option", "short", "values", "not with", "unless", "needs", "place", "usage after", "in parts", "does", "default", "man", "example",
-          "errors", "see also", "brief", "help", "format", "lp_rebuild")
-SHARED = "short", "values", "does", "default", "brief", "help"  # what a record of lp_series takes from that of lp_relay
+          "errors", "see also", "often", "brief", "format", "lp_rebuild")
+SHARED = "short", "values", "does", "default", "brief"  # what a record of lp_series takes from that of lp_relay
 DIALECTS = "--strict", "--newline-delimited"
 FORM, FIRST, ALONE = "a form", "first or after a dialect", "alone"
 PLACES_TOLD = {"": "", FORM: "", FIRST: f", first or after `{'` or `'.join(DIALECTS)}`", ALONE: ", alone"}  # as docs/FORMAT.md has them
-COLUMN, HELP_WIDTH, CODE_WIDTH = 21, 81, 100
+COLUMN, HELP_WIDTH, CODE_WIDTH = 21, 79, 100
 USAGE_WIDTH = {"lp_relay": 96, "lp_rebuild": 96, "lp_series": 104}
 
 # The files with code and definitions of each program's words.
@@ -90,8 +91,6 @@ def option_of(path, lines, shared):
         raise Fault(f"{path}: this is no option, or it has no line `does`: {told or lines}")
     if " ".join(lines.get("place", [])) not in PLACES_TOLD:
         raise Fault(f"{path}: {head[1]}: there is no such place: {lines['place'][0]}")
-    if long := [line for line in lines.get("help") or lines["does"] if len(line) > HELP_WIDTH]:
-        raise Fault(f"{path}: {head[1]}: a line of the help has more than {HELP_WIDTH} bytes: {long[0]}")
     return Option(head[1], head[2] or "", lines, {})
 
 
@@ -185,14 +184,44 @@ def usage(program):
     return lines
 
 
-def help_lines(found):
-    """What the help says of options."""
+def brief(option):
+    """What the short help, zsh and fish say of an option, without the full stop."""
+    text = option.get("brief") or re.split(r"[:.;]", option.get("does").replace("`", ""))[0]
+    if set(text) & set("'\"[]$`\\"):
+        raise Fault(f"completion cannot say this of {option.word}: {text}")
+    return text
+
+
+def any_of(words):
+    """Words of which one is taken."""
+    return " or ".join(part for part in (", ".join(words[:-1]), words[-1]) if part)
+
+
+def by_words(text, option):
+    """A sentence without its full stop, with the words of which one comes after the option, if there are several."""
+    values = option.get("values").split()
+    return text + (f": {any_of(values)}." if len(values) > 1 else ".")
+
+
+def said(option):
+    """What the help says of an option: what it does, what happens without it, and how it goes with others."""
+    texts = [by_words(option.get("does").rstrip("."), option), option.get("default")]
+    for unless in dict.fromkeys(option.rivals.values()):
+        rivals = any_of([word for word, other in option.rivals.items() if other == unless])
+        texts.append(f"Cannot be combined with {rivals}" + (f", except with {unless}." if unless else "."))
+    texts += [f"Needs {option.get('needs')}."] if option.get("needs") else []
+    return " ".join(text for text in texts if text).replace("`", "")
+
+
+def help_lines(found, tell):
+    """What the help says of options, by a function of each."""
     for option in found:
-        head = ", ".join([f"  {option.word} {option.argument}".rstrip(), *option.words()[1:]])
+        argument = option.get("values") if len(option.get("values").split()) == 1 else option.argument
+        head = ", ".join([f"  {option.word} {argument}".rstrip(), *option.words()[1:]])
         if len(head) > COLUMN - 1:
             yield head
             head = ""
-        for line in option.lines.get("help") or option.lines["does"]:
+        for line in textwrap.wrap(tell(option), HELP_WIDTH - COLUMN, break_long_words=False, break_on_hyphens=False):
             yield head.ljust(COLUMN) + line
             head = ""
 
@@ -205,7 +234,7 @@ def rows(program):
             head += ", not with " + " or ".join(f"`{word}`" for word in option.get("not with").split())
             head += f", but with `{option.get('unless')}`" if option.get("unless") else ""
         rebuild = [option.get("lp_rebuild") or "wrong"] if program.name == "lp_relay" else []
-        cells = head + PLACES_TOLD[option.get("place")], *rebuild, option.get("format") or option.get("help") or option.get("does")
+        cells = head + PLACES_TOLD[option.get("place")], *rebuild, option.get("format") or option.get("does")
         yield f"| {' | '.join(cells)} |"
 
 
@@ -250,9 +279,11 @@ def places_of_code(program):
     code, found = CODE[program.name][0], program.options
     yield Place(code, ("/// How the program is called",), "", usage_constant(usage(program)))
     if program.placed(ALONE):
-        yield Place(code, ("pub const HELP", ""), "", as_code(help_lines(found)))
+        yield Place(code, ("pub const HELP", ""), "", as_code(help_lines(found, said)))
         yield Place(code, ("/// Options that have a value after them",), "", valued(found))
     if program.name == "lp_relay":
+        often = [option for option in found if option.lines.get("often")]
+        yield Place(code, ("pub const SHORT_HELP", ""), "", as_code(help_lines(often, lambda option: by_words(brief(option), option))))
         yield Place(code, ("/// Options that exclude each other",), "", odds(found))
         yield Place(code, ("/// Options, each with one that it needs",), "", needs(found))
 
@@ -284,7 +315,7 @@ def places():
 def told(path, text):
     """The words of options that a file of code or definitions has between quotes, without its comments."""
     comment = r"^ *//.*\n" if path.endswith(".rt") else r"^ *--.*\n"
-    text = re.sub(r"^pub const (USAGE|HELP): &str =\s.*?\";\n", "", text, flags=re.M | re.S)
+    text = re.sub(r"^pub const (USAGE|HELP|SHORT_HELP): &str =\s.*?\";\n", "", text, flags=re.M | re.S)
     return set(WORD.findall(re.sub(comment, "", text, flags=re.M)))
 
 
@@ -313,15 +344,6 @@ def differences(program):
         yield from (f"{path} has {word}, and the table of {program.name} does not" for word in sorted(has - wanted))
 
 
-def differences_of_relay(found):
-    """Where the end of the help does not say how the options of lp_relay go together."""
-    code = read(CODE["lp_relay"][0])
-    odds = words_at_odds(found)
-    last = code.partition("The options of a relay come in any order")[2].partition('";')[0]
-    needs = {word for option in found if option.get("needs") for word in (option.word, option.get("needs"))}
-    yield from (f"{CODE['lp_relay'][0]}: the help does not say with what {word} goes" for word in sorted(odds | needs) if word not in last)
-
-
 def differences_of_series(found):
     """Where the code and the records of lp_series have other options that exclude each other. The order is that in which messages name them."""
     code = CODE["lp_series"][0]
@@ -348,4 +370,4 @@ def problems():
     relay, _, series = (program.options for program in found)
     for program in found:
         yield from differences(program)
-    yield from (*differences_of_relay(relay), *untold(relay), *differences_of_series(series))
+    yield from (*untold(relay), *differences_of_series(series))

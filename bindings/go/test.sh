@@ -1,7 +1,7 @@
 #!/usr/bin/env bash
 # Tests the Go package of this folder over the static library of crates/lp_c: its own tests, the table of answers and its examples, as they
 # are, beside the race detector, and with each pointer watched that goes to C; refuses each request for memory in turn; looks at it by gofmt and
-# vet; runs the tests of examples/endpoint, which stands on it; makes the program of docs/BINDINGS.md as the page says; and compares it with
+# vet; makes the program of docs/BINDINGS.md as the page says; and compares it with
 # ParsePoints by checks/go_beside.sh.
 #
 #     bindings/go/test.sh             makes the archive first
@@ -30,7 +30,7 @@ try() {
         exit 1
     fi
 }
-unformatted=$(gofmt -l . "$top/checks/golang" "$top/bench/golang" "$top/examples/endpoint")
+unformatted=$(gofmt -l . "$top/checks/golang" "$top/bench/golang" "$top/gateway")
 if [ -n "$unformatted" ]; then
     echo "go: gofmt lays these files out otherwise: $unformatted" >&2
     exit 1
@@ -53,10 +53,6 @@ if go run -race "$built/nothing.go" >"$built/log" 2>&1; then
 else
     left_out "race detector of Go" "$(tail -n 1 "$built/log")"
 fi
-cd "$top/examples/endpoint"
-try go vet .
-try go test .
-
 # The program of docs/BINDINGS.md is made in an empty folder, as the page says.
 part_of_page() {
     sed -n '/^## Go$/,/^## /p' "$top/docs/BINDINGS.md" | sed -n "/^\`\`\`$1\$/,/^\`\`\`\$/ { /^\`\`\`/d; p; }"

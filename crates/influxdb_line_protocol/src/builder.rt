@@ -1,8 +1,11 @@
-//! Writes lines, in typed states, and tells which texts are lines as they are written here.
+//! Writes lines with a builder whose type allows only correct lines, and checks whether a text is a line as the builder writes
+//! it.
 //!
-//! A [`LineProtocolBuilder`] begins before a measurement. Its type says what may come next, so a
-//! line without a field, a tag after a field or a second timestamp does not compile, and
-//! [`LineProtocolBuilder::build`] gives the buffer back between two lines alone.
+//! A new [`LineProtocolBuilder`] waits for a measurement. The type of the builder says what may come next: a line without a
+//! field, a tag after a field and a second timestamp do not compile. [`LineProtocolBuilder::build`] can return the buffer only
+//! between two lines.
+//!
+//! [`write_line`] writes a line that was parsed. [`write_admitted_line`] does so only if the line reads back.
 
 mod admitted;
 

@@ -1,11 +1,13 @@
 //! Reads and writes InfluxDB line protocol.
 //!
-//! [`parse_lines`] reads a text piece by piece: a piece that cannot be read is one fault, and the next pieces are answered as
-//! if it had not been there. A piece is a line, together with the lines after it that it takes in: those inside its quotes,
-//! and the line after a backslash at its end. In [`Dialect::NewlineDelimited`] it is just a line. [`builder`] writes lines that read
-//! back.
+//! [`parse_lines`] reads a text piece by piece and gives a line or a fault for each piece. A piece that cannot be read does not
+//! change the items of the next pieces. A piece is a line of text together with the lines that it takes in: a newline inside
+//! quotes, and a newline after a backslash, do not end it. In [`Dialect::NewlineDelimited`], each newline ends a piece.
 //!
-//! What a user names is here, and the laws that tie reading and writing. The code is in the crates below, a layer each.
+//! [`builder`] writes lines that read back. [`portable`] checks whether servers read a line as this library does. [`laws`] has
+//! the theorems that tie reading and writing together.
+//!
+//! This crate hands on every name that a user needs. The code is in the crates below, a layer each.
 #![tactic(auto)]
 
 pub mod builder;

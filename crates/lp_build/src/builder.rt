@@ -1,8 +1,8 @@
-//! Writes lines, in typed states.
+//! Writes lines with a builder whose type allows only correct lines.
 //!
-//! A [`LineProtocolBuilder`] begins before a measurement. Its type says what may come next, so a
-//! line without a field, a tag after a field or a second timestamp does not compile, and
-//! [`LineProtocolBuilder::build`] gives the buffer back between two lines alone.
+//! A new [`LineProtocolBuilder`] waits for a measurement. The type of the builder says what may come next: a line without a
+//! field, a tag after a field and a second timestamp do not compile. [`LineProtocolBuilder::build`] can return the buffer only
+//! between two lines.
 
 ghost use Rattle.std.specs.Prelude.{◌≡◌, ◌≢◌, ◌+◌, ◌<◌, ◌≤◌, ◌^◌, [], ◌∷◌, ◌++◌, length, IfOk, IfErr, IsOk, SomeIff};
 ghost use Rattle.std.specs.Fmt.{signed_decimal};
@@ -24,7 +24,7 @@ pub use lines::{is_admitted, is_admitted_in, write_line};
 use texts::{escaped_len, put_escaped};
 pub use values::FieldValue;
 
-// The length of a tag with the comma before it, if a `usize` holds it.
+// Returns the length of a tag with the comma before it, or `None` if no `usize` can hold the length.
 #[inline(always)]
 fn tag_len(key: &[u8], value: &[u8]) -> Option<usize>
     ensures { let text = built_tag (record { key = key.now; value = value.now }) in
@@ -49,7 +49,7 @@ fn put_tag<B: BufMut>(buf: &mut B, key: &[u8], value: &[u8])
     put_escaped(buf, TokenKind::TagValue, value);
 }
 
-// The length of a field with the byte before it, if a `usize` holds it.
+// Returns the length of a field with the byte before it, or `None` if no `usize` can hold the length.
 fn field_len<F: FieldValue>(key: &[u8], value: &F) -> Option<usize>
     ensures { let text = space ∷ field_text key.now (F.text value.now) in
         SomeIff result (length text < 2 ^ 64) (length text) }
@@ -71,30 +71,30 @@ fn put_field<B: BufMut, F: FieldValue>(buf: &mut B, before: u8, key: &[u8], valu
     value.fmt(buf);
 }
 
-/// No line is open: a measurement begins one, or the buffer is given back.
+/// The state between two lines. A measurement can come next, or `build`.
 #[derive(Clone, Copy, Debug, Default)]
 pub struct BeforeMeasurement;
 
-/// A line has its measurement, and its tags so far: a tag or the first field comes next.
+/// The state after a measurement and its tags so far. A tag or the first field can come next.
 #[derive(Clone, Copy, Debug)]
 pub struct AfterMeasurement;
 
-/// A state that no builder is in.
+/// A state that no builder is in. The original Rust crate has a type of this name.
 #[derive(Clone, Copy, Debug)]
 pub struct AfterTag;
 
-/// A line has a field: a field, the timestamp or the end of the line comes next.
+/// The state after a field. A field, the timestamp or the end of the line can come next.
 #[derive(Clone, Copy, Debug)]
 pub struct AfterField;
 
-/// A line has its timestamp: its end comes next.
+/// The state after a timestamp. The end of the line must come next.
 #[derive(Clone, Copy, Debug)]
 pub struct AfterTimestamp;
 
-/// A builder in the state `S`, which appends lines to a `B`.
+/// A builder that appends lines to a buffer of type `B`. The type `S` is the state of the builder.
 ///
-/// Each writing call makes room for its whole text, and then appends exactly that text. If it is
-/// refused it gives the builder back, in the state and with the bytes that it had.
+/// Each call that writes makes room for its whole text and then appends exactly this text. If the buffer has no room, the call
+/// returns [`Refused`], which holds the builder in the state and with the bytes that it had.
 ///
 /// ```
 /// let line = LineProtocolBuilder::new(alloc);
@@ -112,17 +112,17 @@ pub struct LineProtocolBuilder<B: BufMut, S> {
     state: PhantomData<S>,
 }
 
-/// A refused call: the builder as it was before the call, and why it was refused.
+/// The error of a call that was refused. It holds the builder as the builder was before the call, and the cause.
 #[derive(Drop)]
 pub struct Refused<B: BufMut, S> {
     /// The builder, in the state in which the call was made, with the bytes that it had.
     pub builder: LineProtocolBuilder<B, S>,
-    /// Why the call was refused.
+    /// The reason why the call was refused.
     pub cause: NoRoom,
 }
 
 impl<B: BufMut, S> LineProtocolBuilder<B, S> {
-    // A builder over `buf`, in this state.
+    // Returns a builder over `buf`, in this state.
     fn over(buf: B) -> Self
         ensures { buffer_of result ≡ buf }
     {
@@ -132,7 +132,7 @@ impl<B: BufMut, S> LineProtocolBuilder<B, S> {
         }
     }
 
-    // The buffer, with room for `n` more bytes.
+    // Returns the buffer with room for `n` more bytes, or the error that the buffer gives.
     fn with_room(self, n: usize) -> Result<B, Refused<B, S>>
         ensures bytes { IfOk result (λ b. B.bytes b ≡ B.bytes (buffer_of self)) }
         ensures more { IfOk result (λ b. B.room (buffer_of self) ≤ B.room b) }
@@ -154,7 +154,7 @@ impl<B: BufMut, S> LineProtocolBuilder<B, S> {
         }
     }
 
-    // The refusal of a text whose length no `usize` holds.
+    // Returns the error of a text whose length no `usize` can hold.
     fn too_long(self) -> Refused<B, S>
         ensures builder { buffer_of result.builder ≡ buffer_of self }
         ensures cause { result.cause ≡ TooLong }
@@ -194,7 +194,11 @@ impl<B: BufMut, S> LineProtocolBuilder<B, S> {
 }
 
 impl LineProtocolBuilder<Vec<u8>, BeforeMeasurement> {
-    /// A builder over an empty `Vec`, without a line. It takes no memory.
+    /// Returns a builder over an empty `Vec`. Takes no memory until the first call that writes.
+    ///
+    /// ```
+    /// let lines = LineProtocolBuilder::new(alloc);
+    /// ```
     pub fn new(alloc: Global) -> Self
         ensures { (buffer_of result).items ≡ [] }
     {
@@ -203,19 +207,32 @@ impl LineProtocolBuilder<Vec<u8>, BeforeMeasurement> {
 }
 
 impl<B: BufMut> LineProtocolBuilder<B, BeforeMeasurement> {
-    /// A builder that appends to `buf`. What `buf` holds should be closed lines, if its bytes are
-    /// to read back.
+    /// Returns a builder that appends to `buf`. The bytes that `buf` holds stay in front.
+    ///
+    /// If the bytes must read back, `buf` should hold closed lines: no bytes, or lines that each end with a newline.
+    ///
+    /// ```
+    /// // a builder of packets of at most 64 bytes, which never takes memory
+    /// let lines: LineProtocolBuilder<ArrayVec<u8, 64>, BeforeMeasurement> = LineProtocolBuilder::new_with(ArrayVec::new());
+    /// ```
     pub fn new_with(buf: B) -> Self
         ensures { buffer_of result ≡ buf }
     {
         Self::over(buf)
     }
 
-    /// Begins a line by its measurement: `name`, with a backslash before each `,`, space and `\`.
+    /// Begins a line: appends the measurement `name`, with a backslash before each `,`, space and `\`.
+    ///
+    /// ```text
+    /// line.measurement("weather")     appends weather
+    /// line.measurement("with space")  appends with\ space
+    /// line.measurement("with,comma")  appends with\,comma
+    /// line.measurement("with=eq")     appends with=eq
+    /// ```
     ///
     /// # Errors
     ///
-    /// What the buffer answers if it has no room for that text. The builder is then as before.
+    /// Returns the cause that the buffer gives if the buffer has no room for this text. The builder is then as it was.
     pub fn measurement(
         self,
         name: &str,
@@ -228,7 +245,11 @@ impl<B: BufMut> LineProtocolBuilder<B, BeforeMeasurement> {
         Ok(LineProtocolBuilder::over(buf))
     }
 
-    /// The buffer, with all lines that were written.
+    /// Returns the buffer with all lines that were written.
+    ///
+    /// ```
+    /// let bytes = lines.build();
+    /// ```
     pub fn build(self) -> B
         ensures { result ≡ buffer_of self }
     {
@@ -237,13 +258,19 @@ impl<B: BufMut> LineProtocolBuilder<B, BeforeMeasurement> {
 }
 
 impl<B: BufMut> LineProtocolBuilder<B, AfterMeasurement> {
-    /// Appends a tag: a comma, `key`, `=` and `value`, each of the two with a backslash before each
-    /// `,`, `=`, space and `\`. Tags are written as they come, also if a key repeats.
+    /// Appends a tag: a comma, `key`, `=` and `value`. The key and the value get a backslash before each `,`, `=`, space and `\`.
+    ///
+    /// Tags are written in the order of the calls. A key can be written twice.
+    ///
+    /// ```text
+    /// line.tag("city", "Bad Ems")  appends ,city=Bad\ Ems
+    /// line.tag("dummy", "with=eq") appends ,dummy=with\=eq
+    /// ```
     ///
     /// # Errors
     ///
-    /// `TooLong` if no `usize` holds the length of that text, and else what the buffer answers
-    /// if it has no room for it. The builder is then as before.
+    /// Returns `TooLong` if no `usize` can hold the length of this text, and otherwise the cause that the buffer gives if the
+    /// buffer has no room for it. The builder is then as it was.
     pub fn tag(
         self,
         key: &str,
@@ -260,13 +287,19 @@ impl<B: BufMut> LineProtocolBuilder<B, AfterMeasurement> {
         Ok(LineProtocolBuilder::over(buf))
     }
 
-    /// Appends the first field: a space, `key` with a backslash before each `,`, `=`, space and `\`,
-    /// then `=` and the value's text.
+    /// Appends the first field: a space, `key`, `=` and the text of `value`. The key gets a backslash before each `,`, `=`, space
+    /// and `\`.
+    ///
+    /// ```text
+    /// line.field("degrees", 21i64)           appends ` degrees=21i`
+    /// line.field("ok", true)                 appends ` ok=true`
+    /// line.field("s", "some \" value")       appends ` s="some \" value"`
+    /// ```
     ///
     /// # Errors
     ///
-    /// `TooLong` if no `usize` holds the length of that text, and else what the buffer answers
-    /// if it has no room for it. The builder is then as before.
+    /// Returns `TooLong` if no `usize` can hold the length of this text, and otherwise the cause that the buffer gives if the
+    /// buffer has no room for it. The builder is then as it was.
     pub fn field<F: FieldValue>(
         self,
         key: &str,
@@ -280,12 +313,17 @@ impl<B: BufMut> LineProtocolBuilder<B, AfterMeasurement> {
 }
 
 impl<B: BufMut> LineProtocolBuilder<B, AfterField> {
-    /// Appends a field after the first: a comma, and then as there.
+    /// Appends another field: a comma, `key`, `=` and the text of `value`. The key gets a backslash before each `,`, `=`, space
+    /// and `\`.
+    ///
+    /// ```text
+    /// line.field("valid", true)              appends ,valid=true
+    /// ```
     ///
     /// # Errors
     ///
-    /// `TooLong` if no `usize` holds the length of that text, and else what the buffer answers
-    /// if it has no room for it. The builder is then as before.
+    /// Returns `TooLong` if no `usize` can hold the length of this text, and otherwise the cause that the buffer gives if the
+    /// buffer has no room for it. The builder is then as it was.
     pub fn field<F: FieldValue>(
         self,
         key: &str,
@@ -299,9 +337,13 @@ impl<B: BufMut> LineProtocolBuilder<B, AfterField> {
 
     /// Appends the timestamp: a space and the number.
     ///
+    /// ```text
+    /// line.timestamp(1_234)                  appends ` 1234`
+    /// ```
+    ///
     /// # Errors
     ///
-    /// What the buffer answers if it has no room for that text. The builder is then as before.
+    /// Returns the cause that the buffer gives if the buffer has no room for this text. The builder is then as it was.
     pub fn timestamp(
         self,
         timestamp: i64,
@@ -317,11 +359,15 @@ impl<B: BufMut> LineProtocolBuilder<B, AfterField> {
         Ok(LineProtocolBuilder::over(buf))
     }
 
-    /// Ends the line with a newline.
+    /// Ends the line: appends a newline.
+    ///
+    /// ```
+    /// let lines = line.close_line().map_err(|refused| refused.cause)?;
+    /// ```
     ///
     /// # Errors
     ///
-    /// What the buffer answers if it has no room for one byte. The builder is then as before.
+    /// Returns the cause that the buffer gives if the buffer has no room for one byte. The builder is then as it was.
     pub fn close_line(
         self,
     ) -> Result<LineProtocolBuilder<B, BeforeMeasurement>, Refused<B, AfterField>>
@@ -332,11 +378,15 @@ impl<B: BufMut> LineProtocolBuilder<B, AfterField> {
 }
 
 impl<B: BufMut> LineProtocolBuilder<B, AfterTimestamp> {
-    /// Ends the line with a newline.
+    /// Ends the line after its timestamp: appends a newline.
+    ///
+    /// ```
+    /// let lines = line.close_line().map_err(|refused| refused.cause)?;
+    /// ```
     ///
     /// # Errors
     ///
-    /// What the buffer answers if it has no room for one byte. The builder is then as before.
+    /// Returns the cause that the buffer gives if the buffer has no room for one byte. The builder is then as it was.
     pub fn close_line(
         self,
     ) -> Result<LineProtocolBuilder<B, BeforeMeasurement>, Refused<B, AfterTimestamp>>

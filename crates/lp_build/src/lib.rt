@@ -1,7 +1,7 @@
-//! The builder, which writes lines that read back, and what writes a parsed line again.
+//! Builds lines that read back, and writes parsed lines again.
 //!
-//! It uses the types of parsed lines and none of their readers. So a change of how lines are read leaves it as it was
-//! proved, and the other way round.
+//! The crate uses the types of parsed lines and none of their readers. A change of how lines are read therefore needs no new
+//! proof of the builder, and a change of the builder needs no new proof of the readers.
 #![tactic(auto)]
 
 pub mod builder;

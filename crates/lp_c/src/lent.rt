@@ -8,13 +8,12 @@ ghost use Rattle.influxdb_line_protocol.specs.format.Lines as format;
 ghost use Rattle.lp_c.specs.Crossing.{AnswersFault, ShowsLine, copied_field, copied_tag, copied_text, field_shown, tag_shown, taken_by, text_shown};
 ghost use Rattle.lp_c.specs.Telling.{PutsCopy, field_filled, filled_line, filled_own, filled_part, filled_parts, filled_view, part_len, tag_filled, view_filled, view_len, waits_for};
 ghost use Rattle.lp_offsets.specs.Numbers.{answer_number, fault_seen, kind_number};
-ghost use Rattle.lp_offsets.specs.Rooms.{Grows, Shows, TakesRoom};
 
 use crate::views::{Line, Part, Room, View};
 use influxdb_line_protocol::{Spelled, SpelledFault, SpelledValue};
 use lp_offsets::enums::{Answer, Kind};
 use lp_offsets::faults::fault_seen;
-use lp_offsets::placed::reads_as_spelled;
+use lp_offsets::placed::{put_copy, reads_as_spelled};
 use lp_values::spelled::shared;
 use std::mem;
 
@@ -65,24 +64,6 @@ pub fn count_field(len: usize, key: Spelled<'_>, value: SpelledValue<'_>) -> usi
     }
 }
 
-// Puts the logical text of a spelling into the room after `len` bytes, if it fits, and says how many bytes there are with it.
-#[inline(always)]
-fn put_copy(room: &mut Room<'_>, len: usize, spelled: Spelled<'_>) -> usize
-    ensures grows { Grows room.old.bytes.now len room.new.bytes.now result }
-    ensures counted { result ≡ min (len + length (spelled_text spelled.entry).bytes) (2 ^ 64 - 1) }
-    ensures shows { Shows (λ r. take (length (spelled_text spelled.entry).bytes) (drop len r)) room.new.bytes.now result
-        (spelled_text spelled.entry).bytes }
-    ensures takes { TakesRoom room.new.bytes.now len result (length (spelled_text spelled.entry).bytes) }
-{
-    let more = spelled.len();
-    let all = len.saturating_add(more);
-    if room.bytes.len() < all {
-        return all;
-    }
-    spelled.put(&mut room.bytes[len..]);
-    all
-}
-
 // Shows a text that holds a backslash: a part of the input as it is; of a copy the length, until it is handed out of the room, into
 // which it is put after `len` bytes. Says how many bytes there are with it.
 #[cold]
@@ -103,7 +84,7 @@ fn show_escaped<'a>(
     }
     view.text = &text.spelled().as_bytes()[..text.len()];
     view.copied = true;
-    put_copy(room, len, text)
+    put_copy(room.bytes, len, text)
 }
 
 // The same of any text. Most texts hold no backslash: two words and a byte are written.

@@ -37,6 +37,7 @@ use lp_series::SeriesCounter;
 use report::Report;
 use std::alloc::Global;
 use std::fmt::Write;
+use std::hash::RandomState;
 use streams::AnyStream;
 
 // The dialects, at their numbers.
@@ -379,8 +380,12 @@ pub extern "C" fn lp_checks_series(
     ends: &mut [u64],
 ) -> u64 {
     let mut report = Report::new(out, ends);
+    let Ok(hashes) = RandomState::new(&series::NoSource) else {
+        return 0;
+    };
     let mut counter = SeriesCounter::new(
         alloc,
+        hashes,
         DIALECTS[(dialect % 3) as usize],
         limit,
         max_series,

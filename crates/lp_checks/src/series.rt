@@ -16,6 +16,17 @@ use crate::report::Report;
 use lp_series::{SeriesCounter, SeriesCounts};
 use std::alloc::AllocError;
 use std::fmt::Write;
+use std::io;
+use std::random::RandomSource;
+
+/// A source of random numbers that gives none, so that each call hashes alike.
+pub struct NoSource;
+
+impl RandomSource for NoSource {
+    fn fill_bytes(&self, _bytes: &mut [u8]) -> io::Result<()> {
+        Ok(())
+    }
+}
 
 // The tables.
 fn render_tables(report: &mut Report<'_>, counts: &SeriesCounts) {

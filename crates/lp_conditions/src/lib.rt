@@ -6,6 +6,7 @@
 pub mod differing;
 pub mod field_types;
 pub mod kinds;
+pub mod line_ends;
 pub mod portable;
 pub mod settings;
 pub mod times;

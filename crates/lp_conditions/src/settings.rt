@@ -13,7 +13,8 @@ use lp_escapes::forms::Faults;
 pub enum LineForm {
     /// A line is written again, in one spelling, if its names are admitted, and else it is refused.
     Rebuilt,
-    /// A line goes out byte for byte as it came, whatever its names are, with what its piece has before it, and a newline.
+    /// A line goes out byte for byte as it came, whatever its names are, with what its piece has before it, and a newline. If that newline
+    /// would not end it, as after the last line `m a,b="="` of an input, it is written again as by `Rebuilt`.
     Verbatim,
     /// A line goes out byte for byte as it came, without what its piece has before it, if it is as it would be written again.
     /// Else it is refused: for a name that is not admitted, or with the first part of it that is not so, as in

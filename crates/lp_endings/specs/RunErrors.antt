@@ -4,6 +4,8 @@ use Rattle.std.specs.Borrow.{Bor}
 use Rattle.lp_rebuild.specs.declared.program.RunFault.{RunFault}
 use Rattle.lp_rebuild.specs.declared.program.RunFault.TheVariants.{Read, NotUtf8, OutOfMemory, Write}
 use Rattle.lp_escapes.specs.JsonTexts.{json_text}
+use Rattle.lp_endings.specs.declared.speaking.Notice.{Notice}
+use Rattle.lp_endings.specs.declared.speaking.Notice.TheVariants.{Removed, Marked, Unkept}
 
 -- the name of a fault of a run
 abbrev pub fault_name : RunFault → List ℕ
@@ -28,3 +30,15 @@ said_end text = codes ",\"text\":\"" ++ json_text text ++ codes "\"}}"
 -- the object of this name of what is said, which has a kind, and a file if that has a name
 abbrev pub told_object : (name kind : List ℕ) → (file : Option (Bor (List ℕ))) → (text : List ℕ) → List ℕ
 told_object name kind file text = said_start name kind ++ file_member file ++ said_end text
+
+-- the name of the kind of what a run says that goes on
+abbrev pub notice_kind : Notice → List ℕ
+notice_kind (Removed name) = codes "removed"
+notice_kind (Marked name) = codes "byte_order_mark"
+notice_kind (Unkept name error) = codes "owner_not_kept"
+
+-- the name of its file, if it has one
+abbrev pub notice_file : Notice → Option (Bor (List ℕ))
+notice_file (Removed name) = Some name
+notice_file (Marked name) = name
+notice_file (Unkept name error) = Some name

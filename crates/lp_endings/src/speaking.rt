@@ -1,7 +1,8 @@
 //! How a program says why a run fails, or is refused, or what it did beside relaying: on a line after its name. If faults are told as
 //! objects, it is an object too, so that who reads objects meets nothing else.
-ghost use Rattle.std.specs.Prelude.{◌≡◌, ◌++◌, string_bytes, OnOk};
-ghost use Rattle.lp_endings.specs.RunErrors.{fault_name, file_member, said_end, said_start, told_object};
+ghost use Rattle.std.specs.Prelude.{◌≡◌, ◌++◌, false, string_bytes, OnOk};
+ghost use Rattle.lp_words.specs.Options.{are_objects};
+ghost use Rattle.lp_endings.specs.RunErrors.{fault_name, file_member, notice_file, notice_kind, said_end, said_start, told_object};
 
 use lp_escapes::forms::Faults;
 use lp_escapes::json::put_json_text;
@@ -100,7 +101,9 @@ fn object_of<D: fmt::Display>(
 
 impl<'p> Speaker<'p> {
     /// What says by texts why a run fails.
-    pub fn by_texts(program: &'p str) -> Self {
+    pub fn by_texts(program: &'p str) -> Self
+        ensures { result ≡ record { program = program.entry; as_objects = false } }
+    {
         Speaker {
             program,
             as_objects: false,
@@ -108,7 +111,9 @@ impl<'p> Speaker<'p> {
     }
 
     /// What says it as faults are told.
-    pub fn as_faults(program: &'p str, faults: Faults) -> Self {
+    pub fn as_faults(program: &'p str, faults: Faults) -> Self
+        ensures { result ≡ record { program = program.entry; as_objects = are_objects faults } }
+    {
         Speaker {
             program,
             as_objects: are_objects(faults),
@@ -159,7 +164,9 @@ pub enum Notice<'a> {
 
 impl<'a> Notice<'a> {
     // The name of its kind, as its object tells it.
-    fn kind(self) -> &'static str {
+    fn kind(self) -> &'static str
+        ensures { result.now ≡ notice_kind self.entry }
+    {
         match self {
             Notice::Removed(_) => "removed",
             Notice::Marked(_) => "byte_order_mark",
@@ -168,7 +175,9 @@ impl<'a> Notice<'a> {
     }
 
     // The name of its file.
-    fn file(self) -> Option<&'a str> {
+    fn file(self) -> Option<&'a str>
+        ensures { result ≡ notice_file self.entry }
+    {
         match self {
             Notice::Removed(name) | Notice::Unkept(name, _) => Some(name),
             Notice::Marked(name) => name,

@@ -1,6 +1,7 @@
-//! Whether the text of a series is its base, as it is read.
+//! Whether the text of a series is its base, found while the series is read.
 //!
-//! It is if no name is a copy and each key is greater than the one before it, so the last key is all that is kept.
+//! The text is the base if no name is a copy and each key is greater than the one before it. The last key is therefore all that
+//! is kept.
 
 ghost use Rattle.std.specs.Prelude.{◌≡◌, ◌<◌, ◌++◌, ◌∷◌, [], List, length};
 ghost use Rattle.std.specs.{Cmp.Lexicographic.slice_cmp, Ordering.is_lt, Ordering.nat_cmp};
@@ -11,14 +12,15 @@ ghost use Rattle.lp_events.specs.code.{Events.spelled_tag, OwnBases.IsKeptOf};
 use lp_values::Spelled;
 use lp_values::spelled::shared;
 
-/// What is kept of a series: whether its text is its base so far, and if so its last key, or an empty text before the first one.
+/// The data that is kept of a series: whether its text is its base so far, and, if so, its last key, or the empty text before the
+/// first key.
 #[derive(Clone, Copy)]
 pub(crate) struct Kept<'a> {
     pub(crate) last: &'a str,
     pub(crate) is_base: bool,
 }
 
-/// What is kept of a series before its first tag.
+/// Returns the data of a series before its first tag.
 #[inline(always)]
 pub(crate) fn before_tags<'a>(measurement: Spelled<'a>) -> Kept<'a>
     ensures { IsKeptOf (spelled_text measurement.entry) [] result }
@@ -29,9 +31,10 @@ pub(crate) fn before_tags<'a>(measurement: Spelled<'a>) -> Kept<'a>
     }
 }
 
-// Whether a key is greater than the last one, by bytes.
+// Returns whether a key is greater than the last key, by bytes.
 //
-// It is a loop that the compiler sees to end, so of a reader whose sink does not ask it takes nothing: a call would stay.
+// It is a loop that ends for the compiler to see. A reader whose sink does not ask for the answer therefore does not pay for it:
+// a call would stay.
 #[inline(always)]
 fn rises(last: &[u8], key: &[u8]) -> bool
     ensures { result ≡ is_lt (slice_cmp nat_cmp last.now key.now) }
@@ -46,9 +49,10 @@ fn rises(last: &[u8], key: &[u8]) -> bool
     last.len() < key.len()
 }
 
-/// What is kept of a series after one tag more.
+/// Returns the data of a series after one more tag.
 ///
-/// Keys are compared whatever was found before: so no jump depends on it, and where it is not asked for nothing is compared.
+/// The keys are always compared, whatever was found before. No jump depends on the answer, and a reader that does not ask for the
+/// answer compares nothing.
 #[inline(always)]
 pub(crate) fn after_tag<'a>(kept: Kept<'a>, key: Spelled<'a>, value: Spelled<'a>) -> Kept<'a>
     requires { 0 < length (spelled_text key).bytes }

@@ -1,4 +1,4 @@
-//! Lines, told to a sink part by part, with no memory.
+//! Readers of lines that tell a sink one part after another. They take no memory.
 
 ghost use Rattle.std.specs.Prelude.{◌≡◌, ◌<◌, ◌++◌, ◌==◌, ℕ, List, length, slice_index, IfOk, IfSome};
 ghost use Rattle.lp_format.specs.format.{space, answer, field, front_before, tag, without_comma, Pair, Text, Value};
@@ -19,13 +19,14 @@ use lp_values::names::NameKind;
 use lp_values::spelled_parts::{self, Front};
 use lp_values::{ErrorKind, Spelled, SpelledFault, SpelledValue};
 
-/// What takes the parts of lines, as a reader tells them.
+/// A sink, which takes the parts of lines as a reader tells them.
 ///
-/// Of a line that is read it is told the measurement, each tag, each field and the end, in order. Of a line at fault it is
-/// told exactly the parts that read before the place where reading stops, and then the fault. These are the measurement, the tags
-/// up to the first that does not read, and, after a space, the fields up to the first that does not.
+/// For a line that is read, the reader calls `measurement`, `tag` for each tag, `field` for each field, and `end`, in the order
+/// of the line. For a line at fault, it calls these methods for exactly the parts that read before the place where reading stops,
+/// and then `fault`. The parts are the measurement, the tags up to the first that does not read, and, after a space, the fields
+/// up to the first that does not read.
 ///
-/// For contracts it has the member `takes`: what the sink is after it was told of an event.
+/// For contracts, a sink has the member `takes`: the relation between the sink before an event, the event, and the sink after it.
 ///
 /// ```text
 /// m,t=x a=1i  calls  measurement(m), tag(t, x), field(a, I64(1)), end("m,t=x", None)
@@ -33,37 +34,38 @@ use lp_values::{ErrorKind, Spelled, SpelledFault, SpelledValue};
 /// m a=1i,b=x  calls  measurement(m), field(a, I64(1)), fault(CannotParseEntireLine)
 /// ```
 pub trait EventSink<'a> {
-    // Holds of the sink before a call, what it is told by that, and the sink after.
+    // Holds of the sink before an event, the event, and the sink after it.
     ghost takes: { Self → Event → Self → Type 0 };
 
-    /// A line begins, with this measurement.
+    /// Takes the measurement of a line. A new line begins with it.
     fn measurement(&mut self, name: Spelled<'a>)
         ensures { takes self.old (named (spelled_text name.entry)) self.new };
 
-    /// A tag of the line.
+    /// Takes a tag of the line.
     fn tag(&mut self, key: Spelled<'a>, value: Spelled<'a>)
         ensures { takes self.old (tagged (spelled_tag (key.entry, value.entry))) self.new };
 
-    /// A field of the line.
+    /// Takes a field of the line.
     fn field(&mut self, key: Spelled<'a>, value: SpelledValue<'a>)
         ensures { takes self.old (valued (spelled_field (key.entry, value.entry))) self.new };
 
-    /// The line ends: `series` is the front of it that was read as measurement and tags. Whether that is the base of the series, a
-    /// [`PlacedSink`] is told.
+    /// Takes the end of the line: `series` is the front of the line that was read as measurement and tags. A [`PlacedSink`] also
+    /// learns whether this front is the base of the series.
     fn end(&mut self, series: &'a str, timestamp: Option<i64>)
         ensures { takes self.old (ended series.now timestamp) self.new };
 
-    /// The line is at fault. What was told of it is no line.
+    /// Takes the fault of the line. The parts that were told before it are no line.
     fn fault(&mut self, fault: SpelledFault<'a>)
         ensures { takes self.old (failed (spelled_fault fault.entry)) self.new };
 }
 
-/// What takes the parts of a line together with how many bytes of the line are left after each: so a sink knows where they lie.
+/// A sink that takes the parts of a line with their places: after each part, how many bytes of the line are left.
 ///
-/// It is told what an [`EventSink`] is told, and at the end of a line whether the text of its series is its base. A name that is a part of
-/// the line ends where so many bytes are left; so does the text of a float, and that of a string, with the quote after it.
+/// A reader calls it as it calls an [`EventSink`], and tells it at the end of a line whether the text of the series is the base
+/// of the series. A name that is a part of the line ends where this many bytes are left. The text of a float ends there too, and
+/// the text of a string together with the quote after it.
 ///
-/// For contracts it has two members: `line`, the line that the sink is told of, and `takes`, as an [`EventSink`] has it.
+/// For contracts, a sink has two members: `line`, the line that it is told of, and `takes`, as an [`EventSink`] has it.
 ///
 /// ```text
 /// m,t=x a=1i  calls  measurement(m, 9), tag(t, x, 7, 5), field(a, I64(1), 3, 0), end("m,t=x", None, true)
@@ -71,41 +73,42 @@ pub trait EventSink<'a> {
 pub trait PlacedSink<'a> {
     // The line that the sink is told of.
     ghost line: { Self → List ℕ };
-    // Holds of the sink before a call, what it is told by that, and the sink after.
+    // Holds of the sink before an event, the event, and the sink after it.
     ghost takes: { Self → Event → Self → Type 0 };
 
-    /// The line begins with this measurement, and `left` bytes are left after it.
+    /// Takes the measurement of a line, after which `left` bytes are left. The line begins with it.
     fn measurement(&mut self, name: Spelled<'a>, left: usize)
         requires { EndsBefore (line self.old) (spelled_text name) left }
         ensures takes { takes self.old (named (spelled_text name.entry)) self.new }
         ensures line { line self.new ≡ line self.old };
 
-    /// A tag of the line: `key_left` bytes are left after its key, and `left` after its value.
+    /// Takes a tag of the line: `key_left` bytes are left after its key, and `left` after its value.
     fn tag(&mut self, key: Spelled<'a>, value: Spelled<'a>, key_left: usize, left: usize)
         requires key { EndsBefore (line self.old) (spelled_text key) key_left }
         requires value { EndsBefore (line self.old) (spelled_text value) left }
         ensures takes { takes self.old (tagged (spelled_tag (key.entry, value.entry))) self.new }
         ensures line { line self.new ≡ line self.old };
 
-    /// A field of the line: `key_left` bytes are left after its key, and `left` after its value.
+    /// Takes a field of the line: `key_left` bytes are left after its key, and `left` after its value.
     fn field(&mut self, key: Spelled<'a>, value: SpelledValue<'a>, key_left: usize, left: usize)
         requires key { EndsBefore (line self.old) (spelled_text key) key_left }
         requires value { ValueEndsBefore (line self.old) (spelled_value value) left }
         ensures takes { takes self.old (valued (spelled_field (key.entry, value.entry))) self.new }
         ensures line { line self.new ≡ line self.old };
 
-    /// The line ends: `series` is the front of it that was read as measurement and tags. `is_base` tells whether that is the base of
-    /// the series as it stands: no name is a copy, and each tag key is greater than the one before it, by bytes.
+    /// Takes the end of the line: `series` is the front of the line that was read as measurement and tags. `is_base` tells
+    /// whether this text is the base of the series: no name is a copy, and each tag key is greater than the one before it, by
+    /// bytes.
     fn end(&mut self, series: &'a str, timestamp: Option<i64>, is_base: bool)
         requires { TellsBase (line self.old) is_base }
         ensures { takes self.old (ended series.now timestamp) self.new };
 
-    /// The line is at fault. What was told of it is no line.
+    /// Takes the fault of the line. The parts that were told before it are no line.
     fn fault(&mut self, fault: SpelledFault<'a>)
         ensures { takes self.old (failed (spelled_fault fault.entry)) self.new };
 }
 
-// A tag at the start of `text` with how many bytes are left after its key, and the rest.
+// Reads a tag at the start of `text`, and returns it with the number of bytes that are left after its key, and the rest.
 #[tactic(auto, unfolding(lp_format::specs::format::Lines::tag))]
 #[inline(always)]
 fn placed_tag<'a>(text: &'a str) -> Front<'a, (Spelled<'a>, Spelled<'a>, usize)>
@@ -125,7 +128,7 @@ fn placed_tag<'a>(text: &'a str) -> Front<'a, (Spelled<'a>, Spelled<'a>, usize)>
     Ok(Some(((key, value, after_key.len()), rest)))
 }
 
-// A tag at the start of `text`, and the rest.
+// Reads a tag at the start of `text`, and returns the rest with it.
 #[tactic(auto, unfolding(lp_format::specs::format::Lines::tag))]
 #[inline(always)]
 pub(crate) fn tag<'a>(text: &'a str) -> Front<'a, (Spelled<'a>, Spelled<'a>)>
@@ -144,7 +147,7 @@ pub(crate) fn tag<'a>(text: &'a str) -> Front<'a, (Spelled<'a>, Spelled<'a>)>
     Ok(Some(((key, value), rest)))
 }
 
-// A field at the start of `text` with how many bytes are left after its key, and the rest.
+// Reads a field at the start of `text`, and returns it with the number of bytes that are left after its key, and the rest.
 #[tactic(auto, unfolding(lp_format::specs::format::Lines::field))]
 #[inline(always)]
 fn placed_field<'a>(text: &'a str) -> Front<'a, (Spelled<'a>, SpelledValue<'a>, usize)>
@@ -164,7 +167,7 @@ fn placed_field<'a>(text: &'a str) -> Front<'a, (Spelled<'a>, SpelledValue<'a>, 
     Ok(Some(((key, value, after_key.len()), rest)))
 }
 
-// A field at the start of `text`, and the rest.
+// Reads a field at the start of `text`, and returns the rest with it.
 #[tactic(auto, unfolding(lp_format::specs::format::Lines::field))]
 #[inline(always)]
 pub(crate) fn field<'a>(text: &'a str) -> Front<'a, (Spelled<'a>, SpelledValue<'a>)>
@@ -183,7 +186,8 @@ pub(crate) fn field<'a>(text: &'a str) -> Front<'a, (Spelled<'a>, SpelledValue<'
     Ok(Some(((key, value), rest)))
 }
 
-// Tells the tags at the start of `text`, joined by commas, and gives their number and the rest. `kept` is what is kept of the series.
+// Tells the sink the tags at the start of `text`, joined by commas, and returns their number and the rest. `kept` is the data
+// that is kept of the series.
 #[inline(always)]
 fn tags<'a, S: PlacedSink<'a>>(text: &'a str, sink: &mut S, kept: &mut Kept<'a>) -> Front<'a, usize>
     requires { IsEndOf (S.line sink.old) text.now }
@@ -210,7 +214,7 @@ fn tags<'a, S: PlacedSink<'a>>(text: &'a str, sink: &mut S, kept: &mut Kept<'a>)
     Ok(Some((count, rest)))
 }
 
-// Tells the fields at the start of `text`, joined by commas, and gives their number and the rest.
+// Tells the sink the fields at the start of `text`, joined by commas, and returns their number and the rest.
 #[inline(always)]
 fn fields<'a, S: PlacedSink<'a>>(text: &'a str, sink: &mut S) -> Front<'a, usize>
     requires { IsEndOf (S.line sink.old) text.now }
@@ -235,7 +239,7 @@ fn fields<'a, S: PlacedSink<'a>>(text: &'a str, sink: &mut S) -> Front<'a, usize
     Ok(Some((count, rest)))
 }
 
-// Tells the tags after the comma at the start of `text`, and gives the rest. If no comma is there, there are none.
+// Tells the sink the tags after the comma at the start of `text`, and returns the rest. Without a comma there are no tags.
 #[inline(always)]
 fn tag_set<'a, S: PlacedSink<'a>>(
     text: &'a str,
@@ -256,7 +260,8 @@ fn tag_set<'a, S: PlacedSink<'a>>(
     Ok(rest)
 }
 
-// What is left after the last field: in the crate's dialect without the comma after a first field that is the only one.
+// Returns the text that is left after the last field. In the crate's dialect, a comma after a field that is the only one is
+// dropped.
 #[inline(always)]
 pub(crate) fn rest_after(dialect: Dialect, is_first: bool, rest: &str) -> &str
     ensures { (all : List (Pair Text (Value Text))) → is_first ≡ (length all == 1)
@@ -268,7 +273,8 @@ pub(crate) fn rest_after(dialect: Dialect, is_first: bool, rest: &str) -> &str
     }
 }
 
-// Tells the fields at the start of `text`, joined by commas, and gives the rest after them. `None` if no field is there.
+// Tells the sink the fields at the start of `text`, joined by commas, and returns the rest after them, or `None` if no field is
+// there.
 #[inline(always)]
 fn field_set<'a, S: PlacedSink<'a>>(
     dialect: Dialect,
@@ -285,7 +291,7 @@ fn field_set<'a, S: PlacedSink<'a>>(
     Ok(Some(rest_after(dialect, count == 1, rest)))
 }
 
-// What comes before `rest`, which ends `line` and begins with a space.
+// Returns the text before `rest`, which ends `line` and begins with a space.
 #[inline(always)]
 pub(crate) fn front_before<'a>(line: &'a str, rest: &str) -> &'a str
     requires ends { (front : List ℕ) × (line.now ≡ front ++ rest.now) }
@@ -295,8 +301,8 @@ pub(crate) fn front_before<'a>(line: &'a str, rest: &str) -> &'a str
     &line[..line.len() - rest.len()]
 }
 
-// Tells what the trimmed text `line` says, but for its fault: of a line at fault the parts that read. Where reading it stops is put down
-// where that is seen at once: where the measurement or a space is missing, or something is left.
+// Tells the sink the parts of the trimmed text `line`, but not its fault. If the measurement or a space is missing, or if text is
+// left after the line, the place where reading stops is stored.
 #[tactic(auto, unfolding(lp_format::specs::format::Lines::answer))]
 #[inline(always)]
 fn parts<'a, S: PlacedSink<'a>>(
@@ -338,11 +344,14 @@ fn parts<'a, S: PlacedSink<'a>>(
     Ok(())
 }
 
-/// Tells what the trimmed text `line` says, as [`read_line_events`] does, to a sink that knows where the parts lie. It takes no memory.
-/// Gives what is left of a line at fault where reading it stops, if that was seen; [`reading_stop`](crate::stops) tells it of each line.
+/// Reads the trimmed text `line`, and tells its parts to a sink that takes them with their places, as [`read_line_events`] does
+/// to another sink. It takes no memory.
+///
+/// Returns the text that is left of a line at fault where reading it stops, if the reader knows this place;
+/// [`reading_stop`](crate::stops) finds it for each line.
 ///
 /// ```text
-/// m,t=x a=1i 7  tells  measurement m and 12 bytes left, tag t x and 10 and 8, field a 1i and 5 and 2, end m,t=x 7
+/// m,t=x a=1i 7  tells  measurement m and 11 bytes left, tag t x and 9 and 7, field a 1i and 5 and 2, end m,t=x 7
 /// ```
 #[inline(always)]
 pub fn read_placed_events<'a, S: PlacedSink<'a>>(
@@ -361,7 +370,7 @@ pub fn read_placed_events<'a, S: PlacedSink<'a>>(
     stop
 }
 
-// A sink of a line that does not ask where the parts lie.
+// A sink that does not ask for the places of the parts, as a sink that takes them.
 #[derive(Drop)]
 struct Unplaced<'s, 'a, S> {
     line: &'a str,
@@ -401,7 +410,7 @@ impl<'s, 'a, S: EventSink<'a>> PlacedSink<'a> for Unplaced<'s, 'a, S> {
     }
 }
 
-// Tells what the trimmed text `line` says.
+// Tells a sink without places the parts of the trimmed text `line`.
 #[inline(always)]
 fn tell_unplaced<'s, 'a, S: EventSink<'a>>(
     dialect: Dialect,
@@ -416,14 +425,14 @@ fn tell_unplaced<'s, 'a, S: EventSink<'a>>(
     let _stop = read_placed_events(dialect, line, unplaced);
 }
 
-// Gives back what was lent. This changes nothing; it is where the loan ends, so that the caller knows what it leaves.
+// Ends the loan of a sink. It changes nothing, but the caller then knows in which state the sink is.
 #[inline(always)]
 fn give_back<S>(sink: &mut S)
     ensures { sink.new ≡ sink.old }
 {}
 
-/// Tells what the trimmed text `line` says: its measurement, tags, fields and end; or, if it is at fault, the parts that read, as
-/// [`EventSink`] says of such a line, and then the fault. It takes no memory.
+/// Reads the trimmed text `line`, and tells a sink its measurement, tags, fields and end. If the line is at fault, it tells the
+/// parts that read, as [`EventSink`] says, and then the fault. It takes no memory.
 ///
 /// ```text
 /// m,t=x a=1i 7   tells  measurement m, tag t x, field a 1i, end m,t=x 7
@@ -439,9 +448,10 @@ pub fn read_line_events<'a, S: EventSink<'a>>(dialect: Dialect, line: &'a str, s
     give_back(sink);
 }
 
-/// Tells what all lines of a text say, by the rules of a dialect, one line after another, also after a fault.
+/// Reads all lines of a text by the rules of a dialect, and tells a sink their parts, one line after another. It goes on after a
+/// fault.
 ///
-/// The lines are those of [`parse_lines_in`](crate::parse_lines_in). It takes no memory, so no line is `OutOfMemory`.
+/// The lines are those of [`parse_lines_in`](crate::parse_lines_in). It takes no memory, so no fault is `OutOfMemory`.
 ///
 /// ```text
 /// "m a=1i\n# c\nm b\n"  tells  measurement m, field a 1i, end m, and measurement m, fault FieldSetMissing

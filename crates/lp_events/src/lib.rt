@@ -1,7 +1,7 @@
-//! The reader of lines: it tells what each says, part by part, with no memory.
+//! The reader of lines, which gives the parts of each line one after another. It takes no memory.
 //!
-//! The pieces of a text and the parts of a line come together here. What is read is told to a sink, or given one part after another;
-//! whoever keeps lines is such a sink, in a crate above.
+//! This crate joins the splitter of texts and the readers of parts. It tells the parts to a sink, or gives them one after
+//! another. A type that keeps whole lines is such a sink, in a crate above.
 #![tactic(auto)]
 
 mod bases;

@@ -1,4 +1,4 @@
-//! The lines of a text: its pieces, trimmed, but for blank ones.
+//! The lines of a text: its pieces without the blank ones, each trimmed.
 
 ghost use Rattle.std.specs.Prelude.{◌<◌, ◌^◌, length, IfSome};
 ghost use Rattle.lp_events.specs.code.LineSteps.{GivesLine, most_items};
@@ -6,7 +6,8 @@ ghost use Rattle.lp_events.specs.code.LineSteps.{GivesLine, most_items};
 use lp_scan::trim::trimmed;
 use lp_split::split::SplitLines;
 
-/// The next of these pieces that holds more than blanks and comments, without those before it. It takes no memory.
+/// Takes the pieces up to the next one that holds more than blanks and comments, and returns it, trimmed. Returns `None` if no
+/// such piece is left. It takes no memory.
 ///
 /// ```text
 /// "\n# c\nm a=1i\nn b=1i"  gives  m a=1i, and leaves the piece n b=1i

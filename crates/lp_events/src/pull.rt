@@ -1,4 +1,4 @@
-//! The parts of lines, given one after another, with no memory.
+//! The parts of lines, given one after another. They take no memory.
 
 ghost use Rattle.std.specs.Prelude.{◌≡◌, ◌<◌, ◌+◌, ◌↔◌, [], List, None, length, IfOk, IfSome, MatchOption, MatchResult};
 ghost use Rattle.std.specs.Iterator.{at_most};
@@ -19,11 +19,12 @@ use lp_values::names::NameKind;
 use lp_values::spelled_parts::{self, Front};
 use lp_values::{ErrorKind, Spelled, SpelledFault, SpelledValue};
 
-/// A part of a line, as a reader comes to it; where the line ends; or its fault.
+/// A part of a line, the end of a line, or the fault of a line.
 ///
-/// Of a line that is read come the measurement, each tag, each field and the end, in order. Of a line at fault come
-/// exactly the parts that read before the place where reading stops, and then the fault. These are the measurement, the tags up to
-/// the first that does not read, and, after a space, the fields up to the first that does not.
+/// A line that is read has the events of its measurement, of each tag, of each field and of its end, in the order of the line. A
+/// line at fault has the events of exactly the parts that read before the place where reading stops, and then its fault. The
+/// parts are the measurement, the tags up to the first that does not read, and, after a space, the fields up to the first that
+/// does not read.
 ///
 /// ```text
 /// m,t=x a=1i  gives  Measurement(m), Tag(t, x), Field(a, I64(1)), End { series: "m,t=x", timestamp: None }
@@ -31,23 +32,23 @@ use lp_values::{ErrorKind, Spelled, SpelledFault, SpelledValue};
 /// ```
 #[derive(Clone, Copy)]
 pub enum Event<'a> {
-    /// A line begins, with this measurement.
+    /// The measurement of a line, which begins with it.
     Measurement(Spelled<'a>),
     /// A tag of the line: its key and its value.
     Tag(Spelled<'a>, Spelled<'a>),
     /// A field of the line: its key and its value.
     Field(Spelled<'a>, SpelledValue<'a>),
-    /// The line ends: `series` is the front of it that was read as measurement and tags.
+    /// The end of the line: `series` is the front of the line that was read as measurement and tags.
     End {
         series: &'a str,
         timestamp: Option<i64>,
     },
-    /// The line is at fault. What came of it is no line.
+    /// The fault of the line. The parts that came before it are no line.
     Fault(SpelledFault<'a>),
 }
 
 impl<'a> Event<'a> {
-    /// Tells a sink of it.
+    /// Tells a sink this event, by the method of its kind.
     ///
     /// ```text
     /// Tag(t, x)  calls  tag(t, x)
@@ -66,10 +67,10 @@ impl<'a> Event<'a> {
     }
 }
 
-// The next event of a line and where its part ends, or the fault of the line.
+// The next event of a line and the place where its part ends, or the fault of the line.
 type Step<'a> = Result<(Event<'a>, LinePlace<'a>), SpelledFault<'a>>;
 
-// A tag after a comma at the start of `text`, and the rest.
+// Reads a comma and a tag at the start of `text`, and returns the rest with the tag.
 #[inline(always)]
 pub(crate) fn next_tag<'a>(text: &'a str) -> Front<'a, (Spelled<'a>, Spelled<'a>)>
     ensures value { GivesSpelled spelled_tag result (after_comma tag text.now) }
@@ -81,7 +82,7 @@ pub(crate) fn next_tag<'a>(text: &'a str) -> Front<'a, (Spelled<'a>, Spelled<'a>
     }
 }
 
-// A field after a comma at the start of `text`, and the rest.
+// Reads a comma and a field at the start of `text`, and returns the rest with the field.
 #[inline(always)]
 pub(crate) fn next_field<'a>(text: &'a str) -> Front<'a, (Spelled<'a>, SpelledValue<'a>)>
     ensures value { GivesSpelled spelled_field result (after_comma field text.now) }
@@ -93,7 +94,7 @@ pub(crate) fn next_field<'a>(text: &'a str) -> Front<'a, (Spelled<'a>, SpelledVa
     }
 }
 
-// The measurement of a trimmed text.
+// Reads the measurement of a trimmed text.
 #[tactic(auto, using(crate::proofs::lemmas::pull::EventSteps::first_steps), unfolding(lp_format::specs::format::Lines::answer))]
 #[inline(always)]
 fn begin<'a>(line: &'a str) -> Step<'a>
@@ -111,7 +112,7 @@ fn begin<'a>(line: &'a str) -> Step<'a>
     Ok((Event::Measurement(name), LinePlace::Names(names)))
 }
 
-// The first field of a line, after its tags and spaces.
+// Reads the first field of a line, after its tags and spaces.
 #[tactic(auto, using(crate::proofs::lemmas::pull::EventSteps::first_steps), unfolding(lp_format::specs::format::Lines::answer))]
 #[inline(always)]
 fn first_field<'a>(names: Names<'a>) -> Step<'a>
@@ -135,7 +136,7 @@ fn first_field<'a>(names: Names<'a>) -> Step<'a>
     Ok((Event::Field(key, value), LinePlace::Fields(fields)))
 }
 
-// The next tag of a line, or its first field.
+// Reads the next tag of a line, or its first field.
 #[inline(always)]
 fn after_name<'a>(names: Names<'a>) -> Step<'a>
     ensures steps { Steps (AreLeftFrom (LinePlace.Names names.entry)) result }
@@ -155,7 +156,7 @@ fn after_name<'a>(names: Names<'a>) -> Step<'a>
     Ok((Event::Tag(key, value), LinePlace::Names(names)))
 }
 
-// The next field of a line, or its end.
+// Reads the next field of a line, or its end.
 #[inline(always)]
 fn after_field<'a>(dialect: Dialect, fields: Fields<'a>) -> Step<'a>
     ensures steps { Steps (λ left events. left.dialect ≡ rules_of dialect → AreLeftFrom (LinePlace.Fields fields.entry) left events) result }
@@ -183,20 +184,21 @@ fn after_field<'a>(dialect: Dialect, fields: Fields<'a>) -> Step<'a>
     Ok((end, LinePlace::Between))
 }
 
-/// The events of a text, one after another: what [`parse_events`] gives.
+/// The events of a text, one after another. [`parse_events`] returns it.
 ///
-/// Whatever the events of a line are, the next ones are those of the lines after it. There are at most `input.len() + 1`
-/// events, and it stays ended. It keeps no line, only the place in one, so it takes no memory.
+/// After the events of a line, whatever they are, come the events of the lines after it. The iterator gives at most `input.len()
+/// + 1` events. After the last event it gives `None`, also if it is called again. It takes no memory, because it keeps only a
+/// place in a line.
 #[derive(Drop)]
 pub struct ParseEvents<'a> {
     lines: SplitLines<'a>,
-    // In the line before those that are left.
+    // The place in the line that comes before the lines that are left.
     place: LinePlace<'a>,
 }
 
-/// Reads the lines of a text part by part: the events that [`read_events_in`](crate::read_events_in) tells a sink of.
+/// Reads the lines of a text part by part, and gives the events that [`read_events_in`](crate::read_events_in) tells a sink.
 ///
-/// It takes no memory, and neither do the calls of what it gives. The caller may stop after any event.
+/// It takes no memory, and neither does the iterator. The caller can stop after any event.
 ///
 /// ```text
 /// "m a=1i\n# c\nm b\n"  gives  Measurement(m), Field(a, I64(1)), End { .. }, Measurement(m), Fault(FieldSetMissing)
@@ -225,7 +227,7 @@ pub fn parse_events_in(dialect: Dialect, input: &str) -> ParseEvents<'_>
 }
 
 impl<'a> ParseEvents<'a> {
-    // The next step, or `None` if no line is left.
+    // Returns the next step, or `None` if no line is left.
     #[inline(always)]
     fn step(&mut self) -> Option<Step<'a>>
         ensures place { self.new.place ≡ self.old.place }
@@ -242,7 +244,7 @@ impl<'a> ParseEvents<'a> {
         }
     }
 
-    /// Tells a sink of the events that are left.
+    /// Tells a sink all events that are left.
     ///
     /// ```text
     /// after Measurement(m) of  m a=1i  it calls  field(a, I64(1)), end("m", None)

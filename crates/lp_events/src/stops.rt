@@ -1,4 +1,4 @@
-//! Where reading a line stops.
+//! The place where reading a line stops.
 
 ghost use Rattle.std.specs.Prelude.{◌≡◌, ◌+◌, ◌<◌, ◌≤◌, List, length, IfSome};
 ghost use Rattle.lp_format.specs.format.{timestamp, Pair, Text, Value};
@@ -13,7 +13,7 @@ use lp_split::Dialect;
 use lp_values::names::NameKind;
 use lp_values::spelled_parts::{self, name};
 
-/// A part of a line, with the number of its tag or of its field, from 1 on.
+/// A part of a line. Tags and fields are counted from 1 on.
 #[derive(Clone, Copy)]
 pub enum LinePart {
     Measurement,
@@ -24,23 +24,24 @@ pub enum LinePart {
     Timestamp,
 }
 
-/// Where reading a line stops.
+/// The place where reading a line stops.
 #[derive(Clone, Copy)]
 pub struct Stop<'a> {
-    /// The part that does not read, or else the last one that does.
+    /// The part that does not read, or the last part if all parts read.
     pub part: LinePart,
-    /// What is left of the line.
+    /// The text that is left of the line.
     pub rest: &'a str,
 }
 
-/// What is a key, an equals sign and a value.
+/// The kind of a pair of a key and a value: a tag or a field.
 #[derive(Clone, Copy)]
 pub(crate) enum PairKind {
     Tag,
     Field,
 }
 
-// Where the tag or the field of this number stops that does not read: its key, what should be its equals sign, or its value.
+// Returns the place where the tag or the field of this number stops, which does not read: its key, the place of its equals sign,
+// or its value.
 fn pair_stop(kind: PairKind, number: usize, text: &str) -> Stop<'_>
     ensures { (result.part, result.rest.now) ≡ stop_of kind number text.now }
 {
@@ -68,7 +69,7 @@ fn pair_stop(kind: PairKind, number: usize, text: &str) -> Stop<'_>
     }
 }
 
-// What is left after a tag or a field after a comma at the start of a text.
+// Returns the rest after a comma and a tag or a field, or `None` if they do not read.
 fn after_next(kind: PairKind, text: &str) -> Option<&str>
     ensures left { Leaves (next_pair kind text.now) result }
     ensures less { IfSome result (λ rest. length rest.now < length text.now) }
@@ -79,7 +80,7 @@ fn after_next(kind: PairKind, text: &str) -> Option<&str>
     }
 }
 
-// How many tags or fields are at the start of a text, each after a comma, and what is left after them.
+// Returns how many tags or fields are at the start of a text, each after a comma, and the rest after them.
 #[tactic(auto, using(crate::proofs::lemmas::stops::MostParts::most_steps))]
 fn most_pairs(kind: PairKind, text: &str) -> (usize, &str)
     ensures many { AreMany result (most (next_pair kind) (length text.now) text.now) }
@@ -94,7 +95,7 @@ fn most_pairs(kind: PairKind, text: &str) -> (usize, &str)
     (count, rest)
 }
 
-// The last part of a series with so many tags.
+// Returns the last part of a series with this number of tags.
 fn series_part(tags: usize) -> LinePart
     ensures { result ≡ series_part tags }
 {
@@ -104,7 +105,8 @@ fn series_part(tags: usize) -> LinePart
     }
 }
 
-// Where reading stops if no tag reads after so many and a comma: in a tag that is fatal or the first, and else at the comma.
+// Returns the place where reading stops if no tag reads after `tags` tags and a comma: in the tag that is fatal or the first, and
+// else at the comma.
 fn late_tag_stop<'a>(tags: usize, rest: &'a str, place: &'a str) -> Stop<'a>
     requires { tags < usize.MAX }
     ensures { (result.part, result.rest.now) ≡ late_tag_stop tags rest.now place.now }
@@ -119,7 +121,7 @@ fn late_tag_stop<'a>(tags: usize, rest: &'a str, place: &'a str) -> Stop<'a>
     }
 }
 
-// Where reading stops after the fields, if this is left and the part is the one before it.
+// Returns the place where reading stops if `left` is left after the fields, and `part` is the part before it.
 fn end_stop(part: LinePart, left: &str) -> Stop<'_>
     ensures { (result.part, result.rest.now) ≡ end_stop part left.now }
 {
@@ -136,7 +138,7 @@ fn end_stop(part: LinePart, left: &str) -> Stop<'_>
     Stop { part, rest }
 }
 
-// Where reading stops after so many fields, if no other reads.
+// Returns the place where reading stops after `fields` fields, if no other field reads.
 fn last_stop(dialect: Dialect, fields: usize, rest: &str) -> Stop<'_>
     requires { fields < usize.MAX }
     ensures { (all : List (Pair Text (Value Text))) → fields ≡ length all
@@ -153,7 +155,7 @@ fn last_stop(dialect: Dialect, fields: usize, rest: &str) -> Stop<'_>
     end_stop(stop.part, left)
 }
 
-// Where reading stops from the fields on.
+// Returns the place where reading stops from the fields on.
 fn fields_stop(dialect: Dialect, text: &str) -> Stop<'_>
     ensures { (result.part, result.rest.now) ≡ fields_stop (rules_of dialect) text.now }
 {
@@ -164,11 +166,11 @@ fn fields_stop(dialect: Dialect, text: &str) -> Stop<'_>
     last_stop(dialect, others + 1, rest)
 }
 
-/// Where reading the trimmed text `line` stops: in which part, and what is left of the line there. If the line reads, nothing is
-/// left. It reads the line once, and takes no memory.
+/// Returns the place where reading the trimmed text `line` stops: the part, and the text that is left of the line. If the whole
+/// line reads, no text is left. It reads the line once, and takes no memory.
 ///
 /// ```text
-/// m,t=x a=tru  stops in  FieldValue(1), before  tru
+/// m,t=x a=tru  stops in  FieldValue(1), before  ru
 /// m,t=x,u=     stops in  TagValue(2), before  ,u=
 /// m,t=x        stops in  TagValue(1), at the end
 /// ```

@@ -11,7 +11,7 @@ use Rattle.lp_examples.specs.Grouped.{has_key, key_of, lines_at, lines_in}
 kept : (p : ParsedLine → Bool) (before : List ParsedLine) (l : ParsedLine) → p l ≡ true → filter p before ++ l ∷ [] ≡ filter p (before ++ l ∷ [])
 kept p before l passes = let apart = filter-append p before (l ∷ []) in grind arith
 
--- and else they are as before
+-- If a line fails a test, the lines that pass the test are as before.
 left_out : (p : ParsedLine → Bool) (before : List ParsedLine) (l : ParsedLine) → p l ≡ false → filter p before ≡ filter p (before ++ l ∷ [])
 left_out p before l fails = let apart = filter-append p before (l ∷ []) in grind (arith, append-nil)
 
@@ -42,7 +42,7 @@ group_more {Y} old mid new group bytes l before is out put grown so_far key = by
         ap lines_in there ∙ grown ∙ ap (λ (ls : List ParsedLine). ls ++ l ∷ []) (so_far bytes)
         ∙ kept (has_key bytes) before l (ap (λ (k : List ℕ). bytes_eq k bytes) (sym is) ∙ same)
 
-    -- and each other group is as before
+    -- Each group has its lines, whether or not its key is the key of the new line.
     by_test : (same : Bool) → bytes_eq bytes key ≡ same → lines_at new key ≡ filter (has_key key) (before ++ l ∷ [])
     by_test true same = subst (λ (k : List ℕ). lines_at new k ≡ filter (has_key k) (before ++ l ∷ [])) (same_text bytes key (sym same)) here
     by_test false other =

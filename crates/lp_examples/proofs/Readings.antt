@@ -11,7 +11,7 @@ pub six_appended : (start m t f h n end : List ℕ)
     → start ++ m ++ t ++ f ++ h ++ n ++ end ≡ start ++ (m ++ (t ++ []) ++ (f ++ (h ++ [])) ++ n ++ end)
 six_appended start m t f h n end = simp (append_assoc, append-nil)
 
--- what six calls append is the line of their point
+-- The text that six calls append is the line of their point.
 pub calls_build_line : (start measured tagged fielded again stamped closed : List ℕ) (m : List ℕ) (t : Tag) (f h : Field) (at : ℤ)
     → measured ≡ start ++ spelling a_measurement m → tagged ≡ measured ++ built_tag t
     → fielded ≡ tagged ++ space ∷ built_field f → again ≡ fielded ++ comma ∷ built_field h

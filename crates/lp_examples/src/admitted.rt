@@ -9,7 +9,7 @@ ghost use Rattle.influxdb_line_protocol.specs.laws.AdmittedLines.{AddsPoints};
 use influxdb_line_protocol::builder::{BeforeMeasurement, NoRoom, Unwritten};
 use influxdb_line_protocol::{LineProtocolBuilder, ParsedLine, write_admitted_line};
 
-/// Appends a line whose names may be any texts. If it would not read back, it is left out, and counted.
+/// Appends a line whose names can be any text. Leaves out a line that would not read back, and counts it.
 pub fn append(
     lines: LineProtocolBuilder<Vec<u8>, BeforeMeasurement>,
     line: &ParsedLine<'_>,

@@ -1,17 +1,17 @@
-//! One line that is used again.
+//! One line that is reused for all lines of a text.
 
 // [again]
 use influxdb_line_protocol::{ParsedLine, parse_lines};
 use std::alloc::Global;
 
-/// How many fields and faults a text has.
+/// The number of fields and of faults of a text.
 #[derive(Clone, Copy, Debug, PartialEq, Eq)]
 pub struct Tally {
     pub fields: usize,
     pub faults: usize,
 }
 
-/// Counts the fields and the faults of a text. Every line is read into the same one, whose sets keep their room.
+/// Counts the fields and the faults of a text. Reuses one line for all lines, so its sets keep their memory.
 pub fn tally_of(alloc: Global, text: &str) -> Tally {
     let mut tally = Tally {
         fields: 0,

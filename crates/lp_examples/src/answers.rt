@@ -1,4 +1,4 @@
-//! What the callers that read and write again give for a text, printed.
+//! Prints the results of the callers that read a text and write it again.
 
 use crate::admitted::append;
 use crate::again::{Tally, tally_of};
@@ -85,7 +85,7 @@ fn written(alloc: Global, lines: &[ParsedLine<'_>]) -> Result<Vec<u8>, NoRoom> {
     Ok(written.build())
 }
 
-// The same, and how many lines were left out.
+// Returns the lines that read back, written again, and how many lines were left out.
 fn appended(alloc: Global, lines: &[ParsedLine<'_>]) -> Result<(Vec<u8>, u64), NoRoom> {
     let mut appended = LineProtocolBuilder::new(alloc);
     let mut left_out = 0;
@@ -136,7 +136,7 @@ fn print_counts(rt: &impl Print, alloc: Global, text: &str) -> io::Result<()> {
     println!(rt; "{spaced} lines with t=a b, {plain} with t=a")
 }
 
-/// Prints what the callers give for a text.
+/// Prints the results of the callers for a text.
 pub fn print_answers(rt: &impl Print, alloc: Global, text: &str) -> io::Result<()> {
     println!(rt; "\ntext <{}>", text.as_bytes().escape_ascii())?;
     let lines = lines_of(alloc, text)?;

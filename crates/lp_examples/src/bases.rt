@@ -5,7 +5,7 @@ use influxdb_line_protocol::{Result, parse_lines};
 use std::alloc::Global;
 use std::collections::BTreeMap;
 
-/// How many lines of a text each series has, by the base of the series.
+/// Returns how many lines of a text each series has, by the base of the series.
 pub fn lines_by_series(alloc: Global, text: &str) -> Result<BTreeMap<String, u64>> {
     let mut counts: BTreeMap<String, u64> = BTreeMap::new(alloc);
     for item in parse_lines(alloc, text) {

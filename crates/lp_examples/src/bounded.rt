@@ -1,4 +1,4 @@
-//! A buffer of one's own.
+//! A buffer of your own.
 
 // [bounded]
 ghost use Rattle.std.specs.Prelude.{◌≡◌, ◌⊎◌, ◌-◌, min, vec_len, vec_capacity};
@@ -6,7 +6,7 @@ ghost use Rattle.influxdb_line_protocol.specs.types.NoRoom.TheVariants.{OutOfMem
 
 use influxdb_line_protocol::builder::{BufMut, NoRoom};
 
-/// A `Vec` that holds at most so many bytes.
+/// A `Vec` that holds at most `most` bytes.
 #[derive(Drop)]
 pub struct Bounded {
     pub bytes: Vec<u8>,

@@ -1,4 +1,4 @@
-//! What the callers that build give, printed.
+//! Prints the results of the callers that build lines.
 
 use crate::bounded::Bounded;
 use crate::build::reading;
@@ -13,7 +13,7 @@ use influxdb_line_protocol::builder::NoRoom;
 use std::alloc::Global;
 use std::io;
 
-// Bytes, or why there are none.
+// Prints bytes, or the cause why there are none.
 fn print_bytes(rt: &impl Print, what: &str, bytes: Result<&[u8], NoRoom>) -> io::Result<()> {
     match bytes {
         Ok(bytes) => println!(rt; "{what}: {}", bytes.escape_ascii()),
@@ -29,7 +29,7 @@ fn print_packet(rt: &impl Print, city: &str) -> io::Result<()> {
     }
 }
 
-// A line in a buffer that holds so many bytes.
+// Prints a line in a buffer that holds at most `most` bytes.
 fn print_bounded(rt: &impl Print, alloc: Global, most: usize) -> io::Result<()> {
     let buffer = Bounded {
         bytes: Vec::new(alloc),
@@ -41,7 +41,7 @@ fn print_bounded(rt: &impl Print, alloc: Global, most: usize) -> io::Result<()> 
     }
 }
 
-// A line in a buffer of 12 bytes, which have no room for its second tag.
+// Returns a line in a buffer of 12 bytes, which has no room for the second tag of the line.
 fn short_line() -> Result<ArrayVec<u8, 12>, NoRoom> {
     let lines = LineProtocolBuilder::new_with(ArrayVec::new());
     let line = lines.measurement("m").map_err(|refused| refused.cause)?;
@@ -60,7 +60,7 @@ fn print_float(rt: &impl Print, alloc: Global, degrees: &str) -> io::Result<()> 
     }
 }
 
-/// Prints what the callers that build give.
+/// Prints the results of the callers that build lines.
 pub fn print_built(rt: &impl Print, alloc: Global) -> io::Result<()> {
     println!(rt; "\nbuilt")?;
     if let Ok(lines) = two_readings(alloc, "Bad Ems") {

@@ -7,7 +7,7 @@ ghost use Rattle.influxdb_line_protocol.specs.format.Values.{IsFloat};
 use influxdb_line_protocol::{FloatText, LineProtocolBuilder};
 use std::alloc::Global;
 
-/// The line of one float, or `None` if `degrees` is no float, as `inf`, or if memory was refused.
+/// Returns the line of one float. Returns `None` if `degrees` is not a float, such as `inf`, or if memory was refused.
 pub fn float_line(alloc: Global, degrees: &str) -> Option<Vec<u8>>
     ensures { IfSome result (λ _. IsFloat degrees.now) }
 {

@@ -7,7 +7,7 @@ ghost use Rattle.influxdb_line_protocol.specs.code.Built.{buffer_of};
 use influxdb_line_protocol::LineProtocolBuilder;
 use influxdb_line_protocol::builder::{AfterMeasurement, BeforeMeasurement, NoRoom};
 
-/// Begins a line. If that is refused, for lack of memory or for any other cause, the closed lines are given back.
+/// Begins a line. If the call is refused, for lack of memory or for any other cause, returns the closed lines and the cause.
 pub fn begun(
     lines: LineProtocolBuilder<Vec<u8>, BeforeMeasurement>,
     name: &str,

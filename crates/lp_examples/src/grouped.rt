@@ -10,7 +10,7 @@ use influxdb_line_protocol::{ParsedLine, Result};
 use std::alloc::Global;
 use std::collections::BTreeMap;
 
-/// The lines of each series, in order, by the key of the series.
+/// Returns the lines of each series, in order, by the key of the series.
 pub fn group<'l, 'a>(
     alloc: Global,
     lines: &'l [ParsedLine<'a>],
@@ -30,7 +30,7 @@ pub fn group<'l, 'a>(
     Ok(groups)
 }
 
-/// The sum of a field over the lines of each series, of those that have a whole number there, by the key of the series.
+/// Returns the sum of a field over the lines of each series, by the key of the series. A line without a whole number there adds 0.
 pub fn sums(alloc: Global, lines: &[ParsedLine<'_>], field: &str) -> Result<BTreeMap<String, i64>> {
     let mut sums: BTreeMap<String, i64> = BTreeMap::new(alloc);
     for line in lines {

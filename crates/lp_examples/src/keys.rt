@@ -7,14 +7,14 @@ ghost use Rattle.influxdb_line_protocol.specs.code.Lookups.{some_items, value_by
 
 use influxdb_line_protocol::{EscapedStr, ParsedLine};
 
-/// The host that a line is of.
+/// Returns the host of a line.
 pub fn host<'l, 'a>(line: &'l ParsedLine<'a>) -> Option<&'l EscapedStr<'a>>
     ensures { option_copied result ≡ value_by_key (codes "host") (some_items line.now.series.tag_set) }
 {
     line.tag_value("host")
 }
 
-/// Whether a line is of this host.
+/// Returns true if a line has this host.
 pub fn is_of_host(line: &ParsedLine<'_>, name: &str) -> bool {
     host(line).is_some_and(|host| host.eq_text(name))
 }

@@ -1,7 +1,7 @@
-//! Callers of the library, each small and proved, that the documents quote. The program prints what each gives for some texts, and
-//! `stdout` has what that must be.
+//! Small, proved callers of the library that the documents quote. The program prints the results of each for some texts, and the file
+//! `stdout` has the text that it must print.
 //!
-//! What comes from `// [NAME]` to `// [end]` is the block NAME of a document.
+//! The lines from `// [NAME]` to `// [end]` are the block NAME of a document.
 #![tactic(auto)]
 
 mod admitted;

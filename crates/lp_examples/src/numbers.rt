@@ -7,7 +7,7 @@ ghost use Rattle.influxdb_line_protocol.specs.types.FieldValue.TheVariants.{I64,
 
 use influxdb_line_protocol::{FieldValue, ParsedLine};
 
-/// The whole number of a field, if it has one that an `i64` holds.
+/// Returns the whole number of a field, if the field has one that an `i64` can hold.
 pub fn whole_number(line: &ParsedLine<'_>, key: &str) -> Option<i64>
     ensures signed { (n : ℤ) → value_by_key key.now line.now.field_set.items ≡ Some (I64 n) → result ≡ Some n }
     ensures unsigned { (n : ℕ) → value_by_key key.now line.now.field_set.items ≡ Some (U64 n) → n < 2 ^ 63

@@ -6,7 +6,7 @@ use arrayvec::ArrayVec;
 use influxdb_line_protocol::LineProtocolBuilder;
 use influxdb_line_protocol::builder::NoRoom;
 
-/// A line in an `ArrayVec`, which never asks for memory: `Full` if the line has more than 64 bytes.
+/// Returns a line in an `ArrayVec`, which never asks for memory. Returns `Full` if the line has more than 64 bytes.
 pub fn packet(city: &str, degrees: i64, at: i64) -> Result<ArrayVec<u8, 64>, NoRoom> {
     let lines = LineProtocolBuilder::new_with(ArrayVec::new());
     Ok(reading(lines, city, degrees, at)?.build())

@@ -3,7 +3,7 @@
 // [pulled]
 use influxdb_line_protocol::{Event, SpelledFault, parse_events};
 
-/// The first fault of a text. No line after it is read, and no memory is taken.
+/// Returns the first fault of a text. Reads no line after it, and takes no memory.
 pub fn first_fault(text: &str) -> Option<SpelledFault<'_>> {
     for event in parse_events(text) {
         if let Event::Fault(fault) = event {

@@ -8,7 +8,7 @@ ghost use Rattle.influxdb_line_protocol.specs.format.Points.{built_tag};
 use influxdb_line_protocol::LineProtocolBuilder;
 use influxdb_line_protocol::builder::{AfterMeasurement, BufMut};
 
-/// Appends a tag if there is room for it. If there is none, the line is as it was, and goes on without the tag.
+/// Appends a tag if there is room for it. If there is none, returns the line as it was, which can go on without the tag.
 pub fn with_tag_if_room<B: BufMut>(
     line: LineProtocolBuilder<B, AfterMeasurement>,
     key: &str,

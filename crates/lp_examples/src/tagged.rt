@@ -12,7 +12,7 @@ use influxdb_line_protocol::{
 struct Tagged<'k> {
     key: &'k str,
     value: &'k str,
-    // Whether the line that is told has the tag.
+    // Whether the line whose events come has the tag.
     has_tag: bool,
     count: u64,
 }
@@ -41,7 +41,7 @@ impl<'a, 'k> EventSink<'a> for Tagged<'k> {
     fn fault(&mut self, _fault: SpelledFault<'a>) {}
 }
 
-/// How many lines have the tag `key` with this value, of those that are not at fault. It takes no memory.
+/// Returns how many lines have the tag `key` with this value. Does not count lines with a fault, and takes no memory.
 pub fn count_tagged(text: &str, key: &str, value: &str) -> u64 {
     let mut tagged = Tagged {
         key,

@@ -1,10 +1,10 @@
-//! What a value holds.
+//! The number and the text of a value.
 
 // [values]
 use influxdb_line_protocol::FieldValue;
 use std::num::{nearest_i64_to_f64, nearest_u64_to_f64};
 
-/// The number of a value, if it is one. A float is its text, and a caller that needs its number parses that.
+/// Returns the number of a value, if the value is a number. A float is kept as its text, so the function parses it.
 pub fn number(value: &FieldValue<'_>) -> Option<f64> {
     match value {
         FieldValue::I64(number) => Some(nearest_i64_to_f64(*number)),
@@ -14,7 +14,7 @@ pub fn number(value: &FieldValue<'_>) -> Option<f64> {
     }
 }
 
-/// The text of a value, if it is one.
+/// Returns the text of a value, if the value is a string.
 pub fn text<'v>(value: &'v FieldValue<'_>) -> Option<&'v str> {
     match value {
         FieldValue::String(text) => Some(text.as_str()),

@@ -6,7 +6,7 @@ use influxdb_line_protocol::LineProtocolBuilder;
 use influxdb_line_protocol::builder::NoRoom;
 use std::alloc::Global;
 
-/// Two lines in a `Vec`, which grows: a refusal is lack of memory, or a text that is too long.
+/// Returns two lines in a `Vec`. The `Vec` grows, so a call is refused only if memory is refused or a text is too long.
 pub fn two_readings(alloc: Global, city: &str) -> Result<Vec<u8>, NoRoom> {
     let lines = LineProtocolBuilder::new(alloc);
     let lines = reading(lines, city, 21, 1_000)?;

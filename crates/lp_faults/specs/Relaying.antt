@@ -7,6 +7,7 @@ use Rattle.std.specs.Result.{result_unwrap_or}
 use Rattle.std.specs.Str.{bytes_eq, is_utf8}
 use Rattle.std.specs.Str.Lines.{strip_carriage_return}
 use Rattle.influxdb_line_protocol.specs.format.Bytes.{newline, tab}
+use Rattle.influxdb_line_protocol.specs.format.Dialects.{Dialect}
 use Rattle.influxdb_line_protocol.specs.format.Readings.{Fault}
 use Rattle.influxdb_line_protocol.specs.format.Points.{Point, built, built_all, is_admitted_point}
 use Rattle.influxdb_line_protocol.specs.format.Lines.{Line, point_of}
@@ -23,6 +24,7 @@ use Rattle.lp_conditions.specs.declared.field_types.{StrictTypes.StrictTypes, Ty
 use Rattle.lp_conditions.specs.Differing.{differing_part, part_text}
 use Rattle.lp_conditions.specs.declared.times.TimeFault.{TimeFault}
 use Rattle.lp_conditions.specs.FieldTypes.{Types, after_point}
+use Rattle.lp_conditions.specs.LineEnds.{ends_at_newline}
 use Rattle.lp_conditions.specs.LineTimes.{Timed, relayed, time_fault, timed, front_of}
 use Rattle.lp_conditions.specs.Portables.{is_shown_portable, not_portable_text, told_of_bytes}
 
@@ -69,18 +71,23 @@ shard_of count p = hash_of (key_of p) % max 1 count
 abbrev pub is_of_shard : Shard → Point → Bool
 is_of_shard shard p = shard_of shard.count p == shard.number
 
--- the item of an answer for a piece. Of a line there goes out its piece as it came: whatever its names are, or if it is of a shard. Or
--- there goes out the line that is left of the piece once it is trimmed: if it is as it would be written, or after its key
-abbrev pub item_of : LineForm → List ℕ → Result Line Fault → Item
-item_of Rebuilt piece answer = answered (front_of piece) answer
-item_of Verbatim piece (Ok line) = put_out (piece ++ newline ∷ [])
-item_of Verbatim piece (Err fault) = answered (front_of piece) (Err fault)
-item_of Canonical piece (Ok line) = canonical_item (front_of piece) (trimmed piece) line
-item_of Canonical piece (Err fault) = answered (front_of piece) (Err fault)
-item_of Keyed piece (Ok line) = keyed_item (front_of piece) (trimmed piece) line
-item_of Keyed piece (Err fault) = answered (front_of piece) (Err fault)
-item_of (OfShard shard) piece (Ok line) = put_out (if is_of_shard shard (point_of line) then piece ++ newline ∷ [] else [])
-item_of (OfShard shard) piece (Err fault) = answered (front_of piece) (Err fault)
+-- the item of a line that goes out as it came: its piece, if a newline after it ends it. If none does, since what comes after that newline
+-- would be taken for a part of a string, the line is written again
+abbrev pub unchanged_item : Dialect → List ℕ → Line → Item
+unchanged_item dialect piece line = if ends_at_newline dialect piece then put_out (piece ++ newline ∷ []) else answered (front_of piece) (Ok line)
+
+-- the item of an answer for a piece, by the rules of a dialect. Of a line there goes out its piece as it came: whatever its names are, or if it
+-- is of a shard. Or there goes out the line that is left of the piece once it is trimmed: if it is as it would be written, or after its key
+abbrev pub item_of : Dialect → LineForm → List ℕ → Result Line Fault → Item
+item_of dialect Rebuilt piece answer = answered (front_of piece) answer
+item_of dialect Verbatim piece (Ok line) = unchanged_item dialect piece line
+item_of dialect Verbatim piece (Err fault) = answered (front_of piece) (Err fault)
+item_of dialect Canonical piece (Ok line) = canonical_item (front_of piece) (trimmed piece) line
+item_of dialect Canonical piece (Err fault) = answered (front_of piece) (Err fault)
+item_of dialect Keyed piece (Ok line) = keyed_item (front_of piece) (trimmed piece) line
+item_of dialect Keyed piece (Err fault) = answered (front_of piece) (Err fault)
+item_of dialect (OfShard shard) piece (Ok line) = if is_of_shard shard (point_of line) then unchanged_item dialect piece line else put_out []
+item_of dialect (OfShard shard) piece (Err fault) = answered (front_of piece) (Err fault)
 
 -- whether an item is carried
 abbrev pub is_carried_item : Item → Bool
@@ -126,7 +133,7 @@ allowed (Some p) lines piece item =
 
 -- the item of an answer for a piece, whatever the types of its fields are
 abbrev pub item_by : Settings → List ℕ → Result Line Fault → Item
-item_by s piece answer = allowed s.portable s.lines piece (item_of s.lines piece answer)
+item_by s piece answer = allowed s.portable s.lines piece (item_of (rules_of s.dialect) s.lines piece answer)
 
 -- the types that fields have once an item of an answer is taken: if types stay, and something goes out for it, those of its fields too
 abbrev pub after_item : Option StrictTypes → Types → Result Line Fault → Item → Result Types TypeFault

@@ -2,6 +2,9 @@
 use Rattle.std.specs.Prelude.{ℕ, ◌^◌, min, ◌||◌, [], ◌∷◌, ◌+◌, ◌-◌, nat_lt, Bool, false, not, ◌&&◌, ◌==◌, List, length}
 use Rattle.std.specs.Prelude.{if◌then◌else◌}
 use Rattle.std.specs.{Option.option_map_or}
+use Rattle.std.specs.Prelude.{◌≡◌, ◌≢◌, true, Option, IfSome, option_map}
+use Rattle.lp_files.specs.declared.{batches.Batches.Batches, beside.FileBeside.FileBeside, files.FileState.FileState}
+use Rattle.lp_files.specs.declared.files.Stage.TheVariants.{Beside, InPlace}
 use Rattle.lp_files.specs.declared.batches.Limits.{Limits}
 use Rattle.lp_files.specs.declared.batches.Size.{Size}
 
@@ -35,3 +38,23 @@ fitting limits batch lines (piece ∷ []) = lines
 fitting limits batch lines (piece ∷ next ∷ pieces) =
     if takes_line limits (both batch lines) (line_size (length piece))
     then fitting limits batch (both lines (line_size (length piece))) (next ∷ pieces) else lines
+
+-- the file is in its place, and all of it is on the device
+abbrev pub IsPlaced : FileState → Type 0
+IsPlaced file = (file.stage ≡ InPlace) × (file.is_synced ≡ true)
+
+-- the file is beside its place, or in its place with all of it on the device
+abbrev pub IsGoing : FileState → Type 0
+IsGoing file = file.stage ≢ Beside → IsPlaced file
+
+-- this holds of the file of the batch that was begun last, if there is one
+abbrev pub Current : (FileState → Type 0) → Batches → Type 0
+Current P batches = IfSome (option_map (λ file. file.state) batches.file) P
+
+-- the file of a batch of this size is in its place, and on the device, unless it has no line
+abbrev pub IsDone : Size → Option FileBeside → Type 0
+IsDone size file = size.bytes ≢ 0 → IfSome (option_map (λ file. file.state) file) IsPlaced
+
+-- the batches of a run, if there are any, of which the last one is in its place, and on the device, unless it has no line
+abbrev pub AreDone : (old new : Option Batches) → Type 0
+AreDone old new = IfSome old (λ before. IfSome new (λ after. IsDone before.size after.file))

@@ -1,12 +1,13 @@
 //! Lines that go to batches: files of a few lines each, each of which comes to its place whole or not at all.
-ghost use Rattle.std.specs.Prelude.{◌≡◌, List, ℕ, None, IfErr, OnOk, false, true};
+ghost use Rattle.std.specs.Prelude.{◌≡◌, ◌≢◌, List, ℕ, None, Some, Err, IfErr, IfNone, IfOk, OnOk, false, true, option_map};
+ghost use Rattle.std.specs.declared.io.Error.{Error};
 ghost use Rattle.std.specs.Io.{WritesAtMost};
 ghost use Rattle.std.specs.IoError.{error_kind};
 ghost use Rattle.std.specs.Io.KnownBytes.{Keeps, WriteAppends};
 ghost use Rattle.influxdb_line_protocol.specs.code.Rules.{rules_of};
 ghost use Rattle.influxdb_line_protocol.specs.format.Pieces.{Pieces};
-ghost use Rattle.lp_files.specs.Batches.{both, fitting, line_size, may_be, no_lines, takes_line};
-ghost use Rattle.lp_files.specs.Files.{IsBeside, IsInPlace};
+ghost use Rattle.lp_files.specs.Batches.{Current, IsDone, IsGoing, IsPlaced, both, fitting, line_size, may_be, no_lines, takes_line};
+ghost use Rattle.lp_files.specs.Files.{IsBeside, IsInPlace, IsSettled, batch_failure, new_file};
 ghost use Rattle.lp_places.specs.Places.{is_interrupted};
 
 use crate::beside::{FileBeside, NEW_MODE, make_beside};
@@ -113,20 +114,26 @@ fn put_whole<'n, F: Output<'n>>(file: &mut F) -> io::Result<()>
     file.sync_place()
 }
 
-// Lets a file go: one that is beside its place is kept there, if that is asked for and it holds something, or removed.
-fn leave(mut file: FileBeside<'_, '_>, is_kept: bool) {
+// Takes a file away that is beside its place, or keeps it there, if that is asked for and it holds something.
+fn leave(file: &mut FileBeside<'_, '_>, is_kept: bool)
+    ensures settled { IsSettled file.new.state }
+    ensures placed { IsInPlace file.old.state → file.new.state ≡ file.old.state }
+    ensures away { IsInPlace file.new.state → IsInPlace file.old.state }
+{
     if is_kept && file.is_beside() && file.may_hold_bytes() {
         file.keep();
     }
     file.remove();
-    file.let_go();
 }
 
 // Puts a file in its place, once all of it is on the device, or leaves it.
-fn put_or_leave(mut file: FileBeside<'_, '_>, is_kept: bool) -> io::Result<()>
-    requires { IsBeside file.state }
+fn put_or_leave(file: &mut FileBeside<'_, '_>, is_kept: bool) -> io::Result<()>
+    requires { IsBeside file.old.state }
+    ensures placed { OnOk result (IsPlaced file.new.state) }
+    ensures whole { IsInPlace file.new.state → IsPlaced file.new.state }
+    ensures settled { IsSettled file.new.state }
 {
-    let answer = put_whole(&mut file);
+    let answer = put_whole(file);
     leave(file, is_kept);
     answer
 }
@@ -154,7 +161,9 @@ fn file_of<'a, 'n>(
     word: &'n str,
     names: BatchNames<'n>,
     number: u64,
-) -> io::Result<FileBeside<'a, 'n>> {
+) -> io::Result<FileBeside<'a, 'n>>
+    ensures { IfOk result (λ file. file.state ≡ new_file word.entry) }
+{
     match names.name_of(rt.alloc(), number)? {
         Some(place) => make_beside(rt, word, place, true, NEW_MODE),
         None => Err(io::Error::new(
@@ -169,12 +178,15 @@ fn first_file<'a, 'n>(
     rt: &'a HostRuntime,
     word: &'n str,
     names: BatchNames<'n>,
-) -> io::Result<FileBeside<'a, 'n>> {
-    let file = file_of(rt, word, names, 1)?;
+) -> io::Result<FileBeside<'a, 'n>>
+    ensures { IfOk result (λ file. file.state ≡ new_file word.entry) }
+{
+    let mut file = file_of(rt, word, names, 1)?;
     match file.check_place() {
         Ok(()) => Ok(file),
         Err(error) => {
-            leave(file, false);
+            leave(&mut file, false);
+            file.let_go();
             Err(error)
         }
     }
@@ -194,7 +206,10 @@ impl<'a, 'n> Batches<'a, 'n> {
         dialect: Dialect,
         limits: Limits,
         is_kept: bool,
-    ) -> Result<Self, Failure<'n>> {
+    ) -> Result<Self, Failure<'n>>
+        ensures made { IfOk result (λ batches. option_map (λ file. file.state) batches.file ≡ Some (new_file word.entry)) }
+        ensures told { IfErr result (λ failure. (error : Error) × (failure ≡ batch_failure word.entry 1 error)) }
+    {
         match first_file(rt, word, names) {
             Ok(file) => Ok(Batches {
                 rt,
@@ -212,40 +227,61 @@ impl<'a, 'n> Batches<'a, 'n> {
     }
 
     /// The number of the batch that was written last.
-    pub fn number(&self) -> u64 {
+    pub fn number(&self) -> u64
+        ensures { result ≡ self.now.number }
+    {
         self.number
     }
 
-    // The file of the next batch.
-    fn next_file(&mut self) -> io::Result<FileBeside<'a, 'n>>
-        ensures { self.new.file ≡ self.old.file }
+    // Makes the file of the next batch, unless one is written. The last one is in its place by then.
+    fn begin(&mut self) -> io::Result<()>
+        ensures begun { OnOk result (IfNone self.new.file ⊥) }
+        ensures beside { OnOk result (Current IsBeside self.new) }
+        ensures last { OnOk result (self.new.number ≢ self.old.number → Current IsPlaced self.old) }
     {
-        self.number = self.number.saturating_add(1);
-        file_of(self.rt, self.word, self.names, self.number)
-    }
-
-    // Ends the batch that is written: it comes to its place.
-    fn end(&mut self) -> io::Result<()> {
-        self.size = Size::NONE;
-        let Some(file) = self.file.take() else {
-            return Ok(());
-        };
-        if file.is_beside() {
-            return put_or_leave(file, self.is_kept);
+        if let Some(file) = &self.file {
+            if file.is_beside() {
+                return Ok(());
+            }
+            if !file.is_placed() {
+                return Err(io::Error::from(ErrorKind::Other));
+            }
         }
-        file.let_go();
+        let number = self.number.saturating_add(1);
+        let file = file_of(self.rt, self.word, self.names, number)?;
+        let_file_go(self.file.replace(file));
+        self.number = number;
         Ok(())
     }
 
-    // Writes lines, which fit, to the batch.
-    fn add(&mut self, lines: &[u8], size: Size) -> io::Result<()> {
-        let mut file = match self.file.take() {
-            Some(file) => file,
-            None => self.next_file()?,
+    // Ends the batch that is written: it comes to its place.
+    fn end(&mut self) -> io::Result<()>
+        ensures placed { OnOk result (Current IsPlaced self.new) }
+        ensures settled { Current IsSettled self.new }
+        ensures number { self.new.number ≡ self.old.number }
+    {
+        self.size = Size::NONE;
+        let is_kept = self.is_kept;
+        let Some(file) = &mut self.file else {
+            return Ok(());
         };
-        let written = file.write_all(lines);
-        let_file_go(self.file.replace(file));
-        written?;
+        if file.is_beside() {
+            return put_or_leave(file, is_kept);
+        }
+        if file.is_placed() {
+            return Ok(());
+        }
+        Err(io::Error::from(ErrorKind::Other))
+    }
+
+    // Writes lines, which fit, to the batch.
+    fn add(&mut self, lines: &[u8], size: Size) -> io::Result<()>
+        ensures { OnOk result (Current IsGoing self.new) }
+    {
+        self.begin()?;
+        if let Some(file) = &mut self.file {
+            file.write_all(lines)?;
+        }
         self.size = self.size.and(size);
         // A line has a byte or more.
         if self.limits.take_line(self.size, Size::of_line(0)) {
@@ -260,33 +296,42 @@ impl<'a, 'n> Batches<'a, 'n> {
     /// # Errors
     ///
     /// The failure of the run; `Write` if the batch cannot be put in its place.
-    pub fn finish<T: Drop>(self, answer: Result<T, Failure<'n>>) -> Result<T, Failure<'n>> {
+    pub fn finish<T: Drop>(&mut self, answer: Result<T, Failure<'n>>) -> Result<T, Failure<'n>>
+        ensures placed { OnOk result (IsDone self.old.size self.new.file) }
+        ensures settled { Current IsSettled self.new }
+        ensures failed { IfErr answer.entry (λ failure. result ≡ Err failure) }
+        ensures value { IfOk answer.entry (λ value. IfOk result (λ other. other ≡ value)) }
+    {
+        let is_empty = self.size.bytes == 0;
+        let is_kept = self.is_kept;
+        if answer.is_ok() && !is_empty {
+            return match self.end() {
+                Ok(()) => answer,
+                Err(error) => Err(failure_of_batch(self.word, self.number, error)),
+            };
+        }
+        if let Some(file) = &mut self.file {
+            leave(file, is_kept && answer.is_err());
+        }
+        answer
+    }
+
+    /// Lets the batches go.
+    pub fn let_go(self)
+        requires { Current IsSettled self }
+    {
         let Batches {
             rt: _rt,
-            word,
+            word: _word,
             names: _names,
             dialect: _dialect,
             limits: _limits,
-            is_kept,
-            number,
+            is_kept: _is_kept,
+            number: _number,
             file,
-            size,
+            size: _size,
         } = self;
-        let Some(file) = file else {
-            return answer;
-        };
-        if !file.is_beside() {
-            file.let_go();
-            return answer;
-        }
-        if answer.is_err() || size.bytes == 0 {
-            leave(file, is_kept && answer.is_err());
-            return answer;
-        }
-        match put_or_leave(file, is_kept) {
-            Ok(()) => answer,
-            Err(error) => Err(failure_of_batch(word, number, error)),
-        }
+        let_file_go(file);
     }
 }
 
@@ -304,7 +349,8 @@ fn last_error(error: io::Error) -> io::Error
 impl<'a, 'n> Batches<'a, 'n> {
     // Writes those of these lines that go to one batch, and answers how many bytes they have.
     fn write_batch(&mut self, buf: &[u8]) -> io::Result<usize>
-        ensures { WritesAtMost result buf.now }
+        ensures bound { WritesAtMost result buf.now }
+        ensures going { OnOk result (Current IsGoing self.new) }
     {
         let text = str::from_utf8(buf).unwrap_or("");
         let mut fit = lines_that_fit(self.dialect, self.limits, self.size, text);
@@ -327,6 +373,7 @@ impl<'a, 'n> Write for Batches<'a, 'n> {
         ensures bound { WritesAtMost result buf.now }
         ensures bytes { WriteAppends None None result buf.now }
         ensures last { IfErr result (λ error. is_interrupted (error_kind error) ≡ false) }
+        ensures going { OnOk result (Current IsGoing self.new) }
     {
         match self.write_batch(buf) {
             Ok(n) => Ok(n),

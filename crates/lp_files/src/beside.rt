@@ -1,9 +1,11 @@
 //! Where the lines and the refused pieces go: to standard output, to a file that comes to its place whole or not at all, or nowhere.
-ghost use Rattle.std.specs.Prelude.{◌≡◌, ◌≢◌, None, Ok, false, length, true, IfOk, IsOk};
+ghost use Rattle.std.specs.Prelude.{◌≡◌, ◌≢◌, None, Ok, false, length, true, IfOk, IsOk, IsSome};
+ghost use Rattle.std.specs.IoError.{error_kind};
 ghost use Rattle.std.specs.Io.{WritesAtMost};
 ghost use Rattle.std.specs.Io.KnownBytes.{Keeps, WriteAppends};
+ghost use Rattle.lp_files.specs.Batches.{IsPlaced};
 ghost use Rattle.lp_files.specs.Files.{new_file};
-ghost use Rattle.lp_files.specs.Destinations.{GoesTo, PiecesGoTo, is_nowhere};
+ghost use Rattle.lp_files.specs.Destinations.{GoesTo, PiecesGoTo, file_of, is_nowhere};
 ghost use Rattle.lp_places.specs.Places.{has_no_links};
 
 use crate::files::{FileState, Files, Maker, Output, Stage, failure_of};
@@ -11,8 +13,9 @@ use lp_endings::endings::Failure;
 use lp_endings::speaking::{Notice, Speaker};
 use lp_places::locks::{BESIDE, front_of_name, is_written, lock_made};
 use lp_places::opens::{call_again, open_again, open_to_read};
-use lp_places::places::{folder_and_file, is_mounted, place_of};
-use lp_places::streams::Stream;
+use lp_places::places::{is_mounted, place_of};
+use lp_places::streams::{Stream, sync_known};
+use lp_words::paths::folder_and_file;
 use std::fs::{self, File, Metadata, OpenOptions};
 use std::io::{self, ErrorKind, IsTerminal, Stdout, Write};
 use std::os::unix::fs::{MetadataExt, OpenOptionsExt, fchown};
@@ -196,14 +199,7 @@ fn sync_folder(rt: &HostRuntime, folder: &str) -> io::Result<()> {
     let Ok(folder) = open_to_read(rt, folder) else {
         return Ok(());
     };
-    match folder.sync_all() {
-        Err(error)
-            if matches!(
-                error.kind(),
-                ErrorKind::InvalidInput | ErrorKind::Unsupported
-            ) => { Ok(()) }
-        answer => answer,
-    }
+    sync_known(&folder)
 }
 
 /// Makes a file for this place, which comes there only if nothing is there, if that is asked for. Messages have this name for it.
@@ -239,6 +235,13 @@ impl<'a, 'n> FileBeside<'a, 'n> {
         ensures no { result ≡ false → self.now.state.stage ≢ Stage.Beside }
     {
         matches!(self.state.stage, Stage::Beside)
+    }
+
+    /// Whether it is in its place, and all of it is on the device.
+    pub fn is_placed(&self) -> bool
+        ensures { result ≡ true → IsPlaced self.now.state }
+    {
+        matches!(self.state.stage, Stage::InPlace) && self.state.is_synced
     }
 
     /// Sees that no other run writes a file for its place, and that it can come there, if that needs a hard link.
@@ -304,7 +307,10 @@ fn unlink_again(rt: &HostRuntime, name: &str) -> io::Result<()> {
 }
 
 // Why no hard link can be made, where the system says this.
-fn unlinked(error: io::Error) -> io::Error {
+fn unlinked(error: io::Error) -> io::Error
+    ensures links { has_no_links (error_kind error) ≡ false → result ≡ error }
+    ensures none { has_no_links (error_kind error) ≡ true → error_kind result ≡ ErrorKind.Unsupported }
+{
     if has_no_links(error.kind()) {
         return io::Error::new(ErrorKind::Unsupported, NO_LINKS);
     }
@@ -402,7 +408,10 @@ pub struct Destinations<'a> {
 
 impl<'a> Destinations<'a> {
     /// Whether the lines go to a terminal.
-    pub fn is_on_terminal(&self) -> bool {
+    pub fn is_on_terminal(&self) -> bool
+        ensures file { IsSome (file_of self.now.lines) → result ≡ false }
+        ensures nowhere { is_nowhere self.now.lines ≡ true → result ≡ false }
+    {
         match &self.lines {
             Destination::Standard(stdout) => stdout.is_terminal(),
             Destination::File(_) | Destination::Nowhere => false,

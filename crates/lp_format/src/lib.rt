@@ -1,6 +1,6 @@
-//! What line protocol is: the definitions, and what follows from them alone.
+//! The definitions of line protocol, and the laws that follow from the definitions alone.
 //!
-//! The contracts of the crates above say by these definitions what the code answers and writes. Nothing here names a type
-//! or a function of the code, so a change of the code never has this proved again, and a reader who asks what is promised
-//! need read no code.
+//! The contracts of the crates above use these definitions to say how the code answers and what it writes. No definition names a
+//! type or a function of the code. A change of the code therefore never needs a new proof of this crate, and a reader can learn
+//! what is promised without reading code.
 #![tactic(auto)]

@@ -21,13 +21,13 @@ pub data IsValueText (text : List ℕ) (v : Value Text) : Type 0 where
   plain_value : LiteralText text v → IsValueText text v
   in_quotes : (body : List ℕ) → is_body false body ≡ true → text ≡ quote ∷ (body ++ quote ∷ []) → v ≡ string (read_text quotable body) → IsValueText text v
 
--- a field by its spelled key, the text of its value, and what that says
+-- A field by its spelled key, the text of its value, and the value.
 pub record FieldText : Type 0 where
   pub key : List ℕ
   pub text : List ℕ
   pub value : Value Text
 
--- one of a portable line
+-- A field text of a portable line.
 pub record IsFieldText (f : FieldText) : Type 0 where
   pub some : 0 < length f.key
   pub pairs : holds (backslash ∷ []) [] f.key ≡ false
@@ -40,17 +40,17 @@ abbrev pub after_commas : List FieldText → List ℕ → List ℕ
 after_commas [] rest = rest
 after_commas (f ∷ fs) rest = comma ∷ (f.key ++ equals ∷ (f.text ++ after_commas fs rest))
 
--- unequal the other way round
+-- Two different bytes are different in the other order too.
 pub flip : (a b : ℕ) → (a == b) ≡ false → (b == a) ≡ false
 flip a b h = ne_eqb b a (λ is. false≢true (sym h ∙ eq-eqb a b (sym is)))
 
--- what is before a key: a comma or the gap, or a byte of the key
+-- The thing before a key: a comma or the gap, or a byte of the key.
 abbrev pub start : Bool → Before
 start true = a_divider
 start false = a_byte
 
 module _ (n : ℕ) where
-  -- no quote opens a string where as many commas came before it as equals signs
+  -- A quote opens no string if as many commas as equals signs came before it.
   no_string : (b : ℕ) → (b == quote && nat_lt n n) ≡ false
   no_string b = elim (cases_Bool (b == quote)) [
     | inl is ↦ rw is (le-ltb n n (omega arith))
@@ -72,14 +72,14 @@ module _ (n : ℕ) where
       let gap = neither (space == b) false mark.1 in
       rw (plain, no_string b, flip equals b sign.0, flip space b gap.0, flip comma b mark.0) refl
 
-  -- so are a backslash and the byte after it
+  -- The first scan passes a backslash and the byte after it.
   pair_step : (b : ℕ) (rest : List ℕ) (g : Bool) → (b == backslash) ≡ false
       → after_fields n n false (start g) (backslash ∷ b ∷ rest) ≡ after_fields n n false a_byte rest
   unfolding after_fields
   pair_step b rest true plain = rw plain refl
   pair_step b rest false plain = rw plain refl
 
-  -- and a key, which is not empty at its start
+  -- The first scan passes a key that is not empty at its start.
   key_scan : (key rest : List ℕ) (g : Bool) → (g ≡ true → 0 < length key) → holds (backslash ∷ []) [] key ≡ false
       → holds [] (equals ∷ comma ∷ space ∷ []) key ≡ false → ends_in_backslash key ≡ false
       → after_fields n n false (start g) (key ++ rest) ≡ after_fields n n false a_byte rest
@@ -116,13 +116,13 @@ module _ (signs commas : ℕ) where
       let gap = neither (space == b) false divides.1 in
       rw (flip backslash b slash.0, flip quote b mark.0, flip equals b sign.0, flip space b gap.0, flip comma b divides.0) (plain_scan text rest both.1)
 
-  -- what is before a byte in quotes
+  -- The thing before a byte in quotes.
   abbrev quoted_before : Bool → Bool → Before
   quoted_before true slash = an_escape
   quoted_before false true = a_backslash
   quoted_before false false = a_byte
 
-  -- so is what is in quotes, with the quote that closes it
+  -- The first scan passes the body of a string and the quote that closes it.
   body_scan : (body rest : List ℕ) (escaped slash : Bool) → nat_lt commas signs ≡ true → is_body escaped body ≡ true
       → after_fields signs commas true (quoted_before escaped slash) (body ++ quote ∷ rest) ≡ after_fields signs commas false a_byte rest
   unfolding after_fields
@@ -148,7 +148,7 @@ module _ (signs commas : ℕ) where
     ]
   ]
 
-  -- so is a value
+  -- The first scan passes a value.
   value_scan : (text rest : List ℕ) (v : Value Text) → nat_lt commas signs ≡ true → IsValueText text v
       → after_fields signs commas false a_byte (text ++ rest) ≡ after_fields signs commas false a_byte rest
   unfolding after_fields
@@ -166,7 +166,7 @@ value_there : (text rest : List ℕ) (v : Value Text) → is_literal_end rest �
 value_there text rest v ends (plain_value l) = rw (l.reads_it rest ends) (or_true (begins_with quote (text ++ rest)))
 value_there text rest v ends (in_quotes body is whole reads_it) = rw whole refl
 
--- what follows the fields of a line: nothing, or a space
+-- The text after the fields of a line: nothing, or a space and more.
 pub data IsAfterFields : List ℕ → Type 0 where
   nothing : IsAfterFields []
   a_space : (rest : List ℕ) → IsAfterFields (space ∷ rest)
@@ -187,7 +187,7 @@ field_scan n f rest g is ends =
     key_scan n f.key (equals ∷ text) g (λ e. is.some) is.pairs is.bare_bytes is.last ∙ sign
     ∙ value_scan (n + 1) n f.text rest f.value (lt-ltb n (n + 1) (omega arith)) is.is_value
 
--- and over all
+-- The first scan passes all fields.
 pub fields_scan : (n : ℕ) (f : FieldText) (fs : List FieldText) (rest : List ℕ) (g : Bool) → AllByRecursion IsFieldText (f ∷ fs) → IsAfterFields rest
     → after_fields n n false (start g) (f.key ++ equals ∷ (f.text ++ after_commas fs rest)) ≡ Some rest
 unfolding after_fields
@@ -196,7 +196,7 @@ fields_scan n f [] _ g all (a_space rest) = field_scan n f (space ∷ rest) g al
 fields_scan n f (h ∷ fs) rest g all is =
     field_scan n f (after_commas (h ∷ fs) rest) g all.0 refl ∙ fields_scan (n + 1) h fs rest true all.1 is
 
--- what follows a field in the second scan: nothing, or a comma
+-- The text after a field in the second scan: nothing, or a comma and more.
 data IsAfterField : List ℕ → Type 0 where
   nothing_more : IsAfterField []
   one_more : (rest : List ℕ) → IsAfterField (comma ∷ rest)
@@ -232,7 +232,7 @@ string_reads body rest is after =
     let end : drop (length front) (quote ∷ (body ++ quote ∷ rest)) ≡ rest = ap (λ (t : List ℕ). drop (length front) t) (sym whole) ∙ drop-append_seam front rest in
     rw (body_text body rest false is after, long, n, take-append_seam body (quote ∷ []), end) refl
 
--- and a value
+-- The second scan reads a value.
 value_reads : (text rest : List ℕ) (v : Value Text) → IsValueText text v → IsAfterField rest → influx_value (text ++ rest) ≡ reads v rest
 unfolding influx_value
 value_reads text rest v (plain_value l) after = rw (no_quote text l.some l.plain, l.reads_it rest (ends_literal rest after)) refl
@@ -270,7 +270,7 @@ after_reads (f ∷ fs) all = (after_commas fs [], field_reads f (after_commas fs
     next [] = nothing_more
     next (f ∷ fs) = one_more _
 
--- and are no more than there are bytes
+-- The fields after commas are no more than the bytes of their text.
 after_fewer : (fs : List FieldText) → length (map read_of fs) ≤ length (after_commas fs [])
 after_fewer [] = omega arith
 after_fewer (f ∷ fs) =
@@ -290,7 +290,7 @@ fields_read f fs all =
     next [] = nothing_more
     next (f ∷ fs) = one_more _
 
--- fields before the end of a text are those before its rest
+-- The text of fields before a rest is the text of these fields and the rest.
 joined_end : (fs : List FieldText) (rest : List ℕ) → after_commas fs rest ≡ after_commas fs [] ++ rest
 joined_end [] rest = refl
 joined_end (f ∷ fs) rest =

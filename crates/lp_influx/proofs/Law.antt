@@ -18,7 +18,7 @@ use Rattle.lp_influx.proofs.SpelledFields.{fewer_escaped}
 use Rattle.lp_influx.proofs.Parts.{IsPlainLine, first_of, parts_of, parts_read}
 use Rattle.lp_influx.proofs.Starts.{start_alike}
 
--- a text is not among texts if what is made of it is not among what is made of them
+-- A text is not among some texts if its image is not among their images.
 not_among : (f : List ℕ → List ℕ) (k : List ℕ) (ks : List (List ℕ)) → list_any (bytes_eq (f k)) (map f ks) ≡ false → list_any (bytes_eq k) ks ≡ false
 not_among f k [] h = refl
 not_among f k (x ∷ ks) h =
@@ -28,7 +28,7 @@ not_among f k (x ∷ ks) h =
       | inr other ↦ rw other (not_among f k ks both.1)
     ]
 
--- so texts do not repeat if what is made of them does not
+-- Texts do not repeat if their images do not repeat.
 no_repeats : (f : List ℕ → List ℕ) (ks : List (List ℕ)) → has_repeats (map f ks) ≡ false → has_repeats ks ≡ false
 no_repeats f [] h = refl
 no_repeats f (k ∷ ks) h =
@@ -46,15 +46,15 @@ keys_of (x ∷ xs) (t ∷ ts) h =
     let others : map logical_names xs ≡ map logical_tag ts = cc in
     rw (ap (λ (p : Pair (List ℕ) (List ℕ)). p.key) first, keys_of xs ts others) refl
 
--- the escapes of a tag are those of the strict reader, but for the backslash
+-- The escapes of a tag are those of the strict reader, except for the backslash.
 tag_escapes : (b : ℕ) → is_one_of (backslash ∷ []) b ≡ false → is_one_of (comma ∷ space ∷ equals ∷ []) b ≡ is_escapable a_tag_key b
 tag_escapes b none = grind (arith, common_steps, cases_Bool)
 
--- so are those of a field key, but for the quote too
+-- The escapes of a field key are those of the strict reader, except for the backslash and the quote.
 key_escapes : (b : ℕ) → is_one_of (backslash ∷ quote ∷ []) b ≡ false → is_one_of (comma ∷ quote ∷ space ∷ equals ∷ []) b ≡ is_escapable a_field_key b
 key_escapes b none = grind (arith, common_steps, cases_Bool)
 
--- and of a measurement, but for the equals sign too
+-- The escapes of a measurement are those of the strict reader, except for the backslash, the quote and the equals sign.
 measurement_escapes : (b : ℕ) → is_one_of (backslash ∷ quote ∷ equals ∷ []) b ≡ false
     → is_one_of (comma ∷ quote ∷ space ∷ equals ∷ []) b ≡ is_escapable a_measurement b
 measurement_escapes b none = grind (arith, common_steps, cases_Bool)
@@ -65,7 +65,7 @@ tag_texts [] all = refl
 tag_texts (t ∷ tags) all =
     rw ((all.0.0 (comma ∷ space ∷ equals ∷ []) tag_escapes).1, (all.0.1 (comma ∷ space ∷ equals ∷ []) tag_escapes).1, tag_texts tags all.1) refl
 
--- so do fields
+-- Fields whose keys mean the same have the same logical texts.
 field_texts : (xs : List FieldText) (fields : List (Pair Text (Value Text))) → AllByRecursion (MeansTheSame (backslash ∷ quote ∷ []) a_field_key) (map (λ f. f.key) xs)
     → map (logical a_field_key) (map (λ f. f.key) xs) ≡ map (λ f. f.key.bytes) fields → map (λ f. f.value) xs ≡ map (λ f. f.value) fields
     → map influx_logical (map read_of xs) ≡ map logical_field fields
@@ -79,7 +79,7 @@ field_texts (x ∷ xs) (f ∷ fields) all keys values =
     let other_values : map (λ g. g.value) xs ≡ map (λ g. g.value) fields = cc in
     rw ((all.0 (comma ∷ quote ∷ space ∷ equals ∷ []) key_escapes).1, key, val, field_texts xs fields all.1 other_keys other_values) refl
 
--- what is asked of a line that is portable to InfluxDB
+-- A line that is portable to InfluxDB meets the conditions on a line.
 plain_line : (limits : Limits) (text : List ℕ) (p : IsPortable influx1 limits text) → IsPlainLine (trimmed text) p.line p.names
 plain_line limits text p =
     let keeps = p.keeps in
@@ -99,7 +99,7 @@ plain_line limits text p =
       time = keeps portable.time_out_of_range refl;
     }
 
--- the parts of such a line are its point
+-- The point of the parts of a portable line is the point that the strict reader reads.
 point_alike : (limits : Limits) (text : List ℕ) (p : IsPortable influx1 limits text) (fields : List FieldText)
     → answer Strict (trimmed text) ≡ Ok p.line → map (λ f. f.key) fields ≡ p.names.keys → map (λ f. f.value) fields ≡ map (λ f. f.value) p.line.fields
     → point_of_parts (parts_of p.line p.names fields) ≡ Some (point_of p.line)
@@ -119,7 +119,7 @@ point_alike limits text p fields e keys values =
     let texts = field_texts fields p.line.fields (rw keys same.keys) (ap (map (logical a_field_key)) keys ∙ spelt.keys) values in
     rw (repeats, hundreds, long, name, tags, texts) refl
 
--- what was read of a line is the answer for it
+-- The line that was read of a piece is the answer for the trimmed piece.
 line_answer : (text : List ℕ) (line : Line) → answers_of_piece Strict text ≡ Ok line ∷ [] → answer Strict (trimmed text) ≡ Ok line
 unfolding answers_of_piece
 line_answer text line e = elim (cases_Bool (length (trimmed text) == 0)) [
@@ -127,7 +127,7 @@ line_answer text line e = elim (cases_Bool (length (trimmed text) == 0)) [
   | inr some ↦ let same = rw some at e in cc
 ]
 
--- what is left of a text does not begin with a comment
+-- The text that is left after blanks does not begin with a comment.
 left_begins : (in_comment : Bool) (text : List ℕ) → begins_with hash (left_of in_comment text) ≡ false
 left_begins in_comment [] = refl
 left_begins in_comment (b ∷ rest) = grind (arith, cases_Bool, left_begins false rest, left_begins true rest)
@@ -140,11 +140,11 @@ measurement_begins text (b ∷ name) rest f =
     let other : begins_with nul (b ∷ (name ++ rest)) ≡ false = flip_byte (neither (nul == b) false none).0 in
     (λ empty. absurd (omega (arith, ap length (sym empty ∙ f.whole))), ap (begins_with nul) f.whole ∙ other)
   where
-    -- the other way round
+    -- Two different bytes are different in the other order too.
     flip_byte : (nul == b) ≡ false → (b == nul) ≡ false
     flip_byte h = flip nul b h
 
--- of each portable line the same point is read
+-- From each portable line, both readers read the same point.
 pub influx_reads_portable_lines : InfluxReadsPortableLines
 unfolding influx_line
 influx_reads_portable_lines limits text p =

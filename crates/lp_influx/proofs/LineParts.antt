@@ -26,7 +26,7 @@ time_fits : (t : ℤ) → is_outside (negsuc 9223372036854775805) (pos 922337203
 time_fits (pos n) within = grind (arith, common_steps, cases_Bool)
 time_fits (negsuc n) within = grind (arith, common_steps, cases_Bool)
 
--- so a number that does not is no time
+-- A number that does not fit is no time.
 pub stamp_over : (text number : List ℕ) (n : ℕ) → n ≡ integer_len text → number ≡ take n text → 0 < n
     → ¬ (IsNumeral 10 (without_leading_sign number) × FitsSigned w64 (signed_digits_value 10 number)) → stamp_at text ≡ miss
 stamp_over text number n len front some over =
@@ -39,7 +39,7 @@ stamp_over text number n len front some over =
       | inr within ↦ absurd (over (numeral, rw taken (time_fits z within)))
     ]
 
--- what is read after the tags
+-- The parts that are read after the tags.
 module _ (line name rest left after start : List ℕ) (tags : List (Pair (List ℕ) (List ℕ))) (gap : ℕ) (m : measurement_at line ≡ reads name rest)
     (t : influx_tags rest ≡ reads tags left) (b : byte space left ≡ reads space after) (s : start ≡ without_gap after) (g : gap ≡ gap_before left start) where
   -- the gap before the fields
@@ -50,12 +50,12 @@ module _ (line name rest left after start : List ℕ) (tags : List (Pair (List �
   pub no_fields : influx_fields gap start ≡ miss → parts_at line ≡ miss
   no_fields none = rw (m, t, b, gap_is, ← g, none) refl
 
-  -- nor without a time that is one
+  -- Without a time in range there are no parts.
   pub no_time : (fields : List (Pair (List ℕ) (Value Text))) (end : List ℕ) → influx_fields gap start ≡ reads fields end → influx_time end ≡ miss
       → parts_at line ≡ miss
   no_time fields end f none = rw (m, t, b, gap_is, ← g, f, none) refl
 
-  -- else they are these
+  -- With fields and a time, the parts of the line are these parts.
   pub parts_are : (fields : List (Pair (List ℕ) (Value Text))) (end : List ℕ) (time : Option ℤ) → influx_fields gap start ≡ reads fields end
       → influx_time end ≡ reads time [] → parts_at line
       ≡ reads (record { measurement = name; tags = tags; series_len = length line - length left; fields = fields; timestamp = time }) []

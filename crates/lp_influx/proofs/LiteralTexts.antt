@@ -1,4 +1,4 @@
--- The values of a portable line are those that InfluxDB reads, whatever ends them.
+-- InfluxDB reads the values of a portable line as the strict reader does, whatever ends them.
 use Rattle.std.proofs.Common.{◌≡◌, ◌⊎◌, ℕ, ◌+◌, ◌<◌, List, [], ◌∷◌, ◌++◌, length, take, drop, Bool, true, false, not, ◌==◌, ◌&&◌, refl, sym, ap, ◌∙◌, arith, inl, inr, subst}
 use Rattle.std.proofs.Common.{eqb-true, append-nil, append_assoc, take-append-drop, codes, slice_index, length-append}
 use Rattle.std.proofs.Math.Seq.{drop-append_seam, take-append_seam}
@@ -32,7 +32,7 @@ pub record LiteralFront (text : List ℕ) (v : Value Text) (rest : List ℕ) : T
   pub whole : text ≡ front ++ rest
   pub is : LiteralText front v
 
--- the end of a literal, as those of floats are told
+-- The end of a literal is an end as the lemmas about floats have it.
 ends_float : (rest : List ℕ) → is_literal_end rest ≡ true → Ends rest
 ends_float [] e = refl
 ends_float (b ∷ rest) e = grind (arith, cases_Bool)
@@ -50,7 +50,7 @@ marked_plain : (text : List ℕ) → list_all is_plain text ≡ true → list_al
 marked_plain [] all = refl
 marked_plain (b ∷ text) all = let both = and_parts (is_plain b) (list_all is_plain text) all in rw (both.0, marked_plain text both.1) refl
 
--- what an integer is that was read
+-- Facts about an integer that was read.
 record IntegerParts (text : List ℕ) (v : Value Text) (rest : List ℕ) : Type 0 where
   some : 0 < integer_len text
   mark : slice_index text (integer_len text) ≡ letter_i
@@ -135,7 +135,7 @@ float_text text v rest e finite =
           }
     ]
 
--- what holds at each end of a literal
+-- A property holds at each end of a literal if it holds at the end of the text, at a comma and at a space.
 by_end : (P : List ℕ → Type 0) → P [] → ((rest : List ℕ) → P (comma ∷ rest)) → ((rest : List ℕ) → P (space ∷ rest))
     → (rest : List ℕ) → is_literal_end rest ≡ true → P rest
 by_end P none at_comma at_space [] e = none
@@ -151,7 +151,7 @@ by_end P none at_comma at_space (b ∷ rest) e = elim (cases_Bool (comma == b)) 
 abbrev pub ReadsWord : Bool → List ℕ → Type 0
 ReadsWord b word = LiteralText word (boolean b)
 
--- a word that is read before each end is such a text
+-- A word that is read before each end of a literal is the text of a boolean.
 word : (b : Bool) (text : List ℕ) → 0 < length text → list_all is_plain text ≡ true → literal (text ++ []) ≡ reads (boolean b) []
     → ((rest : List ℕ) → literal (text ++ comma ∷ rest) ≡ reads (boolean b) (comma ∷ rest))
     → ((rest : List ℕ) → literal (text ++ space ∷ rest) ≡ reads (boolean b) (space ∷ rest)) → ReadsWord b text
@@ -199,7 +199,7 @@ false_texts = (
 )
 
 module _ (P : List ℕ → Type 0) (text : List ℕ) where
-  -- the longest of words is one that the text begins with, if it is longer than what was found before
+  -- The longest of some words is a word with which the text begins, if it is longer than the front that was found before.
   word_found : (words : List (List ℕ)) (n : ℕ) → AllByRecursion P words
       → (fold (λ (m : ℕ) (word : List ℕ). longer_front text m word) n words ≡ n)
       ⊎ ((word : List ℕ) × P word × (starts_with (λ (a b : ℕ). a == b) text word ≡ true) × (fold (λ (m : ℕ) (word : List ℕ). longer_front text m word) n words ≡ length word))

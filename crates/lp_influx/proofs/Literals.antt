@@ -1,4 +1,4 @@
--- What the reader in code finds of literals.
+-- Each literal that the reader in code finds is the literal of the definition.
 use Rattle.std.proofs.Common.{◌≡◌, ◌≢◌, ◌<◌, ◌+◌, ◌^◌, ℕ, ℤ, List, [], ◌∷◌, length, take, drop, Bool, true, false, ◌==◌, codes, refl, sym, ap, ◌∙◌, arith, FitsSigned, w64, slice_index, if◌then◌else◌, nat_lt, lt-ltb, ne_eqb, eqb-true, ◌&&◌, not, to_z-of_z, length-take, inl, inr, ltb-true}
 use Rattle.std.proofs.lemmas.{Bool.cases_Bool, Bool.Decides.nat_tests, Grind.common_steps}
 use Rattle.std.specs.Str.Parse.{IsNumeral, digits_value, signed_digits_value, without_leading_sign, without_leading_plus}
@@ -28,12 +28,12 @@ pointed_is text after sign whole fraction power s w dot f some p =
     let any : nat_lt 0 (whole + fraction) ≡ true = lt-ltb 0 (whole + fraction) some in
     rw (← s, ← w, first, rest, ← f, any) (ap (λ (n : ℕ). sign + whole + 1 + fraction + n) (sym p))
 
--- it has a point
+-- Without a point, no number with a point is read.
 pub no_point : (text : List ℕ) (sign whole : ℕ) → sign ≡ (if slice_index text 0 == minus then 1 else 0)
     → whole ≡ digits_len (drop sign text) → byte 46 (drop (sign + whole) text) ≡ miss → pointed_len text ≡ 0
 no_point text sign whole s w none = rw (← s, ← w, byte_none 46 (drop (sign + whole) text) none) refl
 
--- and digits
+-- With a point and no digits, no number with a point is read.
 pub no_digits : (text after : List ℕ) (sign whole : ℕ) → sign ≡ (if slice_index text 0 == minus then 1 else 0)
     → whole ≡ digits_len (drop sign text) → byte 46 (drop (sign + whole) text) ≡ reads 46 after → whole + digits_len after ≡ 0 → pointed_len text ≡ 0
 no_digits text after sign whole s w dot none =
@@ -50,12 +50,12 @@ pub integer_bare : (text : List ℕ) → byte letter_i (drop (integer_len text) 
 unfolding integer_at
 integer_bare text none = rw (unmarked text (integer_len text) letter_i (omega arith) none) (grind (arith, cases_Bool))
 
--- and digits
+-- Without digits, no integer is read.
 pub integer_empty : (text : List ℕ) → integer_len text ≡ 0 → ended (integer_at text) ≡ miss
 unfolding integer_at
 integer_empty text none = rw none refl
 
--- which decide with what follows them
+-- With digits and the letter, the range and the byte after the letter decide whether an integer is read.
 pub integer_marked : (text rest : List ℕ) → byte letter_i (drop (integer_len text) text) ≡ reads letter_i rest → 0 < integer_len text
     → ended (integer_at text)
     ≡ (if fits_i64 (signed_digits_value 10 (take (integer_len text) text)) && is_literal_end rest then reads (integer (signed_digits_value 10 (take (integer_len text) text))) rest else miss)
@@ -64,7 +64,7 @@ integer_marked text rest mark some =
     let at = byte_at_drop text rest (integer_len text) letter_i (byte_first letter_i letter_i (drop (integer_len text) text) rest mark) in
     rw (at.0, at.1, ne_eqb (integer_len text) 0 (λ e. absurd (omega arith))) (grind (arith, cases_Bool))
 
--- what ends it
+-- If no end follows the letter, no integer is read.
 pub integer_goes_on : (text rest : List ℕ) → byte letter_i (drop (integer_len text) text) ≡ reads letter_i rest → is_literal_end rest ≡ false
     → ended (integer_at text) ≡ miss
 unfolding integer_at
@@ -84,7 +84,7 @@ pub integer_read : (text number rest : List ℕ) (z : ℤ) → number ≡ take (
 integer_read text number rest z front mark some end fits is =
     rw (is, front) (integer_marked text rest mark some ∙ rw (test_from_fits _ (rw front at fits), end) refl)
 
--- and out of range
+-- If the digits are out of range, no integer is read.
 pub integer_over : (text number after rest : List ℕ) (n : ℕ) → n ≡ integer_len text → number ≡ take n text → after ≡ drop n text
     → byte letter_i after ≡ reads letter_i rest → 0 < n → ¬ (IsNumeral 10 (without_leading_sign number) × FitsSigned w64 (signed_digits_value 10 number))
     → ended (integer_at text) ≡ miss
@@ -106,12 +106,12 @@ pub unsigned_bare : (text : List ℕ) → byte letter_u (drop (digits_len text) 
 unfolding unsigned_at
 unsigned_bare text none = rw (unmarked text (digits_len text) letter_u (omega arith) none) (grind (arith, cases_Bool))
 
--- and digits
+-- Without digits, no unsigned integer is read.
 pub unsigned_empty : (text : List ℕ) → digits_len text ≡ 0 → ended (unsigned_at text) ≡ miss
 unfolding unsigned_at
 unsigned_empty text none = rw none refl
 
--- which decide with what follows them
+-- With digits and the letter, the range and the byte after the letter decide whether an unsigned integer is read.
 unsigned_marked : (text rest : List ℕ) → byte letter_u (drop (digits_len text) text) ≡ reads letter_u rest → 0 < digits_len text
     → ended (unsigned_at text)
     ≡ (if nat_lt (digits_value 10 (take (digits_len text) text)) (2 ^ 64) && is_literal_end rest then reads (unsigned (digits_value 10 (take (digits_len text) text))) rest else miss)
@@ -120,7 +120,7 @@ unsigned_marked text rest mark some =
     let at = byte_at_drop text rest (digits_len text) letter_u (byte_first letter_u letter_u (drop (digits_len text) text) rest mark) in
     rw (at.0, at.1, ne_eqb (digits_len text) 0 (λ e. absurd (omega arith))) (grind (arith, cases_Bool))
 
--- what ends it
+-- If no end follows the letter, no unsigned integer is read.
 pub unsigned_goes_on : (text rest : List ℕ) → byte letter_u (drop (digits_len text) text) ≡ reads letter_u rest → is_literal_end rest ≡ false
     → ended (unsigned_at text) ≡ miss
 unfolding unsigned_at
@@ -142,7 +142,7 @@ unsigned_read text number rest n front mark some end fits is =
     let bare : without_leading_plus number ≡ take (digits_len text) text = ap without_leading_plus front ∙ no_plus _ numeral in
     rw (is, bare) (unsigned_marked text rest mark some ∙ rw (lt-ltb _ (2 ^ 64) (rw bare at fits), end) refl)
 
--- and out of range
+-- If the digits are out of range, no unsigned integer is read.
 pub unsigned_over : (text number after rest : List ℕ) (n : ℕ) → n ≡ digits_len text → number ≡ take n text → after ≡ drop n text
     → byte letter_u after ≡ reads letter_u rest → 0 < n → ¬ (IsNumeral 10 (without_leading_plus number) × (digits_value 10 (without_leading_plus number) < 2 ^ 64))
     → ended (unsigned_at text) ≡ miss

@@ -66,19 +66,19 @@ pub record NameFront (kind : NameKind) (text front rest : List ℕ) : Type 0 whe
   pub bare_bytes : (marks : List ℕ) → is_one_of marks backslash ≡ false → ((b : ℕ) → is_stop kind b ≡ false → is_one_of marks b ≡ false)
       → holds [] marks front ≡ false
 
--- none of the bytes of a list is such
+-- No byte of a list passes a test, if each of its bytes fails a wider test.
 none_of : (p q : ℕ → Bool) → ((b : ℕ) → p b ≡ false → q b ≡ false) → (bytes : List ℕ) → All (λ b. p b ≡ false) bytes → list_any q bytes ≡ false
 none_of p q all [] h = refl
 none_of p q all (b ∷ bytes) h =
     rw (all b (All-head (λ c. p c ≡ false) b bytes h)) (none_of p q all bytes (All-tail (λ c. p c ≡ false) b bytes h))
 
--- what a name is that was read
+-- A name that was read is not empty and does not end in a backslash.
 name_is_some : (kind : NameKind) (text : List ℕ) (t : Text) (rest : List ℕ) → name kind text ≡ reads t rest
     → (0 < length (spelled kind text)) × (ends_in_backslash (spelled kind text) ≡ false)
 unfolding name
 name_is_some kind text t rest e = grind (arith, cases_Bool, eqb-false, logical_ends)
 
--- a name that was read is such a front
+-- A name that was read is the front of the text before the rest, with these facts.
 pub name_front : (kind : NameKind) (text front rest : List ℕ) → name_text kind text ≡ reads front rest → NameFront kind text front rest
 name_front kind text front rest e =
     let two = bind_reads (name kind text) (λ n. reads (spelled kind text) n.rest) front rest e in
@@ -94,7 +94,7 @@ name_front kind text front rest e =
       bare_bytes = λ marks other all. bare_bytes_are_held marks (spelled kind text) other ∙ none_of (is_stop kind) (is_one_of marks) all (bare (spelled kind text)) stops.none;
     })
 
--- a name, by what it and its rest are
+-- A front of a text is the front of a name if it equals the spelled name, and its rest equals the rest.
 pub front_is : (kind : NameKind) (text front other rest end : List ℕ) → name_text kind text ≡ reads front rest → front ≡ other → rest ≡ end
     → NameFront kind text other end
 front_is kind text front other rest end e same after = rw (← same, ← after) (name_front kind text front rest e)
@@ -104,7 +104,7 @@ pub name_rest : (kind : NameKind) (text front mid : List ℕ) (t : Text) (rest :
     → mid ≡ rest
 name_rest kind text front mid t rest e d = sym (reads_parts (spelled kind text) front rest mid (rw d at e)).1
 
--- some bytes are read that are at the start
+-- A front of the text that is not empty is read.
 pub some_reads : (front rest : List ℕ) → 0 < length front → some_of front (front ++ rest) ≡ reads front rest
 some_reads front rest some = rw (ne_eqb (length front) 0 (λ e. absurd (omega (arith, e))), drop-append_seam front rest) refl
 
@@ -117,13 +117,13 @@ many_reads one (x ∷ xs) zero text rest fits are none = absurd (omega arith)
 many_reads one (x ∷ xs) (suc n) text rest fits are none = rw (are.1, many_reads one xs n are.0 rest (omega arith) are.2 none) refl
 
 module _ {A : Type 0} (one : List ℕ → Reading A) (no_longer : (text : List ℕ) (x : A) (rest : List ℕ) → one text ≡ reads x rest → length rest ≤ length text) where
-  -- a comma and what is after it leave less
+  -- The text after a comma and an element is shorter than the text.
   less_left : (text : List ℕ) (x : A) (rest : List ℕ) → after_comma one text ≡ reads x rest → length rest < length text
   less_left text x rest e =
       let two = bind_reads (byte comma text) (λ after. one after.rest) x rest e in
       omega (arith, no_longer two.mid x rest two.next, ap length (byte_parts comma text two.first two.mid two.was).1)
 
-  -- so they are no more than there are bytes
+  -- The parts after commas are no more than the bytes of their text.
   pub are_fewer : (xs : List A) (text rest : List ℕ) → AreAfterCommas one xs text rest → length xs ≤ length text
   are_fewer [] text rest are = omega arith
   are_fewer (x ∷ xs) text rest are = omega (arith, less_left text x are.0 are.1, are_fewer xs are.0 rest are.2)

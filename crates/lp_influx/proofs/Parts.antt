@@ -1,4 +1,4 @@
--- The parts of a portable line are those that InfluxDB's reader finds.
+-- InfluxDB's reader finds the same parts of a portable line as the strict reader.
 use Rattle.std.proofs.Common.{◌≡◌, ℕ, ℤ, ◌-◌, ◌<◌, pos, negsuc, List, [], ◌∷◌, ◌++◌, length, drop, map, true, false, ◌==◌, refl, sym, ap, ◌∙◌, arith, inl, inr, Option, None, Ok}
 use Rattle.std.proofs.Common.{eqb-true, length-append}
 use Rattle.std.proofs.lemmas.{Bool.cases_Bool, Bool.false≢true, Grind.common_steps}
@@ -30,11 +30,11 @@ tag_rest text x t rest end e d =
     let p = pair_parts a_tag_key (name a_tag_value) text t end d in
     by p.mid p.key p.value
   where
-    -- by what the names leave
+    -- Both readings of a tag leave the same rest, by the rests that its names leave.
     by : (mid : List ℕ) → name a_tag_key text ≡ reads t.key (equals ∷ mid) → name a_tag_value mid ≡ reads t.value end → rest ≡ end
     by mid key val = sym (reads_parts _ x end rest (rw (key, val) at e)).1
 
--- so do tags after commas
+-- Spelled tags after commas leave the same rest as the tags that were read.
 tags_rest : (xs : List (Pair (List ℕ) (List ℕ))) (ts : List (Pair Text Text)) (text rest end : List ℕ) → AreAfterCommas tag_text xs text rest
     → SeparatedAfterComma tag ts text end → length xs ≡ length ts → rest ≡ end
 tags_rest [] [] text rest end a b len = sym a ∙ b
@@ -45,7 +45,7 @@ tags_rest (x ∷ xs) (t ∷ ts) text rest end a b len =
     let same = tag_rest b.0 x t a.0 b.1 read b.3 in
     tags_rest xs ts b.1 rest end (rw same at a.2) b.4 (omega (arith, len))
 
--- what follows the fields of a line that is read whole
+-- The text after the fields of a line that is read whole is nothing, or a space and more.
 after_fields_is : (text : List ℕ) (t : Option ℤ) → timestamp text ≡ Ok (record { value = t; rest = [] }) → IsAfterFields text
 after_fields_is [] t e = nothing
 after_fields_is (b ∷ text) t e = elim (cases_Bool (b == space)) [
@@ -55,7 +55,7 @@ after_fields_is (b ∷ text) t e = elim (cases_Bool (b == space)) [
       absurd (omega (arith, ap length same))
 ]
 
--- the first byte of a name that holds none of some bytes bare is none of them
+-- The first byte of a name that holds none of some bytes bare is none of these bytes.
 pub first_of : (marks : List ℕ) (b : ℕ) (name : List ℕ) → is_one_of marks backslash ≡ false → holds [] marks (b ∷ name) ≡ false → is_one_of marks b ≡ false
 unfolding holds
 first_of marks b [] other none = none
@@ -100,7 +100,7 @@ first_key (key ∷ keys) text after h some =
     let same = (reads_parts one.first key three.mid h.0 three.next).0 in
     (key, keys, one.mid, refl, front_is a_field_key text one.first key one.mid one.mid one.was same refl)
 
--- what is asked of a line
+-- The conditions on a line.
 pub record IsPlainLine (text : List ℕ) (line : Line) (names : Spelling) : Type 0 where
   pub measurement : holds (backslash ∷ []) [] names.measurement ≡ false
   pub escapes : list_any has_escape names.tags ≡ false
@@ -160,7 +160,7 @@ record FieldsRead (fields : List (Pair Text (Value Text))) (keys : List (List �
   values_are : map (λ f. f.value) are ≡ map (λ f. f.value) fields
   read : influx_fields (gap_before text (without_gap text)) (without_gap text) ≡ reads (map read_of are) rest
 
--- they are read, from the gap before them
+-- The fields of a line are read by InfluxDB's reader, from the gap before them.
 fields_alike : (fields : List (Pair Text (Value Text))) (keys : List (List ℕ)) (text after rest : List ℕ)
     → AreJoined key_text keys (drop (spaces text) text) after → SeparatedBy field fields (drop (spaces text) text) rest
     → 0 < length fields → length keys ≡ length fields → ArePlain keys fields → begins_with_nul fields ≡ false
@@ -191,7 +191,7 @@ pub parts_read : (text : List ℕ) (line : Line) (names : Spelling) → answer S
     → PartsRead text line names
 parts_read text line names e h plain = by_row ((answer_is_by_rows Strict text (Ok line)).0 e)
   where
-    -- by the row of the table of answers
+    -- The parts of a line are read, by the row of the table of answers.
     by_row : IsAnswer Strict text (Ok line) → PartsRead text line names
     by_row (all_read _ rest r stamp) =
         let s = series_parts r.series_reads in

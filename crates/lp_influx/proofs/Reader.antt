@@ -1,4 +1,4 @@
--- What the reader in code walks over.
+-- The loops of the reader in code read the lists and the fronts of the definition.
 use Rattle.std.proofs.Common.{◌≡◌, ◌≤◌, ◌<◌, ℕ, zero, suc, List, [], ◌∷◌, ◌++◌, length, take, drop, nat_lt, le-ltb, ◌-◌, Bool, false, not, ◌&&◌, ◌==◌, inl, inr, if◌then◌else◌, refl, sym, ap, ◌∙◌, arith, append_assoc, append-nil, map}
 use Rattle.std.proofs.lemmas.{Bool.cases_Bool, Grind.common_steps, List.map-append}
 use Rattle.lp_format.specs.format.{Reading, backslash, fatal, is_one_of, many, miss, prepend, quotable, quote, read_text, reads, string, without_escapes}
@@ -6,19 +6,19 @@ use Rattle.lp_portable.specs.format.Spellings.{without_each}
 use Rattle.lp_influx.specs.format.InfluxFields.{influx_string, value_text}
 use Rattle.lp_influx.specs.format.InfluxNames.{tag_ends, until, value_front}
 
--- what is before an end is the front of the text
+-- The text before an ending byte is a front of the text.
 pub until_front : (ends : List ℕ) (escaped : Bool) (text : List ℕ) → take (length (until ends escaped text)) text ≡ until ends escaped text
 unfolding until
 until_front ends escaped [] = refl
 until_front ends escaped (b ∷ text) = grind (arith, common_steps, cases_Bool, until_front ends (b == backslash) text)
 
--- so is the value of a tag
+-- The value of a tag is a front of the text.
 pub value_is_front : (text : List ℕ) → take (length (value_front text)) text ≡ value_front text
 unfolding until
 value_is_front [] = refl
 value_is_front (b ∷ text) = grind (arith, common_steps, cases_Bool, until_front tag_ends false text, until_front tag_ends false (b ∷ text))
 
--- so is the text of a value
+-- The text of a value is a front of the text.
 pub value_text_is_front : (quoted escaped : Bool) (text : List ℕ) → take (length (value_text quoted escaped text)) text ≡ value_text quoted escaped text
 unfolding value_text
 value_text_is_front quoted escaped [] = refl
@@ -68,31 +68,31 @@ module _ {A : Type 0} where
   prepend_none (fatal e) = refl
   prepend_none (reads xs rest) = refl
 
-  -- some before some
+  -- Putting elements before a list twice puts both before it.
   prepend_more : (xs ys : List A) (r : Reading (List A)) → prepend xs (prepend ys r) ≡ prepend (xs ++ ys) r
   prepend_more xs ys miss = refl
   prepend_more xs ys (fatal e) = refl
   prepend_more xs ys (reads zs rest) = rw append_assoc refl
 
-  -- one and what comes after it
+  -- If one element is read, the list of elements is this element and the list that is read from the rest.
   many_more : (one : List ℕ → Reading A) (most : ℕ) (left rest : List ℕ) (x : A) → one left ≡ reads x rest
       → many one (suc most) left ≡ prepend (x ∷ []) (many one most rest)
   many_more one most left rest x e = rw e refl
 
-  -- none
+  -- If no element is read, the list is empty and the whole text is left.
   many_none : (one : List ℕ → Reading A) (most : ℕ) (left : List ℕ) → one left ≡ miss → many one most left ≡ reads [] left
   many_none one zero left e = refl
   many_none one (suc most) left e = rw e refl
 
-  -- at the start, after some
+  -- At its start, a walk has the elements that were found before.
   pub walk_start : (one : List ℕ → Reading A) (xs : List A) (text : List ℕ) → Walk one (prepend xs (many one (length text) text)) xs text
   walk_start one xs text = record { most = length text; enough = omega arith; goes_on = refl }
 
-  -- after none
+  -- A walk may start without an element.
   pub walk_none : (one : List ℕ → Reading A) (text : List ℕ) → Walk one (many one (length text) text) [] text
   walk_none one text = record { most = length text; enough = omega arith; goes_on = sym (prepend_none _) }
 
-  -- one more
+  -- A walk over at most this number of elements goes on with one more element.
   walk_by : (one : List ℕ → Reading A) (whole : Reading (List A)) (xs : List A) (left rest : List ℕ) (x : A) (most : ℕ) → length left ≤ most
       → whole ≡ prepend xs (many one most left) → one left ≡ reads x rest → length rest < length left → Walk one whole (xs ++ x ∷ []) rest
   walk_by one whole xs left rest x zero enough goes_on e less = absurd (omega arith)
@@ -102,19 +102,19 @@ module _ {A : Type 0} where
     goes_on = goes_on ∙ ap (prepend xs) (many_more one most left rest x e) ∙ prepend_more xs (x ∷ []) (many one most rest);
   }
 
-  -- the same of a walk
+  -- A walk goes on with one more element.
   walk_step : (one : List ℕ → Reading A) (whole : Reading (List A)) (xs : List A) (left rest : List ℕ) (x : A) → Walk one whole xs left
       → one left ≡ reads x rest → length rest < length left → Walk one whole (xs ++ x ∷ []) rest
   walk_step one whole xs left rest x w e less = walk_by one whole xs left rest x w.most w.enough w.goes_on e less
 
-  -- one more, as code pushes it
+  -- A walk goes on with one more element, which the code pushes.
   pub walk_push : {X : Type 0} (view : X → A) (one : List ℕ → Reading A) (whole : Reading (List A)) (xs ys : List X) (left rest : List ℕ) (x : X)
       → Walk one whole (map view xs) left → one left ≡ reads (view x) rest → length rest < length left → ys ≡ xs ++ x ∷ []
       → Walk one whole (map view ys) rest
   walk_push view one whole xs ys left rest x w e less pushed =
       rw (pushed, map-append view xs (x ∷ [])) (walk_step one whole (map view xs) left rest (view x) w e less)
 
-  -- at the end
+  -- At the end of a walk, the whole list is read.
   pub walk_end : (one : List ℕ → Reading A) (whole : Reading (List A)) (xs : List A) (left : List ℕ) → Walk one whole xs left → one left ≡ miss
       → whole ≡ reads xs left
   walk_end one whole xs left w e = w.goes_on ∙ ap (prepend xs) (many_none one w.most left e) ∙ rw append-nil refl

@@ -33,7 +33,7 @@ record KeyParts (text key after : List ℕ) (f : Pair Text (Value Text)) (rest :
   value_is : value mid ≡ reads f.value rest
   same : after ≡ rest
 
--- these parts
+-- A field and its spelled key, read from one text, have these parts.
 key_parts : (text key after : List ℕ) (f : Pair Text (Value Text)) (rest : List ℕ) → key_text text ≡ reads key after → field text ≡ reads f rest
     → KeyParts text key after f rest
 unfolding field
@@ -61,7 +61,7 @@ record Piece (text key : List ℕ) (v : Value Text) (rest : List ℕ) : Type 0 w
   whole : text ≡ key ++ equals ∷ (spelt ++ rest)
   is : IsFieldText (record { key = key; text = spelt; value = v })
 
--- a key and a value are such
+-- A key and a value are the text of a field.
 piece_of : (text key mid : List ℕ) (v : Value Text) (rest : List ℕ) → NameFront a_field_key text key (equals ∷ mid) → ValueFront mid v rest
     → has_marked_escape key ≡ false → has_bare_comma key ≡ false → Piece text key v rest
 piece_of text key mid v rest k x escapes commas =
@@ -70,7 +70,7 @@ piece_of text key mid v rest k x escapes commas =
     (k.bare_bytes (equals ∷ space ∷ []) refl (λ b h. grind (arith, neither, h))) in
     by_value x pairs bare
   where
-    -- by what the value is
+    -- A key and a value are the text of a field, by the form of the value.
     by_value : ValueFront mid v rest → holds (backslash ∷ []) [] key ≡ false → holds [] (equals ∷ comma ∷ space ∷ []) key ≡ false → Piece text key v rest
     by_value (is_literal front whole l) pairs bare = record {
       spelt = front;
@@ -83,7 +83,7 @@ piece_of text key mid v rest k x escapes commas =
       is = record { some = k.some; pairs = pairs; bare_bytes = bare; last = k.last; is_value = in_quotes s.body s.is refl s.reads_it };
     }
 
--- what is asked of keys and fields
+-- The conditions on field keys and fields.
 pub record ArePlain (keys : List (List ℕ)) (fields : List (Pair Text (Value Text))) : Type 0 where
   pub escapes : list_any has_marked_escape keys ≡ false
   pub commas : list_any has_bare_comma keys ≡ false
@@ -105,7 +105,7 @@ ends_fields [] text _ h nothing = rw h refl
 ends_fields [] text _ h (a_space rest) = rw h refl
 ends_fields (f ∷ fields) text rest h is = rw h.2 refl
 
--- the first of them
+-- The first of the fields is the text of a field.
 first_piece : (text key after : List ℕ) (keys : List (List ℕ)) (f : Pair Text (Value Text)) (fields : List (Pair Text (Value Text))) (rest : List ℕ)
     → key_text text ≡ reads key after → field text ≡ reads f rest → ArePlain (key ∷ keys) (f ∷ fields)
     → Piece text key f.value rest × (after ≡ rest) × ArePlain keys fields
@@ -121,7 +121,7 @@ first_piece text key after keys f fields rest e d plain =
       record { escapes = escapes.1; commas = commas.1; signed = signed.1; finite = finite.1 },
     )
   where
-    -- what is not false
+    -- A test whose negation is `false` is `true`.
     is_true : (b : Bool) → not b ≡ false → b ≡ true
     is_true true h = refl
     is_true false h = absurd (false≢true (sym h))

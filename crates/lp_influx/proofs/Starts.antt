@@ -1,4 +1,4 @@
--- What InfluxDB's reader drops at the start of a portable line is what trimming drops.
+-- At the start of a portable line, InfluxDB's reader drops the same bytes as trimming.
 use Rattle.std.proofs.Common.{◌≡◌, ◌≢◌, ℕ, List, [], ◌∷◌, ◌++◌, Bool, true, false, ◌==◌, ◌||◌, ◌&&◌, refl, ◌∙◌, arith, inl, inr, All}
 use Rattle.std.proofs.Common.{append-nil, append_assoc, ne_eqb, one-add}
 use Rattle.std.proofs.lemmas.{Bool.cases_Bool, Bool.false≢true, Grind.common_steps}
@@ -17,7 +17,7 @@ abbrev is_early : List ℕ → Bool
 is_early [] = false
 is_early (b ∷ text) = b == newline || (is_one_of (space ∷ tab ∷ []) b && is_early text)
 
--- neither of two texts does so, nor both
+-- If neither of two texts begins with blanks and a newline, the joined text does not either.
 early_append : (xs ys : List ℕ) → is_early xs ≡ false → is_early ys ≡ false → is_early (xs ++ ys) ≡ false
 early_append [] ys h k = k
 early_append (b ∷ xs) ys h k = elim (cases_Bool (is_one_of (space ∷ tab ∷ []) b)) [
@@ -48,7 +48,7 @@ early_bare front (b ∷ text) plain none =
 head_none : (bytes : List ℕ) → All (λ b. (b ≢ space) × (b ≢ newline)) bytes → All (λ b. b ≢ newline) bytes
 head_none bytes h = λ i d l. (h i d l).1
 
--- nor does a closed piece
+-- A closed piece does not begin with blanks and a newline.
 early_plain : (text counted : List ℕ) → EndsPlain text counted → is_early text ≡ false
 unfolding is_escaped_after
 early_plain _ _ (first head plain is_head bare_head is_plain) =
@@ -75,11 +75,11 @@ comment_left (b ∷ text) e h =
 blank_either : (b : ℕ) → is_one_of (space ∷ tab ∷ []) b ≡ true → (b == space || b == tab) ≡ true
 blank_either b h = grind (arith, common_steps, cases_Bool)
 
--- and is skipped
+-- A blank is one of the bytes that InfluxDB skips.
 blank_skipped : (b : ℕ) → is_one_of (space ∷ tab ∷ []) b ≡ true → is_one_of (space ∷ tab ∷ nul ∷ []) b ≡ true
 blank_skipped b h = grind (arith, common_steps, cases_Bool)
 
--- as is no other byte but 0
+-- A byte that is no blank and is not 0 is kept.
 other_kept : (b : ℕ) → is_one_of (space ∷ tab ∷ []) b ≡ false → (b == nul) ≡ false → is_one_of (space ∷ tab ∷ nul ∷ []) b ≡ false
 other_kept b h k = grind (arith, common_steps, cases_Bool)
 
@@ -99,7 +99,7 @@ gap_left (b ∷ text) early comment other =
           rw (line.0, mark.0, plain, other_kept b plain here) refl
     ]
 
--- what is left of a piece that is not blank is what follows the gap
+-- If a piece is not blank, the text after its gap is the trimmed piece.
 pub start_alike : (text : List ℕ) → IsCutPiece Strict text → left_of false text ≢ [] → begins_with nul (left_of false text) ≡ false
     → without_gap text ≡ left_of false text
 start_alike text (inl comment) some other = absurd (some (comment_left text comment.0 comment.1))

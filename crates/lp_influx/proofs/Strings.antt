@@ -13,13 +13,14 @@ use Rattle.lp_values.proofs.lemmas.fields.ReadingLemmas.{reads_parts}
 use Rattle.lp_portable.specs.format.Portable.{is_finite, is_unsigned}
 use Rattle.lp_influx.proofs.LiteralTexts.{LiteralFront, LiteralText, boolean_text, false_texts, float_text, integer_text, true_texts}
 
--- whether a text is what quotes can be around: no quote in it is bare, and no backslash is left; told is whether one is before it
+-- Whether a text can stand between quotes: it holds no bare quote, and no backslash is left over at its end. The first argument is whether
+-- a backslash is before the text.
 abbrev pub is_body : Bool → List ℕ → Bool
 is_body escaped [] = not escaped
 is_body true (b ∷ body) = is_body false body
 is_body false (b ∷ body) = if b == quote then false else is_body (b == backslash) body
 
--- a text before a bare quote is so
+-- The text before a bare quote can stand between quotes.
 body_is : (front body : List ℕ) → All (λ b. (b == quote) ≡ false) (bare_after front body) → is_escaped_after (front ++ body) ≡ false
     → is_body (is_escaped_after front) body ≡ true
 body_is front [] none bare = let plain : is_escaped_after front ≡ false = rw append-nil at bare in rw plain refl
@@ -106,6 +107,6 @@ value_front text v rest e signed finite = elim (of_two _ (boolean_at false false
   ]
 ]
   where
-    -- a literal is such a value
+    -- A literal is the text of a value.
     literal : LiteralFront text v rest → ValueFront text v rest
     literal l = is_literal l.front l.whole l.is

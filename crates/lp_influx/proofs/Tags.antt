@@ -1,4 +1,4 @@
--- The tags of a portable line are those that InfluxDB reads.
+-- InfluxDB's reader reads the same tags of a portable line as the strict reader.
 use Rattle.std.proofs.Common.{◌≡◌, ℕ, ◌<◌, ◌≤◌, List, [], ◌∷◌, ◌++◌, length, true, false, ◌==◌, refl, sym, ap, ◌∙◌, arith, inl, inr}
 use Rattle.std.proofs.Common.{eqb-true, length-drop}
 use Rattle.std.proofs.lemmas.{Bool.cases_Bool}
@@ -12,14 +12,14 @@ use Rattle.lp_portable.proofs.HeldBytes.{neither}
 use Rattle.lp_influx.specs.format.InfluxNames.{influx_tag, influx_tags, some_of, tag_ends, until, value_front}
 use Rattle.lp_influx.proofs.NameFronts.{NameFront, are_fewer, bare_by, front_is, ends_cons, many_reads, some_reads, until_name}
 
--- what a text holds after a byte that is no backslash
+-- If a text whose first byte is no backslash does not hold some bytes, neither does the text after this byte.
 holds_after : (escaped marks : List ℕ) (b : ℕ) (text : List ℕ) → (b == backslash) ≡ false → holds escaped marks (b ∷ text) ≡ false
     → holds escaped marks text ≡ false
 unfolding holds
 holds_after escaped marks b [] plain h = refl
 holds_after escaped marks b (c ∷ text) plain h = (neither (is_one_of marks b) (holds escaped marks (c ∷ text)) (rw plain at h)).1
 
--- what a text ends in after a byte
+-- If a text does not end in a backslash, neither does the text after its first byte.
 pub last_after : (b : ℕ) (text : List ℕ) → ends_in_backslash (b ∷ text) ≡ false → ends_in_backslash text ≡ false
 last_after b [] last = refl
 last_after b (c ∷ text) last = sym (ends_cons b (c ∷ text) (omega arith)) ∙ last
@@ -64,7 +64,7 @@ value_front_is (c ∷ val) rest b end some no_pair no_end no_sign last = elim (c
       rw other (until_name tag_ends (c ∷ val) rest b refl end no_pair bare last)
 ]
 
--- a tag without such escapes, commas and equals signs is read, before a byte that ends it
+-- A tag without escaped backslashes, commas and equals signs is read as it is spelled, before a byte that ends a tag.
 tag_alike : (text rest : List ℕ) (t : Pair (List ℕ) (List ℕ)) (b : ℕ) → tag_text text ≡ reads t (b ∷ rest) → is_one_of (comma ∷ space ∷ []) b ≡ true
     → has_escape t ≡ false → has_comma t ≡ false → has_sign t ≡ false → influx_tag text ≡ reads t (b ∷ rest)
 tag_alike text rest t b e end escapes commas signs =
@@ -78,7 +78,7 @@ tag_alike text rest t b e end escapes commas signs =
     (f.value.bare_bytes (comma ∷ space ∷ []) refl (λ d h. grind (arith, neither, h))) signs f.value.last in
     rw (f.key.whole, key, some_reads t.key (equals ∷ f.mid) f.key.some) (rw (f.value.whole, val, some_reads t.value (b ∷ rest) f.value.some) refl)
 
--- what InfluxDB's reader leaves of a text is no longer
+-- After a tag, InfluxDB's reader leaves a text that is no longer.
 tag_no_longer : (text : List ℕ) (t : Pair (List ℕ) (List ℕ)) (rest : List ℕ) → influx_tag text ≡ reads t rest → length rest ≤ length text
 tag_no_longer text t rest e =
     let one = bind_reads (some_of (until tag_ends false text) text) _ t rest e in
@@ -88,11 +88,11 @@ tag_no_longer text t rest e =
     let same = reads_parts _ t three.mid rest three.next in
     omega (arith, some_left (until tag_ends false text) text one.first one.mid one.was, some_left (value_front two.mid) two.mid three.first three.mid three.was, ap length sign, ap length same.1)
   where
-    -- what is left after some bytes
+    -- The text after a front is no longer than the text.
     some_left : (front text found rest : List ℕ) → some_of front text ≡ reads found rest → length rest ≤ length text
     some_left front text found rest e = grind (arith, cases_Bool, length-drop)
 
--- tags after commas begin with a comma, and what follows them with a space
+-- A text of tags after commas and a space begins with a comma or a space.
 pub next_byte : (tags : List (Pair (List ℕ) (List ℕ))) (text rest : List ℕ) → AreAfterCommas tag_text tags text (space ∷ rest)
     → (b : ℕ) × (more : List ℕ) × (text ≡ b ∷ more) × (is_one_of (comma ∷ space ∷ []) b ≡ true)
 next_byte [] text rest are = (space, rest, are, refl)
@@ -100,7 +100,7 @@ next_byte (t ∷ tags) text rest are =
     let two = bind_reads (byte comma text) (λ after. tag_text after.rest) t are.0 are.1 in
     (comma, two.mid, (byte_parts comma text two.first two.mid two.was).1, refl)
 
--- tags that come after commas, before a space, are those that are read
+-- Tags after commas and before a space are the tags that are read.
 tags_after : (tags : List (Pair (List ℕ) (List ℕ))) (text rest : List ℕ) → AreAfterCommas tag_text tags text (space ∷ rest)
     → list_any has_escape tags ≡ false → list_any has_comma tags ≡ false → list_any has_sign tags ≡ false
     → AreAfterCommas influx_tag tags text (space ∷ rest)
@@ -114,7 +114,7 @@ tags_after (t ∷ tags) text rest are escapes commas signs =
     let here = tag_alike two.mid begins.1 t begins.0 (two.next ∙ ap (λ (r : List ℕ). reads t r) begins.2) begins.3 no_escape.0 no_comma.0 no_sign.0 in
     (are.0, rw (two.was, here, ← begins.2) refl, tags_after tags are.0 rest are.2 no_escape.1 no_comma.1 no_sign.1)
 
--- so they are read
+-- InfluxDB's reader reads the tags after commas as they are spelled.
 pub tags_alike : (tags : List (Pair (List ℕ) (List ℕ))) (text rest : List ℕ) → AreAfterCommas tag_text tags text (space ∷ rest)
     → list_any has_escape tags ≡ false → list_any has_comma tags ≡ false → list_any has_sign tags ≡ false
     → influx_tags text ≡ reads tags (space ∷ rest)

@@ -33,7 +33,7 @@ number_some : (text : List ℕ) → integer_len text ≢ 0 → (length text == 0
 number_some [] some = absurd (some refl)
 number_some (b ∷ text) some = ne_eqb (length (b ∷ text)) 0 (λ e. absurd (omega (arith, e)))
 
--- what is read of two equal answers is the same
+-- If two answers are equal, their values and their rests are equal.
 pub same_read : (x y : Read (Option ℤ)) → (let r : Result (Read (Option ℤ)) Fault = Ok x in r) ≡ Ok y → (x.value ≡ y.value) × (x.rest ≡ y.rest)
 same_read x y e = let same : x ≡ y = cc in (ap (λ (r : Read (Option ℤ)). r.value) same, ap (λ (r : Read (Option ℤ)). r.rest) same)
 

@@ -8,7 +8,7 @@ use Rattle.lp_influx.specs.format.InfluxFields.{after_fields, influx_value, lite
 use Rattle.lp_influx.specs.format.InfluxLines.{influx_line}
 use Rattle.lp_influx.specs.format.InfluxNames.{until}
 
--- what these lines unfold to be computed
+-- The definitions that have to be unfolded to compute the answers for these lines.
 unfoldable on_lines : ⊤
 unfolding influx_line until after_fields influx_value literal value_text integer_at float_at boolean_at unsigned_at without_escapes read_float
     scan_numeral float_is_finite round

@@ -1,4 +1,5 @@
-//! Fields, as InfluxDB 1.x reads them, in two scans: the first finds where they end, and whether each has a value; the second reads them.
+//! Fields, as InfluxDB 1.x reads them, in two scans. The first scan finds the end of the fields, and checks that each field has a
+//! value. The second scan reads the fields.
 
 ghost use Rattle.std.specs.Prelude.{◌≡◌, ◌≤◌, ◌<◌, ◌+◌, ◌∷◌, if◌then◌else◌, [], false, map, length, IfOk, IfSome, MatchOption};
 ghost use Rattle.lp_format.specs.format.{after_comma, equals, many, prepend, reads};
@@ -10,10 +11,10 @@ use crate::read::{SpelledField, strip_byte};
 use crate::values::{has_value, influx_value};
 use std::alloc::{AllocError, Global};
 
-/// What is right before a byte of the fields.
+/// The thing directly before a byte of the fields.
 #[derive(Clone, Copy)]
 pub(crate) enum Before {
-    /// A backslash that escapes it.
+    /// A backslash that escapes the byte.
     Escape,
     /// A backslash that is escaped itself.
     Backslash,
@@ -23,7 +24,8 @@ pub(crate) enum Before {
     Byte,
 }
 
-/// Where the first scan is: how many equals signs and commas came, whether the text is in quotes, and what is right before it.
+/// The state of the first scan: the numbers of equals signs and commas so far, whether the text is in quotes, and the thing
+/// directly before it.
 #[derive(Clone, Copy)]
 pub(crate) struct Scan {
     pub signs: usize,
@@ -32,18 +34,18 @@ pub(crate) struct Scan {
     pub before: Before,
 }
 
-/// What a byte of the fields does.
+/// The effect of a byte of the fields.
 #[derive(Clone, Copy)]
 pub(crate) enum Step {
     /// A field has no key or no value.
     Refused,
-    /// The fields end before it.
+    /// The fields end before the byte.
     Ended,
     On(Scan),
 }
 
 impl Scan {
-    // What an equals sign does that is in no quotes.
+    // Returns the effect of an equals sign outside of quotes.
     fn sign(self, rest: &[u8]) -> Step
         requires { self.signs < usize.MAX }
         ensures value { on_from result equals rest.now ≡ after_sign self rest.now }
@@ -60,7 +62,7 @@ impl Scan {
         })
     }
 
-    // What a comma does that is in no quotes.
+    // Returns the effect of a comma outside of quotes.
     fn comma(self) -> Scan
         requires { self.commas < usize.MAX }
         ensures { result ≡ after_comma_of self }
@@ -77,7 +79,7 @@ impl Scan {
         }
     }
 
-    // What a byte does that is in no quotes, and not escaped.
+    // Returns the effect of a byte outside of quotes that is not escaped.
     fn bare(self, byte: u8, rest: &[u8]) -> Step
         requires { self.signs + self.commas + 1 < usize.MAX }
         ensures value { on_from result byte rest.now ≡ after_bare self byte rest.now }
@@ -95,7 +97,7 @@ impl Scan {
         }
     }
 
-    // What a byte does that is not escaped.
+    // Returns the effect of a byte that is not escaped.
     fn plain(self, byte: u8, rest: &[u8]) -> Step
         requires { self.signs + self.commas + 1 < usize.MAX }
         ensures value { on_from result byte rest.now ≡ after_plain self byte rest.now }
@@ -122,7 +124,7 @@ impl Scan {
         }
     }
 
-    // What a byte does, before this rest of the text.
+    // Returns the effect of a byte before this rest of the text.
     #[tactic(auto, unfolding(crate::specs::format::InfluxFields::after_fields))]
     fn step(self, byte: u8, rest: &[u8]) -> Step
         requires { self.signs + self.commas + 1 < usize.MAX }
@@ -143,7 +145,7 @@ impl Scan {
     }
 }
 
-// What follows the fields, if each has a key and a value; told is whether a key begins with the text.
+// Returns the text after the fields, if each field has a key and a value. The flag says whether a key begins with the text.
 #[tactic(auto, unfolding(crate::specs::format::InfluxFields::after_fields))]
 fn after_fields<'a>(at_key: bool, text: &'a [u8]) -> Option<&'a [u8]>
     ensures value { MatchOption result (after_fields 0 0 false (if at_key then a_divider else a_byte) text.now ≡ None)
@@ -176,7 +178,7 @@ fn after_fields<'a>(at_key: bool, text: &'a [u8]) -> Option<&'a [u8]>
     Some(left)
 }
 
-// A field, and what follows it.
+// Returns a field, and the text after it.
 fn influx_field<'a>(text: &'a [u8]) -> Option<(SpelledField<'a>, &'a [u8])>
     ensures value { Gives spelled_field result (influx_field text.now) }
     ensures less { IfSome result (λ p. length p.1.now ≤ length text.now) }
@@ -187,7 +189,7 @@ fn influx_field<'a>(text: &'a [u8]) -> Option<(SpelledField<'a>, &'a [u8])>
     Some(((key, value), rest))
 }
 
-// A field after a comma, and what follows it.
+// Returns the field after a comma, and the text after it.
 fn next_field<'a>(text: &'a [u8]) -> Option<(SpelledField<'a>, &'a [u8])>
     ensures value { Gives spelled_field result (after_comma influx_field text.now) }
     ensures less { IfSome result (λ p. length p.1.now < length text.now) }
@@ -195,7 +197,7 @@ fn next_field<'a>(text: &'a [u8]) -> Option<(SpelledField<'a>, &'a [u8])>
     influx_field(strip_byte(b',', text)?)
 }
 
-// A first field and those after it, each after a comma, and what follows them.
+// Returns the first field, the fields after it, each after a comma, and the text after them.
 fn more_fields<'a>(
     alloc: Global,
     first: SpelledField<'a>,
@@ -214,7 +216,7 @@ fn more_fields<'a>(
     Ok((fields, left))
 }
 
-// All fields of such a text, after which one comma may be left.
+// Returns all fields of a text, after which one comma may be left.
 fn whole_fields<'a>(
     alloc: Global,
     text: &'a [u8],
@@ -232,7 +234,7 @@ fn whole_fields<'a>(
     }
 }
 
-/// The fields at the start of a text, before which this byte is, and what follows them.
+/// Returns the fields at the start of a text, and the text after them. The first argument is the byte before the text.
 pub(crate) fn influx_fields<'a>(
     alloc: Global,
     gap: u8,

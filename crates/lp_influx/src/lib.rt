@@ -1,4 +1,5 @@
-//! What InfluxDB 1.x reads of one line, as its parser was measured: a reader, and that it reads portable lines as the strict reader does.
+//! Reads one line as InfluxDB 1.x does, as its parser was measured, and proves that it reads portable lines as the strict reader
+//! does.
 #![tactic(auto)]
 
 mod fields;

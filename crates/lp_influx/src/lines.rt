@@ -25,43 +25,43 @@ use std::alloc::{AllocError, Global};
 pub enum InfluxValue {
     /// Digits and `i`.
     Integer(i64),
-    /// Digits and `u`. The first scan refuses it, but not where the second finds other fields.
+    /// Digits and `u`. The first scan rejects such a value, except where the second scan finds other fields.
     Unsigned(u64),
     /// A float, by its literal.
     Float(Vec<u8>),
-    /// What was in quotes, without its escapes.
+    /// The text in quotes, without its escapes.
     String(Vec<u8>),
     /// One of the words for true and false.
     Boolean(bool),
 }
 
-/// A tag, by its texts.
+/// A tag, with its logical texts.
 ///
 /// ```text
 /// of  m,t=a\ b f=1  the key is  t,  and the value  a b
 /// ```
 #[derive(Drop)]
 pub struct InfluxTag {
-    /// What is before the equals sign.
+    /// The text before the equals sign.
     pub key: Vec<u8>,
-    /// What is after it.
+    /// The text after the equals sign.
     pub value: Vec<u8>,
 }
 
-/// A field: its key, by its text, and its value.
+/// A field: its key, as a logical text, and its value.
 ///
 /// ```text
 /// of  m a\ b=1i  the key is  a b,  and the value  Integer(1)
 /// ```
 #[derive(Drop)]
 pub struct InfluxField {
-    /// What is before the equals sign.
+    /// The text before the equals sign.
     pub key: Vec<u8>,
-    /// What is after it.
+    /// The value after the equals sign.
     pub value: InfluxValue,
 }
 
-/// The point that InfluxDB 1.x reads of a line, its tags in the order of the line.
+/// The point that InfluxDB 1.x reads from a line. Its tags are in the order of the line.
 ///
 /// ```text
 /// of  m,t=x f=1i 5  the measurement is  m,  there are one tag and one field, and the timestamp is  5
@@ -70,15 +70,15 @@ pub struct InfluxField {
 pub struct InfluxLine {
     /// The name before the tags.
     pub measurement: Vec<u8>,
-    /// The tags in the order of the line; their keys differ as they are spelled.
+    /// The tags in the order of the line. Their keys, as they are spelled, differ.
     pub tags: Vec<InfluxTag>,
-    /// The fields in the order of the line, one at least.
+    /// The fields in the order of the line. There is at least one field.
     pub fields: Vec<InfluxField>,
     /// The time, if the line has one.
     pub timestamp: Option<i64>,
 }
 
-// The parts of a line as they are spelled, but for its values.
+// The parts of a line as they are spelled, except for its values.
 #[derive(Drop)]
 struct Parts<'a> {
     measurement: &'a [u8],
@@ -88,7 +88,7 @@ struct Parts<'a> {
     timestamp: Option<i64>,
 }
 
-// A text without the spaces, tabs and bytes 0 at its start.
+// Returns a text without the spaces, tabs and bytes 0 at its start.
 #[tactic(auto, using(crate::proofs::LineParts::gap_steps))]
 fn without_gap(text: &[u8]) -> &[u8]
     ensures value { result.now ≡ without_gap text.now }
@@ -104,14 +104,14 @@ fn without_gap(text: &[u8]) -> &[u8]
     left
 }
 
-// How many spaces are at the start.
+// Returns the number of spaces at the start.
 fn spaces_len(text: &[u8]) -> usize
     ensures { result ≡ spaces text.now }
 {
     text.iter().take_while(|byte| **byte == b' ').count()
 }
 
-// The last byte of the gap before this rest of a text.
+// Returns the last byte of the gap before this rest of a text.
 fn gap_before(text: &[u8], rest: &[u8]) -> u8
     requires { length rest.now < length text.now }
     ensures { result ≡ gap_before text.now rest.now }
@@ -119,14 +119,14 @@ fn gap_before(text: &[u8], rest: &[u8]) -> u8
     text[text.len() - rest.len() - 1]
 }
 
-// Whether a number is in the range of times.
+// Returns true if a number is in the range of times.
 fn is_time(number: i64) -> bool
     ensures { result ≡ not (is_outside (negsuc 9223372036854775805) (pos 9223372036854775806) (Some number)) }
 {
     -9_223_372_036_854_775_806 <= number && number <= 9_223_372_036_854_775_806
 }
 
-// A number that spaces alone may follow, in the range of times.
+// Returns a number in the range of times, which only spaces may follow.
 fn stamp_at(text: &[u8]) -> Option<i64>
     ensures { MatchOption result (stamp_at text.now ≡ miss) (λ time. stamp_at text.now ≡ reads (Some time) []) }
 {
@@ -140,7 +140,7 @@ fn stamp_at(text: &[u8]) -> Option<i64>
     }
 }
 
-// The time after the fields, if there is one, and nothing else.
+// Returns the time after the fields, if there is one and nothing else.
 fn influx_time(text: &[u8]) -> Option<Option<i64>>
     ensures { MatchOption result (influx_time text.now ≡ miss) (λ time. influx_time text.now ≡ reads time []) }
 {
@@ -154,7 +154,7 @@ fn influx_time(text: &[u8]) -> Option<Option<i64>>
     }
 }
 
-// The parts of a line that has no gap at its start.
+// Returns the parts of a line that has no gap at its start.
 fn parts_at<'a>(alloc: Global, line: &'a [u8]) -> Result<Option<Parts<'a>>, AllocError>
     ensures { IfOk result (λ got. MatchOption got (parts_at line.now ≡ miss) (λ parts. parts_at line.now ≡ reads (parts_of parts) [])) }
 {
@@ -181,7 +181,7 @@ fn parts_at<'a>(alloc: Global, line: &'a [u8]) -> Result<Option<Parts<'a>>, Allo
     }))
 }
 
-// Whether a tag has this key.
+// Returns true if a tag has this key.
 fn has_key<'a>(key: &[u8], tags: &[SpelledTag<'a>]) -> bool
     ensures { result ≡ list_any (bytes_eq key.now) (keys_in tags.now) }
 {
@@ -195,7 +195,7 @@ fn has_key<'a>(key: &[u8], tags: &[SpelledTag<'a>]) -> bool
     false
 }
 
-// Whether two tags have the same key.
+// Returns true if two tags have the same key.
 fn has_repeats<'a>(tags: &[SpelledTag<'a>]) -> bool
     ensures { result ≡ has_repeats (keys_in tags.now) }
 {
@@ -209,14 +209,14 @@ fn has_repeats<'a>(tags: &[SpelledTag<'a>]) -> bool
     false
 }
 
-// Whether so many tags make the server panic.
+// Returns true if this number of tags makes the server panic.
 fn is_hundreds(count: usize) -> bool
     ensures { result ≡ is_hundreds count }
 {
     matches!(count, 100 | 200 | 400 | 800 | 1600 | 3200 | 6400 | 12800)
 }
 
-// Whether some field key is too long after a series of so many bytes.
+// Returns true if some field key is too long after a series of this length.
 fn has_long<'a>(series_len: usize, fields: &[SpelledField<'a>]) -> bool
     ensures { result ≡ list_any (λ f. is_long_after series_len f.key) (map spelled_field fields.now) }
 {
@@ -230,7 +230,7 @@ fn has_long<'a>(series_len: usize, fields: &[SpelledField<'a>]) -> bool
     false
 }
 
-// The tags by their texts, in which no backslash before a quote goes.
+// Returns the tags with their logical texts. A backslash before a quote stays.
 fn tags_of<'a>(alloc: Global, tags: &[SpelledTag<'a>]) -> Result<Vec<InfluxTag>, AllocError>
     ensures { IfOk result (λ made. map tag_of made.items ≡ map influx_names (map spelled_tag tags.now)) }
 {
@@ -245,7 +245,7 @@ fn tags_of<'a>(alloc: Global, tags: &[SpelledTag<'a>]) -> Result<Vec<InfluxTag>,
     Ok(made)
 }
 
-// A value by its text.
+// Returns a value with its logical text.
 fn value_of<'a>(alloc: Global, value: Spelled<'a>) -> Result<InfluxValue, AllocError>
     ensures { IfOk result (λ made. value_of made ≡ logical_value (spelled_value value.entry)) }
 {
@@ -258,7 +258,7 @@ fn value_of<'a>(alloc: Global, value: Spelled<'a>) -> Result<InfluxValue, AllocE
     })
 }
 
-// The fields by their texts.
+// Returns the fields with their logical texts.
 fn fields_of<'a>(alloc: Global, fields: &[SpelledField<'a>]) -> Result<Vec<InfluxField>, AllocError>
     ensures { IfOk result (λ made. map field_of made.items ≡ map influx_logical (map spelled_field fields.now)) }
 {
@@ -273,7 +273,8 @@ fn fields_of<'a>(alloc: Global, fields: &[SpelledField<'a>]) -> Result<Vec<Influ
     Ok(made)
 }
 
-// The point of such parts: none if two tags have the same key, if a key is too long, or if so many tags make the server panic.
+// Returns the point of the parts of a line. Returns `None` if two tags have the same key, if a key is too long, or if the number
+// of tags makes the server panic.
 fn point_of_parts<'a>(alloc: Global, parts: &Parts<'a>) -> Result<Option<InfluxLine>, AllocError>
     ensures { IfOk result (λ got. point_seen got ≡ point_of_parts (parts_of parts.now)) }
 {
@@ -291,22 +292,22 @@ fn point_of_parts<'a>(alloc: Global, parts: &Parts<'a>) -> Result<Option<InfluxL
     }))
 }
 
-// Whether a comment is here.
+// Returns true if the text begins with a comment.
 fn is_comment(text: &[u8]) -> bool
     ensures { result ≡ begins_with hash text.now }
 {
     matches!(text, [b'#', ..])
 }
 
-/// What InfluxDB 1.x reads of one line, without the newline that ends it: a point, or none of a comment, of a blank line and of a line that
-/// it refuses.
+/// Reads one line, without the newline that ends it, as InfluxDB 1.x does. Returns the point. Returns `None` for a comment, for a
+/// blank line and for a line that InfluxDB rejects.
 ///
-/// The text need not be UTF-8, and stays as it is. The point is a copy, for which memory is asked part by part. The time grows as the text
-/// does, and as the square of the number of tags, since each key is compared with those after it.
+/// The text need not be UTF-8. The point is a copy, and takes memory part by part. The time grows with the length of the text and
+/// with the square of the number of tags, because each key is compared with the keys after it.
 ///
 /// # Errors
 ///
-/// If memory was refused.
+/// Returns `AllocError` if memory was refused.
 ///
 /// ```text
 /// m,t=a\ b f=1i 5  gives the measurement  m,  the tag  t  with  a b,  the field  f  with  Integer(1)  and the timestamp  5

@@ -9,10 +9,10 @@ ghost use Rattle.lp_influx.specs.code.Read.{Gives, spelled_tag};
 use crate::read::{SpelledTag, is_one_of, strip_byte};
 use std::alloc::{AllocError, Global};
 
-// What ends the key of a tag, or its value.
+// The bytes that end the key or the value of a tag.
 const TAG_ENDS: &[u8] = b",= ";
 
-// How many bytes come before the first of these that no backslash is right before.
+// Returns the number of bytes before the first of these bytes that has no backslash directly before it.
 #[tactic(auto, unfolding(crate::specs::format::InfluxNames::until))]
 fn until_len(ends: &[u8], text: &[u8]) -> usize
     ensures value { result ≡ length (until ends.now false text.now) }
@@ -32,7 +32,7 @@ fn until_len(ends: &[u8], text: &[u8]) -> usize
     len
 }
 
-/// What comes before the first of these bytes that no backslash is right before, and what follows it.
+/// Returns the text before the first of these bytes that has no backslash directly before it, and the rest of the text.
 #[tactic(auto, using(crate::proofs::Reader::until_front))]
 pub(crate) fn until<'a>(ends: &[u8], text: &'a [u8]) -> (&'a [u8], &'a [u8])
     ensures front { result.0.now ≡ until ends.now false text.now }
@@ -42,7 +42,8 @@ pub(crate) fn until<'a>(ends: &[u8], text: &'a [u8]) -> (&'a [u8], &'a [u8])
     text.split_at(until_len(ends, text))
 }
 
-/// The same, if any byte comes before it.
+/// Returns the text before the first of these bytes that has no backslash directly before it, and the rest of the text, if any
+/// byte comes before it.
 pub(crate) fn some_until<'a>(ends: &[u8], text: &'a [u8]) -> Option<(&'a [u8], &'a [u8])>
     ensures value { Gives (λ s. s.now) result (some_of (until ends.now false text.now) text.now) }
     ensures less { IfSome result (λ p. length p.1.now ≤ length text.now) }
@@ -54,7 +55,7 @@ pub(crate) fn some_until<'a>(ends: &[u8], text: &'a [u8]) -> Option<(&'a [u8], &
     Some((front, rest))
 }
 
-// How many bytes the value of a tag takes, which an equals sign may begin.
+// Returns the length of the value of a tag. An equals sign may be its first byte.
 #[tactic(auto, unfolding(crate::specs::format::InfluxNames::until))]
 fn value_len(text: &[u8]) -> usize
     ensures value { result ≡ length (value_front text.now) }
@@ -66,7 +67,7 @@ fn value_len(text: &[u8]) -> usize
     }
 }
 
-// The value of a tag, and what follows it.
+// Returns the value of a tag, and the text after it.
 #[tactic(auto, using(crate::proofs::Reader::value_is_front))]
 fn tag_value<'a>(text: &'a [u8]) -> Option<(&'a [u8], &'a [u8])>
     ensures value { Gives (λ s. s.now) result (some_of (value_front text.now) text.now) }
@@ -79,7 +80,7 @@ fn tag_value<'a>(text: &'a [u8]) -> Option<(&'a [u8], &'a [u8])>
     Some((value, rest))
 }
 
-// A tag, and what follows it.
+// Returns a tag, and the text after it.
 fn influx_tag<'a>(text: &'a [u8]) -> Option<(SpelledTag<'a>, &'a [u8])>
     ensures value { Gives spelled_tag result (influx_tag text.now) }
     ensures less { IfSome result (λ p. length p.1.now ≤ length text.now) }
@@ -90,7 +91,7 @@ fn influx_tag<'a>(text: &'a [u8]) -> Option<(SpelledTag<'a>, &'a [u8])>
     Some(((key, value), rest))
 }
 
-// A tag after a comma, and what follows it.
+// Returns the tag after a comma, and the text after it.
 fn next_tag<'a>(text: &'a [u8]) -> Option<(SpelledTag<'a>, &'a [u8])>
     ensures value { Gives spelled_tag result (after_comma influx_tag text.now) }
     ensures less { IfSome result (λ p. length p.1.now < length text.now) }
@@ -98,7 +99,7 @@ fn next_tag<'a>(text: &'a [u8]) -> Option<(SpelledTag<'a>, &'a [u8])>
     influx_tag(strip_byte(b',', text)?)
 }
 
-/// The tags after a measurement as they are spelled, and what follows them.
+/// Returns the tags after a measurement as they are spelled, and the text after them.
 pub(crate) fn influx_tags<'a>(
     alloc: Global,
     text: &'a [u8],
@@ -115,7 +116,7 @@ pub(crate) fn influx_tags<'a>(
     Ok((tags, left))
 }
 
-/// The text of a name: a backslash before one of these bytes goes.
+/// Returns the logical text of a name: a backslash before one of these bytes is dropped.
 #[tactic(auto, unfolding(lp_portable::specs::format::Spellings::without_each))]
 pub(crate) fn without_each(alloc: Global, known: &[u8], name: &[u8]) -> Result<Vec<u8>, AllocError>
     ensures { IfOk result (λ text. text.items ≡ without_each known.now name.now) }

@@ -1,4 +1,4 @@
-//! How many bytes numbers take at the start of a text.
+//! Counts the bytes that numbers take at the start of a text.
 
 ghost use Rattle.std.specs.Prelude.{◌≡◌, ◌≤◌, ◌+◌, ◌==◌, if◌then◌else◌, codes, drop, length, slice_index};
 ghost use Rattle.lp_format.specs.format.{digits_len, exponent_len, float_len, fraction_len, integer_len, minus, number_len};
@@ -6,7 +6,7 @@ ghost use Rattle.lp_influx.specs.format.InfluxFields.{pointed_len};
 
 use crate::read::strip_byte;
 
-/// How many digits are at the start.
+/// Returns the number of digits at the start.
 pub(crate) fn digits_len(text: &[u8]) -> usize
     ensures value { result ≡ digits_len text.now }
     ensures fits { result ≤ length text.now }
@@ -14,7 +14,7 @@ pub(crate) fn digits_len(text: &[u8]) -> usize
     text.iter().take_while(|byte| byte.is_ascii_digit()).count()
 }
 
-// How many bytes a sign takes with the digits after it: none, if no digit is there.
+// Returns the number of bytes that a sign and the digits after it take, or 0 if there is no digit.
 fn signed_len(digits: &[u8]) -> usize
     ensures value { result ≡ if digits_len digits.now == 0 then 0 else 1 + digits_len digits.now }
     ensures fits { result ≤ length digits.now + 1 }
@@ -23,7 +23,7 @@ fn signed_len(digits: &[u8]) -> usize
     if len == 0 { 0 } else { 1 + len }
 }
 
-/// How many bytes an integer takes at the start: none, if none is there.
+/// Returns the number of bytes that an integer takes at the start, or 0 if there is none.
 pub(crate) fn integer_len(text: &[u8]) -> usize
     ensures value { result ≡ integer_len text.now }
     ensures fits { result ≤ length text.now }
@@ -34,7 +34,7 @@ pub(crate) fn integer_len(text: &[u8]) -> usize
     }
 }
 
-// How many bytes a point and digits take: none, if they are not there.
+// Returns the number of bytes that a point and the digits after it take, or 0 if there are none.
 fn fraction_len(text: &[u8]) -> usize
     ensures value { result ≡ fraction_len text.now }
     ensures fits { result ≤ length text.now }
@@ -45,7 +45,7 @@ fn fraction_len(text: &[u8]) -> usize
     }
 }
 
-// How many bytes digits take, with a sign or none.
+// Returns the number of bytes that digits take, with a sign or without.
 fn power_len(text: &[u8]) -> usize
     ensures value { result ≡ number_len (codes "+-") text.now }
     ensures fits { result ≤ length text.now }
@@ -56,7 +56,7 @@ fn power_len(text: &[u8]) -> usize
     }
 }
 
-// How many bytes an exponent takes: none, if none is there.
+// Returns the number of bytes that an exponent takes, or 0 if there is none.
 fn exponent_len(text: &[u8]) -> usize
     ensures value { result ≡ exponent_len text.now }
     ensures fits { result ≤ length text.now }
@@ -68,7 +68,8 @@ fn exponent_len(text: &[u8]) -> usize
     if power == 0 { 0 } else { 1 + power }
 }
 
-/// How many bytes the longest float takes that has a digit before its point, and after it: none, if none is there.
+/// Returns the number of bytes that the longest float takes that has a digit before its point and after it, or 0 if there is
+/// none.
 #[tactic(auto, using(std::proofs::lemmas::Grind::common_steps, lp_format::proofs::lemmas::literals::FloatLemmas::integer_len_fits))]
 pub(crate) fn float_len(text: &[u8]) -> usize
     ensures value { result ≡ float_len text.now }
@@ -83,7 +84,7 @@ pub(crate) fn float_len(text: &[u8]) -> usize
     whole + fraction + exponent_len(&after[fraction..])
 }
 
-// How many bytes `-` takes: one, or none.
+// Returns the number of bytes that `-` takes: 1, or 0 if it is not there.
 fn sign_len(text: &[u8]) -> usize
     ensures value { result ≡ if slice_index text.now 0 == minus then 1 else 0 }
     ensures fits { result ≤ length text.now }
@@ -94,7 +95,7 @@ fn sign_len(text: &[u8]) -> usize
     }
 }
 
-/// How many bytes a number takes that has a point, and a digit before it or after it: none, if none is there.
+/// Returns the number of bytes that a number takes that has a point and a digit before or after the point, or 0 if there is none.
 #[tactic(auto, using(crate::proofs::Literals::pointed_is, crate::proofs::Literals::no_point, crate::proofs::Literals::no_digits))]
 pub(crate) fn pointed_len(text: &[u8]) -> usize
     ensures value { result ≡ pointed_len text.now }

@@ -13,7 +13,7 @@ use crate::numbers::{digits_len, float_len, integer_len, pointed_len};
 use crate::read::{Spelled, is_one_of, strip_byte};
 use std::alloc::{AllocError, Global};
 
-// Whether the end, a comma or a space is here.
+// Returns true if the text is empty, or begins with a comma or a space.
 fn is_literal_end(text: &[u8]) -> bool
     ensures { result ≡ is_literal_end text.now }
 {
@@ -23,7 +23,7 @@ fn is_literal_end(text: &[u8]) -> bool
     }
 }
 
-// Whether a finite number is nearest to a literal.
+// Returns true if the number nearest to a literal is finite.
 fn is_finite(literal: &[u8]) -> bool
     ensures { result ≡ is_finite_number (parse_float binary64 literal.now) }
 {
@@ -33,7 +33,7 @@ fn is_finite(literal: &[u8]) -> bool
     }
 }
 
-// An integer that ends where it was read, and what follows it.
+// Returns an integer that ends where it was read, and the text after it.
 #[tactic(auto, using(crate::proofs::Literals::integer_steps))]
 fn integer<'a>(text: &'a [u8]) -> Option<(Spelled<'a>, &'a [u8])>
     ensures value { Gives spelled_value result (ended (integer_at text.now)) }
@@ -53,7 +53,7 @@ fn integer<'a>(text: &'a [u8]) -> Option<(Spelled<'a>, &'a [u8])>
     }
 }
 
-// A float of so many bytes that ends there and is finite, and what follows it.
+// Returns a float of this length that ends there and is finite, and the text after it.
 fn float<'a>(len: usize, text: &'a [u8]) -> Option<(Spelled<'a>, &'a [u8])>
     requires { len ≤ length text.now }
     ensures value { Gives spelled_value result (ended (if len == 0 then miss else reads (float (take len text.now)) (drop len text.now))) }
@@ -66,7 +66,7 @@ fn float<'a>(len: usize, text: &'a [u8]) -> Option<(Spelled<'a>, &'a [u8])>
     Some((Spelled::Float(literal), rest))
 }
 
-// Which Boolean the longest word at the start is for, and how many bytes that word takes.
+// Returns the boolean of the longest word at the start, and the length of this word.
 fn longest_word(text: &[u8]) -> Option<(bool, usize)>
     ensures value { MatchOption result ((word_len true_words text.now ≡ 0) × (word_len false_words text.now ≡ 0)) (λ word.
         (word_len true_words text.now ≡ if word.0 then word.1 else 0) × (word_len false_words text.now ≡ if word.0 then 0 else word.1)) }
@@ -83,7 +83,7 @@ fn longest_word(text: &[u8]) -> Option<(bool, usize)>
     }
 }
 
-// A Boolean that ends where it was read, and what follows it.
+// Returns a boolean that ends where it was read, and the text after it.
 #[tactic(auto, unfolding(lp_format::specs::format::Values::boolean_at))]
 fn boolean<'a>(text: &'a [u8]) -> Option<(Spelled<'a>, &'a [u8])>
     ensures value { Gives spelled_value result (ended (boolean_at true true_words text.now) otherwise ended (boolean_at false false_words text.now)) }
@@ -97,7 +97,7 @@ fn boolean<'a>(text: &'a [u8]) -> Option<(Spelled<'a>, &'a [u8])>
     Some((Spelled::Boolean(value), rest))
 }
 
-// A number or a Boolean, and what follows it.
+// Returns a number or a boolean, and the text after it.
 #[tactic(auto, unfolding(crate::specs::format::InfluxFields::literal, lp_format::specs::format::Values::float_at))]
 fn literal<'a>(text: &'a [u8]) -> Option<(Spelled<'a>, &'a [u8])>
     ensures value { Gives spelled_value result (literal text.now) }
@@ -115,14 +115,14 @@ fn literal<'a>(text: &'a [u8]) -> Option<(Spelled<'a>, &'a [u8])>
     boolean(text)
 }
 
-/// Whether a value is here: the quote of a string, or a literal.
+/// Returns true if a value is at the start of the text: the quote of a string, or a literal.
 pub(crate) fn has_value(text: &[u8]) -> bool
     ensures { result ≡ has_value text.now }
 {
     matches!(text, [b'"', ..]) || literal(text).is_some()
 }
 
-// An unsigned number that ends where it was read, and what follows it.
+// Returns an unsigned integer that ends where it was read, and the text after it.
 #[tactic(auto, using(crate::proofs::Literals::unsigned_steps))]
 fn unsigned<'a>(text: &'a [u8]) -> Option<(Spelled<'a>, &'a [u8])>
     ensures value { Gives spelled_value result (ended (unsigned_at text.now)) }
@@ -142,7 +142,7 @@ fn unsigned<'a>(text: &'a [u8]) -> Option<(Spelled<'a>, &'a [u8])>
     }
 }
 
-// How many bytes come before the first comma that is in no quotes, where a backslash escapes a quote or a backslash.
+// Returns the number of bytes before the first comma outside of quotes, where a backslash escapes a quote or a backslash.
 #[tactic(auto, unfolding(crate::specs::format::InfluxFields::value_text))]
 fn value_len(text: &[u8]) -> usize
     ensures value { result ≡ length (value_text false false text.now) }
@@ -163,7 +163,7 @@ fn value_len(text: &[u8]) -> usize
     len
 }
 
-// A string: what is between the first byte of such a text and its last.
+// Returns a string: the text of the value without its first and its last byte.
 #[tactic(auto, using(crate::proofs::Reader::string_is))]
 fn influx_string<'a>(text: &'a [u8]) -> Option<(Spelled<'a>, &'a [u8])>
     ensures value { Gives spelled_value result (influx_string text.now) }
@@ -176,7 +176,7 @@ fn influx_string<'a>(text: &'a [u8]) -> Option<(Spelled<'a>, &'a [u8])>
     Some((Spelled::Quoted(body), rest))
 }
 
-/// A value, and what follows it.
+/// Returns a value, and the text after it.
 #[tactic(auto, unfolding(crate::specs::format::InfluxFields::influx_value))]
 pub(crate) fn influx_value<'a>(text: &'a [u8]) -> Option<(Spelled<'a>, &'a [u8])>
     ensures value { Gives spelled_value result (influx_value text.now) }
@@ -191,7 +191,7 @@ pub(crate) fn influx_value<'a>(text: &'a [u8]) -> Option<(Spelled<'a>, &'a [u8])
     unsigned(text)
 }
 
-/// The text of a string: a backslash before a quote or a backslash goes.
+/// Returns the text of a string: a backslash before a quote or a backslash is dropped.
 #[tactic(auto, using(crate::proofs::Reader::each_escape))]
 pub(crate) fn without_escapes(alloc: Global, body: &[u8]) -> Result<Vec<u8>, AllocError>
     ensures { IfOk result (λ text. text.items ≡ without_escapes quotable body.now) }

@@ -1,4 +1,4 @@
-//! The base of a series: a text by which series can be grouped, and a test of whether this one can.
+//! The base of a series, which is a text by which series can be grouped, and a test of whether it is safe to group by it.
 
 ghost use Rattle.std.specs.Prelude.{◌≡◌, ◌&&◌, ◌-◌, ◌^◌, ◌++◌, IfOk, OnOk, length, map, min, not, true, string_bytes, option_map};
 ghost use Rattle.std.specs.List.{list_all, list_any};
@@ -22,24 +22,30 @@ use std::borrow::CowStr;
 use std::collections::BTreeMap;
 
 impl<'a> Series<'a> {
-    /// A text by which series can be grouped: the measurement, and the tags in the order of their keys, by bytes.
+    /// Returns the base of this series, a text by which series can be grouped: the measurement, and the tags in the order of
+    /// their keys, by bytes.
     ///
-    /// It tells this series from others if [`is_base_safe`](Self::is_base_safe), and else it may not: `m,a=1\,b\=2` and
-    /// `m,a=1,b=2` are two series with one base, and `m,\,=v` and `m,,=v` one series with two.
+    /// The base tells this series from others if [`is_base_safe`](Self::is_base_safe) is true. Otherwise it may not:
+    /// `m,a=1\,b\=2` and `m,a=1,b=2` are two series with one base, and `m,\,=v` and `m,,=v` are one series with two bases.
     ///
-    /// If each key is greater than the one before it and no name is a copy, it is `raw_input`,
-    /// borrowed; that takes no memory and is never refused. Whether it is so, the events of a line tell at its end. Else it is a
-    /// text of its own, unescaped. That takes one request, and more than 16 tags take one for their order and may take one to be
-    /// sorted.
+    /// If each key is greater than the one before it and no name is a copy, the base is `raw_input`, borrowed; it takes no memory
+    /// and is never refused. The events of a line tell at its end whether its series is of this kind. Otherwise the base is a
+    /// text of its own, without escapes. It takes one request for memory, and more than 16 tags take one more for their order and
+    /// can take one to be sorted.
     ///
-    /// It is made of the fields as they are: after a change of `measurement` or `tag_set`,
-    /// `raw_input` is still that of the line.
+    /// The base is made of the members as they are. After a change of `measurement` or `tag_set`, `raw_input` is still the text
+    /// of the line.
+    ///
+    /// ```text
+    /// m,B=1,a=2          gives  m,B=1,a=2, borrowed
+    /// foo,tag2=2,tag1=1  gives  foo,tag1=1,tag2=2
+    /// foo,tag=1,tag=2    gives  DuplicateTag with the key tag
+    /// ```
     ///
     /// # Errors
     ///
-    /// `DuplicateTag` if the keys do not rise so and one is repeated: with the first key, in the
-    /// order of the tags, that is at an earlier place too. `OutOfMemory` if a request for
-    /// memory was refused. The series is dropped in both cases.
+    /// `DuplicateTag` if a key is repeated: with the first key, in the order of the tags, that is also at an earlier place.
+    /// `OutOfMemory` if a request for memory was refused. The series is dropped in both cases.
     #[tactic(auto, using(crate::proofs::lemmas::series::BaseLemmas::own_is_borrowed))]
     pub fn generate_base(self, alloc: Global) -> Result<CowStr<'a>>
         ensures value { GivesBase result (base_of self.entry.raw_input.now (read_of self.entry.measurement)
@@ -53,19 +59,20 @@ impl<'a> Series<'a> {
         base(alloc, self.raw_input, &self.measurement, tags_in(&self))
     }
 
-    /// Whether the base of this series is safe to group by.
+    /// Returns whether the base of this series is safe to group by.
     ///
-    /// It is if the measurement and the tag values hold no comma and the tag keys no `=`, which divide the names in a base, and
-    /// no name is one byte alone that a backslash may escape in it. Of such a name, as the tag key `,`, some bases have the
-    /// backslash, and some do not. Two series that were read, that repeat no key, and whose bases are both safe, have the same
-    /// base exactly if they have the same measurement and the same tags, in any order; `laws::bases_tell_series` says so.
+    /// The base is safe if the measurement and the tag values hold no comma and the tag keys no `=`, which divide the names in a
+    /// base, and if no name is only one byte that a backslash may escape in it. Some bases write such a name, for example the tag
+    /// key `,`, with the backslash, and others without it. Two series that were read, that repeat no key, and whose bases are
+    /// both safe have the same base exactly if they have the same measurement and the same tags, in any order;
+    /// `laws::bases_tell_series` says so.
     ///
     /// It takes no memory, and reads each name once.
     ///
     /// ```text
     /// m,a=1,b=2      true
     /// m,a=1\,b\=2    false: the value holds a comma
-    /// m,\,=v         false: the key is a comma alone
+    /// m,\,=v         false: the key is only a comma
     /// m,,=v          false: it is the same series
     /// ```
     pub fn is_base_safe(&self) -> bool
@@ -75,14 +82,14 @@ impl<'a> Series<'a> {
     }
 }
 
-// Whether the byte is among these.
+// Returns whether the byte is one of these bytes.
 fn has_byte(bytes: &[u8], wanted: u8) -> bool
     ensures { result ≡ is_one_of bytes.now wanted }
 {
     bytes.iter().any(|byte| *byte == wanted)
 }
 
-// Whether a name is one byte that a backslash may escape in it.
+// Returns whether a name is only one byte that a backslash may escape in it.
 fn is_known_alone(kind: TokenKind, name: &[u8]) -> bool
     ensures { result ≡ is_byte_alone (known_of kind) name.now }
 {
@@ -92,7 +99,7 @@ fn is_known_alone(kind: TokenKind, name: &[u8]) -> bool
     }
 }
 
-// Whether a name is ambiguous in a base, if this byte divides it from the next name.
+// Returns whether a name is ambiguous in a base where the byte `divider` divides it from the next name.
 fn is_ambiguous_name(kind: TokenKind, divider: u8, name: &EscapedStr<'_>) -> bool
     ensures { result ≡ is_ambiguous_name (known_of kind) divider (text_of name.now) }
 {
@@ -100,7 +107,7 @@ fn is_ambiguous_name(kind: TokenKind, divider: u8, name: &EscapedStr<'_>) -> boo
     has_byte(bytes, divider) || is_known_alone(kind, bytes)
 }
 
-// Whether a name of the tag is ambiguous in a base.
+// Returns whether the key or the value of a tag is ambiguous in a base.
 fn is_ambiguous_tag<'a>(key: &EscapedStr<'a>, value: &EscapedStr<'a>) -> bool
     ensures { result ≡ is_ambiguous_tag (tag_of (key.now, value.now)) }
 {
@@ -108,14 +115,14 @@ fn is_ambiguous_tag<'a>(key: &EscapedStr<'a>, value: &EscapedStr<'a>) -> bool
         || is_ambiguous_name(TokenKind::TagValue, b',', value)
 }
 
-// Whether a name of some tag is ambiguous in a base.
+// Returns whether the key or the value of any tag is ambiguous in a base.
 fn is_some_ambiguous<'a>(tags: &[(EscapedStr<'a>, EscapedStr<'a>)]) -> bool
     ensures { result ≡ list_any (λ t. is_ambiguous_tag (tag_of t)) tags.now }
 {
     tags.iter().any(|(key, value)| is_ambiguous_tag(key, value))
 }
 
-// Whether a name of the measurement or of the tags is ambiguous in their base.
+// Returns whether the measurement, or the key or the value of any tag, is ambiguous in their base.
 #[tactic(auto, using(crate::proofs::lemmas::series::BaseLemmas::any_ambiguous))]
 fn is_ambiguous<'a>(measurement: &EscapedStr<'a>, tags: &[(EscapedStr<'a>, EscapedStr<'a>)]) -> bool
     ensures { not result ≡ is_base_safe (read_of measurement.now) (map tag_of tags.now) }
@@ -123,7 +130,7 @@ fn is_ambiguous<'a>(measurement: &EscapedStr<'a>, tags: &[(EscapedStr<'a>, Escap
     is_ambiguous_name(TokenKind::Measurement, b',', measurement) || is_some_ambiguous(tags)
 }
 
-// The base of a series with this raw text, measurement and tags. If the keys rise, their order is that of the tags.
+// Returns the base of a series with this raw text, measurement and tags. If the keys rise, the tags stay in their order.
 #[tactic(auto, using(crate::proofs::lemmas::series::SortedTags::rising_by_key, crate::proofs::lemmas::series::BaseLemmas::not_borrowed), unfolding(crate::specs::code::Bases::base_of))]
 fn base<'a>(
     alloc: Global,
@@ -143,21 +150,21 @@ fn base<'a>(
     base_by_key(alloc, measurement.as_str(), tags)
 }
 
-// Whether each key is greater than the one before it.
+// Returns whether each key is greater than the one before it.
 fn keys_rise<'a>(tags: &[(EscapedStr<'a>, EscapedStr<'a>)]) -> bool
     ensures { result ≡ is_strictly_sorted (keys_of (map tag_of tags.now)) }
 {
     tags.is_sorted_by(|(before, _), (key, _)| before < key)
 }
 
-// Whether the text is a part of the input.
+// Returns whether the text is a part of the input.
 fn is_single<'a>(text: &EscapedStr<'a>) -> bool
     ensures { result ≡ is_single_slice text.now }
 {
     matches!(text, EscapedStr::SingleSlice(_))
 }
 
-// Whether all keys and values are parts of the input.
+// Returns whether all keys and values are parts of the input.
 fn are_single<'a>(tags: &[(EscapedStr<'a>, EscapedStr<'a>)]) -> bool
     ensures { result ≡ list_all (λ t. is_single_tag (tag_of t)) tags.now }
 {
@@ -165,7 +172,7 @@ fn are_single<'a>(tags: &[(EscapedStr<'a>, EscapedStr<'a>)]) -> bool
         .all(|(key, value)| is_single(key) && is_single(value))
 }
 
-// Whether the measurement and all keys and values are parts of the input.
+// Returns whether the measurement and all keys and values are parts of the input.
 #[tactic(auto, using(crate::proofs::lemmas::series::BaseLemmas::all_single))]
 fn is_all_single<'a>(
     measurement: &EscapedStr<'a>,
@@ -176,7 +183,7 @@ fn is_all_single<'a>(
     is_single(measurement) && are_single(tags)
 }
 
-// Appends a tag, unescaped.
+// Appends a tag without escapes.
 fn push_tag(base: &mut String, key: &str, value: &str) -> std::result::Result<(), AllocError>
     ensures { OnOk result (string_bytes base.new ≡ string_bytes base.old ++ based_tag (key.now, value.now)) }
 {
@@ -186,7 +193,7 @@ fn push_tag(base: &mut String, key: &str, value: &str) -> std::result::Result<()
     base.push_str(value)
 }
 
-// The length of a base, and the greatest number if no `usize` holds it.
+// Returns the length of a base, or `usize::MAX` if the length does not fit a `usize`.
 fn base_len<'l, 'a>(measurement: &str, tags: &[Ranked<'l, 'a>]) -> usize
     ensures { result ≡ min (length (base_text measurement.now (in_order (map lent_of tags.now)))) (2 ^ 64 - 1) }
 {
@@ -199,7 +206,7 @@ fn base_len<'l, 'a>(measurement: &str, tags: &[Ranked<'l, 'a>]) -> usize
     len
 }
 
-// The base with its tags in this order.
+// Returns the base with its tags in this order.
 fn base_in_order<'l, 'a>(
     alloc: Global,
     measurement: &str,
@@ -215,7 +222,7 @@ fn base_in_order<'l, 'a>(
     Ok(base)
 }
 
-// Tells the first key that is repeated.
+// Looks for the first key that is repeated, and returns it as an error.
 #[tactic(auto, using(crate::proofs::lemmas::series::BaseLemmas::repeat_steps))]
 #[cold]
 #[inline(never)]
@@ -234,8 +241,8 @@ fn check_keys<'a>(alloc: Global, tags: &[(EscapedStr<'a>, EscapedStr<'a>)]) -> R
     Ok(())
 }
 
-// The base with the tags in the order of their keys, which are put out in that order. Only if these do not rise then, a key is
-// repeated: it is looked for.
+// Returns the base with the tags in the order of their keys, into which they are sorted. A repeated key is looked for only if the
+// sorted keys do not rise.
 #[tactic(auto, unfolding(crate::specs::code::Bases::base_by_key))]
 fn base_by_ranks<'l, 'a>(
     alloc: Global,
@@ -254,7 +261,8 @@ fn base_by_ranks<'l, 'a>(
     Ok(CowStr::Owned(base))
 }
 
-// The base with the tags in the order of their keys. It stands apart, since the room for few tags is cleared first.
+// Returns the base with the tags in the order of their keys. It is a function of its own, because the room for few tags is
+// cleared first.
 #[inline(never)]
 fn base_by_key<'l, 'a>(
     alloc: Global,

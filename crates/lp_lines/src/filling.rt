@@ -1,8 +1,8 @@
 //! A sink that fills a line with the parts that it is told.
 //!
-//! The reader asks for no memory; this sink does, for copies and for sets that grow. A sink cannot stop the reader, so a refusal
-//! is kept until the line has ended, and so is the fault of the line. If a line has a fault, that is its answer, also if memory for
-//! one of its parts was refused. The line is borrowed, since to move its 904 bytes would be a copy.
+//! The reader asks for no memory. This sink does, for copies and for sets that grow. A sink cannot stop the reader, so this sink
+//! keeps a refusal, and the fault of the line, until the line has ended. If a line has a fault, the fault is the answer, even if
+//! memory for a part of the line was refused. The line is borrowed, because to move its 904 bytes would copy them.
 
 ghost use Rattle.std.specs.Prelude.{◌≡◌, ◌≤◌, ◌+◌, ◌⊎◌, ◌++◌, ◌∷◌, [], length, map, true, false};
 ghost use Rattle.lp_format.specs.code.Light.{is_single_field, is_single_tag, is_single_value};
@@ -22,7 +22,7 @@ use lp_values::{FieldValue, Spelled, SpelledFault, SpelledValue};
 use smallvec::SmallVec;
 use std::alloc::Global;
 
-// Puts the value that is spelled so into the place of another, whatever that is.
+// Replaces a value by a spelled value, of whatever kind both are, and returns whether memory for it was granted.
 #[inline(always)]
 fn put_any_value<'a>(alloc: Global, place: &mut FieldValue<'a>, value: SpelledValue<'a>) -> bool
     ensures value { result ≡ true → value_of place.new ≡ spelled_value value.entry }
@@ -37,8 +37,8 @@ fn put_any_value<'a>(alloc: Global, place: &mut FieldValue<'a>, value: SpelledVa
     }
 }
 
-// Puts the value that is spelled so into the place of another, unless memory for it is refused. In the place of a value of the same
-// kind no more than what differs is written.
+// Replaces a value by a spelled value, and returns whether memory for it was granted. If both are of one kind, only the parts
+// that differ are written.
 #[inline(always)]
 fn put_value<'a>(alloc: Global, place: &mut FieldValue<'a>, value: SpelledValue<'a>) -> bool
     ensures value { result ≡ true → value_of place.new ≡ spelled_value value.entry }
@@ -73,7 +73,7 @@ fn put_value<'a>(alloc: Global, place: &mut FieldValue<'a>, value: SpelledValue<
     put_any_value(alloc, place, value)
 }
 
-// Appends a tag, unless memory for it is refused.
+// Appends a tag, and returns whether memory for it was granted.
 #[inline(always)]
 fn push_tag<'a>(alloc: Global, tags: &mut TagSet<'a>, key: Spelled<'a>, value: Spelled<'a>) -> bool
     ensures pushed { result ≡ true → map tag_of tags.new.items ≡ map tag_of tags.old.items ++ spelled_tag (key.entry, value.entry) ∷ [] }
@@ -90,7 +90,8 @@ fn push_tag<'a>(alloc: Global, tags: &mut TagSet<'a>, key: Spelled<'a>, value: S
     tags.push((key, value)).is_ok()
 }
 
-// Puts a tag after the first `count` of a set, and counts it, unless memory for it is refused. If a tag is there, it is replaced.
+// Puts a tag after the first `count` tags of a set, and counts it, unless memory for it is refused. A tag at this place is
+// replaced.
 #[inline(always)]
 fn put_tag<'a>(
     alloc: Global,
@@ -119,10 +120,11 @@ fn put_tag<'a>(
     true
 }
 
-// How many places a full set gets more, at least: so many that the fields of an ordinary line make it grow once.
+// The number of places that a full set gets in addition, at least. With this many, the fields of an ordinary line make it grow
+// once.
 const MORE: usize = 10;
 
-// Makes room for a field more in a full set.
+// Makes room for one more field in a full set.
 #[inline(always)]
 fn make_room<'a>(fields: &mut FieldSet<'a>) -> bool
     ensures items { fields.new.items ≡ fields.old.items }
@@ -136,7 +138,7 @@ fn make_room<'a>(fields: &mut FieldSet<'a>) -> bool
     fields.reserve_exact(fields.len().max(MORE)).is_ok()
 }
 
-// Appends a field, unless memory for it is refused. It makes room first, so that no value has to be dropped.
+// Appends a field, and returns whether memory for it was granted. It makes room first, so that no value has to be dropped.
 #[inline(always)]
 fn push_field<'a>(
     alloc: Global,
@@ -163,7 +165,8 @@ fn push_field<'a>(
     true
 }
 
-// Puts a field after the first `count` of a set, and counts it, unless memory for it is refused. If a field is there, it is replaced.
+// Puts a field after the first `count` fields of a set, and counts it, unless memory for it is refused. A field at this place is
+// replaced.
 #[inline(always)]
 fn put_field<'a>(
     alloc: Global,
@@ -192,7 +195,7 @@ fn put_field<'a>(
     true
 }
 
-// Gives a line a tag set. It stands apart, since the room for a set that is moved is cleared first.
+// Gives a line a new tag set. It is a function of its own, because the room for a set that is moved is cleared first.
 #[inline(never)]
 fn make_tags<'a>(alloc: Global, set: &mut Option<TagSet<'a>>)
     ensures room { inline_tags ≤ room_of set.new }
@@ -201,9 +204,10 @@ fn make_tags<'a>(alloc: Global, set: &mut Option<TagSet<'a>>)
     *set = Some(SmallVec::new(alloc));
 }
 
-/// A line that is filled: how many tags and fields of it were told, whether memory for one was refused, and its fault, if it has one.
+/// A line that is filled: how many of its tags and fields were told, whether memory for a part was refused, and its fault, if it
+/// has one.
 ///
-/// What its sets hold after those was there before.
+/// The elements of its sets after these are from an earlier line.
 #[derive(Drop)]
 pub(crate) struct Filling<'l, 'a> {
     pub(crate) alloc: Global,
@@ -264,7 +268,7 @@ impl<'l, 'a> EventSink<'a> for Filling<'l, 'a> {
     }
 }
 
-/// Tells a line that is filled what the trimmed text `line` says.
+/// Tells a line that is filled the parts of the trimmed text `line`.
 #[tactic(auto, using(crate::proofs::lemmas::line::Filled::filled_steps))]
 #[inline(always)]
 pub(crate) fn tell_line<'l, 'a>(dialect: Dialect, line: &'a str, filling: &mut Filling<'l, 'a>)

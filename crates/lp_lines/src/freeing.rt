@@ -1,8 +1,9 @@
-//! Lines that are let go of without a visit to each place of their sets.
+//! Lines that are freed without a visit to each place of their sets.
 //!
-//! To drop a line visits the 8 places of tags and the 4 of fields that it has inline, also those that hold nothing. Who reads many
-//! short lines, each into a line of its own, frees what a line holds by [`free_line`], which mostly is nothing. Then it forgets
-//! the line by [`forget_line`], which must be shown that nothing is held: so no memory is lost.
+//! To drop a line visits the 8 places of tags and the 4 places of fields that it has inline, also the empty ones. A caller that
+//! reads many short lines, each into a line of its own, can free the memory of a line by [`free_line`], which mostly has nothing
+//! to do. The caller then forgets the line by [`forget_line`], which requires a line that holds no memory, so that no memory is
+//! lost.
 
 ghost use Rattle.std.specs.Prelude.{◌≡◌, ◌≤◌, []};
 ghost use Rattle.lp_lines.specs.code.Freeing.{HoldsNoMemory};
@@ -35,7 +36,7 @@ fn empty_set<T: MadeWith<Global> + Drop, const N: usize>(alloc: Global, set: &mu
     }
 }
 
-/// Frees the memory that a line holds.
+/// Frees the memory that a line holds, and empties its sets. [`forget_line`] can then forget the line.
 #[inline(always)]
 pub fn free_line<'a>(alloc: Global, parsed: &mut ParsedLine<'a>)
     ensures { HoldsNoMemory parsed.new }
@@ -47,7 +48,7 @@ pub fn free_line<'a>(alloc: Global, parsed: &mut ParsedLine<'a>)
     empty_set(alloc, &mut parsed.field_set);
 }
 
-/// Lets a line go that holds no memory, and does not visit the places of its sets.
+/// Forgets a line that holds no memory, without a visit to the places of its sets.
 #[inline(always)]
 pub fn forget_line(parsed: ParsedLine<'_>)
     requires { HoldsNoMemory parsed }

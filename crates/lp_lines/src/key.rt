@@ -1,4 +1,4 @@
-//! The key of a series: a text that it has alone, by which series can be grouped and compared.
+//! The key of a series: a text that no other series has, by which series can be grouped and compared.
 
 ghost use Rattle.std.specs.Prelude.{◌≡◌, ◌↔◌, ◌≤◌, ◌-◌, ◌^◌, ◌++◌, true, IfOk, IsOk, OnOk, fold, length, map, min, string_bytes, option_map};
 ghost use Rattle.lp_format.specs.format.{Escapes.escaped, Escapes.escaped_byte, built_tag, logical_tag, some_tags};
@@ -14,10 +14,10 @@ use lp_values::EscapedStr;
 use smallvec::SmallVec;
 use std::alloc::{AllocError, Global};
 
-// How many tags take no memory to be sorted.
+// The number of tags that are sorted without memory.
 const INLINE_TAGS: usize = 8;
 
-// What a hash begins with, and by what it is multiplied at each byte.
+// The first value of a hash, and the number by which it is multiplied at each byte.
 const FNV_OFFSET: u64 = 14_695_981_039_346_656_037;
 
 const FNV_PRIME: u64 = 1_099_511_628_211;
@@ -26,14 +26,15 @@ const FNV_PRIME: u64 = 1_099_511_628_211;
 type Names<'l> = SmallVec<(&'l str, &'l str), INLINE_TAGS>;
 
 impl<'a> Series<'a> {
-    /// The key of this series: a text that it has alone, whatever its names hold.
+    /// Returns the key of this series: a text that no other series has, whatever its names hold.
     ///
-    /// It is the measurement and the tags as the builder writes them, in the order of the tag keys, by bytes; tags of equal keys
-    /// stay in their order. Two series have the same key exactly if they have the same measurement and, for each tag key, the same
-    /// values in the same order; `laws::keys_tell_series` says so. If all names are admitted, the key reads back as the series.
+    /// The key is the measurement and the tags as the builder writes them, in the order of the tag keys, by bytes; tags with
+    /// equal keys stay in their order. Two series have the same key exactly if they have the same measurement and, for each tag
+    /// key, the same values in the same order; `laws::keys_tell_series` says so. If all names are admitted, the key reads back as
+    /// the series.
     ///
-    /// It asks for memory once for the text, once for the places of more than 8 tags, and once to sort more than 20 that are not in
-    /// order. It takes as many comparisons as there are tags if they are in order, and else n log n of them.
+    /// It asks for memory once for the text, once for the places of more than 8 tags, and once to sort more than 20 tags that are
+    /// not in order. It compares each tag once if the tags are in order, and else needs n log n comparisons.
     ///
     /// # Errors
     ///
@@ -57,9 +58,11 @@ impl<'a> Series<'a> {
     }
 }
 
-/// The hash of the key of a series, by FNV-1a of 64 bits: that of the bytes of [`key`](Series::key), which is not made.
+/// Returns the hash of the key of a series, by FNV-1a of 64 bits: the hash of the bytes of [`key`](Series::key), without making
+/// the key.
 ///
-/// With at most 8 tags it takes no memory and is never refused. With more it asks for memory as `key` does, but not for the text.
+/// With at most 8 tags it takes no memory and is never refused. With more tags it asks for memory as `key` does, but not for the
+/// text.
 ///
 /// # Errors
 ///
@@ -78,10 +81,11 @@ pub fn hash_series(alloc: Global, series: &Series<'_>) -> Result<u64, AllocError
     Ok(hash_key(series.measurement.as_str(), names.as_slice()))
 }
 
-/// Whether two series are one: whether they have the same measurement and, for each tag key, the same values in the same order.
+/// Returns whether two series are one: whether they have the same measurement and, for each tag key, the same values in the same
+/// order.
 ///
-/// That is whether they have one [`key`](Series::key), which is not made. With at most 8 tags each it takes no memory and is never
-/// refused. With more it asks for memory as `key` does, but not for a text.
+/// Two series are one exactly if they have one [`key`](Series::key); the keys are not made. With at most 8 tags each it takes no
+/// memory and is never refused. With more tags it asks for memory as `key` does, but not for a text.
 ///
 /// # Errors
 ///
@@ -110,14 +114,14 @@ pub fn same_series(
     Ok(are_same(names.as_slice(), others.as_slice()))
 }
 
-// Whether these are the same names in the same order.
+// Returns whether these are the same names in the same order.
 fn are_same(names: &[(&str, &str)], others: &[(&str, &str)]) -> bool
     ensures { (result ≡ true) ↔ (map lent_tag names.now ≡ map lent_tag others.now) }
 {
     names == others
 }
 
-// The names of these tags, lent.
+// Returns the names of these tags, lent.
 fn names_in<'l, 'a>(
     alloc: Global,
     tags: &'l [(EscapedStr<'a>, EscapedStr<'a>)],
@@ -142,7 +146,7 @@ fn sort_names(alloc: Global, names: &mut [(&str, &str)]) -> Result<(), AllocErro
     Ok(())
 }
 
-// The names of these tags, lent, sorted by their keys.
+// Returns the names of these tags, lent and sorted by their keys.
 fn sorted_names<'l, 'a>(
     alloc: Global,
     tags: &'l [(EscapedStr<'a>, EscapedStr<'a>)],
@@ -155,14 +159,14 @@ fn sorted_names<'l, 'a>(
     Ok(names)
 }
 
-// The hash of a text, with one byte more.
+// Returns the hash after one more byte.
 fn hash_byte(hash: u64, byte: u8) -> u64
     ensures { result ≡ hash_byte hash byte }
 {
     (hash ^ u64::from(byte)).wrapping_mul(FNV_PRIME)
 }
 
-// The hash of a text, and then a byte of a name as the builder writes it.
+// Returns the hash after a byte of a name as the builder writes it.
 fn hash_escaped(hash: u64, kind: TokenKind, byte: u8) -> u64
     ensures { result ≡ fold hash_byte hash (escaped_byte (known_of kind) byte) }
 {
@@ -172,7 +176,7 @@ fn hash_escaped(hash: u64, kind: TokenKind, byte: u8) -> u64
     hash_byte(hash, byte)
 }
 
-// The hash of a text, and then a name as the builder writes it.
+// Returns the hash after a name as the builder writes it.
 #[tactic(auto, using(crate::proofs::lemmas::series::KeyTexts::hash_steps))]
 fn hash_name(before: u64, kind: TokenKind, name: &str) -> u64
     ensures { result ≡ fold hash_byte before (escaped (known_of kind) name.now) }
@@ -184,7 +188,7 @@ fn hash_name(before: u64, kind: TokenKind, name: &str) -> u64
     hash
 }
 
-// The hash of a text, and then a tag as the builder writes it.
+// Returns the hash after a tag as the builder writes it.
 #[tactic(auto, using(crate::proofs::lemmas::series::KeyTexts::hash_steps))]
 fn hash_tag(before: u64, key: &str, value: &str) -> u64
     ensures { result ≡ fold hash_byte before (built_tag (lent_tag (key.entry, value.entry))) }
@@ -195,7 +199,7 @@ fn hash_tag(before: u64, key: &str, value: &str) -> u64
     hash_name(hash, TokenKind::TagValue, value)
 }
 
-// The hash of a key with its tags in this order.
+// Returns the hash of a key with its tags in this order.
 #[tactic(auto, using(crate::proofs::lemmas::series::KeyTexts::hash_steps), unfolding(crate::specs::code::Keys::hash_of))]
 fn hash_key(measurement: &str, tags: &[(&str, &str)]) -> u64
     ensures { result ≡ hash_of (key_text measurement.now (map lent_tag tags.now)) }
@@ -207,14 +211,14 @@ fn hash_key(measurement: &str, tags: &[(&str, &str)]) -> u64
     hash
 }
 
-// The length of a byte of a name as the builder writes it.
+// Returns the length of a byte of a name as the builder writes it.
 fn escaped_byte_len(kind: TokenKind, byte: u8) -> usize
     ensures { result ≡ length (escaped_byte (known_of kind) byte) }
 {
     if kind.is_known(byte) { 2 } else { 1 }
 }
 
-// The length of a name as the builder writes it, and the greatest number if no `usize` holds it.
+// Returns the length of a name as the builder writes it, or `usize::MAX` if the length does not fit a `usize`.
 #[tactic(auto, using(crate::proofs::lemmas::series::KeyTexts::len_steps))]
 fn escaped_len(kind: TokenKind, name: &str) -> usize
     ensures { result ≡ min (length (escaped (known_of kind) name.now)) (2 ^ 64 - 1) }
@@ -226,7 +230,7 @@ fn escaped_len(kind: TokenKind, name: &str) -> usize
     len
 }
 
-// The length of a key with its tags in this order, and the greatest number if no `usize` holds it.
+// Returns the length of a key with its tags in this order, or `usize::MAX` if the length does not fit a `usize`.
 fn key_len(measurement: &str, tags: &[(&str, &str)]) -> usize
     ensures { result ≡ min (length (key_text measurement.now (map lent_tag tags.now))) (2 ^ 64 - 1) }
 {
@@ -239,7 +243,7 @@ fn key_len(measurement: &str, tags: &[(&str, &str)]) -> usize
     len
 }
 
-// Appends a name as the builder writes it. What is between two backslashes is appended as one run.
+// Appends a name as the builder writes it. The bytes between two backslashes are appended as one run.
 fn push_name(text: &mut String, kind: TokenKind, name: &str) -> Result<(), AllocError>
     ensures { OnOk result (string_bytes text.new ≡ string_bytes text.old ++ escaped (known_of kind) name.now) }
 {
@@ -265,7 +269,7 @@ fn push_tag(text: &mut String, key: &str, value: &str) -> Result<(), AllocError>
     push_name(text, TokenKind::TagValue, value)
 }
 
-// The key with its tags in this order.
+// Returns the key with its tags in this order.
 fn written_key(
     alloc: Global,
     measurement: &str,

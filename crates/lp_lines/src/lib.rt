@@ -1,7 +1,7 @@
-//! Lines: what each says, one after another, as [`parse_lines`] gives them.
+//! Lines, as [`parse_lines`] gives them, one after another.
 //!
-//! A line is filled by a sink that the reader tells its parts. A parsed line, its text and the base of its series are in one crate,
-//! since what is written of a type belongs to the crate of that type.
+//! A sink that the reader tells the parts of a line fills the line. A parsed line, its text and the base of its series are in one
+//! crate, because an implementation for a type belongs to the crate of this type.
 #![tactic(auto)]
 
 mod base;

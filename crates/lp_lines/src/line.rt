@@ -1,4 +1,4 @@
-//! Lines.
+//! The reader of whole lines.
 
 ghost use Rattle.std.specs.Prelude.{◌≡◌, ◌≢◌, ◌<◌, ◌≤◌, [], length, max, take, true, Err, None, Some, IfSome, OnErr, option_map};
 ghost use Rattle.lp_format.specs.format.{Crate, answer, trimmed};
@@ -22,8 +22,8 @@ use std::alloc::Global;
 use std::marker::Model;
 use std::mem;
 
-// Makes an empty tag set `None`. A set that has grown is kept at `spare`, if that is given. A set that has not holds no memory
-// and is forgotten: to drop it would visit each of its places.
+// Makes an empty tag set `None`. A set that has grown is kept at `spare`, if this place is given. A set that has not grown holds
+// no memory and is forgotten, because to drop it would visit each of its places.
 #[inline(always)]
 fn let_go<'a>(set: &mut Option<TagSet<'a>>, spare: Option<&mut Option<TagSet<'a>>>)
     ensures { set.new ≡ None }
@@ -38,7 +38,7 @@ fn let_go<'a>(set: &mut Option<TagSet<'a>>, spare: Option<&mut Option<TagSet<'a>
     }
 }
 
-// Keeps the first `count` tags of a line, and lets its tag set go if that is none.
+// Keeps the first `count` tags of a line, and lets its tag set go if it is then empty.
 #[inline(always)]
 fn keep_tags<'a>(set: &mut Option<TagSet<'a>>, count: usize, spare: Option<&mut Option<TagSet<'a>>>)
     ensures tags { some_items set.new ≡ take count (some_items set.old) }
@@ -67,8 +67,8 @@ fn keep_fields<'a>(fields: &mut FieldSet<'a>, count: usize)
     }
 }
 
-// Fills the line `parsed` with what the trimmed text `line` says. At a fault, and if memory is refused, it is filled in part. A tag set that
-// has grown is kept at `spare`, if that is given and the line has no tags.
+// Fills the line `parsed` with the parts of the trimmed text `line`. After a fault, and after memory was refused, it is filled in
+// part. A tag set that has grown is kept at `spare`, if this place is given and the line has no tags.
 #[tactic(auto, using(crate::proofs::lemmas::line::Filled::fill_steps))]
 #[inline(never)]
 fn fill<'a>(
@@ -112,7 +112,8 @@ fn fill<'a>(
     Ok(())
 }
 
-// Gives a line without a tag set the one at `spare`. It stands apart, since the room for a set that is moved is cleared first.
+// Gives a line without a tag set the set at `spare`. It is a function of its own, because the room for a set that is moved is
+// cleared first.
 #[cold]
 #[inline(never)]
 fn give_back<'a>(set: &mut Option<TagSet<'a>>, spare: &mut Option<TagSet<'a>>)
@@ -124,7 +125,7 @@ fn give_back<'a>(set: &mut Option<TagSet<'a>>, spare: &mut Option<TagSet<'a>>)
     }
 }
 
-// Empties a line that is at fault; its sets keep their room.
+// Empties a line that is at fault. Its sets keep their room.
 #[cold]
 #[inline(never)]
 fn empty(parsed: &mut ParsedLine<'_>)
@@ -142,7 +143,7 @@ fn empty(parsed: &mut ParsedLine<'_>)
     parsed.timestamp = None;
 }
 
-// Fills the line of a new item, as [`fill`] does, with an error for its fault.
+// Fills the line of a new item, as [`fill`] does, and makes an error of its fault.
 #[tactic(auto, using(crate::proofs::lemmas::line::AnsweredLines::light_fault))]
 #[inline(always)]
 fn fill_new<'a>(
@@ -161,8 +162,8 @@ fn fill_new<'a>(
     }
 }
 
-// Makes the item of a line that is at fault. What was read of the line is freed here, and nowhere else: to drop the line would visit
-// each place of its sets.
+// Makes the item of a line that is at fault. The parts of the line that were read are freed here and nowhere else, because to
+// drop the line would visit each place of its sets.
 #[cold]
 #[inline(never)]
 fn refuse(alloc: Global, item: &mut Result<ParsedLine<'_>>, fault: Error)
@@ -175,14 +176,14 @@ fn refuse(alloc: Global, item: &mut Result<ParsedLine<'_>>, fault: Error)
     }
 }
 
-/// Fills a line that is used again with what a trimmed text says, or hands the fault of the text up as it is spelled.
+/// Fills a line that is used again with the parts of a trimmed text.
 ///
-/// The sets of the line keep their room. One of tags that has grown is kept at `spare` while the line has no tags.
+/// The sets of the line keep their room. A tag set that has grown is kept at `spare` while the line has no tags.
 ///
 /// # Errors
 ///
-/// `Fault` with the fault of the text, if it has one, and else `OutOfMemory` if memory for the line was refused. The line is then
-/// filled in part, and may be filled again.
+/// `Fault` with the fault of the text as it is spelled, if it has one, and else `OutOfMemory` if memory for the line was refused.
+/// The line is then filled in part, and can be filled again.
 #[tactic(auto, using(crate::proofs::lemmas::line::AnsweredLines::more_room))]
 #[inline(always)]
 pub fn refill_line<'a>(
@@ -205,11 +206,12 @@ pub fn refill_line<'a>(
     fill(alloc, dialect, text, line, Some(spare))
 }
 
-/// Reads a trimmed text into a line that is used again, as [`read_into`] does, but hands the fault of the text up as it is spelled.
+/// Reads a trimmed text into a line that is used again, as [`read_into`] does, but its error is the fault of the text as it is
+/// spelled.
 ///
 /// # Errors
 ///
-/// Those of [`refill_line`]. The line is then empty.
+/// The errors of [`refill_line`]. The line is then empty.
 #[inline(always)]
 pub fn read_spelled_into<'a>(
     alloc: Global,
@@ -234,9 +236,14 @@ pub fn read_spelled_into<'a>(
     }
 }
 
-/// Reads a trimmed text into a line that is used again: the line is then what the text says, or empty if that is at fault.
+/// Reads a trimmed text into a line that is used again.
 ///
-/// The sets of the line keep their room. One of tags that has grown is kept at `spare` while the line has no tags.
+/// The sets of the line keep their room. A tag set that has grown is kept at `spare` while the line has no tags.
+///
+/// # Errors
+///
+/// The fault of the text, or `OutOfMemory` if memory for the line, or for the text of its fault, was refused. The line is then
+/// empty.
 #[tactic(auto, using(crate::proofs::lemmas::line::AnsweredLines::light_fault))]
 #[inline(always)]
 pub fn read_into<'a>(
@@ -259,16 +266,15 @@ pub fn read_into<'a>(
     }
 }
 
-/// The lines of a text, one after another: what [`parse_lines`] gives.
+/// The lines of a text, one after another. [`parse_lines`] returns it.
 ///
-/// Each item is the answer for one piece that holds more than blanks and comments: what its line
-/// says, or its one fault. If a line has a tag set, that holds at least one tag. Whatever an item
-/// is, the next ones are those of the pieces after it. There are at most `input.len()` items, and it
-/// stays ended.
+/// Each item is the answer for one piece that holds more than blanks and comments: its line, or its one fault. A tag set of a
+/// line holds at least one tag. The items after an item, whatever it is, are those of the pieces after its piece. The iterator
+/// gives at most `input.len()` items. After the last item it gives `None`, also if it is called again.
 #[derive(Drop)]
 pub struct ParseLines<'a> {
     lines: SplitLines<'a>,
-    // A tag set that has grown, of a line that has none now: the next line without one gets it.
+    // A tag set that has grown, of a line that has no tags now. The next line without a tag set gets it.
     spare: Option<TagSet<'a>>,
     alloc: Global,
 }
@@ -286,11 +292,11 @@ impl<'a> ParseLines<'a> {
     ghost use Rattle.lp_lines.specs.code.ParseSteps.{GivesItem};
     ghost use Rattle.lp_lines.specs.code.ReadInto.{GivesInRoom, LeavesEmpty, item_in};
 
-    /// The text that is left: what comes after the piece of the last item, or `None` once there is none.
+    /// Returns the text that is left: the text after the piece of the last item, or `None` if no text is left.
     ///
-    /// Where an item ends in the text is told by it: `input.len() - rest.len()` bytes from the start, after its newline; or
-    /// with the input, if nothing is left. So the number of the last line of an item is that of the newlines up to
-    /// there, and one more if nothing is left.
+    /// You can tell from it where an item ends in the text: `input.len() - rest.len()` bytes from the start, after its newline,
+    /// or at the end of the input if no text is left. The number of the last line of an item is the number of newlines up to
+    /// there, and one more if no text is left.
     ///
     /// ```text
     /// "m a=1i\n# c\nm b=x"  after the line m a=1i     Some("# c\nm b=x"): one newline before it, so it ends line 1
@@ -302,13 +308,15 @@ impl<'a> ParseLines<'a> {
         self.lines.remainder()
     }
 
-    /// Reads the next item into a line that is used again.
+    /// Reads the next item into a line that is used again, or returns `None` if no item is left. The line then stays as it was.
     ///
-    /// After `Some(Ok(()))` the line is what `next` would have given. After `Some(Err(..))`, the fault that `next` would
-    /// have given, it is empty. With `None`, which says that no item is left, it stays as it was.
+    /// After `Some(Ok(()))` the line is the line that `next` would have given. A line asks for no memory if its tags and fields
+    /// fit the sets of `line`, which keep their room, or the room of new sets, and if it needs no memory for copies and for the
+    /// text of a fault.
     ///
-    /// The sets of the line keep their room. So a line asks for no memory if its tags and fields fit them, or the
-    /// room that new sets have, and it needs none for copies and for the text of a fault.
+    /// # Errors
+    ///
+    /// The fault of the line, as `next` gives it, or `OutOfMemory` if a request for memory was refused. The line is then empty.
     #[inline(always)]
     pub fn next_into(&mut self, line: &mut ParsedLine<'a>) -> Option<Result<()>>
         ensures gives { GivesItem self.old (option_map (item_in line.new) result) self.new }
@@ -326,15 +334,19 @@ impl<'a> ParseLines<'a> {
     }
 }
 
-/// Reads the pieces of a text, one item for each that holds more than blanks and comments.
+/// Reads the pieces of a text, and gives one item for each piece that holds more than blanks and comments.
 ///
-/// A piece is a line, together with the lines after it that it takes in: up to the quote that closes a string, and after a
-/// backslash at its end. A piece that cannot be read is one `Err`, and the next pieces are answered as if it had not been
-/// there. So `m a="x`, a newline and `n b=1i` are one `Err(FieldSetMissing)`, since the quote is never closed.
+/// A piece is a line together with the lines after it that belong to it: up to the quote that closes a string, and after a
+/// backslash at its end. A piece that cannot be read is one `Err`, and the next pieces are answered as if it had not been there.
+/// For example, `m a="x`, a newline and `n b=1i` are one `Err(FieldSetMissing)`, because the quote is never closed.
 ///
-/// If memory for a line is refused, its item is `Err(Error::OutOfMemory)`, or the fault of the line if it has one. A line of
-/// at most 8 tags and 4 fields asks for none if each name and string of it is a part of the
-/// input, or if it holds no backslash and its fault carries no text.
+/// ```text
+/// "cpu usage=64i\nm 5\n"  gives  Ok, with the measurement cpu and the field usage=64i, and Err(FieldSetMissing)
+/// ```
+///
+/// If memory for a line is refused, its item is `Err(Error::OutOfMemory)`, or the fault of the line if it has one. A line of at
+/// most 8 tags and 4 fields asks for no memory if each name and string is a part of the input, or if the line holds no backslash
+/// and its fault carries no text.
 pub fn parse_lines(alloc: Global, input: &str) -> ParseLines<'_>
     ensures { result ≡ record { dialect = Crate; text = Some input.now } }
 {
@@ -343,9 +355,8 @@ pub fn parse_lines(alloc: Global, input: &str) -> ParseLines<'_>
 
 /// Reads all lines of a text by the rules of a dialect.
 ///
-/// [`parse_lines`] does so by those of the crate; what it says of faults and of memory holds here too. In the strict
-/// dialect a comment ends at its own newline, and a comma after the first field stays in the rest of the line unless a
-/// second field follows it.
+/// [`parse_lines`] uses [`Dialect::Crate`], and treats faults and memory in the same way. In the strict dialect, a comment ends
+/// at the first newline, and a comma after the first field stays in the rest of the line unless a second field follows it.
 ///
 /// ```text
 /// parse_lines_in(alloc, Dialect::Crate, "m a=1i,")   gives  Ok, with the field a=1i
@@ -372,9 +383,9 @@ impl<'a> Iterator for ParseLines<'a> {
 
     ghost remaining = { λ left. at_most (most_items left.text) };
 
-    // The item is made with an empty line in it, and filled in place: a line is large, and each move of it is a copy. It is
-    // made before its text is found: locals are zeroed where a function starts, and only there does the compiler see that
-    // all of this one is written, and leave out the zeros.
+    // The item is made with an empty line in it, and filled in place, because a line is large and each move copies it. It is made
+    // before its text is found: locals are zeroed where a function starts, and only there does the compiler see that all of the
+    // item is written, and leave out the zeros.
     #[inline(always)]
     fn next(&mut self) -> Option<Result<ParsedLine<'a>>> {
         let mut item = Ok(ParsedLine {
@@ -387,7 +398,7 @@ impl<'a> Iterator for ParseLines<'a> {
             timestamp: None,
         });
         let Some(line) = lines::next_line(&mut self.lines) else {
-            // It holds no memory, and to drop it would visit each place of its sets.
+            // The item holds no memory, and to drop it would visit each place of its sets.
             mem::forget(item);
             return None;
         };

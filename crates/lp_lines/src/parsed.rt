@@ -1,4 +1,4 @@
-//! What was read of a line: its series and its fields.
+//! A line that was read: its series and its fields.
 
 ghost use Rattle.std.specs.Prelude.{◌≡◌, ◌^◌, Some, ◌<◌, None, map, option_map};
 ghost use Rattle.lp_lines.specs.code.{Lookups.some_items, Parsed.tag_of, Parsed.tags_of, ReadInto.IsEmptyLine};
@@ -8,16 +8,16 @@ use lp_values::{EscapedStr, FieldValue, Measurement};
 use smallvec::SmallVec;
 use std::alloc::Global;
 
-// How many tags a set holds without memory.
+// The number of tags that a set holds without memory.
 const INLINE_TAGS: usize = 8;
 
-// How many fields a set holds without memory.
+// The number of fields that a set holds without memory.
 const INLINE_FIELDS: usize = 4;
 
-/// The tags of a series, in the order of the line; repeated keys are kept. Up to 8 take no memory.
+/// The tags of a series, in the order of the line. Repeated keys are kept. Up to 8 tags take no memory.
 pub type TagSet<'a> = SmallVec<(EscapedStr<'a>, EscapedStr<'a>), INLINE_TAGS>;
 
-/// What tells one series of values from another: the measurement and the tags.
+/// A series: the measurement and the tags of a line.
 #[derive(Debug, Drop)]
 pub struct Series<'a> {
     /// The part of the input that was read as measurement and tags.
@@ -28,7 +28,7 @@ pub struct Series<'a> {
     pub tag_set: Option<TagSet<'a>>,
 }
 
-/// The tags of a series: none, if there is no set of them.
+/// Returns the tags of a series, or no tags if it has no tag set.
 pub fn tags_in<'l, 'a>(series: &'l Series<'a>) -> &'l [(EscapedStr<'a>, EscapedStr<'a>)]
     ensures items { result.now ≡ some_items series.now.tag_set }
     ensures read { some_tags (option_map tags_of series.now.tag_set) ≡ map tag_of result.now }
@@ -39,15 +39,19 @@ pub fn tags_in<'l, 'a>(series: &'l Series<'a>) -> &'l [(EscapedStr<'a>, EscapedS
     }
 }
 
-/// The fields of a line, in its order; repeated keys are kept. Up to 4 take no memory.
+/// The fields of a line, in the order of the line. Repeated keys are kept. Up to 4 fields take no memory.
 pub type FieldSet<'a> = SmallVec<(EscapedStr<'a>, FieldValue<'a>), INLINE_FIELDS>;
 
-/// What one line says.
+/// A line that was read.
+///
+/// ```text
+/// m,k=1 a=1i 5  has the measurement m, the tag k=1, the field a=1i and the timestamp 5
+/// ```
 #[derive(Debug, Drop)]
 pub struct ParsedLine<'a> {
     /// The measurement and the tags.
     pub series: Series<'a>,
-    /// The fields: at least one, if `parse_lines` gave the line.
+    /// The fields. A line that `parse_lines` gave has at least one.
     pub field_set: FieldSet<'a>,
     /// The timestamp, if the line has one.
     pub timestamp: Option<i64>,
@@ -57,9 +61,7 @@ impl<'a> ParsedLine<'a> {
     ghost use Rattle.std.specs.Prelude.{option_copied};
     ghost use Rattle.lp_lines.specs.code.Lookups.{columns, some_items, value_by_key};
 
-    /// A line that says nothing: what [`ParseLines::next_into`] reads into.
-    ///
-    /// It takes no memory.
+    /// Makes an empty line, into which [`ParseLines::next_into`] can read. It takes no memory.
     pub fn new(alloc: Global) -> ParsedLine<'a>
         ensures { IsEmptyLine result }
     {
@@ -74,10 +76,13 @@ impl<'a> ParsedLine<'a> {
         }
     }
 
-    /// One, and the number of fields, and the number of tags, if no tag set counts as none.
+    /// Returns the number of columns of the line: one for the timestamp, one for each field, and one for each tag.
     ///
-    /// The caller sees to it that this fits `usize`, as it does for each line that `parse_lines` gave.
-    /// It takes no memory.
+    /// The caller must show that the number fits a `usize`. It does for each line that `parse_lines` gave. It takes no memory.
+    ///
+    /// ```text
+    /// m,k=1,k=2 a=1i,a=2i  has 5 columns
+    /// ```
     pub fn column_count(&self) -> usize
         requires { columns self.now < 2 ^ 64 }
         ensures { result ≡ columns self.now }
@@ -85,9 +90,11 @@ impl<'a> ParsedLine<'a> {
         1 + self.field_set.len() + tags_in(&self.series).len()
     }
 
-    /// The value of the first tag whose key has the text `tag_key`; `None` if no tag has it.
+    /// Returns the value of the first tag whose key has the text `tag_key`, or `None` if no tag has this key. It takes no memory.
     ///
-    /// It takes no memory.
+    /// ```text
+    /// m,k=1,k=2 a=1i,a=2i  gives  1  for the key k, and None for the key a
+    /// ```
     pub fn tag_value(&self, tag_key: &str) -> Option<&EscapedStr<'a>>
         ensures { option_copied result ≡ value_by_key tag_key.now (some_items self.now.series.tag_set) }
     {
@@ -96,9 +103,12 @@ impl<'a> ParsedLine<'a> {
         Some(&tag.1)
     }
 
-    /// The value of the first field whose key has the text `field_key`; `None` if no field has it.
+    /// Returns the value of the first field whose key has the text `field_key`, or `None` if no field has this key. It takes no
+    /// memory.
     ///
-    /// It takes no memory.
+    /// ```text
+    /// m,k=1,k=2 a=1i,a=2i  gives  I64(1)  for the key a, and None for the key k
+    /// ```
     pub fn field_value(&self, field_key: &str) -> Option<&FieldValue<'a>>
         ensures { option_copied result ≡ value_by_key field_key.now self.now.field_set.items }
     {

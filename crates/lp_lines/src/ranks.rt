@@ -1,4 +1,4 @@
-//! Tags in the order of their keys, of which the first bytes are compared as numbers.
+//! Tags in the order of their keys. The first bytes of the keys are compared as numbers.
 
 ghost use Rattle.std.specs.Prelude.{◌≡◌, ◌<◌, ◌≤◌, ◌∷◌, OnOk, length, map, slice_index, take};
 ghost use Rattle.std.specs.Cmp.Lexicographic.{slice_cmp};
@@ -12,13 +12,13 @@ use lp_values::EscapedStr;
 use std::alloc::{AllocError, Global};
 use std::cmp::Ordering;
 
-/// How many tags are few: these are put in order without memory.
+/// The number of tags that are put in order without memory.
 pub(crate) const FEW_TAGS: usize = 16;
 
-/// A tag after the rank of its key: the number that 8 bytes of it spell, past what the keys of all tags begin with.
+/// A tag with the rank of its key: the number that 8 bytes of the key spell, after the bytes that all keys begin with.
 pub(crate) type Ranked<'l, 'a> = (u64, &'l (EscapedStr<'a>, EscapedStr<'a>));
 
-// The byte at this place, and zero after the end.
+// Returns the byte at this place, or 0 after the end.
 #[inline(always)]
 fn byte_at(text: &[u8], at: usize) -> u8
     ensures { result ≡ slice_index text.now at }
@@ -26,7 +26,7 @@ fn byte_at(text: &[u8], at: usize) -> u8
     if at < text.len() { text[at] } else { 0 }
 }
 
-// The rank of a text of any length.
+// Returns the rank of a text of any length.
 fn short_rank(text: &[u8]) -> u64
     ensures { result ≡ rank_of text.now }
 {
@@ -42,7 +42,7 @@ fn short_rank(text: &[u8]) -> u64
     ])
 }
 
-// The rank of a text.
+// Returns the rank of a text, by one load if the text has 8 bytes.
 #[inline(always)]
 fn rank(text: &[u8]) -> u64
     ensures { result ≡ rank_of text.now }
@@ -55,7 +55,7 @@ fn rank(text: &[u8]) -> u64
     ])
 }
 
-// How many bytes two texts begin with alike.
+// Returns how many bytes at the start of both texts are equal.
 fn alike_len(one: &[u8], other: &[u8]) -> usize
     ensures alike { take result one.now ≡ take result other.now }
     ensures bound { (result ≤ length one.now) × (result ≤ length other.now) }
@@ -67,7 +67,7 @@ fn alike_len(one: &[u8], other: &[u8]) -> usize
     at
 }
 
-// How many bytes all keys begin with; 0 if the tags are few, or these bytes fewer than a rank has.
+// Returns how many bytes all keys begin with. Returns 0 if the tags are few, or if these bytes are fewer than a rank has.
 fn front_len<'a>(tags: &[(EscapedStr<'a>, EscapedStr<'a>)]) -> usize
     ensures { IsFrontLen result tags.now }
 {
@@ -85,7 +85,7 @@ fn front_len<'a>(tags: &[(EscapedStr<'a>, EscapedStr<'a>)]) -> usize
     len
 }
 
-// The order of two tags by their ranks, and by their keys where these are equal.
+// Compares two tags by their ranks, and by their keys if the ranks are equal.
 #[inline(always)]
 fn order<'l, 'a>(one: &Ranked<'l, 'a>, other: &Ranked<'l, 'a>) -> Ordering
     ensures { result ≡ slice_cmp nat_cmp (ranked_key (lent_rank one.now)) (ranked_key (lent_rank other.now)) }
@@ -96,7 +96,7 @@ fn order<'l, 'a>(one: &Ranked<'l, 'a>, other: &Ranked<'l, 'a>) -> Ordering
     one.1.0.as_str().cmp(other.1.0.as_str())
 }
 
-// Puts out each tag after the rank of its key past so many bytes.
+// Puts each tag out with the rank of its key after the first `len` bytes.
 fn rank_tags<'l, 'a>(
     len: usize,
     tags: &'l [(EscapedStr<'a>, EscapedStr<'a>)],
@@ -111,7 +111,7 @@ fn rank_tags<'l, 'a>(
     }
 }
 
-// Sorts ranked tags. Equal keys stay in their order.
+// Sorts ranked tags. Tags with equal keys stay in their order.
 fn sort_ranked<'l, 'a>(alloc: Global, tags: &mut [Ranked<'l, 'a>]) -> Result<(), AllocError>
     ensures { OnOk result (tags.new ≡ sorted_by (λ r. ranked_key (lent_rank r)) tags.old) }
 {
@@ -119,9 +119,7 @@ fn sort_ranked<'l, 'a>(alloc: Global, tags: &mut [Ranked<'l, 'a>]) -> Result<(),
     Ok(())
 }
 
-/// Puts out the tags in the order of their keys. Equal keys stay in their order.
-///
-/// More than 20 take memory.
+/// Puts the tags out in the order of their keys. Tags with equal keys stay in their order. More than 20 tags take memory.
 pub(crate) fn put_sorted<'l, 'a>(
     alloc: Global,
     tags: &'l [(EscapedStr<'a>, EscapedStr<'a>)],
@@ -134,7 +132,7 @@ pub(crate) fn put_sorted<'l, 'a>(
     sort_ranked(alloc, out)
 }
 
-/// Whether each of these tags is greater than the one before it, by its rank and its key.
+/// Returns whether each of these tags is greater than the one before it, by its rank and its key.
 pub(crate) fn ranks_rise<'l, 'a>(tags: &[Ranked<'l, 'a>]) -> bool
     ensures { result ≡ is_strictly_sorted (map (λ r. ranked_key (lent_rank r)) tags.now) }
 {

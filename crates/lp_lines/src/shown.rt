@@ -14,7 +14,7 @@ use lp_values::shown::show_escaped;
 use lp_values::{EscapedStr, FieldValue};
 use std::fmt;
 
-// Writes what divides the item at this place from the one before it.
+// Writes the comma before the item at this place, except before the first.
 fn show_comma<W: fmt::Write>(place: usize, f: &mut fmt::Formatter<W>) -> fmt::Result
     ensures { DisplaysOnOk W.write_str_gives f.old result (Some (comma_before place)) f.new }
 {

@@ -1,4 +1,4 @@
-//! Why a line was not read.
+//! The reasons why a line was not read.
 
 ghost use Rattle.std.specs.Prelude.{◌≡◌, ◌≢◌, true, Err, Result};
 ghost use Rattle.lp_format.specs.format.{Fault, Line};
@@ -8,7 +8,7 @@ ghost use Rattle.lp_lines.specs.code.Unreads.{IsUnread, needs_none};
 use lp_values::{Error, SpelledFault};
 use std::alloc::Global;
 
-/// Why a line was not read: its fault, as it is spelled in the text, or that memory for the line was refused.
+/// The reason why a line was not read: its fault, as it is spelled in the text, or a refusal of memory for the line.
 #[derive(Clone, Copy, Debug)]
 pub enum Unread<'a> {
     /// The fault of the line.
@@ -18,7 +18,7 @@ pub enum Unread<'a> {
 }
 
 impl<'a> Unread<'a> {
-    // The same as an error, with a copy of the text of the fault.
+    // Returns the reason as an error, with a copy of the text of the fault.
     #[cold]
     #[inline(never)]
     pub(crate) fn to_error(self, alloc: Global) -> Error

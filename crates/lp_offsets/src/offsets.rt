@@ -167,9 +167,10 @@ fn show_time(row: &mut OffsetRow, timestamp: Option<i64>)
 }
 
 // Puts down a line, and gives what came of it, and how many bytes of the room are in use with it: two numbers, which are given in registers.
+// The line is lent, so that the loop of rows writes it once, and no copy of it is made.
 #[inline(never)]
 fn put_line(
-    line: LineIn<'_>,
+    line: &LineIn<'_>,
     row: &mut OffsetRow,
     parts: &mut [OffsetPart],
     room: &mut [u8],
@@ -181,23 +182,23 @@ fn put_line(
     ensures grows { Grows room.old used room.new result.1 }
     ensures piece { (row.new.piece ≡ row.old.piece) × (row.new.line ≡ row.old.line) × (row.new.parts_at ≡ row.old.parts_at) }
     ensures kept { (row.new.key ≡ row.old.key) × (row.new.verdict ≡ row.old.verdict) }
-    ensures begins { row.new.line_at ≡ line.entry.end - length line.entry.line.now }
+    ensures begins { row.new.line_at ≡ line.now.end - length line.now.line.now }
     ensures answer { row.new.answer ≡ came_number result.0 }
-    ensures end { result.0 ≡ Came.Line → row.new.stop_at ≡ line.entry.end }
+    ensures end { result.0 ≡ Came.Line → row.new.stop_at ≡ line.now.end }
     ensures line { result.0 ≡ Came.Line → HasNoFault row.old → HasNoFault row.new }
     ensures fault { result.0 ≡ Came.Fault → HasNoLine row.old → HasNoLine row.new }
-    ensures answers { AnswersRow (answer (rules_of line.entry.rules) line.entry.line.now) result.0 line.entry.text.now parts.new room.new used
+    ensures answers { AnswersRow (answer (rules_of line.now.rules) line.now.line.now) result.0 line.now.text.now parts.new room.new used
         (own_of result.0 row.new) result.1 row.new }
     ensures fits { own_of result.0 row.new ≤ length parts.new }
     ensures stays { is_too_much result.0 ≡ true → result.1 ≡ used }
     ensures room { used ≤ length room.old → result.1 ≤ length room.new }
     ensures stop { result.0 ≡ Came.Fault →
-        row.new.stop_at ≡ line.entry.end - length (reading_stop (rules_of line.entry.rules) line.entry.line.now).1 }
+        row.new.stop_at ≡ line.now.end - length (reading_stop (rules_of line.now.rules) line.now.line.now).1 }
 {
     row.line_at = (line.end - line.line.len()) as u32;
-    let (told, stop) = put_told(line, parts, room, used);
+    let (told, stop) = put_told(*line, parts, room, used);
     if let Some(fault) = told.fault {
-        show_fault(line, fault, stop, row);
+        show_fault(*line, fault, stop, row);
         row.answer = Came::Fault.number();
         return (Came::Fault, used);
     }
@@ -337,7 +338,7 @@ fn read_row<'a>(
         end: piece.at + piece.len,
     };
     let own_parts = &mut parts[filled.parts..];
-    let (came, used) = put_line(line_in, row, own_parts, room, filled.room);
+    let (came, used) = put_line(&line_in, row, own_parts, room, filled.room);
     if !came.is_too_much() {
         pass(&mut filled.spot, piece);
         filled.parts += own_of(came, row);

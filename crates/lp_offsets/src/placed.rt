@@ -3,7 +3,7 @@
 //! A slice has no place in the text that it is a part of. So the place of a text is reckoned from how many bytes of its line are left
 //! after it, which a reader tells: a subtraction, and no look at its bytes.
 
-ghost use Rattle.std.specs.Prelude.{◌≡◌, ◌≤◌, ◌+◌, ◌-◌, ◌^◌, ◌<◌, drop, take, length, true, Some, IfNone, IfSome};
+ghost use Rattle.std.specs.Prelude.{◌≡◌, ◌≤◌, ◌+◌, ◌-◌, ◌^◌, ◌<◌, drop, take, length, min, true, Some, IfNone, IfSome};
 ghost use Rattle.influxdb_line_protocol.specs.code.Events.{spelled_field, spelled_tag};
 ghost use Rattle.influxdb_line_protocol.specs.code.SpelledParts.{spelled_text, spelled_value, spelling_of};
 ghost use Rattle.influxdb_line_protocol.specs.format.Lines.{logical_field, logical_tag};
@@ -88,48 +88,65 @@ pub(crate) struct LineIn<'a> {
     ghost lies: { IsLineIn text.now line.now end },
 }
 
-// A text or a value of a line as it is spelled, and how many bytes of the line are left after it.
+// A tag or a field in a line: how many bytes of the line are left after its key, and after its value.
 #[derive(Clone, Copy)]
-pub(crate) struct Stretch<T> {
-    pub(crate) spelled: T,
+pub(crate) struct PartIn<'a> {
+    pub(crate) line: LineIn<'a>,
+    pub(crate) key_left: usize,
     pub(crate) left: usize,
 }
 
-// The place of so many bytes of a line, with so many left after them.
+// The place of so many bytes of a line that ends at this place, with so many left after them.
 #[inline(always)]
-fn place_before(line: LineIn<'_>, left: usize, len: usize) -> Placed
-    requires { left + len ≤ length line.line.now }
+fn place_before(end: usize, left: usize, len: usize) -> Placed
+    requires { (left + len ≤ end) × (end < 2 ^ 32) }
     ensures copied { result.copied ≡ 0 }
-    ensures at { result.span.at ≡ line.entry.end - (left + len) }
+    ensures at { result.span.at ≡ end - (left + len) }
     ensures len { result.span.len ≡ len }
 {
     Placed {
         span: Span {
-            at: (line.end - (left + len)) as u32,
+            at: (end - (left + len)) as u32,
             len: len as u32,
         },
         copied: 0,
     }
 }
 
-// Puts the logical text of a spelling into the room after the bytes in use, if it fits, and says how many are in use with it.
-pub(crate) fn place_copy(room: &mut [u8], used: usize, spelled: Spelled<'_>) -> (Placed, usize)
-    ensures grows { Grows room.old used room.new result.1 }
-    ensures bound { length room.old < 2 ^ 32 → result.1 ≤ used + length (spelled_text spelled.entry).bytes }
-    ensures shows { Shows (λ r. take result.0.span.len (drop result.0.span.at r)) room.new result.1 (spelled_text spelled.entry).bytes }
-    ensures copied { result.1 ≤ length room.new → result.0.copied ≡ 1 }
-    ensures takes { TakesRoom room.new used result.1 (text_room result.0.copied result.0.span) }
+/// Puts the logical text of a spelling into the room after the bytes in use, if it fits, and says how many are in use with it. It gives a
+/// number, since what a call fills as a whole lies in memory, and each text that is told would go there first.
+#[cold]
+#[inline(never)]
+pub fn put_copy(room: &mut [u8], used: usize, spelled: Spelled<'_>) -> usize
+    ensures grows { Grows room.old used room.new result }
+    ensures counted { result ≡ min (used + length (spelled_text spelled.entry).bytes) (2 ^ 64 - 1) }
+    ensures shows { Shows (λ r. take (length (spelled_text spelled.entry).bytes) (drop used r)) room.new result
+        (spelled_text spelled.entry).bytes }
+    ensures takes { TakesRoom room.new used result (length (spelled_text spelled.entry).bytes) }
 {
-    let len = spelled.len();
-    let all = used.saturating_add(len);
-    let Some(span) = span_of(used, len) else {
-        return (NOWHERE, all.max(room.len() + 1));
-    };
+    let more = spelled.len();
+    let all = used.saturating_add(more);
     if room.len() < all {
-        return (NOWHERE, all);
+        return all;
     }
     spelled.put(&mut room[used..]);
-    (Placed { span, copied: 1 }, all)
+    all
+}
+
+// Where the bytes of the room lie that come after those in use, and how many are in use with them: more than there are, if 32 bits hold no
+// such place.
+#[inline(always)]
+fn place_copied(room: &[u8], used: usize, all: usize) -> (Placed, usize)
+    requires { used ≤ all }
+    ensures more { all ≤ result.1 }
+    ensures fits { result.1 ≤ length room.now → (result.1 ≡ all) × (result.0.span.at ≡ used) × (result.0.span.len ≡ all - used)
+        × (result.0.copied ≡ 1) }
+    ensures bound { length room.now < 2 ^ 32 → result.1 ≡ all }
+{
+    match span_of(used, all - used) {
+        Some(span) => (Placed { span, copied: 1 }, all),
+        None => (NOWHERE, all.max(room.len() + 1)),
+    }
 }
 
 // A text with a backslash, if it is one escape: the byte after the backslash.
@@ -141,65 +158,52 @@ fn escape_of<'a>(spelled: Spelled<'a>) -> Option<&'a str>
     shared(spelled)
 }
 
-// Where a text lies: in the line, if it is a part of that, or else in the room, into which it is put. If it reads as it is spelled, it
-// begins where as many bytes were left as before it was read, so its place is a subtraction.
+// Where a text lies after which so many bytes of the line are left: in the line, if it is a part of that, or else in the room, into which
+// it is put. If it reads as it is spelled, it begins where as many bytes were left as before it was read, so its place is a subtraction.
 #[inline(always)]
 pub(crate) fn place_text(
     line: LineIn<'_>,
+    left: usize,
     room: &mut [u8],
     used: usize,
-    text: Stretch<Spelled<'_>>,
+    spelled: Spelled<'_>,
 ) -> (Placed, usize)
-    requires { EndsBefore line.line.now (spelled_text text.spelled) text.left }
+    requires { EndsBefore line.line.now (spelled_text spelled) left }
     ensures grows { Grows room.old used room.new result.1 }
-    ensures bound { length room.old < 2 ^ 32 → result.1 ≤ used + length (spelled_text text.entry.spelled).bytes }
+    ensures bound { length room.old < 2 ^ 32 → result.1 ≤ used + length (spelled_text spelled.entry).bytes }
     ensures takes { TakesRoom room.new used result.1 (text_room result.0.copied result.0.span) }
     ensures shows { Shows (λ r. bytes_at line.entry.text.now r result.0.copied result.0.span) room.new result.1
-        (spelled_text text.entry.spelled).bytes }
+        (spelled_text spelled.entry).bytes }
 {
-    if reads_as_spelled(text.spelled) {
-        return (
-            place_before(line, text.left, text.spelled.spelled().len()),
-            used,
-        );
+    if reads_as_spelled(spelled) {
+        return (place_before(line.end, left, spelled.spelled().len()), used);
     }
-    if let Some(shown) = escape_of(text.spelled) {
-        return (place_before(line, text.left, shown.len()), used);
+    if let Some(shown) = escape_of(spelled) {
+        return (place_before(line.end, left, shown.len()), used);
     }
-    // Number by number: what a call fills as a whole would be kept in memory, and each place that is told would go there first.
-    let (copy, used) = place_copy(room, used, text.spelled);
-    let span = Span {
-        at: copy.span.at,
-        len: copy.span.len,
-    };
-    (
-        Placed {
-            span,
-            copied: copy.copied,
-        },
-        used,
-    )
+    let all = put_copy(room, used, spelled);
+    place_copied(room, used, all)
 }
 
 // Places the texts of a tag.
 #[inline(always)]
 pub(crate) fn place_tag(
-    line: LineIn<'_>,
+    part: PartIn<'_>,
     room: &mut [u8],
     used: usize,
-    key: Stretch<Spelled<'_>>,
-    value: Stretch<Spelled<'_>>,
+    key: Spelled<'_>,
+    value: Spelled<'_>,
 ) -> (OffsetPart, usize)
-    requires key { EndsBefore line.line.now (spelled_text key.spelled) key.left }
-    requires value { EndsBefore line.line.now (spelled_text value.spelled) value.left }
+    requires key { EndsBefore part.line.line.now (spelled_text key) part.key_left }
+    requires value { EndsBefore part.line.line.now (spelled_text value) part.left }
     ensures grows { Grows room.old used room.new result.1 }
-    ensures bound { length room.old < 2 ^ 32 → result.1 ≤ used + tag_len (spelled_tag (key.entry.spelled, value.entry.spelled)) }
+    ensures bound { length room.old < 2 ^ 32 → result.1 ≤ used + tag_len (spelled_tag (key.entry, value.entry)) }
     ensures takes { TakesRoom room.new used result.1 (part_room result.0) }
-    ensures shows { Shows (λ r. tag_at line.entry.text.now r result.0) room.new result.1
-        (Some (logical_tag (spelled_tag (key.entry.spelled, value.entry.spelled)))) }
+    ensures shows { Shows (λ r. tag_at part.entry.line.text.now r result.0) room.new result.1
+        (Some (logical_tag (spelled_tag (key.entry, value.entry)))) }
 {
-    let (key, used) = place_text(line, room, used, key);
-    let (value, used) = place_text(line, room, used, value);
+    let (key, used) = place_text(part.line, part.key_left, room, used, key);
+    let (value, used) = place_text(part.line, part.left, room, used, value);
     (part_of(key, value, Kind::Tag, 0), used)
 }
 
@@ -232,41 +236,41 @@ fn place_literal(line: LineIn<'_>, left: usize, literal: &str) -> Placed
     ensures copied { result.copied ≡ 0 }
     ensures bytes { take result.span.len (drop result.span.at line.entry.text.now) ≡ literal.now }
 {
-    place_before(line, left, literal.len())
+    place_before(line.end, left, literal.len())
 }
 
 // Places the texts of a field.
 #[inline(always)]
 pub(crate) fn place_field(
-    line: LineIn<'_>,
+    part: PartIn<'_>,
     room: &mut [u8],
     used: usize,
-    key: Stretch<Spelled<'_>>,
-    value: Stretch<SpelledValue<'_>>,
+    key: Spelled<'_>,
+    value: SpelledValue<'_>,
 ) -> (OffsetPart, usize)
-    requires key { EndsBefore line.line.now (spelled_text key.spelled) key.left }
-    requires value { ValueEndsBefore line.line.now (spelled_value value.spelled) value.left }
+    requires key { EndsBefore part.line.line.now (spelled_text key) part.key_left }
+    requires value { ValueEndsBefore part.line.line.now (spelled_value value) part.left }
     ensures grows { Grows room.old used room.new result.1 }
-    ensures bound { length room.old < 2 ^ 32 → result.1 ≤ used + field_len (spelled_field (key.entry.spelled, value.entry.spelled)) }
+    ensures bound { length room.old < 2 ^ 32 → result.1 ≤ used + field_len (spelled_field (key.entry, value.entry)) }
     ensures takes { TakesRoom room.new used result.1 (part_room result.0) }
-    ensures shows { Shows (λ r. field_at line.entry.text.now r result.0) room.new result.1
-        (Some (logical_field (spelled_field (key.entry.spelled, value.entry.spelled)))) }
+    ensures shows { Shows (λ r. field_at part.entry.line.text.now r result.0) room.new result.1
+        (Some (logical_field (spelled_field (key.entry, value.entry)))) }
 {
-    let (key, used) = place_text(line, room, used, key);
-    match value.spelled {
+    let (key, used) = place_text(part.line, part.key_left, room, used, key);
+    match value {
         SpelledValue::I64(integer) => (
             part_of(key, NOWHERE, Kind::Integer, integer.cast_unsigned()),
             used,
         ),
         SpelledValue::U64(unsigned) => (part_of(key, NOWHERE, Kind::Unsigned, unsigned), used),
         SpelledValue::F64(literal) => {
-            let literal = place_literal(line, value.left, literal.as_str());
+            let literal = place_literal(part.line, part.left, literal.as_str());
             (part_of(key, literal, Kind::Float, 0), used)
         }
-        SpelledValue::String(spelled) => {
+        SpelledValue::String(string) => {
             // The quote is left too.
-            let left = value.left.wrapping_add(1);
-            let (string, used) = place_text(line, room, used, Stretch { spelled, left });
+            let left = part.left.wrapping_add(1);
+            let (string, used) = place_text(part.line, left, room, used, string);
             (part_of(key, string, Kind::String, 0), used)
         }
         SpelledValue::Boolean(boolean) => (

@@ -9,7 +9,7 @@ ghost use Rattle.lp_offsets.specs.Rooms.{Grows};
 ghost use Rattle.lp_offsets.specs.Placing.{ToldAnswer, told_of};
 
 use crate::placed::{
-    LineIn, NOWHERE, OffsetPart, Placed, Stretch, place_field, place_tag, place_text,
+    LineIn, NOWHERE, OffsetPart, PartIn, Placed, place_field, place_tag, place_text,
 };
 use influxdb_line_protocol::{Spelled, SpelledFault, SpelledValue};
 use lp_events::{PlacedSink, read_placed_events};
@@ -49,11 +49,7 @@ impl<'l, 'a> PlacedSink<'a> for Placing<'l, 'a> {
 
     #[inline(always)]
     fn measurement(&mut self, name: Spelled<'a>, left: usize) {
-        let name = Stretch {
-            spelled: name,
-            left,
-        };
-        let (name, used) = place_text(self.line, self.room, self.used, name);
+        let (name, used) = place_text(self.line, left, self.room, self.used, name);
         self.tags = 0;
         self.fields = 0;
         self.name = name;
@@ -64,15 +60,12 @@ impl<'l, 'a> PlacedSink<'a> for Placing<'l, 'a> {
     fn tag(&mut self, key: Spelled<'a>, value: Spelled<'a>, key_left: usize, left: usize) {
         let place = self.tags.wrapping_add(self.fields);
         self.tags = self.tags.wrapping_add(1);
-        let key = Stretch {
-            spelled: key,
-            left: key_left,
-        };
-        let value = Stretch {
-            spelled: value,
+        let part = PartIn {
+            line: self.line,
+            key_left,
             left,
         };
-        let (part, used) = place_tag(self.line, self.room, self.used, key, value);
+        let (part, used) = place_tag(part, self.room, self.used, key, value);
         self.used = used;
         if place < self.parts.len() {
             self.parts[place] = part;
@@ -83,15 +76,12 @@ impl<'l, 'a> PlacedSink<'a> for Placing<'l, 'a> {
     fn field(&mut self, key: Spelled<'a>, value: SpelledValue<'a>, key_left: usize, left: usize) {
         let place = self.tags.wrapping_add(self.fields);
         self.fields = self.fields.wrapping_add(1);
-        let key = Stretch {
-            spelled: key,
-            left: key_left,
-        };
-        let value = Stretch {
-            spelled: value,
+        let part = PartIn {
+            line: self.line,
+            key_left,
             left,
         };
-        let (part, used) = place_field(self.line, self.room, self.used, key, value);
+        let (part, used) = place_field(part, self.room, self.used, key, value);
         self.used = used;
         if place < self.parts.len() {
             self.parts[place] = part;

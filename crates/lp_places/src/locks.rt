@@ -6,11 +6,12 @@
 //!
 //! A file that is locked is of a run that goes on. A run that finds one beside its place, once it has locked its own, ends: of two runs
 //! that begin at the same time at least one finds the other.
-ghost use Rattle.std.specs.Prelude.{◌≡◌};
-ghost use Rattle.lp_places.specs.Places.{may_fail};
+ghost use Rattle.std.specs.Prelude.{◌≡◌, ◌≤◌, length, take};
+ghost use Rattle.lp_places.specs.Places.{are_numbers, is_beside, may_fail};
 
 use crate::opens::{call_again, open_to_read, read_folder};
-use crate::places::folder_and_file;
+use lp_words::options::{is_number, place_of};
+use lp_words::paths::folder_and_file;
 use std::fs::{self, File, TryLockError};
 use std::io::{self, ErrorKind};
 use std::os::unix::fs::MetadataExt;
@@ -22,25 +23,33 @@ pub const BESIDE: &str = ".lp_relay-";
 const MOST_OF_NAME: usize = 224;
 
 /// What the names of files beside the place of this file begin with: its name, or the first characters of a long one.
-pub fn front_of_name<'a>(file: &'a str) -> &'a str {
+pub fn front_of_name<'a>(file: &'a str) -> &'a str
+    ensures most { length result.now ≤ 224 }
+    ensures front { result.now ≡ take (length result.now) file.now }
+    ensures whole { length file.now ≤ 224 → result.now ≡ file.now }
+{
     &file[..file.floor_char_boundary(MOST_OF_NAME)]
 }
 
-// Whether a text has a digit, and nothing else.
-fn is_number(text: &str) -> bool {
-    !text.is_empty() && text.bytes().all(|byte| byte.is_ascii_digit())
+// Whether a text is two numbers with a dash between them.
+fn are_numbers(text: &[u8]) -> bool
+    ensures { result ≡ are_numbers text.now }
+{
+    match place_of(b'-', text) {
+        Some(at) => is_number(&text[..at]) && is_number(&text[at + 1..]),
+        None => false,
+    }
 }
 
-// Whether a name is that of a file beside the place of this file: with the number of a process and another one.
-fn is_beside(name: &str, file: &str) -> bool {
-    let Some(rest) = name.strip_prefix(front_of_name(file)) else {
+// Whether a name is that of a file beside a place, of whose name this begins it: with the number of a process and another one.
+fn is_beside(front: &[u8], name: &[u8]) -> bool
+    ensures { result ≡ is_beside front.now name.now }
+{
+    let Some(rest) = name.strip_prefix(front) else {
         return false;
     };
-    let Some(numbers) = rest.strip_prefix(BESIDE) else {
-        return false;
-    };
-    match numbers.split_once('-') {
-        Some((process, turn)) => is_number(process) && is_number(turn),
+    match rest.strip_prefix(BESIDE.as_bytes()) {
+        Some(numbers) => are_numbers(numbers),
         None => false,
     }
 }
@@ -131,6 +140,7 @@ pub fn is_written(rt: &HostRuntime, place: &str, own: &str) -> io::Result<bool> 
 /// If memory was refused.
 pub fn names_beside(rt: &HostRuntime, place: &str) -> io::Result<Vec<String>> {
     let (folder, file) = folder_and_file(place);
+    let front = front_of_name(file);
     let mut names = Vec::new(rt.alloc());
     let Ok(entries) = read_folder(rt, folder) else {
         return Ok(names);
@@ -139,7 +149,7 @@ pub fn names_beside(rt: &HostRuntime, place: &str) -> io::Result<Vec<String>> {
         let Ok(entry) = entry else {
             continue;
         };
-        if is_beside(entry.file_name(), file) {
+        if is_beside(front.as_bytes(), entry.file_name().as_bytes()) {
             names.push(String::from_str(rt.alloc(), entry.file_name())?)?;
         }
     }

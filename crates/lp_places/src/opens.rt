@@ -40,7 +40,9 @@ pub fn call_again<T, F: FnMut() -> io::Result<T>>(mut call: F) -> io::Result<T>
 /// # Errors
 ///
 /// What the system says if it cannot be opened.
-pub fn open_again(rt: &HostRuntime, options: &OpenOptions, path: &str) -> io::Result<File> {
+pub fn open_again(rt: &HostRuntime, options: &OpenOptions, path: &str) -> io::Result<File>
+    ensures { IfErr result (λ error. is_interrupted (error_kind error) ≡ false) }
+{
     call_again(|| options.open(rt, path))
 }
 
@@ -49,7 +51,9 @@ pub fn open_again(rt: &HostRuntime, options: &OpenOptions, path: &str) -> io::Re
 /// # Errors
 ///
 /// What the system says if it cannot be opened.
-pub fn open_to_read(rt: &HostRuntime, path: &str) -> io::Result<File> {
+pub fn open_to_read(rt: &HostRuntime, path: &str) -> io::Result<File>
+    ensures { IfErr result (λ error. is_interrupted (error_kind error) ≡ false) }
+{
     let mut options = OpenOptions::new();
     options.read(true);
     open_again(rt, &options, path)
@@ -63,6 +67,8 @@ pub fn open_to_read(rt: &HostRuntime, path: &str) -> io::Result<File> {
 pub(crate) fn read_folder<'a>(
     rt: &'a HostRuntime,
     folder: &str,
-) -> io::Result<ReadDir<&'a HostRuntime, Global>> {
+) -> io::Result<ReadDir<&'a HostRuntime, Global>>
+    ensures { IfErr result (λ error. is_interrupted (error_kind error) ≡ false) }
+{
     call_again(|| fs::read_dir(&rt, folder))
 }

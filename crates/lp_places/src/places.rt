@@ -1,16 +1,17 @@
 //! What is found in the places of names and of standard streams before anything is opened.
-ghost use Rattle.std.specs.Prelude.{◌≡◌, IfOk, map};
-ghost use Rattle.lp_places.specs.Places.{is_nothing_there};
-ghost use Rattle.lp_words.specs.Refusals.{input_path};
+ghost use Rattle.std.specs.Prelude.{◌≡◌, ◌++◌, ◌<◌, None, codes, IfOk, IfSome, map, string_bytes};
+ghost use Rattle.lp_places.specs.Places.{is_nothing_there, listed, path_led_to, range_len};
+ghost use Rattle.lp_words.specs.Refusals.{input_path, output_path, unseen_refusal};
 
 use crate::opens::{call_again, open_again, read_folder};
 use lp_words::batch_names::BatchNames;
 use lp_words::options::Range;
+use lp_words::paths::last_slash;
 use lp_words::refusals::{
     FileId, Located, OldPieces, Refusal, refusal_of, refusal_of_faults, refusal_of_old,
     refusal_of_range, refusal_of_unseen,
 };
-use std::alloc::AllocError;
+use std::alloc::{AllocError, Global};
 use std::fs::{self, File, OpenOptions};
 use std::io::{self, ErrorKind};
 use std::os::unix::fs::{FileTypeExt, MetadataExt};
@@ -111,7 +112,9 @@ fn output_at(rt: &HostRuntime, path: &str) -> Option<FileId> {
 }
 
 /// The path of an output: `-` is standard output.
-fn output_path<'a>(name: &'a str) -> &'a str {
+fn output_path<'a>(name: &'a str) -> &'a str
+    ensures { result.now ≡ output_path name.now }
+{
     if name == "-" { STDOUT } else { name }
 }
 
@@ -135,7 +138,9 @@ fn unseen_refusal_at<'a>(
     mut files: Vec<Located<'a>>,
     output: Option<Located<'a>>,
     refused: Option<Located<'a>>,
-) -> Result<Option<Refusal<'a>>, AllocError> {
+) -> Result<Option<Refusal<'a>>, AllocError>
+    ensures { IfOk result (λ why. why ≡ unseen_refusal (files.entry.items ++ listed output.entry ++ listed refused.entry)) }
+{
     if let Some(output) = output {
         files.push(output)?;
     }
@@ -233,7 +238,10 @@ pub fn range_refusal_at<'a>(rt: &HostRuntime, range: Range, name: &'a str) -> Op
 
 /// How many bytes an input has that can be read at places: a regular file, but for one that does not tell how many it has, as some of
 /// the system's do.
-pub fn file_len(rt: &HostRuntime, name: &str) -> Option<usize> {
+pub fn file_len(rt: &HostRuntime, name: &str) -> Option<usize>
+    ensures stream { name.now ≡ codes "-" → result ≡ None }
+    ensures bytes { IfSome result (λ len. 0 < len) }
+{
     if name == "-" {
         return None;
     }
@@ -255,19 +263,26 @@ pub fn are_read_once(rt: &HostRuntime, names: &[&str]) -> bool {
     false
 }
 
-/// How many bytes are relayed, if each input is a regular file: of one of which a range is relayed, those of the range.
-pub fn relayed_len(rt: &HostRuntime, names: &[&str], range: Option<Range>) -> Option<u64> {
-    let total = total_len(rt, names)?;
+// How many of so many bytes are in a range, or all of them without one.
+fn range_len(range: Option<Range>, total: u64) -> u64
+    ensures { result ≡ range_len range total }
+{
     match range {
         Some(range) => {
             let end = match range.to {
                 Some(to) => to as u64,
                 None => total,
             };
-            Some(end.saturating_sub(range.from as u64))
+            end.saturating_sub(range.from as u64)
         }
-        None => Some(total),
+        None => total,
     }
+}
+
+/// How many bytes are relayed, if each input is a regular file: of one of which a range is relayed, those of the range.
+pub fn relayed_len(rt: &HostRuntime, names: &[&str], range: Option<Range>) -> Option<u64> {
+    let total = total_len(rt, names)?;
+    Some(range_len(range, total))
 }
 
 // How many bytes all inputs have, if each is a regular file.
@@ -283,16 +298,25 @@ fn total_len(rt: &HostRuntime, names: &[&str]) -> Option<u64> {
     Some(total)
 }
 
+// Where a link of this path leads that has this text: from the folder of the link on, if the text does not begin with a slash.
+fn path_led_to(alloc: Global, link: &str, to: &str) -> Result<String, AllocError>
+    ensures { IfOk result (λ path. string_bytes path ≡ path_led_to link.now to.now) }
+{
+    match last_slash(link.as_bytes()) {
+        Some(at) if to.as_bytes().first() != Some(&b'/') => {
+            let mut path = String::from_str(alloc, &link[..at])?;
+            path.push_str("/")?;
+            path.push_str(to)?;
+            Ok(path)
+        }
+        _ => String::from_str(alloc, to),
+    }
+}
+
 // Where a link leads.
 fn led_to(rt: &HostRuntime, link: &str) -> io::Result<String> {
     let to = fs::read_link(rt, link)?.into_string();
-    if to.starts_with('/') {
-        return Ok(to);
-    }
-    match link.rsplit_once('/') {
-        Some((folder, _)) => Ok(format!(in rt.alloc(); "{folder}/{to}")?),
-        None => Ok(to),
-    }
+    Ok(path_led_to(rt.alloc(), link, to.as_str())?)
 }
 
 // Whether a look at a name that failed so tells that nothing is there.
@@ -350,13 +374,4 @@ pub fn is_mounted(rt: &HostRuntime, place: &str) -> Result<bool, AllocError> {
             .lines()
             .any(|mount| mount.split(' ').nth(4) == Some(told.as_str())),
     )
-}
-
-/// The folder of a place, and the name of its file there.
-pub fn folder_and_file<'a>(place: &'a str) -> (&'a str, &'a str) {
-    match place.rsplit_once('/') {
-        Some(("", file)) => ("/", file),
-        Some((folder, file)) => (folder, file),
-        None => (".", place),
-    }
 }

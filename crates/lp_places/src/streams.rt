@@ -2,6 +2,9 @@
 //!
 //! What is written there stays if the run fails later, and something can read it while the relay runs. The relay hands over whole
 //! pieces, in one write each time. A file that grows is locked until the run ends, so no other run puts its pieces between.
+ghost use Rattle.std.specs.Prelude.{◌≡◌, false, IfErr};
+ghost use Rattle.std.specs.IoError.{error_kind};
+ghost use Rattle.lp_places.specs.Places.{knows_no_wait};
 
 use crate::opens::open_again;
 use lp_words::refusals::OldPieces;
@@ -56,6 +59,27 @@ fn open_to_append(rt: &HostRuntime, name: &str) -> io::Result<File> {
         file.write_all(b"\n")?;
     }
     Ok(file)
+}
+
+// Whether a device says so that knows no wait until all of a file is on it.
+fn knows_no_wait(kind: ErrorKind) -> bool
+    ensures { result ≡ knows_no_wait kind }
+{
+    matches!(kind, ErrorKind::InvalidInput | ErrorKind::Unsupported)
+}
+
+/// Waits until all of a file or a folder is on the device, if that knows such a wait: a FIFO does not.
+///
+/// # Errors
+///
+/// What the system says if it cannot.
+pub fn sync_known(file: &File) -> io::Result<()>
+    ensures { IfErr result (λ error. knows_no_wait (error_kind error) ≡ false) }
+{
+    match file.sync_all() {
+        Err(error) if knows_no_wait(error.kind()) => Ok(()),
+        answer => answer,
+    }
 }
 
 /// What refused pieces are written to as they come, if this name, or `-`, leads to such a thing: a regular file does if they are

@@ -37,14 +37,14 @@ stamp_begins : (text : List ℕ) (t : Option ℤ) → timestamp text ≡ Ok (rec
 stamp_begins [] t h = inl refl
 stamp_begins (b ∷ text) t h = grind (arith, cases_Bool, eqb-true, ok_same)
 
--- no comma of the crate's dialect is there to be taken
+-- If nothing or a space follows the fields, no comma is there that the dialect of the crate takes.
 no_comma : (fields : List (Pair Text (Value Text))) (rest : List ℕ) → IsNothingOrSpaced rest → rest ≡ without_comma Crate fields rest
 no_comma [] rest h = refl
 no_comma (f ∷ []) [] h = refl
 no_comma (f ∷ []) (b ∷ rest) h = grind arith
 no_comma (f ∷ g ∷ fields) rest h = refl
 
--- a line that is read by the strict rules is read so by those of the crate
+-- A line that is read by the strict rules is read as the same line by the rules of the crate.
 pub read_by_crate : (text : List ℕ) (line : Line) → answer Strict text ≡ Ok line → answer Crate text ≡ Ok line
 read_by_crate text line h = (answer_is_by_rows Crate text (Ok line)).1 (by_row ((answer_is_by_rows Strict text (Ok line)).0 h))
   where
@@ -79,7 +79,7 @@ last_piece Strict text line is on = elim is.piece [
 ]
 last_piece NewlineDelimited text line is on = on refl
 
--- and answered alike
+-- A piece that the strict rules answer with a line has the same answer in each dialect.
 same_answer : (dialect : Dialect) (text : List ℕ) (line : Line) → answers_of_piece Strict text ≡ Ok line ∷ []
     → answers_of_piece dialect text ≡ Ok line ∷ []
 unfolding answers_of_piece answer
@@ -87,7 +87,7 @@ same_answer Crate text line read = let crate = read_by_crate (trimmed text) line
 same_answer Strict text line read = read
 same_answer NewlineDelimited text line read = read
 
--- so each dialect has one answer
+-- A line that is one line in a dialect is the only answer for its text there.
 pub lines_are_answered_alike : LinesAreAnsweredAlike
 lines_are_answered_alike dialect text line is on = record {
   pieces = text ∷ [];

@@ -1,4 +1,4 @@
--- What the code tells of a line is what the definition says of it.
+-- The clauses that the code finds broken are the clauses that are broken by the definition.
 use Rattle.std.proofs.Common.{◌≡◌, ℕ, ◌+◌, not, List, ◌∷◌, [], length, map, option_map, Some, None, codes, nat_lt, bytes_eq, refl, sym, ap, ◌∙◌}
 use Rattle.std.proofs.lemmas.List.{length-map}
 use Rattle.lp_format.specs.format.{is_one_of, quote, some_tags}
@@ -17,7 +17,7 @@ tag_keys : (tags : List (EscapedStr × EscapedStr)) → keys_in tags ≡ map (λ
 tag_keys [] = refl
 tag_keys (t ∷ tags) = ap (λ (keys : List (List ℕ)). text_of t.0 ∷ keys) (tag_keys tags)
 
--- and those of fields
+-- The keys of parsed fields are the keys of the fields that were read.
 field_keys : (fields : List (EscapedStr × FieldValue)) → keys_in fields ≡ map (λ f. f.key.bytes) (map field_of fields)
 field_keys [] = refl
 field_keys (f ∷ fields) = ap (λ (keys : List (List ℕ)). text_of f.0 ∷ keys) (field_keys fields)
@@ -26,12 +26,12 @@ field_keys (f ∷ fields) = ap (λ (keys : List (List ℕ)). text_of f.0 ∷ key
 pub tags_are : (read : ParsedLine) → some_tags (line_read read).tags ≡ map tag_of (some_items read.series.tag_set)
 tags_are read = by_set read.series.tag_set
   where
-    -- by whether there is a set
+    -- The tags of a set are its items, by whether there is a set.
     by_set : (set : _) → some_tags (option_map tags_of set) ≡ map tag_of (some_items set)
     by_set None = refl
     by_set (Some tags) = refl
 
--- what the code tells is what the definition says
+-- Each clause is broken by the code exactly if it is broken by the definition.
 pub code_is : (limits : Limits) (text : List ℕ) (read : ParsedLine) (names : Spelling) (given : Parts) → ArePartsOf read given
     → (clause : Clause)
     → is_broken (broken_by_code limits text given (repeats_of read) (name_breaks (length read.series.raw_input.now) names)) clause
@@ -69,7 +69,7 @@ code_is limits text read names given parts Clause.TooManyTags = rw (parts.tags, 
 code_is limits text read names given parts Clause.LongLine = refl
 code_is limits text read names given parts Clause.TimeNotKept = rw parts.timestamp refl
 
--- so it is with what the code has found before
+-- Each clause that the code found from its parts, repeats and spelled names is broken exactly if it is broken by the definition.
 pub told_is : (limits : Limits) (text : List ℕ) (read : ParsedLine) (names : Spelling) (given : Parts) (repeats : Repeats) (told : NameBreaks)
     (result : Broken) → ArePartsOf read given → repeats ≡ repeats_of read → told ≡ name_breaks (length given.series.now) names
     → result ≡ broken_by_code limits text given repeats told

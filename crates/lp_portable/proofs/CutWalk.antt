@@ -1,4 +1,4 @@
--- Whether a newline ends a text as one piece is told by the track of its bytes.
+-- The track of the bytes of a text tells whether a newline ends the text as one piece.
 use Rattle.std.proofs.Common.{◌≡◌, ◌≢◌, ℕ, ◌+◌, ◌<◌, ◌++◌, ◌==◌, ◌&&◌, ◌||◌, ◌↔◌, ◌⊎◌, nat_lt, suc, Bool, true, false, List, [], ◌∷◌, length, take, Option, None, Some, is_none, inl, inr, refl, sym, ◌∙◌, subst, arith, append-nil, append_assoc, get_or, if◌then◌else◌, option_map}
 use Rattle.std.proofs.lemmas.{Bool.cases_Bool, Bool.false≢true, Bool.Decides.nat_tests, List.Elements.All-nil}
 use Rattle.lp_format.specs.format.{IsBareAfter, IsCutPiece, Strict, backslash, comma, equals, hash, newline, quote, space, tab}
@@ -23,11 +23,11 @@ bare_step region next e c f d b other goes =
 is_it : (b x : ℕ) → (b == x) ≡ true → b ≡ x
 is_it b x h = grind (arith, nat_tests)
 
--- and else it is not
+-- If the test of equality fails for two bytes, they are different.
 is_not_it : (b x : ℕ) → (b == x) ≡ false → b ≢ x
 is_not_it b x h = grind (arith, nat_tests)
 
--- in a head
+-- The function steps as the definition does, for a bare byte in the head of a line.
 head_steps : (e c b : ℕ) → (b == backslash) ≡ false → Steps (at_bare Head e c) b (bare_in Head (at_bare Head e c) b)
 head_steps e c b other = elim (cases_Bool (b == newline)) [
   | inl is ↦ rw is (is_it b newline is, λ bytes h. (inl h.ends_in.0, h.escaped_is))
@@ -39,7 +39,7 @@ head_steps e c b other = elim (cases_Bool (b == newline)) [
   ])
 ]
 
--- in a plain stretch a quote opens a string or not
+-- The function steps as the definition does, for a byte in a plain stretch that may be a quote that opens a string.
 quote_steps : (e c b : ℕ) → (b == backslash) ≡ false → (b == newline) ≡ false → (b == equals) ≡ false → (b == comma) ≡ false
     → Steps (at_bare Plain e c) b (Some (if b == quote && nat_lt c e then at_bare Quoted e c else at_bare Plain e c))
 quote_steps e c b other differs sign mark = elim (cases_Bool (b == quote && nat_lt c e)) [
@@ -51,7 +51,7 @@ quote_steps e c b other differs sign mark = elim (cases_Bool (b == quote && nat_
       (λ q. grind (arith, nat_tests)) h))
 ]
 
--- in a plain stretch
+-- The function steps as the definition does, for a bare byte in a plain stretch.
 plain_steps : (e c b : ℕ) → (b == backslash) ≡ false → Steps (at_bare Plain e c) b (bare_in Plain (at_bare Plain e c) b)
 plain_steps e c b other = elim (cases_Bool (b == newline)) [
   | inl is ↦ rw is (is_it b newline is, λ bytes h. (inr (h.ends_in.0, h.ends_in.1), h.escaped_is))
@@ -66,7 +66,7 @@ plain_steps e c b other = elim (cases_Bool (b == newline)) [
   ])
 ]
 
--- in a string
+-- The function steps as the definition does, for a bare byte in a string.
 quoted_steps : (e c b : ℕ) → (b == backslash) ≡ false → Steps (at_bare Quoted e c) b (bare_in Quoted (at_bare Quoted e c) b)
 quoted_steps e c b other = elim (cases_Bool (b == quote)) [
   | inl is ↦ rw is (bare_step Quoted Plain e c e c b other
@@ -119,18 +119,18 @@ track_leads (Blanks p) b = elim (cases_Bool (b == hash)) [
 ]
 track_leads (Line p) b = line_leads p b (place_after p b) (place_steps p.region p.is_escaped p.equals p.commas b)
 
--- bytes after others lead on to a track, or a newline of them ends the piece
+-- A text leads on from a front to a track, or a newline in it ends the piece.
 abbrev Tracks : (front text : List ℕ) → Option Track → Type 0
 Tracks front text None = (at : ℕ) × (at < length text) × (get_or text at 0 ≡ newline) × IsCutPiece Strict (front ++ take at text)
 Tracks front text (Some to) = IsTrackOf Strict (front ++ text) to
 
--- so do they with a byte before them
+-- If a text leads on from a front and a byte to a track, the byte and the text lead on from the front to the same track.
 further : (front : List ℕ) (b : ℕ) (text : List ℕ) (to : Option Track) → Tracks (front ++ b ∷ []) text to → Tracks front (b ∷ text) to
 further front b text None h =
     (suc h.0, omega (arith, h.1), h.2, subst (IsCutPiece Strict) (append_assoc front (b ∷ []) (take h.0 text)) h.3)
 further front b text (Some to) h = subst (λ (f : List ℕ). IsTrackOf Strict f to) (append_assoc front (b ∷ []) text) h
 
--- the first of them leads on, or it ends the piece
+-- The first byte of a text leads on to a track, or it ends the piece.
 first_leads : (front : List ℕ) (b : ℕ) (text : List ℕ) (t : Track) (next : Option Track) → Leads t b next → IsTrackOf Strict front t
     → ((n : Track) → IsTrackOf Strict (front ++ b ∷ []) n → Tracks (front ++ b ∷ []) text (tracked_on (Some n) text))
     → Tracks front (b ∷ text) (tracked_on next text)
@@ -151,7 +151,7 @@ newline_ends : (text : List ℕ) (t : Track) (next : Option Track) → Leads t n
 newline_ends text t None leads is = (λ yes. leads.1 Strict text is, λ cut. refl)
 newline_ends text t (Some to) leads is = (λ never. absurd (false≢true never), λ cut. absurd (goes_on Strict text t to is leads cut))
 
--- and so after all bytes
+-- After all bytes, the track says that a newline ends the text exactly if it does.
 ended_is : (text : List ℕ) (to : Option Track) → Tracks [] text to → (is_ended to ≡ true) ↔ IsCutPiece Strict text
 ended_is text None h = (λ never. absurd (false≢true never), λ cut. absurd (cut_within Strict text h.0 h.1 h.2 h.3 cut))
 ended_is text (Some t) h = newline_ends text t (track_after t newline) (track_leads t newline) h

@@ -1,11 +1,11 @@
--- A text ends in what is left of it after a value, and after a field.
+-- The text that is left after a value, or after a field, is an end of the text.
 use Rattle.std.proofs.Common.{◌≡◌, ℕ, List, [], ◌∷◌, drop, refl, sym, arith, Bool, cond}
 use Rattle.lp_format.specs.format.{equals, Fault, Pair, Reading, Text, Value, a_field_key}
 use Rattle.lp_format.specs.format.{fatal, field, miss, reads, value, ◌otherwise◌}
 use Rattle.lp_format.specs.format.{boolean_at, float_at, integer_at, string_at, unsigned_at}
 use Rattle.lp_values.proofs.lemmas.fields.ReadingLemmas.{EndsIn, EndsIn-drop, EndsIn-end, name_ends, pair_parts}
 
--- what a reading leaves is an end of the text
+-- A reading leaves an end of the text.
 pub record LeavesEnd {A : Type 0} (text : List ℕ) (r : Reading A) : Type 0 where
   pub holds : (x : A) (rest : List ℕ) → r ≡ reads x rest → EndsIn text rest
 
@@ -21,7 +21,7 @@ fault_left text f = record { holds = λ x rest e. absurd (cc) }
 end_left : {A : Type 0} (text : List ℕ) (x : A) (rest : List ℕ) → EndsIn text rest → LeavesEnd text (reads x rest)
 end_left text x rest h = record { holds = λ y after e. let same : rest ≡ after = cc in rw (sym same) h }
 
--- what follows a front is left
+-- A reading that takes a front of the text leaves an end of the text.
 drop_left : {A : Type 0} (text : List ℕ) (n : ℕ) (x : A) → LeavesEnd text (reads x (drop n text))
 drop_left text n x = end_left text x (drop n text) (EndsIn-drop n text (drop n text) refl)
 
@@ -33,7 +33,7 @@ either text b r s h k = grind arith
 one_of_two : {A : Type 0} (text : List ℕ) (r s : Reading A) → LeavesEnd text r → LeavesEnd text s → LeavesEnd text (r otherwise s)
 one_of_two text r s h k = grind arith
 
--- after a quote
+-- A text without its first bytes, after a quote, is an end of the text with the quote.
 after_quote : (b : ℕ) (after : List ℕ) (n : ℕ) → EndsIn (b ∷ after) (drop n after)
 after_quote b after n =
     EndsIn-end (b ∷ after) after (drop n after) (record { front = b ∷ []; is = refl }) (EndsIn-drop n after (drop n after) refl)
@@ -49,7 +49,7 @@ pub value_left : (text : List ℕ) → LeavesEnd text (value text)
 unfolding value integer_at unsigned_at float_at boolean_at
 value_left text = grind (arith, either, none_left, drop_left, fault_left, one_of_two, string_left)
 
--- a text ends in what is left after a field
+-- The text that is left after a field is an end of the text.
 pub field_ends : (text : List ℕ) (x : Pair Text (Value Text)) (rest : List ℕ) → field text ≡ reads x rest → EndsIn text rest
 unfolding field
 field_ends text x rest e =

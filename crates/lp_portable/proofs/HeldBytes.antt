@@ -1,4 +1,4 @@
--- What bytes a name holds, escaped or bare.
+-- The bytes that a name holds, escaped or bare.
 use Rattle.std.proofs.Common.{◌≡◌, ℕ, ◌<◌, ◌≤◌, List, [], ◌∷◌, ◌++◌, length, if◌then◌else◌, Bool, true, false, ◌||◌, ◌==◌, refl, sym, ap, ◌∙◌, arith, inl, inr, eqb-true, eq-eqb, ne_eqb}
 use Rattle.std.specs.List.{list_any}
 use Rattle.std.proofs.lemmas.{Bool.cases_Bool, Bool.or_parts, Bool.eqb-false, Bool.false≢true}
@@ -44,7 +44,7 @@ each_alone known (b ∷ c ∷ rest) h = elim (cases_Bool (b == backslash)) [
   | inr plain ↦ rw plain (ap (λ (t : List ℕ). b ∷ t) (each_alone known (c ∷ rest) (rw plain at h)))
 ]
 
--- a text that holds none of some bytes escaped does not hold one of them so
+-- A text that holds none of some bytes escaped does not hold a single one of these bytes escaped.
 not_one : (marks : List ℕ) (c : ℕ) (text : List ℕ) → is_one_of marks c ≡ true → holds marks [] text ≡ false → holds (c ∷ []) [] text ≡ false
 unfolding holds
 not_one marks c [] mark h = refl
@@ -57,7 +57,7 @@ not_one marks c (b ∷ d ∷ rest) mark h = elim (cases_Bool (b == backslash)) [
   | inr plain ↦ rw plain (not_one marks c (d ∷ rest) mark (rw plain at h))
 ]
 
--- a name without such escapes means the same, by two sets of them that hold the backslash
+-- A name that holds the bytes of neither of two lists escaped means the same, if the second list has the backslash.
 pub without_both : (some others : List ℕ) (kind : NameKind) (name known : List ℕ) → is_one_of others backslash ≡ true
     → ((b : ℕ) → is_one_of some b ≡ false → is_one_of others b ≡ false → is_one_of known b ≡ is_one_of (escapable kind) b)
     → holds some [] name ≡ false → holds others [] name ≡ false
@@ -66,7 +66,7 @@ without_both some others kind name known slash agree h k =
     let same = same_text some others known (escapable kind) name agree h k in
     (same, each_alone known name (not_one others backslash name slash k) ∙ same)
 
--- so it is by one
+-- If a name holds none of these bytes escaped, it means the same to each reader that may escape them.
 pub without_marks : (marks : List ℕ) (kind : NameKind) (name : List ℕ) → is_one_of marks backslash ≡ true → holds marks [] name ≡ false
     → MeansTheSame marks kind name
 without_marks marks kind name slash h known agree = without_both marks marks kind name known slash (λ b none _. agree b none) h h
@@ -76,7 +76,7 @@ or_second : (a b : Bool) → b ≡ true → (a || b) ≡ true
 or_second true b h = refl
 or_second false b h = h
 
--- of some bytes that a text holds escaped it holds one
+-- A text that holds some of these bytes escaped holds a single one of them escaped.
 one_mark : (marks text : List ℕ) → holds marks [] text ≡ true → (c : ℕ) × (is_one_of marks c ≡ true) × (holds (c ∷ []) [] text ≡ true)
 unfolding holds
 one_mark marks [] h = absurd (false≢true h)
@@ -93,7 +93,7 @@ one_mark marks (b ∷ c ∷ rest) h = elim (cases_Bool (b == backslash)) [
       (later.0, later.1, rw plain later.2)
 ]
 
--- one more byte that may be escaped leaves a text as long, or shorter if it is escaped there
+-- If one more byte may be escaped, the text without escapes is no longer than before, and shorter if this byte is escaped in the text.
 shorter : (c : ℕ) (xs ys text : List ℕ) → ((b : ℕ) → (b == c) ≡ false → is_one_of xs b ≡ is_one_of ys b)
     → is_one_of xs c ≡ true → is_one_of ys c ≡ false
     → (length (without_escapes xs text) ≤ length (without_escapes ys text))
@@ -112,12 +112,12 @@ shorter c xs ys (b ∷ d ∷ rest) agree more less =
       | inr plain ↦ grind arith
     ]
 
--- some bytes without one
+-- These bytes without one byte.
 abbrev without : ℕ → List ℕ → List ℕ
 without c [] = []
 without c (b ∷ bytes) = if b == c then without c bytes else b ∷ without c bytes
 
--- it is none of these
+-- A list of bytes without a byte does not have this byte.
 without_it : (c : ℕ) (bytes : List ℕ) → is_one_of (without c bytes) c ≡ false
 without_it c [] = refl
 without_it c (b ∷ bytes) = elim (cases_Bool (b == c)) [
@@ -125,7 +125,7 @@ without_it c (b ∷ bytes) = elim (cases_Bool (b == c)) [
   | inr other ↦ rw (other, other) (without_it c bytes)
 ]
 
--- and each other byte is, if it was
+-- A list of bytes without a byte has each other byte that it had.
 without_other : (c : ℕ) (bytes : List ℕ) (b : ℕ) → (b == c) ≡ false → is_one_of (without c bytes) b ≡ is_one_of bytes b
 without_other c [] b h = refl
 without_other c (d ∷ bytes) b h = elim (cases_Bool (d == c)) [
@@ -143,7 +143,7 @@ not_it marks b c none some = elim (cases_Bool (b == c)) [
   | inr other ↦ other
 ]
 
--- a name that holds one of these bytes escaped does not mean the same
+-- A name that holds one of these bytes escaped does not mean the same to all readers that may escape them.
 with_mark : (marks : List ℕ) (kind : NameKind) (name : List ℕ) → MeansTheSame marks kind name → ¬ (holds marks [] name ≡ true)
 with_mark marks kind name same held =
     let (c, mark, here) = one_mark marks name held in
@@ -161,7 +161,7 @@ with_mark marks kind name same held =
           omega (arith, longer, ap length (same more (λ b absent. agree b (not_it marks b c absent mark))).0)
     ]
 
--- so a name means the same exactly if it holds none of them escaped
+-- A name means the same to readers with other escapes exactly if it holds none of their bytes escaped.
 pub escaped_bytes_are_held : EscapedBytesAreHeld
 escaped_bytes_are_held marks kind name slash = (
   λ same. elim (cases_Bool (holds marks [] name)) [

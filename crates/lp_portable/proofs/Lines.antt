@@ -1,4 +1,4 @@
--- Texts that are one line, and what is told of them.
+-- Texts that are one line, and the answers for them.
 use Rattle.std.proofs.Common.{◌≡◌, ℕ, ◌<◌, ◌++◌, List, [], ◌∷◌, length, take, drop, get_or, ◌+◌, refl, subst, arith, append-nil, zero, suc, IsTrue, ◌↔◌, Ok, Err, Result}
 use Rattle.std.specs.Result.{is_ok}
 use Rattle.std.proofs.lemmas.Bool.{false≢true}
@@ -27,7 +27,7 @@ cut_within dialect text at within is cut whole =
     no_cut_within dialect (take at text) (drop (at + 1) text) cut
     (IsLastPiece-cut dialect _ (subst (IsCutPiece dialect) (split_at text at within is) whole))
 
--- nothing is answered for a piece of which nothing is left
+-- A piece of which nothing is left is no line: it has no answer.
 pub blank_is_no_line : (text : List ℕ) (line : Line) → length (trimmed text) ≡ 0 → ¬ IsOneLine text line
 unfolding answers_of_piece
 blank_is_no_line text line none h = let a = h.read in absurd (grind arith)
@@ -37,12 +37,12 @@ pub fault_is_no_line : (text : List ℕ) (fault : Fault) (line : Line) → answe
 unfolding answers_of_piece
 fault_is_no_line text fault line e h = let a = h.read in absurd (grind arith)
 
--- what is left of a piece is read as the answer of the piece
+-- The answer for the trimmed text of a piece is the answer for the piece.
 pub line_is_read : (text : List ℕ) (line : Line) → 0 < length (trimmed text) → answer Strict (trimmed text) ≡ Ok line → answers_of_piece Strict text ≡ Ok line ∷ []
 unfolding answers_of_piece
 line_is_read text line some e = grind arith
 
--- one newline after a track ends the piece or not
+-- One newline after a track ends the piece exactly if the track says so.
 pub ends_by : (dialect : Dialect) (text : List ℕ) (track : Track) (result : Result ℕ Track) → IsTrackOf dialect text track
     → TracksOn (newline ∷ []) track result → IsTrue (is_ok result) ↔ IsCutPiece dialect text
 ends_by dialect text track (Ok zero) is h = (λ ok. subst (IsCutPiece dialect) (append-nil text) (h.2 dialect text is), λ cut. refl)

@@ -25,7 +25,7 @@ key_spelled text f rest e = let p = pair_parts a_field_key value text f rest e i
 
 module _ {A B : Type 0} (one : List ℕ → Reading A) (other : List ℕ → Reading B)
     (each : (text : List ℕ) (x : A) (rest : List ℕ) → one text ≡ reads x rest → (y : B) × (other text ≡ reads y rest)) where
-  -- so it is with parts that come after commas
+  -- Parts that were read after commas have spellings after commas, and as many of them.
   spelled_after : (xs : List A) (text rest : List ℕ) → SeparatedAfterComma one xs text rest
       → (ys : List B) × AreAfterCommas other ys text rest × (length ys ≡ length xs)
   spelled_after [] text rest h = ([], h, refl)
@@ -34,7 +34,7 @@ module _ {A B : Type 0} (one : List ℕ → Reading A) (other : List ℕ → Rea
       let others = spelled_after xs h.1 rest h.4 in
       (y.0 ∷ others.0, (h.1, rw h.2 y.1, others.1), ap suc others.2)
 
-  -- and with parts that commas join
+  -- Parts that were read with commas between them have spellings with commas between them, and as many of them.
   spelled_by : (xs : List A) (text rest : List ℕ) → SeparatedBy one xs text rest
       → (ys : List B) × AreJoined other ys text rest × (length ys ≡ length xs)
   spelled_by [] text rest h = ([], h, refl)

@@ -1,4 +1,4 @@
--- Where a line holds just as many marks as its parts need, its names hold none.
+-- If a line holds exactly as many marks as its parts need, its names hold none.
 use Rattle.std.proofs.Common.{◌≡◌, ℕ, ◌+◌, ◌*◌, ◌≤◌, ◌==◌, ◌||◌, Bool, true, false, List, [], ◌∷◌, ◌++◌, length, take, drop, refl, sym, ◌∙◌, ap, arith, take-append-drop, inl, inr}
 use Rattle.std.specs.{List.AllByRecursion}
 use Rattle.std.proofs.Common.{zero, suc, Ok, ◌<◌, cond, length-drop, count_ones, map, ◌%◌, ◌^◌, ◌-◌}
@@ -24,16 +24,16 @@ use Rattle.lp_portable.proofs.FieldEnds.{value_left}
 pub held_append : (test : ℕ → Bool) (xs ys : List ℕ) → held test (xs ++ ys) ≡ held test xs + held test ys
 held_append test xs ys = sum_by-append (λ x. cond (test x) 1 0) xs ys
 
--- a text holds what its first byte and the others do
+-- The count of a text is the count of its first byte and the count of the other bytes.
 held_cons : (test : ℕ → Bool) (b : ℕ) (text : List ℕ) → held test (b ∷ text) ≡ cond (test b) 1 0 + held test text
 held_cons test b text = sum_by-cons (λ x. cond (test x) 1 0) b text
 
--- none is counted of what fails
+-- If the count is 0, the test of the first byte fails and the count of the other bytes is 0.
 first_fails : (c : Bool) (n : ℕ) → cond c 1 0 + n ≡ 0 → (c ≡ false) × (n ≡ 0)
 first_fails true n none = absurd (omega (arith, none))
 first_fails false n none = (refl, omega (arith, none))
 
--- a text that holds no such byte lacks each
+-- If a text holds no byte that passes a test, it lacks each byte that passes the test.
 pub none_held : (test : ℕ → Bool) (b : ℕ) (text : List ℕ) → test b ≡ true → held test text ≡ 0 → is_one_of text b ≡ false
 none_held test b [] is none = refl
 none_held test b (x ∷ text) is none =
@@ -57,7 +57,7 @@ one_of_each true false other = omega arith
 one_of_each false true other = omega arith
 one_of_each false false other = omega arith
 
--- so are those of a text
+-- The special bytes and the joints of a text together are no more than its marks.
 pub kinds_held : (text : List ℕ) → held is_special text + held is_joint text ≤ held is_mark text
 kinds_held [] = omega arith
 kinds_held (b ∷ text) = omega (
@@ -69,12 +69,12 @@ kinds_held (b ∷ text) = omega (
   kinds_held text,
 )
 
--- what parts weigh together
+-- The sum of the weights of the parts of a list.
 abbrev total : {A : Type 0} → (A → ℕ) → List A → ℕ
 total weight [] = 0
 total weight (x ∷ xs) = weight x + total weight xs
 
--- they weigh as much as the least of each
+-- If each part weighs at least 2, a list weighs at least twice the number of its parts.
 least : {A : Type 0} (weight : A → ℕ) → ((x : A) → 2 ≤ weight x) → (xs : List A) → 2 * length xs ≤ total weight xs
 least weight each [] = omega arith
 least weight each (x ∷ xs) = omega (arith, each x, least weight each xs)
@@ -91,11 +91,11 @@ module _ (w : List ℕ → ℕ) (add : (xs ys : List ℕ) → w (xs ++ ys) ≡ w
   end_weighs : (text rest : List ℕ) → EndsIn text rest → w rest ≤ w text
   end_weighs text rest e = omega (arith, ap w e.is, add e.front rest)
 
-  -- a byte and what follows it
+  -- A text that begins with a byte weighs as much as the byte and the text after it.
   byte_weighs : (b : ℕ) (text : List ℕ) (x : ℕ) (rest : List ℕ) → byte b text ≡ reads x rest → w text ≡ w (b ∷ []) + w rest
   byte_weighs b text x rest e = ap w (byte_parts b text x rest e).1 ∙ add (b ∷ []) rest
 
-  -- a name and what follows it
+  -- A text that begins with a name weighs as much as the spelled name and the text after it.
   name_weighs : (kind : NameKind) (text s rest : List ℕ) → name_text kind text ≡ reads s rest → w text ≡ w s + w rest
   name_weighs kind text s rest e =
       let p = bind_reads (name kind text) (λ n. reads (spelled kind text) n.rest) s rest e in
@@ -159,11 +159,11 @@ module _ (w : List ℕ → ℕ) (add : (xs ys : List ℕ) → w (xs ++ ys) ≡ w
     joined_weigh [] text rest are = omega (arith, ap w are)
     joined_weigh (x ∷ xs) text rest are = omega (arith, weighs text x are.0 are.1, after_weigh xs are.0 rest are.2)
 
-  -- what a tag weighs with the comma before it
+  -- The weight of a tag with the comma before it.
   abbrev tag_weight : Pair (List ℕ) (List ℕ) → ℕ
   tag_weight t = w (comma ∷ []) + (w t.key + (w (equals ∷ []) + w t.value))
 
-  -- and the key of a field
+  -- The weight of the key of a field, with the comma before it and the equals sign after it.
   abbrev key_weight : List ℕ → ℕ
   key_weight k = w (comma ∷ []) + (w k + w (equals ∷ []))
 
@@ -184,7 +184,7 @@ module _ (w : List ℕ → ℕ) (add : (xs ys : List ℕ) → w (xs ++ ys) ≡ w
 abbrev pub AreBareTags : List (Pair (List ℕ) (List ℕ)) → Type 0
 AreBareTags tags = AllByRecursion (λ t. (is_one_of t.key comma ≡ false) × (is_one_of t.value equals ≡ false)) tags
 
--- what each of a list is, each of it is by another word
+-- If each element with a property has another property, all elements of a list with the first property have the second.
 each_is : {A : Type 0} (P Q : A → Type 0) → ((x : A) → P x → Q x) → (xs : List A) → AllByRecursion P xs → AllByRecursion Q xs
 each_is P Q so [] all = tt
 each_is P Q so (x ∷ xs) all = (so x all.0, each_is P Q so xs all.1)
@@ -195,7 +195,7 @@ pub record BareNames (text : List ℕ) (names : Spelling) : Type 0 where
   pub tags : AreBareTags names.tags
   pub keys : AllByRecursion (λ k. is_one_of k comma ≡ false) names.keys
 
--- the names of such a line, which a text ends in
+-- The names of a line that holds no more marks than its parts need, where the line is an end of the text.
 pub bare_names : (text front left : List ℕ) (line : Line) (names : Spelling) → text ≡ front ++ left → IsSpelled left line names
     → held is_mark text + 1 ≤ 2 * (length names.tags + length names.keys) → BareNames text names
 bare_names text front left line names ends are few =
@@ -214,7 +214,7 @@ bare_names text front left line names ends are few =
       keys = each_is _ _ (λ k light. none_held is_joint comma k refl (omega (arith, light))) names.keys keys;
     }
 
--- no byte of a text passes a test that is one of what it holds none of
+-- If a text holds no byte that passes a test, no byte of it passes a narrower test.
 pub held_nowhere : (test passes : ℕ → Bool) → ((b : ℕ) → passes b ≡ true → test b ≡ true) → (text : List ℕ) → held test text ≡ 0
     → Nowhere (Passes passes text) 0 (length text)
 held_nowhere test passes so [] none k low high is = omega (arith, high)
@@ -223,7 +223,7 @@ held_nowhere test passes so (x ∷ text) none zero low high is =
 held_nowhere test passes so (x ∷ text) none (suc k) low high is =
     held_nowhere test passes so text (first_fails (test x) (held test text) (sym (held_cons test x text) ∙ none)).1 k (omega arith) (omega (arith, high)) is
 
--- what may end a piece, or open what goes on, means something else than a joint
+-- A byte that may end a piece, or open a part that goes on, is special: it is no joint.
 pub cuts_special : (b : ℕ) → is_byte3 backslash newline quote b ≡ true → is_special b ≡ true
 cuts_special b is = elim (cases_Bool (b == backslash)) [
   | inl here ↦ rw (eqb-true b backslash here) refl
@@ -237,7 +237,7 @@ cuts_special b is = elim (cases_Bool (b == backslash)) [
 pub ones_held : (bytes : List ℕ) (at mask : ℕ) → mask ≡ mask_of is_mark bytes at 16 → count_ones mask ≡ held is_mark (take 16 (drop at bytes))
 ones_held bytes at mask is = ap count_ones is ∙ ones-mask_l is_mark (take 16 (drop at bytes))
 
--- the last bytes hold what the last 16 do without those before them
+-- The marks of the last bytes are the marks of the last 16 bytes without the marks of the bytes before them.
 pub last_held : (bytes : List ℕ) (at left mask few : ℕ) → at + 16 ≡ length bytes → left ≤ 16 → mask ≡ mask_of is_mark bytes at 16
     → few ≡ count_ones (mask % 2 ^ (16 - left)) → count_ones mask ≡ held is_mark (drop (length bytes - left) bytes) + few
 last_held bytes at left mask few ends within is low =

@@ -9,7 +9,7 @@ use Rattle.lp_portable.specs.format.Portable as portable
 use Rattle.lp_format.specs.format.{Line, newline}
 use Rattle.lp_portable.proofs.{AnsweredAlike.lines_are_answered_alike, AnsweredAlike.no_newline, HeldBytes.neither, HeldBytes.without_both, HeldBytes.without_marks}
 
--- a measurement without such escapes means the same
+-- A measurement without escaped equals signs, backslashes and quotes means the same to readers with other escapes.
 measurement_alike : (name : List ℕ) → holds (equals ∷ []) [] name ≡ false → has_marked_escape name ≡ false
     → MeansTheSame (backslash ∷ quote ∷ equals ∷ []) a_measurement name
 measurement_alike name signs marked known agree =
@@ -23,13 +23,13 @@ tags_alike (t ∷ tags) h =
     let names = neither _ _ both.0 in
     ((without_marks _ a_tag_key t.key refl names.0, without_marks _ a_tag_value t.value refl names.1), tags_alike tags both.1)
 
--- and field keys do
+-- Field keys without escaped backslashes and quotes mean the same to readers with other escapes.
 keys_alike : (keys : List (List ℕ)) → list_any has_marked_escape keys ≡ false
     → AllByRecursion (MeansTheSame (backslash ∷ quote ∷ []) a_field_key) keys
 keys_alike [] h = tt
 keys_alike (key ∷ keys) h = let both = neither _ _ h in (without_marks _ a_field_key key refl both.0, keys_alike keys both.1)
 
--- all names do, if no kind of them holds such an escape
+-- All names mean the same to readers with other escapes, if no name holds one of these escapes.
 names_alike : (names : Spelling) → holds (equals ∷ []) [] names.measurement ≡ false → has_marked_escape names.measurement ≡ false
     → list_any has_escape names.tags ≡ false → list_any has_marked_escape names.keys ≡ false → NamesMeanTheSame names
 names_alike names signs marked tags keys = record {
@@ -55,7 +55,7 @@ influx_names_mean_the_same limits text p =
     let keeps = p.keeps in
     names_alike p.names (keeps portable.measurement_equals refl) (keeps portable.measurement_escape refl) (keeps portable.tag_escape refl) (keeps portable.field_key_escape refl)
 
--- what is portable to all is so to each
+-- A line that is portable to all servers is portable to each of them.
 pub portable_lines_are_read_alike : PortableLinesAreReadAlike
 portable_lines_are_read_alike limits text p =
     let keeps = p.keeps in (

@@ -1,4 +1,4 @@
--- A text breaks one set of clauses, and what is told of the first of them.
+-- A text breaks one set of clauses, and the first of them is unique.
 use Rattle.std.proofs.Common.{◌≡◌, ℕ, List, [], ◌∷◌, length, drop, Option, None, Some, true, false, ◌&&◌, Bool, not, inl, inr, ◌<◌, get_or, refl, sym, ◌∙◌, ap, subst, arith, IsTrue, ◌↔◌}
 use Rattle.std.proofs.lemmas.{Bool.cases_Bool, Bool.false≢true, List.Folds.list_all_at}
 use Rattle.std.specs.{List.list_all, Option.is_some}
@@ -11,7 +11,7 @@ use Rattle.lp_portable.specs.code.Clauses.{Breaks, clause_of, first_broken, firs
 use Rattle.lp_portable.specs.format.Spellings.{AreAfterCommas, AreJoined, IsSpelled, Spelling, key_text, tag_text}
 
 module _ {A : Type 0} (one : List ℕ → Reading A) where
-  -- as many parts after commas are the same, and leave the same
+  -- Two lists of as many parts after commas, read from one text, are the same and leave the same rest.
   after_once : (xs ys : List A) (text r s : List ℕ) → AreAfterCommas one xs text r → AreAfterCommas one ys text s
       → length xs ≡ length ys → (xs ≡ ys) × (r ≡ s)
   after_once [] [] text r s h k n = (refl, sym h ∙ k)
@@ -22,7 +22,7 @@ module _ {A : Type 0} (one : List ℕ → Reading A) where
       let others = after_once xs ys k.0 r s (rw same.1 at h.2) k.2 (omega (arith, n)) in
       (rw (same.0, others.0) refl, others.1)
 
-  -- and so are parts that commas join
+  -- Two lists of parts, of the same length and with commas between the parts, that are read from one text are the same.
   by_once : (xs ys : List A) (text r s : List ℕ) → AreJoined one xs text r → AreJoined one ys text s
       → length xs ≡ length ys → (xs ≡ ys) × (r ≡ s)
   by_once [] [] text r s h k n = (refl, sym h ∙ k)
@@ -42,11 +42,11 @@ spelled_once text line a b h k =
     (h.all_keys ∙ sym k.all_keys) in
     rw (first.0, tags.0, keys.0) refl
 
--- one line is read of a text
+-- A text is read as at most one line.
 line_once : (text : List ℕ) (a b : Line) → IsOneLine text a → IsOneLine text b → a ≡ b
 line_once text a b h k = let same = sym h.read ∙ k.read in cc
 
--- of clauses of which none is the first none passes
+-- If none of these clauses is the first that passes a test, no clause passes it.
 none_passes : (passes : Clause → Bool) (clauses : List Clause) → first_of passes clauses ≡ None → list_all (λ c. not (passes c)) clauses ≡ true
 none_passes passes [] none = refl
 none_passes passes (c ∷ clauses) none = elim (cases_Bool (passes c)) [
@@ -63,7 +63,7 @@ and_false : {a b : Bool} → (a ≡ true → b ≡ false) → (a && b) ≡ false
 and_false {a = false} h = refl
 and_false {a = true} h = h refl
 
--- each clause is that of one that the code lists
+-- Each clause of the definitions is a clause that the code lists.
 listed : (clause : format.Clause) → (c : Clause) × (n : ℕ) × (clause_of c ≡ clause) × (n < length CLAUSES.now) × (get_or CLAUSES.now n c ≡ c)
 listed format.leading_blank = (Clause.LeadingBlank, 0, refl, omega arith, refl)
 listed format.trailing_space = (Clause.TrailingSpace, 1, refl, omega arith, refl)
@@ -111,12 +111,12 @@ kept_at to broken none c n within at =
       | inr not ↦ not
     ]
 
--- and if none is broken that concerns the servers, none is the first
+-- If no broken clause concerns the servers, there is no first broken clause.
 none_first : (to : Servers) (broken : Broken) → ((c : Clause) → is_broken_for to broken c ≡ false) → first_broken to broken ≡ None
 unfolding first_broken
 none_first to broken none = each CLAUSES.now
   where
-    -- of any clauses none is
+    -- In any list of clauses, no clause is the first that is broken.
     each : (clauses : List Clause) → first_of (is_broken_for to broken) clauses ≡ None
     each [] = refl
     each (c ∷ clauses) = rw (none c) (each clauses)
@@ -140,14 +140,14 @@ portable_is to limits text broken h = (forth, back)
           subst (λ (d : format.Clause). breaks (limits_of limits) text h.line h.names d ≡ false) is (sym (h.tells c) ∙ and_second asked kept);
     }
 
-    -- and if each is kept, none is the first
+    -- If a line keeps each clause that concerns the servers, there is no first broken clause.
     back : IsPortable (servers_of to) (limits_of limits) text → first_broken to broken ≡ None
     back p =
         let line = line_once text h.line p.line h.is_line p.is_line in
         let names = spelled_once (trimmed text) p.line h.names p.names (rw line at h.are_names) p.are_names in
         none_first to broken (λ c. and_false (λ concerned. h.tells c ∙ rw (line, names) (p.keeps (clause_of c) concerned)))
 
--- what is none is `None`
+-- An option is `None` exactly if the test for `None` holds.
 pub none_is : {A : Type 0} (o : Option A) (none : Bool) → is_some o ≡ not none → (IsTrue none → o ≡ None) × (o ≡ None → IsTrue none)
 none_is None true is = (λ yes. refl, λ same. refl)
 none_is None false is = absurd (false≢true is)

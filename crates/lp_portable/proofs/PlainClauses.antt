@@ -47,7 +47,7 @@ pub record PlainText (text : List ℕ) : Type 0 where
   pub no_hash : Lacks hash text
   pub short : length text ≤ 8000
 
--- so are both parts of it
+-- Both parts of a plain text are plain.
 pub plain_parts : (xs ys : List ℕ) → PlainText (xs ++ ys) → PlainText xs × PlainText ys
 plain_parts xs ys h =
     let a = lacks_parts backslash xs ys h.no_backslash in
@@ -60,7 +60,7 @@ plain_parts xs ys h =
       record { no_backslash = a.1; no_quote = b.1; no_nul = c.1; no_return = d.1; no_hash = e.1; short = omega (arith, n, h.short) },
     )
 
--- what is spelled without a backslash is its own logical text
+-- A text without a backslash is its own logical text.
 own_logical : (known text : List ℕ) → Lacks backslash text → without_escapes known text ≡ text
 unfolding without_escapes
 own_logical known [] h = refl
@@ -69,13 +69,13 @@ own_logical known (b ∷ c ∷ rest) h =
     let parts = or_none (b == backslash) _ h in
     rw parts.0 (ap (λ (xs : List ℕ). b ∷ xs) (own_logical known (c ∷ rest) parts.1))
 
--- and holds nothing escaped
+-- A text without a backslash holds some bytes exactly if it holds them bare: it holds nothing escaped.
 holds_bare : (escaped marks text : List ℕ) → Lacks backslash text → holds escaped marks text ≡ list_any (is_one_of marks) text
 unfolding holds
 holds_bare escaped marks [] h = refl
 holds_bare escaped marks (b ∷ []) h = sym (or_false (is_one_of marks b))
   where
-    -- or false
+    -- A test or `false` is the test.
     or_false : (x : Bool) → (x || false) ≡ x
     or_false true = refl
     or_false false = refl
@@ -83,12 +83,12 @@ holds_bare escaped marks (b ∷ c ∷ rest) h =
     let parts = or_none (b == backslash) _ h in
     rw parts.0 (ap (λ (x : Bool). is_one_of marks b || x) (holds_bare escaped marks (c ∷ rest) parts.1))
 
--- no byte is one of none
+-- No byte of a text is among no bytes.
 none_of_none : (text : List ℕ) → list_any (is_one_of []) text ≡ false
 none_of_none [] = refl
 none_of_none (b ∷ text) = none_of_none text
 
--- one byte alone is looked for
+-- A text that lacks a byte holds no byte of the list of this byte alone.
 one_alone : (m : ℕ) (text : List ℕ) → Lacks m text → list_any (is_one_of (m ∷ [])) text ≡ false
 one_alone m [] h = refl
 one_alone m (b ∷ text) h =
@@ -114,20 +114,20 @@ any_none : {X : Type 0} (p : X → Bool) (P : X → Type 0) → ((x : X) → P x
 any_none p P fails [] all = refl
 any_none p P fails (x ∷ xs) all = rw (fails x all.0) (any_none p P fails xs all.1)
 
--- what a sure key is not
+-- A sure key begins with no underscore and is not `time`.
 key_parts : (k : List ℕ) → is_sure_key k ≡ true → (begins_own k ≡ false) × (bytes_eq k (codes "time") ≡ false)
 key_parts k h =
     let one = and_parts (not (begins_own k)) _ h in
     (not-true _ one.0, not-true _ one.1)
 
--- what the key of a sure tag is not
+-- The key of a sure tag is not too long, begins with no underscore and is not `time`.
 tag_parts : (k : List ℕ) → is_sure_tag k ≡ true → (nat_lt 256 (length k) ≡ false) × (begins_own k ≡ false) × (bytes_eq k (codes "time") ≡ false)
 tag_parts k h =
     let one = and_parts (not (nat_lt 256 (length k))) _ h in
     let two = key_parts k one.1 in
     (not-true _ one.0, two.0, two.1)
 
--- what a sure value is not
+-- A sure value is no unsigned integer, is not rounded and is finite.
 value_parts : (v : Value Text) → is_sure_value v ≡ true → (is_unsigned v ≡ false) × (is_rounded v ≡ false) × (is_finite v ≡ true)
 value_parts v h =
     let one = and_parts (not (is_unsigned v)) _ h in
@@ -154,7 +154,7 @@ no_control (b ∷ text) h k =
     let c = or_none (b == 13) _ k in
     rw (ne_eqb nul b (λ e. eqb-false b nul a.0 (sym e)), ne_eqb 13 b (λ e. eqb-false b 13 c.0 (sym e))) (no_control text a.1 c.1)
 
--- fewer tags than those that make InfluxDB panic
+-- At most 29 tags are fewer than the tags that make InfluxDB panic.
 few_hundreds : (n : ℕ) → n ≤ 29 → is_hundreds n ≡ false
 few_hundreds n few = rw (
   ne_eqb 100 n (λ e. omega (arith, e, few)),
@@ -167,7 +167,7 @@ few_hundreds n few = rw (
   ne_eqb 12800 n (λ e. omega (arith, e, few)),
 ) refl
 
--- what the names of a plain line are, by their spelling
+-- The logical texts of plain names of tags are these names.
 tags_same : (names : List (Pair (List ℕ) (List ℕ))) → AllByRecursion (λ t. PlainText t.key × PlainText t.value) names → map logical_names names ≡ names
 tags_same [] all = refl
 tags_same (t ∷ names) all = rw (
@@ -176,7 +176,7 @@ tags_same (t ∷ names) all = rw (
   tags_same names all.1,
 ) refl
 
--- and its field keys
+-- The logical texts of plain field keys are these keys.
 keys_same : (keys : List (List ℕ)) → AllByRecursion PlainText keys → map (logical a_field_key) keys ≡ keys
 keys_same [] all = refl
 keys_same (k ∷ keys) all = rw (own_logical _ k all.0.no_backslash, keys_same keys all.1) refl
@@ -185,12 +185,12 @@ keys_same (k ∷ keys) all = rw (own_logical _ k all.0.no_backslash, keys_same k
 abbrev IsGoodNames : Pair (List ℕ) (List ℕ) → Type 0
 IsGoodNames t = (PlainText t.key × PlainText t.value) × (Lacks comma t.key × Lacks equals t.value)
 
--- two things that each of a list is, each of it is
+-- If all elements of a list have two properties, each element has both.
 both_are : {A : Type 0} (P Q : A → Type 0) (xs : List A) → AllByRecursion P xs → AllByRecursion Q xs → AllByRecursion (λ x. P x × Q x) xs
 both_are P Q [] p q = tt
 both_are P Q (x ∷ xs) p q = ((p.0, q.0), both_are P Q xs p.1 q.1)
 
--- tags that break nothing, of such names
+-- Tags with good names that are sure break no clause.
 good_tags : (tags : List (Pair Text Text)) → AllByRecursion IsGoodNames (map logical_tag tags) → AllByRecursion SureTag tags
     → AllByRecursion GoodTag tags
 good_tags [] plain sure = tt
@@ -210,7 +210,7 @@ good_fields (f ∷ fields) plain sure =
 either_none : {a b : Bool} → a ≡ false → b ≡ false → (a || b) ≡ false
 either_none h k = rw h k
 
--- no measurement and no key of the server's own
+-- A measurement that begins with no underscore is no measurement of the server's own.
 no_system : (name : List ℕ) → begins_own name ≡ false → is_system_measurement name ≡ false
 no_system name h = rw (
   no_own (codes "series") name h,
@@ -222,7 +222,7 @@ no_system name h = rw (
   no_own (codes "tags") name h,
 ) refl
 
--- nor such a field key
+-- A field key that begins with no underscore is no field key of the server's own.
 no_system_key : (key : List ℕ) → begins_own key ≡ false → is_system_key key ≡ false
 no_system_key key h = rw (
   no_own (codes "name") key h,
@@ -232,17 +232,17 @@ no_system_key key h = rw (
   no_own (codes "seriesKey") key h,
 ) refl
 
--- no first key begins with a byte 0
+-- The first field key does not begin with a byte 0, if the fields are good.
 no_nul : (fields : List (Pair Text (Value Text))) → AllByRecursion GoodField fields → begins_with_nul fields ≡ false
 no_nul [] all = refl
 no_nul (f ∷ fields) all = first f.key.bytes all.0.key.no_nul
   where
-    -- by its first byte
+    -- A key that lacks the byte 0 does not begin with it.
     first : (key : List ℕ) → Lacks nul key → format.begins_with nul key ≡ false
     first [] h = refl
     first (b ∷ key) h = (or_none (b == nul) _ h).0
 
--- what is known of a line that is noted to its end, of a plain text
+-- Facts about a plain text whose line is noted to its end.
 pub record PlainLine (text : List ℕ) (line : Line) (names : Spelling) : Type 0 where
   pub begins : is_one_of (space ∷ tab ∷ []) (slice_index_or text 0 0) ≡ false
   pub ends : (slice_index text (length text - 1) == space) ≡ false
@@ -260,7 +260,7 @@ pub record PlainLine (text : List ℕ) (line : Line) (names : Spelling) : Type 0
   pub fields_once : has_repeats (map (λ f. f.key.bytes) line.fields) ≡ false
   pub series : PlainText line.series
 
--- no clause is broken but those about its time, its tags and its length, which are as they are noted
+-- A plain line breaks only clauses about its time, its tags and its length, and the notes have these facts.
 pub plain_breaks : (limits : code.Limits) (text : List ℕ) (line : Line) (names : Spelling) (n : Noted) → PlainLine text line names
     → length (some_tags line.tags) ≡ n.tags → line.timestamp ≡ n.timestamp
     → (clause : Clause) → breaks (limits_of limits) text line names (clause_of clause) ≡ is_broken (broken_by_noted limits text n.tags n.timestamp) clause
@@ -331,7 +331,7 @@ plain_breaks limits text line names n h tags time Clause.LongLine =
 plain_breaks limits text line names n h tags time Clause.TimeNotKept =
     ap (is_outside limits.earliest limits.latest) time
 
--- a bare text that is noted to its end is such a line
+-- A bare text whose line is noted to its end is a plain line.
 pub plain_line : (text : List ℕ) (line : Line) (names : Spelling) (n : Noted) → PlainText (trimmed text) → answer Strict (trimmed text) ≡ Ok line
     → IsSpelled (trimmed text) line names → BareNames text names → LineNoted line n
     → is_one_of (space ∷ tab ∷ []) (slice_index_or text 0 0) ≡ false → (slice_index text (length text - 1) == space) ≡ false → Lacks newline text
@@ -376,7 +376,7 @@ plain_is text short none =
       short = short;
     }
 
--- a bare text of which this is noted is one line that breaks what is noted, and no other clause
+-- A bare text with these notes is one line that breaks the clauses which the notes show, and no other clause.
 pub noted_breaks : (limits : code.Limits) (text : List ℕ) (n : Noted) → IsBare text (n.tags + n.fields) → IsLineNoted (trimmed text) n
     → Breaks limits text (broken_by_noted limits text n.tags n.timestamp)
 noted_breaks limits text n bare (line, read, are) =

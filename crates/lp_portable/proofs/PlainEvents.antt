@@ -1,4 +1,4 @@
--- What is noted of a line that is read to its end.
+-- The notes about a line that is read to its end.
 use Rattle.std.proofs.Common.{◌≡◌, ℕ, ◌+◌, ◌≤◌, ◌&&◌, Bool, true, false, not, List, [], ◌∷◌, ◌++◌, length, map, Ok, Err, Result, refl, sym, ◌∙◌, ap, arith, nat_lt}
 use Rattle.std.specs.{List.AllByRecursion, Prelude.if◌then◌else◌}
 use Rattle.std.proofs.lemmas.Bool.{and_parts, false≢true, ltb-true}
@@ -12,7 +12,7 @@ use Rattle.std.proofs.Common.{subst, append_assoc, zero-add}
 use Rattle.std.proofs.lemmas.Bool.{not-true}
 use Rattle.lp_portable.proofs.Repeats.{risen_once}
 
--- what is noted after events
+-- The notes after a list of events.
 abbrev note_all : Noted → List Event → Noted
 note_all n [] = n
 note_all n (e ∷ es) = note_all (note n e) es
@@ -22,40 +22,40 @@ told_all : (events : List Event) (old new : Noting) → TakesAll TakesNoted old 
 told_all [] old new h = ap noted (sym h)
 told_all (e ∷ es) old new h = told_all es h.0 new h.2 ∙ ap (λ n. note_all n es) h.1
 
--- what is not sure stays so
+-- After an unsure event, the notes stay unsure.
 stays_unsure : (e : Event) → note unsure e ≡ unsure
 stays_unsure (named m) = refl
 stays_unsure (tagged t) = either (t.key.is_single && t.value.is_single)
   where
-    -- in both cases
+    -- Both branches of the choice are unsure notes.
     either : (b : Bool) → (if b then unsure else unsure) ≡ unsure
     either true = refl
     either false = refl
 stays_unsure (valued f) = either f.key.is_single
   where
-    -- in both cases
+    -- Both branches of the choice are unsure notes.
     either : (b : Bool) → (if b then unsure else unsure) ≡ unsure
     either true = refl
     either false = refl
 stays_unsure (ended series timestamp) = refl
 stays_unsure (failed fault) = refl
 
--- after any events
+-- After any events, unsure notes stay unsure.
 all_unsure : (es : List Event) → note_all unsure es ≡ unsure
 all_unsure [] = refl
 all_unsure (e ∷ es) = ap (λ n. note_all n es) (stays_unsure e) ∙ all_unsure es
 
--- what is chosen if it is so
+-- A choice gives its first value if its test holds.
 chosen : {A : Type 0} {b : Bool} (x y : A) → b ≡ true → (if b then x else y) ≡ x
 chosen x y is = rw is refl
 
--- what was read to its end was sure before
+-- If the notes reach the end of the line, the test before the events held.
 was_sure : (b : Bool) (n : Noted) (es : List Event) → (note_all (if b then n else unsure) es).is_ended ≡ true
     → (b ≡ true) × ((note_all n es).is_ended ≡ true)
 was_sure true n es h = (refl, h)
 was_sure false n es h = absurd (false≢true (sym (ap (λ m. m.is_ended) (all_unsure es)) ∙ h))
 
--- what is noted after tags
+-- The notes after the events of tags.
 record TagsNoted (n : Noted) (tags : List (Pair Text Text)) (es : List Event) : Type 0 where
   next : Noted
   same : note_all n (map tagged tags ++ es) ≡ note_all next es
@@ -89,7 +89,7 @@ tags_noted (t ∷ tags) n es h =
       no_field = more.no_field;
     }
 
--- what is noted after fields
+-- The notes after the events of fields.
 record FieldsNoted (n : Noted) (fields : List (Pair Text (Value Text))) (es : List Event) : Type 0 where
   next : Noted
   same : note_all n (map valued fields ++ es) ≡ note_all next es
@@ -128,7 +128,7 @@ rise_alone : (keys : List (List ℕ)) → is_strictly_sorted ([] ∷ keys) ≡ t
 rise_alone [] h = refl
 rise_alone (k ∷ keys) h = (and_parts _ (is_strictly_sorted (k ∷ keys)) h).1
 
--- so it is of a line whose events are told
+-- The notes after the events of a line agree with the line.
 line_noted : (line : Line) → (note_all none_noted (events_of_line line)).is_ended ≡ true → LineNoted line (note_all none_noted (events_of_line line))
 line_noted line h =
     let tags = some_tags line.tags in
@@ -168,7 +168,7 @@ fault_noted : (front : List Event) (fault : Fault) (n : Noted) → (note_all n (
 fault_noted [] fault n = refl
 fault_noted (e ∷ es) fault n = fault_noted es fault (note n e)
 
--- what is noted of a text
+-- The notes after the events of a text agree with the line that is read from the text.
 pub text_noted : (line : List ℕ) (events : List Event) (answer : Result Line Fault) (old new : Noting) → noted old ≡ none_noted
     → TakesAll TakesNoted old events new → AreEventsOf line events answer → new.is_ended ≡ true
     → (l : Line) × (answer ≡ Ok l) × LineNoted l (noted new)

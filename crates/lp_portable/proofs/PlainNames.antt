@@ -1,4 +1,4 @@
--- What holds of each part of a text holds of the names of its line.
+-- If a property holds of each part of a text that has it, it holds of the names of the line of the text.
 use Rattle.std.proofs.Common.{◌≡◌, ℕ, List, [], ◌∷◌, ◌++◌, take, drop, sym, subst, take-append-drop}
 use Rattle.std.specs.{List.AllByRecursion}
 use Rattle.lp_format.specs.format.{NameKind, Line, Pair, Reading, byte, comma, equals, name, reads}
@@ -8,11 +8,11 @@ use Rattle.lp_portable.specs.format.Spellings.{AreAfterCommas, AreJoined, IsSpel
 use Rattle.lp_portable.proofs.FieldEnds.{value_left}
 
 module _ (P : List ℕ → Type 0) (parts : (xs ys : List ℕ) → P (xs ++ ys) → P xs × P ys) where
-  -- so it is of what a text ends in
+  -- An end of a text has a property that each part of such a text has.
   at_end : (text rest : List ℕ) → EndsIn text rest → P text → P rest
   at_end text rest e h = (parts e.front rest (subst P e.is h)).1
 
-  -- of a name and what follows it
+  -- A name and the text after it have the property, if the text does.
   name_has : (kind : NameKind) (text s rest : List ℕ) → name_text kind text ≡ reads s rest → P text → P s × P rest
   name_has kind text s rest e h =
       let p = bind_reads (name kind text) (λ n. reads (spelled kind text) n.rest) s rest e in
@@ -22,7 +22,7 @@ module _ (P : List ℕ → Type 0) (parts : (xs ys : List ℕ) → P (xs ++ ys) 
       (subst P (sym (take-append-drop (spelled_len kind text) text)) h) in
       (subst P same.0 whole.0, subst P same.1 (subst P (sym after) whole.1))
 
-  -- of a tag
+  -- The names of a tag and the text after it have the property, if the text does.
   tag_has : (text : List ℕ) (t : Pair (List ℕ) (List ℕ)) (rest : List ℕ) → tag_text text ≡ reads t rest → P text → (P t.key × P t.value) × P rest
   tag_has text t rest e h =
       let one = bind_reads (name_text a_tag_key text) _ t rest e in
@@ -34,7 +34,7 @@ module _ (P : List ℕ → Type 0) (parts : (xs ys : List ℕ) → P (xs ++ ys) 
       let same = reads_parts _ t three.mid rest three.next in
       (subst (λ (u : Pair (List ℕ) (List ℕ)). P u.key × P u.value) same.0 (key.0, val.0), subst P same.1 val.1)
 
-  -- of the key of a field
+  -- The key of a field and the text after the field have the property, if the text does.
   key_has : (text key rest : List ℕ) → key_text text ≡ reads key rest → P text → P key × P rest
   key_has text key rest e h =
       let one = bind_reads (name_text a_field_key text) _ key rest e in
@@ -48,7 +48,7 @@ module _ (P : List ℕ → Type 0) (parts : (xs ys : List ℕ) → P (xs ++ ys) 
 
   module _ {A : Type 0} (Q : A → Type 0) (one : List ℕ → Reading A)
       (has : (text : List ℕ) (x : A) (rest : List ℕ) → one text ≡ reads x rest → P text → Q x × P rest) where
-    -- of parts after commas
+    -- Parts after commas have the second property, and the rest has the first, if the text does.
     after_have : (xs : List A) (text rest : List ℕ) → AreAfterCommas one xs text rest → P text → AllByRecursion Q xs × P rest
     after_have [] text rest are h = (tt, subst P are h)
     after_have (x ∷ xs) text rest are h =
@@ -58,13 +58,13 @@ module _ (P : List ℕ → Type 0) (parts : (xs ys : List ℕ) → P (xs ++ ys) 
         let others = after_have xs are.0 rest are.2 here.1 in
         ((here.0, others.0), others.1)
 
-    -- and of parts that commas join
+    -- Parts with commas between them have the second property if the text has the first.
     joined_have : (xs : List A) (text rest : List ℕ) → AreJoined one xs text rest → P text → AllByRecursion Q xs
     joined_have [] text rest are h = tt
     joined_have (x ∷ xs) text rest are h =
         let here = has text x are.0 are.1 h in (here.0, (after_have xs are.0 rest are.2 here.1).0)
 
-  -- of the names of a line
+  -- The names of a line have the property, if the text does.
   pub names_have : (text : List ℕ) (line : Line) (names : Spelling) → IsSpelled text line names → P text
       → P names.measurement × AllByRecursion (λ t. P t.key × P t.value) names.tags × AllByRecursion P names.keys
   names_have text line names are h =

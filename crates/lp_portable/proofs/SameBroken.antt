@@ -1,4 +1,4 @@
--- Two tellings of what is broken are the same if they are so in each clause.
+-- Two sets of broken clauses are the same if they agree on each clause.
 use Rattle.std.proofs.Common.{◌≡◌, refl}
 use Rattle.lp_portable.specs.declared.broken.Broken.{Broken}
 

@@ -17,7 +17,7 @@ use Rattle.lp_format.specs.format.{float}
 use Rattle.lp_portable.specs.format.Portable.{is_finite_number}
 use Rattle.lp_portable.specs.code.Sure.{is_sure_value}
 
--- what is between two finite numbers is finite
+-- A number between two finite numbers is finite.
 finite_between : (x : Float) → T (le (round binary64 false 0 1) x) → T (le x (round binary64 false (10 ^ 308) 1)) → float_is_finite x ≡ true
 unfolding le float_is_finite round
 finite_between nan low high = absurd low
@@ -64,7 +64,7 @@ parts_of digits point ds =
       len = length (digits ++ ((if point then 46 ∷ ds else []) ++ []));
     }
 
--- so few of them have a finite number
+-- A literal of at most 308 digits is a finite number.
 number_finite : (negative : Bool) (digits : List ℕ) (point : Bool) (ds : List ℕ) → AllDigits 10 digits → AllDigits 10 ds → 0 < length digits
     → (point ≡ false → ds ≡ []) → length digits + length ds ≤ 308
     → is_finite_number (parse_float binary64 (sign_text negative ++ text_of (parts_of digits point ds))) ≡ true
@@ -113,7 +113,7 @@ record Signed (whole : List ℕ) : Type 0 where
   is : whole ≡ sign_text negative ++ digits
   numeral : IsNumeral 10 digits
 
--- so is each whole part
+-- The whole part of a float has a sign or none, and digits.
 whole_signed : (whole : List ℕ) → IsSigned (codes "-") whole → Signed whole
 whole_signed [] h = absurd h
 whole_signed (b ∷ digits) (inl h) =
@@ -129,7 +129,7 @@ record Pointed (fraction : List ℕ) : Type 0 where
   none : point ≡ false → digits ≡ []
   few : length digits ≤ length fraction
 
--- so is each fraction
+-- The fraction of a float is a point and digits, or nothing.
 fraction_pointed : (fraction : List ℕ) → IsMarked (codes ".") (IsNumeral 10) fraction → Pointed fraction
 fraction_pointed [] h = record { point = false; digits = []; is = refl; all = tt; none = λ e. refl; few = omega arith }
 fraction_pointed (b ∷ digits) h =
@@ -169,7 +169,7 @@ literal_finite text (whole, fraction, exponent, is, signed, marked, power) bare 
     ap (λ (t : List ℕ). is_finite_number (parse_float binary64 t)) same
     ∙ number_finite w.negative w.digits f.point f.digits w.numeral.1 f.all w.numeral.0 f.none few
 
--- so a float with such a literal surely breaks no clause
+-- A float with a short literal without an exponent surely breaks no clause.
 pub short_is_sure : (text : List ℕ) → IsFloat text → list_any (is_one_of (codes "eE")) text ≡ false → length text ≤ 300
     → is_sure_value (float text) ≡ true
 short_is_sure text is bare short =

@@ -1,4 +1,4 @@
--- What is read of a line, and how it is spelled.
+-- Parts that are read of a line, and the spelling of their names.
 use Rattle.std.proofs.Common.{◌≡◌, ℕ, List, [], ◌∷◌, ◌++◌, length, take, refl, sym, ◌∙◌, ap, arith, take-append-drop, ◌-◌, ◌<◌, ◌||◌, Bool, map, length-append}
 use Rattle.std.proofs.Math.Seq.{take-append_seam}
 use Rattle.lp_format.specs.format.{NameKind, Reading, Text, after_comma, name, reads, spelled, spelled_len}
@@ -11,13 +11,13 @@ use Rattle.lp_portable.specs.format.Spellings.{AreAfterCommas, name_text}
 use Rattle.lp_portable.specs.format.Portable.{has_bare_comma, has_comma, has_escape, has_marked_escape, has_sign, is_long_after}
 use Rattle.lp_portable.specs.code.Walks.{either_key, either_tag, key_breaks, keys_breaks, tag_breaks, tags_breaks}
 
--- what comes before the end of a text
+-- The front of a text before an end is the part of the text that the end leaves.
 front_is : (xs ys text : List ℕ) → xs ++ ys ≡ text → take (length text - length ys) text ≡ xs
 front_is xs ys text whole =
     let n : length text - length ys ≡ length xs = omega (arith, ap length whole, length-append xs ys) in
     rw (n, ← whole) (take-append_seam xs ys)
 
--- what comes before the end that follows a name is the name as it is spelled
+-- The front of a text before the rest that follows a name is the name as it is spelled.
 pub cut_name : (kind : NameKind) (text rest : List ℕ) (t : Text) → name kind text ≡ reads t rest
     → name_text kind text ≡ reads (take (length text - length rest) text) rest
 cut_name kind text rest t e =
@@ -28,7 +28,7 @@ cut_name kind text rest t e =
 pub ruleset name_steps = (cut_name)
 
 module _ {A : Type 0} (one : List ℕ → Reading A) where
-  -- of parts that come after commas the first is the one that is read
+  -- The first of the parts after commas is the part that is read.
   pub next_after : (xs : List A) (text rest after : List ℕ) (x : A) → AreAfterCommas one xs text rest → 0 < length xs
       → after_comma one text ≡ reads x after → (more : List A) × (xs ≡ x ∷ more) × AreAfterCommas one more after rest
   next_after [] text rest after x h some e = absurd (omega arith)
@@ -42,7 +42,7 @@ module _ {A : Type 0} (one : List ℕ → Reading A) where
   some_next [] text rest h some = absurd (omega arith)
   some_next (y ∷ ys) text rest h some = (y, h.0, h.1)
 
--- what tags break after others is what the next of them breaks too
+-- The clauses that tags break are the clauses that the first tag breaks and the clauses that the others break.
 pub tags_step : (found : TagBreaks) (t : Pair (List ℕ) (List ℕ)) (tags : List (Pair (List ℕ) (List ℕ)))
     → either_tag found (tags_breaks (t ∷ tags)) ≡ either_tag (either_tag found (tag_breaks t)) (tags_breaks tags)
 tags_step found t tags = rw (
@@ -51,7 +51,7 @@ tags_step found t tags = rw (
   or_assoc found.sign (has_sign t) (list_any has_sign tags),
 ) refl
 
--- and so it is with keys
+-- The clauses that field keys break are the clauses that the first key breaks and the clauses that the others break.
 pub keys_step : (series_len : ℕ) (found : KeyBreaks) (key : List ℕ) (keys : List (List ℕ))
     → either_key found (keys_breaks series_len (key ∷ keys)) ≡ either_key (either_key found (key_breaks series_len key)) (keys_breaks series_len keys)
 keys_step series_len found key keys = rw (
@@ -60,7 +60,7 @@ keys_step series_len found key keys = rw (
   or_assoc found.long (is_long_after series_len key) (list_any (is_long_after series_len) keys),
 ) refl
 
--- a test of what is seen of elements
+-- Some image of an element passes a test exactly if some element passes the test of its image.
 pub any_map : {X Y : Type 0} (p : Y → Bool) (f : X → Y) (xs : List X) → list_any p (map f xs) ≡ list_any (λ x. p (f x)) xs
 any_map p f [] = refl
 any_map p f (x ∷ xs) = ap (λ (b : Bool). p (f x) || b) (any_map p f xs)

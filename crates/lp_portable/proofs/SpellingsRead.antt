@@ -1,4 +1,4 @@
--- Each line that is read has a spelling, and what was read are its logical texts.
+-- Each line that is read has a spelling, and its names are the logical texts of this spelling.
 use Rattle.std.proofs.Common.{◌≡◌, ℕ, List, [], ◌∷◌, length, map, drop, refl, sym, ap, ◌∙◌, arith}
 use Rattle.lp_format.specs.format.{Pair, Reading, Strict, Text, Value, a_field_key, a_measurement, a_tag_key, a_tag_value, equals}
 use Rattle.lp_format.specs.format.{NameKind, field, logical, logical_tag, name, reads, some_tags, spaces, spelled, tag, value}
@@ -11,7 +11,7 @@ use Rattle.lp_portable.specs.format.Spellings.{AreAfterCommas, AreJoined, key_te
 use Rattle.lp_portable.specs.laws.PortableLaws.{LinesAreSpelled, SpellingsAreRead, logical_names}
 use Rattle.lp_portable.proofs.LinesSpelled.{line_spelled}
 
--- two readings of one text leave the same, and what they give is seen alike
+-- Two readings of one text leave the same rest, and their results have the same view.
 abbrev AreOne : {A B C : Type 0} → (A → C) → (B → C) → (List ℕ → Reading A) → (List ℕ → Reading B) → Type 0
 AreOne {A} {B} f g one other =
     (text : List ℕ) (x : A) (y : B) (rest end : List ℕ) → one text ≡ reads x rest → other text ≡ reads y end → (rest ≡ end) × (f x ≡ g y)
@@ -47,7 +47,7 @@ key_is text x f rest end e d =
     (sym here.1, ap (logical a_field_key) (sym here.0) ∙ sym (ap (λ (u : Text). u.bytes) key))
 
 module _ {A B C : Type 0} (f : A → C) (g : B → C) (one : List ℕ → Reading A) (other : List ℕ → Reading B) (are : AreOne f g one other) where
-  -- so are as many that come after commas
+  -- As many spelled parts as parts that were read, each after a comma, leave the same rest and have the same logical texts.
   one_after : (xs : List A) (ys : List B) (text rest end : List ℕ) → AreAfterCommas one xs text rest → SeparatedAfterComma other ys text end
       → length xs ≡ length ys → (rest ≡ end) × (map f xs ≡ map g ys)
   one_after [] [] text rest end h k len = (sym h ∙ k, refl)
@@ -58,7 +58,7 @@ module _ {A B C : Type 0} (f : A → C) (g : B → C) (one : List ℕ → Readin
       let others = one_after xs ys h.0 rest end h.2 (rw here.0 k.4) (omega (arith, len)) in
       (others.0, rw (here.1, others.1) refl)
 
-  -- and as many that commas join
+  -- As many spelled parts as parts that were read, with commas between them, have the same logical texts.
   one_by : (xs : List A) (ys : List B) (text rest end : List ℕ) → AreJoined one xs text rest → SeparatedBy other ys text end
       → length xs ≡ length ys → map f xs ≡ map g ys
   one_by [] [] text rest end h k len = refl
@@ -73,7 +73,7 @@ module _ {A B C : Type 0} (f : A → C) (g : B → C) (one : List ℕ → Readin
 pub lines_are_spelled : LinesAreSpelled
 lines_are_spelled text line e = let spelled = line_spelled text line e in (spelled.0, spelled.1)
 
--- what was read are its logical texts
+-- The names that were read are the logical texts of the spelling.
 pub spellings_are_read : SpellingsAreRead
 spellings_are_read text line names e h =
     let p = answer_parts Strict text line e in

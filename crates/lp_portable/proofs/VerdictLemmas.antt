@@ -1,4 +1,4 @@
--- What is told of a text in one word is what is told of its clauses.
+-- The verdict on a text agrees with the clauses that the text breaks.
 use Rattle.std.proofs.Common.{◌≡◌, ℕ, Bool, ◌&&◌, List, [], ◌∷◌, drop, length, Option, Some, Ok, Err, Result, inl, inr, refl, sym, ap, ◌∙◌, cond}
 use Rattle.std.proofs.lemmas.{Bool.cases_Bool}
 use Rattle.lp_format.specs.format.{Fault, Line, Pair, Reading, Strict, a_measurement, answers_of_piece, spaces, trimmed}
@@ -19,14 +19,14 @@ module _ {A : Type 0} (one : List ℕ → Reading A) where
       ap (λ (r : Reading A). and_those_after r (after_commas one (length xs))) h.1
       ∙ ap (λ (p : List A × List ℕ). (x ∷ p.0, p.1)) (after_is xs h.0 rest h.2)
 
-  -- and so are parts between commas
+  -- Parts with commas between them are the parts that the function reads.
   between_is : (xs : List A) (text rest : List ℕ) → AreJoined one xs text rest → between_commas one (length xs) text ≡ xs
   between_is [] text rest h = refl
   between_is (x ∷ xs) text rest h =
       ap (λ (r : Reading A). (and_those_after r (after_commas one (length xs))).0) h.1
       ∙ ap (λ (p : List A × List ℕ). x ∷ p.0) (after_is xs h.0 rest h.2)
 
--- of a line whose names are spelled so they are found
+-- The names of a line with this spelling are the names that the function finds.
 names_found : (names : Spelling) (after_name after_tags rest : List ℕ)
     → AreAfterCommas tag_text names.tags after_name after_tags
     → AreJoined key_text names.keys (drop (spaces after_tags) after_tags) rest
@@ -46,7 +46,7 @@ names_found names after_name after_tags rest tags keys =
     ∙ ap (λ (ks : List (List ℕ)). let n : Spelling = record { measurement = names.measurement; tags = names.tags; keys = ks } in n)
     (between_is key_text names.keys (drop (spaces after_tags) after_tags) rest keys)
 
--- the names of a line are those that its text spells
+-- The names of a line are the names that its text spells.
 names_are : (text : List ℕ) (line : Line) (names : Spelling) → IsSpelled text line names → names_in text line ≡ names
 names_are text line names h =
     ap (λ (n : ℕ). names_of (read_or [] (name_text a_measurement text)) n (length line.fields)) (sym h.all_tags)
@@ -60,7 +60,7 @@ first_alike p q same [] = refl
 first_alike p q same (c ∷ clauses) =
     ap (λ (b : Bool). cond b (Some c) (first_of p clauses)) (same c) ∙ ap (λ (o : Option Clause). cond (q c) (Some c) o) (first_alike p q same clauses)
 
--- the first clause that a line breaks is the first of those that it breaks
+-- The first clause that a line breaks by the definition is the first clause that is broken by the findings of the code.
 first_same : (to : Servers) (limits : Limits) (text : List ℕ) (broken : Broken) (b : Breaks limits text broken)
     → first_clause to limits text b.line (names_in (trimmed text) b.line) ≡ first_broken to broken
 unfolding first_broken

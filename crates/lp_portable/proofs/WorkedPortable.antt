@@ -14,7 +14,7 @@ use Rattle.lp_portable.specs.format.Portable as portable
 use Rattle.lp_portable.specs.format.Portable.{Clause, IsOneLine, IsPortable, all, breaks, concerns, default_limits, has_escape, influx1, victoria}
 use Rattle.lp_portable.specs.format.Spellings.{IsSpelled, Spelling, holds, name_text, without_each}
 
--- what these lines unfold to be computed
+-- The definitions that have to be unfolded to compute the answers for these lines.
 unfoldable on_lines : ⊤
 unfolding answers_of_piece answer trimmed tag field name without_escapes first_bare is_escaped_after value integer_at unsigned_at float_at string_at
     boolean_at line_of escaped is_admitted_point is_admitted_name digits holds
@@ -34,7 +34,7 @@ line_with v = record {
   timestamp = Some (pos 5000000);
 }
 
--- its point
+-- The point of the line with this value.
 abbrev point_with : Value (List ℕ) → Point
 point_with v = record {
   measurement = codes "m";
@@ -54,7 +54,7 @@ inside = codes "m,t=x f=1i 5000000"
 abbrev outside : List ℕ
 outside = codes "m,t=x f=1u 5000000"
 
--- its line is a piece
+-- The line of the point is a piece that a newline ends.
 is_piece : (v : Value (List ℕ)) → IsValue v → IsCutPiece Strict (line_of (point_with v))
 unfolding on_lines
 is_piece v fits =
@@ -81,17 +81,17 @@ an_integer_is_portable = record {
   keeps = keeps;
 }
   where
-    -- clause by clause
+    -- The line with an integer keeps each clause.
     keeps : (clause : Clause) → concerns all clause ≡ true → breaks default_limits inside (line_with (integer (pos 1))) names clause ≡ false
     keeps portable.unsigned own = refl
     keeps other own = refl
 
--- one with an unsigned integer is a line
+-- The text with an unsigned integer is read as a line.
 outside_is_line : IsOneLine outside (line_with (unsigned 1))
 unfolding on_lines
 outside_is_line = record { piece = is_piece (unsigned 1) (omega arith); read = refl }
 
--- with these names
+-- The names of the line with an unsigned integer are spelled as they read.
 outside_is_spelled : IsSpelled (trimmed outside) (line_with (unsigned 1)) names
 unfolding on_lines
 outside_is_spelled = record {
@@ -105,7 +105,7 @@ outside_is_spelled = record {
   all_keys = refl;
 }
 
--- it is portable to one of them
+-- The line with an unsigned integer is portable to VictoriaMetrics.
 an_unsigned_integer_is_for_victoria : IsPortable victoria default_limits outside
 unfolding on_lines
 an_unsigned_integer_is_for_victoria = record {
@@ -116,12 +116,12 @@ an_unsigned_integer_is_for_victoria = record {
   keeps = keeps;
 }
   where
-    -- clause by clause, but for one that does not concern these servers
+    -- The line with an unsigned integer keeps each clause that concerns VictoriaMetrics.
     keeps : (clause : Clause) → concerns victoria clause ≡ true → breaks default_limits outside (line_with (unsigned 1)) names clause ≡ false
     keeps portable.unsigned own = absurd (false≢true own)
     keeps other own = refl
 
--- and not to the other
+-- The line with an unsigned integer is not portable to InfluxDB 1.x.
 an_unsigned_integer_is_not_for_influx : ¬ IsPortable influx1 default_limits outside
 an_unsigned_integer_is_not_for_influx line =
     let read = line.is_line.read in
@@ -131,25 +131,26 @@ an_unsigned_integer_is_not_for_influx line =
     let kept = line.keeps portable.unsigned refl in
     absurd (false≢true (sym kept ∙ ap (λ (l : Line). breaks default_limits outside l line.names portable.unsigned) one ∙ unsigned_is_broken))
 
--- what a backslash escapes in a tag for a reader that takes none before a backslash
+-- The bytes that a backslash escapes in a tag for a reader for which it escapes no backslash.
 abbrev others : List ℕ
 others = comma ∷ equals ∷ space ∷ []
 
--- an escaped comma means the same to that reader
+-- An escaped comma means the same to a reader for which a backslash escapes no backslash.
 a_comma_means_the_same : (has_escape (record { key = codes "t"; value = codes "x\\,y" }) ≡ false)
     × (without_escapes others (codes "x\\,y") ≡ codes "x,y") × (without_each others (codes "x\\,y") ≡ codes "x,y")
     × (logical a_tag_value (codes "x\\,y") ≡ codes "x,y")
 unfolding on_lines
 a_comma_means_the_same = (refl, refl, refl, refl)
 
--- an escaped backslash does not: here it is one, and two there; and before a comma they differ also by whether each is taken by itself
+-- An escaped backslash does not mean the same: here it is one backslash, and two for that reader. Before a comma, readers also differ by
+-- whether they take each backslash by itself.
 a_backslash_does_not : (has_escape (record { key = codes "t"; value = codes "x\\\\y" }) ≡ true)
     × (without_escapes others (codes "x\\\\y") ≡ codes "x\\\\y") × (logical a_tag_value (codes "x\\\\y") ≡ codes "x\\y")
     × (without_escapes others (codes "x\\\\,y") ≡ codes "x\\\\,y") × (without_each others (codes "x\\\\,y") ≡ codes "x\\,y")
 unfolding on_lines
 a_backslash_does_not = (refl, refl, refl, refl, refl)
 
--- nor does an escaped equals sign of a measurement, to a reader that takes it for escaped
+-- An escaped equals sign of a measurement does not mean the same to a reader that takes it for escaped.
 an_equals_sign_does_not : (holds (equals ∷ []) [] (codes "m\\=n") ≡ true) × (without_escapes others (codes "m\\=n") ≡ codes "m=n")
     × (logical a_measurement (codes "m\\=n") ≡ codes "m\\=n")
 unfolding on_lines

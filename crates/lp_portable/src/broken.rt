@@ -1,4 +1,4 @@
-//! What of a line is not portable.
+//! The clauses of portability, and the clauses that a line breaks.
 
 ghost use Rattle.std.specs.Prelude.{◌≡◌, ◌≤◌, ◌<◌, ◌^◌};
 ghost use Rattle.lp_portable.specs.code.Bits.{bit_of, bits_of, place};
@@ -7,7 +7,7 @@ ghost use Rattle.lp_portable.specs.{code.Clauses.is_broken_for, code.Clauses.ser
 
 use crate::limits::Servers;
 
-/// A clause of what is portable, named by what breaks it. They stand in the order in which [`Broken::first`] looks at them.
+/// A clause of portability, named by what breaks it. The clauses stand in the order in which [`Broken::first`] checks them.
 #[derive(Clone, Copy, Debug)]
 pub enum Clause {
     /// A space or a tab comes before the line.
@@ -112,7 +112,7 @@ pub(crate) const CLAUSES: &[Clause] = &[
     Clause::TimeNotKept,
 ];
 
-/// Which clauses a line breaks: a member is true if its clause is broken.
+/// The clauses that a line breaks. A member is true if its clause is broken.
 #[derive(Clone, Copy, Debug)]
 pub struct Broken {
     /// A space or a tab comes before the line. As in ` m f=1`.
@@ -217,7 +217,7 @@ pub(crate) const NOTHING: Broken = Broken {
     time_not_kept: false,
 };
 
-// Whether a clause concerns servers: one of them reads a line that breaks it otherwise.
+// Returns true if a clause concerns these servers: if one of them reads a line that breaks the clause in another way.
 fn concerns(to: Servers, clause: Clause) -> bool
     ensures { result ≡ concerns (servers_of to) (clause_of clause) }
 {
@@ -258,7 +258,7 @@ fn concerns(to: Servers, clause: Clause) -> bool
 }
 
 impl Clause {
-    // Its place among the clauses: that of the first is 0.
+    // Returns the place of the clause among the clauses. The place of the first clause is 0.
     pub(crate) fn place(self) -> usize
         ensures value { result ≡ place self }
         ensures within { result < 32 }
@@ -268,7 +268,7 @@ impl Clause {
 }
 
 impl Broken {
-    /// Whether a clause is broken.
+    /// Returns true if a clause is broken.
     ///
     /// ```text
     /// of  m f=1u  has(Clause::Unsigned)  is true
@@ -312,14 +312,14 @@ impl Broken {
         }
     }
 
-    // Whether a clause concerns these servers and is broken.
+    // Returns true if a clause concerns these servers and is broken.
     fn breaks(&self, to: Servers, clause: Clause) -> bool
         ensures { result ≡ is_broken_for to self.now clause }
     {
         concerns(to, clause) && self.has(clause)
     }
 
-    // The first of these clauses that concerns these servers and is broken.
+    // Returns the first of these clauses that concerns these servers and is broken.
     fn first_of(&self, to: Servers, clauses: &[Clause]) -> Option<Clause>
         ensures { result ≡ first_of (is_broken_for to self.now) clauses.now }
     {
@@ -333,7 +333,7 @@ impl Broken {
         None
     }
 
-    /// The first clause that is broken of those that concern these servers. `None`: the line is portable to them.
+    /// Returns the first broken clause that concerns these servers. Returns `None` if the line is portable to these servers.
     ///
     /// ```text
     /// of  m f=1u  first(Servers::Influx1)  is Some(Clause::Unsigned),  and  first(Servers::Victoria)  is None
@@ -345,7 +345,7 @@ impl Broken {
         self.first_of(to, CLAUSES)
     }
 
-    // The bit of a clause, if it is broken, or else 0.
+    // Returns the bit of a clause that is broken, and 0 for a clause that is not broken.
     fn bit(&self, clause: Clause) -> u64
         ensures value { result ≡ bit_of self.now clause }
         ensures within { result ≤ 2 ^ 32 }
@@ -357,11 +357,11 @@ impl Broken {
         }
     }
 
-    /// The clauses that are broken, as one number: of each the bit of its place in [`Clause`], where that of the first is 1. Bit 0 is left
-    /// for a text that is no line. It takes no memory.
+    /// Returns the broken clauses as one number, with a bit for each clause: bit 1 for the first clause of [`Clause`], bit 2 for
+    /// the second, and so on. Bit 0 is left for a text that is no line. Takes no memory.
     ///
     /// ```text
-    /// of   m f=1u   bits()  is  2 + 16384: leading_blank and unsigned
+    /// of ` m f=1u`  bits()  is  2 + 16384: leading_blank and unsigned
     /// ```
     pub fn bits(&self) -> u64
         ensures { result ≡ bits_of self.now }

@@ -1,7 +1,8 @@
-//! Whether a key is repeated.
+//! Checks whether a key is repeated.
 //!
-//! It is not if keys rise, as most writers sort them. Else few keys are compared with one another, without memory. More are put into a map:
-//! so that the time of a line of a million fields is not the square of that.
+//! No key is repeated if the keys rise, and most writers sort them. Otherwise up to 32 keys are compared with one another, which
+//! takes no memory. More keys are put into a map, so that the time for a line of a million fields does not grow with the square
+//! of their number.
 
 ghost use Rattle.std.specs.Prelude.{◌≡◌, ◌≤◌, IfOk, IsOk, bytes_eq, length, map};
 ghost use Rattle.std.specs.List.{list_any};
@@ -15,18 +16,18 @@ use lp_values::EscapedStr;
 use std::alloc::{AllocError, Global};
 use std::collections::BTreeMap;
 
-// How many keys are compared with one another.
+// The most keys that are compared with one another.
 const MOST_COMPARED: usize = 32;
 
-// Whether some key is this text.
+// Returns true if some key is this text.
 fn has_key<'a, X: Drop>(key: &str, items: &[(EscapedStr<'a>, X)]) -> bool
     ensures { result ≡ list_any (λ x. bytes_eq key.now (text_of x.0)) items.now }
 {
     items.iter().any(|(other, _)| key == other.as_str())
 }
 
-/// Whether a key is greater than the last one, by bytes. Most keys differ in one of their first bytes, which a loop finds before a call of
-/// another comparison is made.
+/// Returns true if a key is greater than the last key, by bytes. Most keys differ in one of their first bytes. A loop finds this
+/// byte before another comparison has to be called.
 #[inline(always)]
 pub fn rises(last: &[u8], key: &[u8]) -> bool
     ensures { result ≡ is_lt (slice_cmp nat_cmp last.now key.now) }
@@ -41,14 +42,14 @@ pub fn rises(last: &[u8], key: &[u8]) -> bool
     last.len() < key.len()
 }
 
-// Whether each key is greater than the one before it.
+// Returns true if each key is greater than the key before it.
 fn keys_rise<'a, X: Drop>(items: &[(EscapedStr<'a>, X)]) -> bool
     ensures { result ≡ is_strictly_sorted (keys_in items.now) }
 {
     items.is_sorted_by(|(before, _), (key, _)| before.as_str() < key.as_str())
 }
 
-// Whether a key is repeated: each is compared with those before it.
+// Returns true if a key is repeated. Compares each key with the keys before it.
 fn has_few_repeats<'a, X: Drop>(items: &[(EscapedStr<'a>, X)]) -> bool
     ensures { result ≡ has_repeats (keys_in items.now) }
 {
@@ -60,7 +61,7 @@ fn has_few_repeats<'a, X: Drop>(items: &[(EscapedStr<'a>, X)]) -> bool
     false
 }
 
-// Whether a key is repeated: each, from the last on, is looked for in a map of those after it.
+// Returns true if a key is repeated. Looks for each key, from the last key on, in a map of the keys after it.
 fn has_many_repeats<'a, X: Drop>(
     alloc: Global,
     items: &[(EscapedStr<'a>, X)],
@@ -80,11 +81,11 @@ fn has_many_repeats<'a, X: Drop>(
     Ok(false)
 }
 
-/// Whether a key is repeated. At most 32 keys, and keys that rise, take no memory.
+/// Returns true if a key is repeated. Takes no memory for at most 32 keys, and for keys that rise.
 ///
 /// # Errors
 ///
-/// If memory was refused.
+/// Returns `AllocError` if memory was refused.
 ///
 /// ```text
 /// of the fields of  m f=1,f=2  is true

@@ -1,8 +1,8 @@
-//! Portable lines: those that servers read as the strict reader does.
+//! Checks whether a line is portable: whether servers read it as the strict reader does.
 //!
-//! A line that this reader takes may be refused by a server, or stored as another point, or take the lines of its batch with it. Which
-//! lines cannot is defined here, clause by clause, as the servers were measured, and told of a text. The text is read again for that,
-//! and walked over for its spelling.
+//! A server can reject a line that the strict reader reads, store it as another point, or lose other lines of its batch. This
+//! crate defines which lines are safe, clause by clause, as the servers were measured, and checks a text against the clauses. It
+//! reads the text again, and walks over it to see how its names are spelled.
 #![tactic(auto)]
 
 mod broken;

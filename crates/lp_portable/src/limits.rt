@@ -1,20 +1,20 @@
-//! For which servers a line is to be portable, and what their options change.
+//! The servers to which a line must be portable, and the limits that their options change.
 
 ghost use Rattle.std.specs.Prelude.{◌≡◌};
 ghost use Rattle.lp_portable.specs.{code.Clauses.limits_of, format.Portable.default_limits};
 
-/// The servers that are to read a line as the strict reader does.
+/// The servers that must read a line as the strict reader does.
 #[derive(Clone, Copy, Debug, PartialEq, Eq)]
 pub enum Servers {
     /// InfluxDB 1.x.
     Influx1,
     /// VictoriaMetrics.
     Victoria,
-    /// Both.
+    /// Both servers.
     All,
 }
 
-/// What the options of a server change.
+/// The limits of servers, which options of the servers change.
 #[derive(Clone, Copy, Debug, PartialEq, Eq)]
 pub struct Limits {
     /// The most bytes of a line.
@@ -28,8 +28,8 @@ pub struct Limits {
 }
 
 impl Limits {
-    /// The limits of servers whose options are as they come: lines of 262,144 bytes, 29 tags, and timestamps from 1,000,000 on, which are
-    /// nanoseconds.
+    /// Returns the limits of servers with default options: lines of at most 262,144 bytes, at most 29 tags, and timestamps, in
+    /// nanoseconds, from 1,000,000 on.
     ///
     /// ```text
     /// Limits::new().tags  is  29

@@ -1,7 +1,7 @@
-//! How many marks a text holds: bytes that mean something to a reader of lines or to a server.
+//! Counts the marks of a text. Marks are bytes that mean something to a reader of lines or to a server.
 //!
-//! A line that is read needs a comma before each part but the first, and an equals sign in each. If it holds as many marks as these and no
-//! more, then no name and no value has any. So one count of the bytes, 16 at a time, tells of all of them.
+//! A line needs a comma before each part except the first, and an equals sign in each part. If a text holds exactly as many
+//! marks, no name and no value holds a mark. One count, 16 bytes at a time, therefore decides about all names and values.
 
 ghost use Rattle.std.specs.Prelude.{◌≡◌, ◌+◌, ◌-◌, ◌≤◌, bit_and, drop, length, map, slice_index};
 ghost use Rattle.lp_scan.specs.code.{mask_of};
@@ -12,13 +12,14 @@ use std::simd::prelude::*;
 
 const LANES: usize = 16;
 
-// The marks but for the comma and the equals sign, each at its low half. If there is none is 0, whose own place the byte 0 has.
+// The marks except the comma and the equals sign, each at its low half. A place without a mark holds 0, except place 0, which has
+// the byte 0.
 const SPECIAL: [u8; 16] = *b"\0\0\"#\0\0\0\0\0\0\n\0\\\r\0\0";
 
 // The comma and the equals sign, in the same way. No byte is 1 whose low half is 0.
 const JOINTS: [u8; 16] = *b"\x01\0\0\0\0\0\0\0\0\0\0\0,=\0\0";
 
-// What the table has for the low half of each byte.
+// Returns the entry of the table for the low half of each byte.
 #[inline(always)]
 fn by_low_half(table: [u8; 16], v: u8x16) -> u8x16
     requires { length v ≡ LANES }
@@ -27,7 +28,7 @@ fn by_low_half(table: [u8; 16], v: u8x16) -> u8x16
     u8x16::from_array(table).swizzle_dyn(v & u8x16::splat(15))
 }
 
-// The mask of the marks among the 16 bytes from `at` on.
+// Returns the mask of the marks among the 16 bytes from `at` on.
 #[inline(always)]
 fn mark_mask(bytes: &[u8], at: usize) -> u64
     requires { at + LANES ≤ length bytes.now }
@@ -39,14 +40,14 @@ fn mark_mask(bytes: &[u8], at: usize) -> u64
     (special | joints).to_bitmask()
 }
 
-// Whether a byte is a mark.
+// Returns true if a byte is a mark.
 fn is_mark(byte: u8) -> bool
     ensures { result ≡ is_mark byte }
 {
     matches!(byte, 0 | b'\n' | b'\r' | b'"' | b'#' | b'\\' | b',' | b'=')
 }
 
-// How many marks there are, byte by byte.
+// Counts the marks, byte by byte.
 fn few_marks(bytes: &[u8]) -> usize
     ensures value { result ≡ held is_mark bytes.now }
     ensures few { result ≤ length bytes.now }
@@ -60,7 +61,7 @@ fn few_marks(bytes: &[u8]) -> usize
     count
 }
 
-// How many marks the last bytes hold, so many but no more than 16: by a load of the last 16.
+// Counts the marks of the last bytes, of at most 16 bytes, by loading the last 16 bytes.
 #[inline(always)]
 fn last_marks(bytes: &[u8], left: usize) -> usize
     requires { (left ≤ LANES) × (LANES ≤ length bytes.now) }
@@ -71,7 +72,7 @@ fn last_marks(bytes: &[u8], left: usize) -> usize
     mask.count_ones() as usize - ones_below(mask, LANES - left)
 }
 
-/// How many marks a text holds.
+/// Returns the number of marks that a text holds.
 pub(crate) fn marks_in(bytes: &[u8]) -> usize
     ensures value { result ≡ held is_mark bytes.now }
     ensures few { result ≤ length bytes.now }

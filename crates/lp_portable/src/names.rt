@@ -1,4 +1,4 @@
-//! What of the spelling of a line's names is not portable: it takes no memory.
+//! Finds the clauses that the spelling of the names of a line breaks. Takes no memory.
 
 ghost use Rattle.std.specs.Prelude.{◌≡◌, ◌<◌, ◌+◌, ◌||◌, [], ◌∷◌, ℕ, List, length, nat_lt};
 ghost use Rattle.std.specs.List.{list_any};
@@ -13,7 +13,7 @@ use lp_scan::trim::{strip_byte, trim_start_spaces};
 use lp_values::names::NameKind;
 use lp_values::spelled_parts;
 
-/// What the spellings of tags break.
+/// The clauses that the spellings of tags break.
 #[derive(Clone, Copy)]
 pub(crate) struct TagBreaks {
     /// A backslash is escaped.
@@ -24,7 +24,7 @@ pub(crate) struct TagBreaks {
     pub sign: bool,
 }
 
-/// What the spellings of field keys break.
+/// The clauses that the spellings of field keys break.
 #[derive(Clone, Copy)]
 pub(crate) struct KeyBreaks {
     /// A backslash or a quote is escaped.
@@ -35,7 +35,7 @@ pub(crate) struct KeyBreaks {
     pub long: bool,
 }
 
-/// What the spellings of the names of a line break.
+/// The clauses that the spellings of the names of a line break.
 #[derive(Clone, Copy)]
 pub(crate) struct NameBreaks {
     /// An equals sign is escaped in the measurement.
@@ -46,7 +46,7 @@ pub(crate) struct NameBreaks {
     pub keys: KeyBreaks,
 }
 
-// Whether a byte is among these.
+// Returns true if a byte is among these bytes.
 #[inline(always)]
 fn is_one_of(bytes: &[u8], byte: u8) -> bool
     ensures { result ≡ is_one_of bytes.now byte }
@@ -54,7 +54,7 @@ fn is_one_of(bytes: &[u8], byte: u8) -> bool
     bytes.contains(&byte)
 }
 
-// Whether a spelling holds one of some bytes escaped, or one of others bare.
+// Returns true if a spelling holds one of some bytes escaped, or one of other bytes bare.
 #[tactic(auto, unfolding(crate::specs::format::Spellings::holds))]
 fn holds(escaped: &[u8], bare: &[u8], spelling: &[u8]) -> bool
     ensures { result ≡ holds escaped.now bare.now spelling.now }
@@ -79,7 +79,7 @@ fn holds(escaped: &[u8], bare: &[u8], spelling: &[u8]) -> bool
     }
 }
 
-// The name at the start of a text as it is spelled, and what follows it.
+// Returns the name at the start of a text as it is spelled, and the rest of the text.
 #[tactic(auto, using(std::proofs::lemmas::Grind::common_steps, crate::proofs::Spelled::name_steps))]
 #[inline(always)]
 fn spelled_name<'a>(kind: NameKind, text: &'a str) -> Option<(&'a [u8], &'a str)>
@@ -92,7 +92,7 @@ fn spelled_name<'a>(kind: NameKind, text: &'a str) -> Option<(&'a [u8], &'a str)
     Some((spelling, rest))
 }
 
-// A tag after a comma as it is spelled, and what follows it.
+// Returns the tag after a comma as it is spelled, and the rest of the text.
 #[inline(always)]
 fn spelled_tag<'a>(text: &'a str) -> Option<((&'a [u8], &'a [u8]), &'a str)>
     ensures { GivesReading spelled_pair result (after_comma tag_text text.now) }
@@ -104,7 +104,7 @@ fn spelled_tag<'a>(text: &'a str) -> Option<((&'a [u8], &'a [u8]), &'a str)>
     Some(((key, value), rest))
 }
 
-// The key of a field as it is spelled, and what follows the field.
+// Returns the key of a field as it is spelled, and the rest of the text after the field.
 #[inline(always)]
 fn spelled_key<'a>(text: &'a str) -> Option<(&'a [u8], &'a str)>
     ensures { GivesReading (λ s. s.now) result (key_text text.now) }
@@ -117,7 +117,7 @@ fn spelled_key<'a>(text: &'a str) -> Option<(&'a [u8], &'a str)>
     Some((key, rest))
 }
 
-// The key of a field after a comma as it is spelled, and what follows the field.
+// Returns the key of a field after a comma as it is spelled, and the rest of the text after the field.
 #[inline(always)]
 fn next_key<'a>(text: &'a str) -> Option<(&'a [u8], &'a str)>
     ensures { GivesReading (λ s. s.now) result (after_comma key_text text.now) }
@@ -126,7 +126,7 @@ fn next_key<'a>(text: &'a str) -> Option<(&'a [u8], &'a str)>
     spelled_key(field)
 }
 
-// What one tag breaks.
+// Returns the clauses that one tag breaks.
 fn tag_breaks(key: &[u8], value: &[u8]) -> TagBreaks
     ensures { result ≡ tag_breaks (record { key = key.now; value = value.now }) }
 {
@@ -138,7 +138,7 @@ fn tag_breaks(key: &[u8], value: &[u8]) -> TagBreaks
 }
 
 impl TagBreaks {
-    // What either breaks.
+    // Returns the clauses that either finding has.
     fn or(self, other: TagBreaks) -> TagBreaks
         ensures { result ≡ either_tag self other }
     {
@@ -151,7 +151,7 @@ impl TagBreaks {
 }
 
 impl KeyBreaks {
-    // What either breaks.
+    // Returns the clauses that either finding has.
     fn or(self, other: KeyBreaks) -> KeyBreaks
         ensures { result ≡ either_key self other }
     {
@@ -163,7 +163,7 @@ impl KeyBreaks {
     }
 }
 
-// What one field key breaks, after a series of so many bytes.
+// Returns the clauses that one field key breaks, after a series of this length.
 fn key_breaks(series_len: usize, key: &[u8]) -> KeyBreaks
     ensures { result ≡ key_breaks series_len key.now }
 {
@@ -174,7 +174,7 @@ fn key_breaks(series_len: usize, key: &[u8]) -> KeyBreaks
     }
 }
 
-// What the tags after a measurement break, if they are so many, and what follows them.
+// Returns the clauses that the tags after a measurement break, and the rest of the text. There are as many tags as `count` says.
 fn tags_breaks(count: usize, text: &str) -> (TagBreaks, &str)
     ensures { (tags : List (Pair (List ℕ) (List ℕ))) (rest : List ℕ) → AreAfterCommas tag_text tags text.now rest
         → length tags ≡ count → (result.0 ≡ tags_breaks tags) × (result.1.now ≡ rest) }
@@ -197,7 +197,8 @@ fn tags_breaks(count: usize, text: &str) -> (TagBreaks, &str)
     (found, rest)
 }
 
-// What the field keys after a comma break, if they are so many, and what is found of those before them.
+// Returns the clauses that field keys after a comma break, together with the clauses that were found before. There are as many
+// keys as `count` says.
 fn more_breaks(series_len: usize, count: usize, first: KeyBreaks, text: &str) -> KeyBreaks
     ensures { (keys : List (List ℕ)) (rest : List ℕ) → AreAfterCommas key_text keys text.now rest
         → length keys ≡ count → result ≡ either_key first (keys_breaks series_len keys) }
@@ -216,7 +217,7 @@ fn more_breaks(series_len: usize, count: usize, first: KeyBreaks, text: &str) ->
     found
 }
 
-// What field keys break, if they are so many.
+// Returns the clauses that field keys break. There are as many keys as `count` says.
 fn keys_breaks(series_len: usize, count: usize, text: &str) -> KeyBreaks
     ensures { (keys : List (List ℕ)) (rest : List ℕ) → AreJoined key_text keys text.now rest
         → length keys ≡ count → 0 < count → result ≡ keys_breaks series_len keys }
@@ -233,7 +234,8 @@ fn keys_breaks(series_len: usize, count: usize, text: &str) -> KeyBreaks
     more_breaks(series_len, count.saturating_sub(1), first, rest)
 }
 
-/// What the spellings of the names of a trimmed line break, which has so many tags and fields, and a series of so many bytes.
+/// Returns the clauses that the spellings of the names of a trimmed line break. The line has this many tags and fields, and a
+/// series of this length.
 ///
 /// ```text
 /// of  m,a=b=c f=1  the tags have  sign

@@ -1,8 +1,8 @@
-//! Lines that surely break no clause but those about their time and the limits, as they are told by the reader of events.
+//! Finds lines that surely break only clauses about their time and the limits, while the reader of events reads them.
 //!
-//! Most lines hold no backslash and no quote. Then names are spelled as they read, so the events of a line tell all that clauses are about,
-//! and the line is read just once, with no memory. Whether its time is kept, and how long it is, is no reason to read it again. A line that
-//! is not sure is looked at again, clause by clause.
+//! Most lines hold no backslash and no quote. Their names are then spelled as they read, so the events of a line tell all facts
+//! that clauses are about, and the line is read only once, without memory. A line is not read again to check its time or its
+//! length. A line that may break another clause is checked again, clause by clause.
 
 ghost use Rattle.std.specs.Prelude.{◌≡◌, ◌&&◌, ◌||◌, IfSome, not};
 ghost use Rattle.lp_format.specs.format.{float, trimmed};
@@ -23,10 +23,10 @@ use lp_split::Dialect;
 use lp_values::spelled::shared;
 use lp_values::{FloatText, Spelled, SpelledFault, SpelledValue};
 
-/// What is noted of a line.
+/// The notes about a line.
 #[derive(Clone, Copy, Drop)]
 pub(crate) struct Noting<'a> {
-    /// Whether nothing was told that may break a clause.
+    /// Whether no event so far may break a clause.
     pub is_sure: bool,
     /// Whether the line was read to its end.
     pub is_ended: bool,
@@ -37,7 +37,8 @@ pub(crate) struct Noting<'a> {
     pub timestamp: Option<i64>,
 }
 
-// Whether a float surely breaks no clause. What is short and has no exponent is finite, so that few literals are made numbers.
+// Returns true if a float surely breaks no clause. A short float without an exponent is finite, so few literals have to be parsed
+// as numbers.
 #[inline(always)]
 fn is_sure_float<'a>(literal: FloatText<'a>) -> bool
     ensures { result ≡ is_sure_value (float (literal_of literal.entry)) }
@@ -46,7 +47,7 @@ fn is_sure_float<'a>(literal: FloatText<'a>) -> bool
     !is_rounded(text) && (text.len() <= 300 || !is_infinite_text(text))
 }
 
-// Whether a value surely breaks no clause.
+// Returns true if a value surely breaks no clause.
 #[inline(always)]
 fn is_sure_value<'a>(value: SpelledValue<'a>) -> bool
     ensures { result ≡ is_sure_value (spelled_value value.entry) }
@@ -58,7 +59,7 @@ fn is_sure_value<'a>(value: SpelledValue<'a>) -> bool
     }
 }
 
-// What is noted of a line that is not sure.
+// Returns the notes about a line that may break a clause.
 fn unsure<'a>() -> Noting<'a>
     ensures { noted result ≡ unsure }
 {
@@ -74,7 +75,7 @@ fn unsure<'a>() -> Noting<'a>
 }
 
 impl<'a> Noting<'a> {
-    /// What is noted before the first event.
+    /// Returns the notes before the first event.
     pub(crate) fn new() -> Noting<'a>
         ensures { noted result ≡ none_noted }
     {
@@ -119,8 +120,9 @@ impl<'a> Noting<'a> {
         }
     }
 
-    /// Which clauses a text breaks, of whose line this was noted: that without the blanks and comments before it. It is a line that breaks
-    /// none but those about its time, its tags and its length. `None`: that is not sure. It takes no memory, and goes once over the bytes.
+    /// Returns the clauses that a text breaks, if the notes show that its line breaks only clauses about its time, its tags and
+    /// its length. Otherwise returns `None`. The notes must be those of the trimmed text. Takes no memory, and reads the bytes
+    /// once.
     ///
     /// ```text
     /// m,t=x f=1i    breaks nothing
@@ -186,7 +188,7 @@ impl<'a> EventSink<'a> for Noting<'a> {
     }
 }
 
-// What is noted of a trimmed text.
+// Returns the notes about a trimmed text.
 fn noting_of<'a>(line: &'a str) -> Noting<'a>
     ensures { IsNotedOf line.now result }
 {
@@ -195,7 +197,8 @@ fn noting_of<'a>(line: &'a str) -> Noting<'a>
     noting
 }
 
-/// The same of a text that is not read yet.
+/// Returns the clauses that a text breaks, if one reading shows that it breaks only clauses about its time, its tags and its
+/// length. Otherwise returns `None`.
 pub(crate) fn surely_broken(limits: &Limits, text: &str) -> Option<Broken>
     ensures { IfSome result (Breaks limits.now text.now) }
 {

@@ -1,7 +1,7 @@
-//! Which clauses of what is portable a text breaks.
+//! Finds the clauses of portability that a text breaks.
 //!
-//! Most lines break none, and are told by one reading: see `plain`. The text of any other is read into a line, whose names, values and
-//! timestamp are looked at; and walked over for how its names are spelled.
+//! Most lines break no clause, and one reading shows it: see `plain`. Any other text is read into a line. Its names, values and
+//! timestamp are checked, and a walk over the text checks how its names are spelled.
 
 ghost use Rattle.std.specs.Prelude.{◌≡◌, ◌↔◌, ◌≤◌, true, IfOk, IsOk, IsTrue, MatchOption, length};
 ghost use Rattle.lp_format.specs.{code.Light.is_light, format.IsCutPiece, format.Line, format.Strict, format.some_tags, format.trimmed};
@@ -26,11 +26,11 @@ use lp_values::{EscapedStr, FieldValue};
 use memchr::memchr3;
 use std::alloc::{AllocError, Global};
 
-// Whether a text is one piece by the strict rules, and a newline ends it.
+// Returns true if a newline ends the text as one piece by the strict rules.
 fn is_cut_piece(text: &[u8]) -> bool
     ensures { IsTrue result ↔ IsCutPiece Strict text.now }
 {
-    // Where no quote is open, and nothing is escaped, any newline ends the piece.
+    // If no quote is open and nothing is escaped, any newline ends the piece.
     if memchr3(b'\\', b'\n', b'"', text).is_none() {
         return true;
     }
@@ -40,7 +40,7 @@ fn is_cut_piece(text: &[u8]) -> bool
     }
 }
 
-// The text without the blanks before it, if it is one piece that a newline ends, and more than blanks and a comment.
+// Returns the text without the blanks before it, if a newline ends it as one piece and it is more than blanks and a comment.
 fn one_line(text: &str) -> Option<&str>
     ensures { MatchOption result (IsNoLine text.now) (λ line. IsTrimmedPiece text.now line.now) }
 {
@@ -54,14 +54,14 @@ fn one_line(text: &str) -> Option<&str>
     Some(line)
 }
 
-// Which keys of a line are repeated.
+// Whether a tag key and whether a field key of a line is repeated.
 #[derive(Clone, Copy)]
 struct Repeats {
     tag: bool,
     field: bool,
 }
 
-// What is repeated in a line.
+// Returns whether a tag key and whether a field key of a line is repeated.
 fn repeats_of<'a>(alloc: Global, read: &ParsedLine<'a>) -> Result<Repeats, AllocError>
     ensures value { IfOk result (λ repeats. repeats ≡ repeats_of read.now) }
     ensures no_memory { length (some_items read.now.series.tag_set) ≤ most_compared → length read.now.field_set.items ≤ most_compared
@@ -72,7 +72,7 @@ fn repeats_of<'a>(alloc: Global, read: &ParsedLine<'a>) -> Result<Repeats, Alloc
     Ok(Repeats { tag, field })
 }
 
-// What was read of a line.
+// The parts of a line that was read.
 #[derive(Clone, Copy)]
 struct Parts<'l, 'a> {
     series: &'a str,
@@ -82,7 +82,7 @@ struct Parts<'l, 'a> {
     timestamp: Option<i64>,
 }
 
-// What was read of a line.
+// Returns the parts of a line that was read.
 fn parts_of<'l, 'a>(read: &'l ParsedLine<'a>) -> Parts<'l, 'a>
     ensures { ArePartsOf read.now result }
 {
@@ -95,14 +95,15 @@ fn parts_of<'l, 'a>(read: &'l ParsedLine<'a>) -> Parts<'l, 'a>
     }
 }
 
-// Whether a timestamp is not kept.
+// Returns true if a timestamp is outside the times that are kept.
 fn is_not_kept(limits: &Limits, timestamp: Option<i64>) -> bool
     ensures { result ≡ is_outside limits.now.earliest limits.now.latest timestamp }
 {
     values::is_outside(limits.earliest, limits.latest, timestamp)
 }
 
-// What a line breaks of which a text was read so, if its keys are repeated so, and its names are spelled so.
+// Returns the clauses that a line breaks, from its text, its parts, its repeated keys, and the clauses that its spelled names
+// break.
 fn broken_in<'l, 'a>(
     limits: &Limits,
     text: &str,
@@ -152,7 +153,7 @@ fn broken_in<'l, 'a>(
     }
 }
 
-// Whether a trimmed text is read as a line, into this.
+// Reads a trimmed text into `read`. Returns true if the text is a line.
 fn is_read<'a>(alloc: Global, line: &'a str, read: &mut ParsedLine<'a>) -> Result<bool, AllocError>
     ensures value { IfOk result (λ is_line. TellsRead line.now read.new is_line) }
     ensures no_memory { is_light Strict line.now ≡ true → IsOk result }
@@ -164,7 +165,7 @@ fn is_read<'a>(alloc: Global, line: &'a str, read: &mut ParsedLine<'a>) -> Resul
     }
 }
 
-// Which clauses a text breaks, of which this is left without the blanks before it, and was read so.
+// Returns the clauses that a text breaks, from its trimmed text and the line that was read from it.
 fn broken_by<'a>(
     alloc: Global,
     limits: &Limits,
@@ -188,17 +189,20 @@ fn broken_by<'a>(
     Ok(broken_in(limits, text, parts, repeats, names))
 }
 
-/// Which clauses of what is portable a text breaks, with these limits. `None`: it is not just one line that the strict reader reads,
-/// without its newline.
+/// Returns the clauses of portability that a text breaks, with these limits. Returns `None` if the text is not exactly one line,
+/// without its newline, that the strict reader reads.
 ///
-/// [`Broken::first`] tells the first that concerns a server; if there is none, the server reads the line as this reader does. The text
-/// is read once for that. It is read once more if it may break a clause that is not about its time and the limits, or has a string, an
-/// escape, a `#`, keys that do not rise, more than 29 tags or 8,000 bytes. Then memory is taken as for a line that is read, and for a map
-/// of more than 32 tags or fields. None is taken for a line with at most 8 tags and 4 fields whose names and strings are no copies.
+/// [`Broken::first`] returns the first broken clause that concerns a server. If there is none, the server reads the line as this
+/// library does.
+///
+/// The text is read once. It is read a second time if it may break a clause that is not about its time and the limits, or if it
+/// has a string, an escape, a `#`, keys that do not rise, more than 29 tags or more than 8,000 bytes. A second reading takes
+/// memory as reading the line does, and for a map if there are more than 32 tags or fields. It takes none for a line with at most
+/// 8 tags and 4 fields whose names and strings need no copies.
 ///
 /// # Errors
 ///
-/// If memory was refused.
+/// Returns `AllocError` if memory was refused.
 ///
 /// ```text
 /// m,t=x f=1u 1    breaks unsigned
@@ -227,14 +231,15 @@ pub fn broken_clauses(
     Ok(Some(broken))
 }
 
-/// Whether a text is a portable line: servers read it as the strict reader does, and store it as that point, with these limits.
+/// Returns true if a text is a portable line: if these servers read it as the strict reader does and store the same point, with
+/// these limits.
 ///
-/// It is if it is one line, without its newline, that breaks no clause that concerns the servers. Which it breaks,
-/// [`broken_clauses`] tells. Memory is taken as there.
+/// A portable line is one line, without its newline, that breaks no clause that concerns the servers. [`broken_clauses`] returns
+/// the clauses that a line breaks, and says when memory is taken.
 ///
 /// # Errors
 ///
-/// If memory was refused.
+/// Returns `AllocError` if memory was refused.
 ///
 /// ```text
 /// m,t=x f=1i 1    is portable to all

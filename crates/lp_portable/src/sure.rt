@@ -1,7 +1,7 @@
-//! What surely breaks no clause, of a line that was read: its names, its literals, and then its text.
+//! Finds lines that surely break no clause, from the names and literals that were read and from the text.
 //!
-//! Of a line whose parts are known no second reading is needed. If its text holds as many marks as they need and no more, then no clause
-//! but those about its time, its tags and its length is left to look at.
+//! A line whose parts are known need not be read a second time. If its text holds exactly as many marks as its parts need, only
+//! the clauses about its time, its tags and its length are left to check.
 
 ghost use Rattle.std.specs.Prelude.{◌≡◌, ◌≤◌, ◌<◌, ◌+◌, ◌^◌, IfSome, IsTrue, codes, false, length, true, if◌then◌else◌};
 ghost use Rattle.std.specs.List.{list_any};
@@ -14,7 +14,7 @@ use crate::limits::Limits;
 use crate::marks::marks_in;
 use crate::values;
 
-/// Whether a name begins with an underscore, as names of the servers' own do.
+/// Returns true if a name begins with an underscore, as the servers' own names do.
 #[inline(always)]
 pub fn begins_own(name: &[u8]) -> bool
     ensures { result ≡ begins_own name.now }
@@ -22,7 +22,7 @@ pub fn begins_own(name: &[u8]) -> bool
     matches!(name, [b'_', ..])
 }
 
-/// Whether a key is surely that of no tag and no field that breaks a clause, if it holds no mark.
+/// Returns true if a key without marks surely breaks no clause, neither as a tag key nor as a field key.
 #[inline(always)]
 pub fn is_sure_key(key: &[u8]) -> bool
     ensures { result ≡ is_sure_key key.now }
@@ -30,7 +30,7 @@ pub fn is_sure_key(key: &[u8]) -> bool
     !begins_own(key) && key != b"time".as_slice()
 }
 
-/// Whether the key of a tag is.
+/// Returns true if a tag key without marks surely breaks no clause.
 #[inline(always)]
 pub fn is_sure_tag(key: &[u8]) -> bool
     ensures { result ≡ is_sure_tag key.now }
@@ -38,14 +38,14 @@ pub fn is_sure_tag(key: &[u8]) -> bool
     key.len() <= 256 && is_sure_key(key)
 }
 
-// Whether a text holds an `e` or an `E`.
+// Returns true if a text holds an `e` or an `E`.
 fn has_power(literal: &[u8]) -> bool
     ensures { result ≡ list_any (is_one_of (codes "eE")) literal.now }
 {
     literal.iter().any(|byte| matches!(byte, b'e' | b'E'))
 }
 
-/// Whether the literal of a float is short and has no exponent.
+/// Returns true if the literal of a float is short and has no exponent.
 #[inline(always)]
 pub fn is_short_literal(literal: &[u8]) -> bool
     ensures short { result ≡ true → length literal.now ≤ 300 }
@@ -54,7 +54,7 @@ pub fn is_short_literal(literal: &[u8]) -> bool
     literal.len() <= 300 && !has_power(literal)
 }
 
-/// Whether a text is short, holds no more marks than so many parts need, and begins and ends in no blank.
+/// Returns true if a text is short, holds no more marks than this number of parts needs, and begins and ends with no blank.
 #[inline(always)]
 pub(crate) fn is_bare(text: &[u8], parts: usize) -> bool
     requires { parts < 2 ^ 60 }
@@ -66,7 +66,8 @@ pub(crate) fn is_bare(text: &[u8], parts: usize) -> bool
         && marks_in(text) + 1 == 2 * parts
 }
 
-/// What a line breaks with so many tags and this timestamp, if it breaks no clause but those about its time, its tags and its length.
+/// Returns the clauses that a line with this number of tags and this timestamp breaks, if it breaks only clauses about its time,
+/// its tags and its length.
 pub(crate) fn broken_by_noted(
     limits: &Limits,
     text: &[u8],
@@ -88,7 +89,7 @@ pub(crate) fn broken_by_noted(
     }
 }
 
-// The bit of a clause, if it is broken, or else 0.
+// Returns the bit of a clause that is broken, and 0 for a clause that is not broken.
 #[inline(always)]
 fn bit_if(broken: bool, clause: Clause) -> u64
     ensures value { result ≡ (if broken then 2 ^ (place clause + 1) else 0) }
@@ -97,7 +98,7 @@ fn bit_if(broken: bool, clause: Clause) -> u64
     if broken { 2 << clause.place() } else { 0 }
 }
 
-// The bits of what such a line breaks.
+// Returns the bits of the clauses that a line breaks that is sure.
 #[inline(always)]
 fn bits_by_noted(limits: &Limits, text: &[u8], tags: usize, timestamp: Option<i64>) -> u64
     ensures { result ≡ bits_of (broken_by_noted limits.now text.now tags timestamp) }
@@ -109,9 +110,11 @@ fn bits_by_noted(limits: &Limits, text: &[u8], tags: usize, timestamp: Option<i6
         + bit_if(broken.time_not_kept, Clause::TimeNotKept)
 }
 
-/// The bits of the clauses that a text breaks, whose line has so many tags and fields and this timestamp, and of which nothing surely breaks
-/// a clause. That is, its measurement begins with no underscore, its keys and values are sure, and no key is repeated. `None`: that is not
-/// sure. It takes no memory, and goes once over the bytes.
+/// Returns the bits of the clauses that a text breaks. Returns `None` if the text may break a clause that is not about its time,
+/// its tags or its length.
+///
+/// The line of the text must have this many tags and fields and this timestamp, and its parts must be sure: its measurement begins
+/// with no underscore, its keys and values are sure, and no key is repeated. Takes no memory, and reads the bytes once.
 ///
 /// ```text
 /// m,t=x f=1i   with 1 tag, 1 field and no timestamp  is Some(0)

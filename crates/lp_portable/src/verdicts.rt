@@ -1,4 +1,4 @@
-//! What is told of a text in one word: the first clause that it breaks, if any.
+//! The verdict on a text: portable, the first clause that it breaks, or no line.
 
 ghost use Rattle.std.specs.Prelude.{◌≡◌, true, IfOk, IsOk};
 ghost use Rattle.lp_format.specs.{code.Light.is_light, format.Strict, format.trimmed};
@@ -9,22 +9,23 @@ use crate::limits::{Limits, Servers};
 use crate::portable::broken_clauses;
 use std::alloc::{AllocError, Global};
 
-/// What is told of a text.
+/// The verdict on a text.
 #[derive(Clone, Copy, Debug)]
 pub enum Verdict {
-    /// It is a portable line.
+    /// The text is a portable line.
     Portable,
-    /// It is a line that breaks this clause, and none that comes before it, of those that concern the servers.
+    /// The text is a line. This is the first clause that it breaks, of the clauses that concern the servers.
     Breaks(Clause),
-    /// It is not just one line that the strict reader reads, without its newline.
+    /// The text is not exactly one line, without its newline, that the strict reader reads.
     NoLine,
 }
 
-/// Whether a text is a portable line, and if not, why: [`broken_clauses`] tells all that it breaks. Memory is taken as there.
+/// Returns the verdict on a text: portable, the first clause that it breaks, or no line. [`broken_clauses`] returns all clauses
+/// that a text breaks, and says when memory is taken.
 ///
 /// # Errors
 ///
-/// If memory was refused.
+/// Returns `AllocError` if memory was refused.
 ///
 /// ```text
 /// m,t=x f=1i 1    is Verdict::Portable

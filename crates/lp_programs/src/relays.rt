@@ -1,7 +1,10 @@
 //! Relays what words ask for, and says how that ends.
-ghost use Rattle.std.specs.Prelude.{◌≡◌, None, IfOk, IfSome, IsOk};
-ghost use Rattle.lp_endings.specs.Endings.{IsLastStatus};
-ghost use Rattle.lp_files.specs.Files.{Each, IsBeside};
+ghost use Rattle.std.specs.Prelude.{◌≡◌, ◌≢◌, false, None, Err, Ok, IfErr, IfOk, IfSome, IsNone, IsOk, OnOk, Result};
+ghost use Rattle.std.specs.declared.io.Error.{Error};
+ghost use Rattle.lp_endings.specs.declared.{endings.Failure.Failure, summary.Totals.Totals};
+ghost use Rattle.lp_endings.specs.Endings.{IsLastStatus, relay_ending};
+ghost use Rattle.lp_files.specs.Batches.{AreDone, Current};
+ghost use Rattle.lp_files.specs.Files.{ArePutWhole, Each, IsBeside, IsInPlace, IsRemoved, IsSettled, file_failure};
 
 use crate::asked::{ReadsOn, relay_by_clock, relay_each};
 use crate::clock::SystemClock;
@@ -23,7 +26,7 @@ use lp_places::locks::{names_beside, remove_left};
 use lp_places::places::{
     are_read_once, batch_at, old_refusal_at, place_of, range_refusal_at, refusal_at, relayed_len,
 };
-use lp_places::streams::{Stream, stream_of};
+use lp_places::streams::{Stream, stream_of, sync_known};
 use lp_rebuild::{Reading, RunFault, Source, Writing};
 use lp_relay::{Outputs, Settings, ThreeWriters};
 use lp_words::batch_names::batch_names_of;
@@ -102,7 +105,9 @@ fn meter_of<'a>(
     rt: &'a HostRuntime,
     request: Request<'_>,
     names: &[&str],
-) -> Option<Meter<'a, HostRuntime>> {
+) -> Option<Meter<'a, HostRuntime>>
+    ensures { request.entry.progress ≡ false → IsNone result }
+{
     if !request.progress || !rt.stderr().is_terminal() {
         return None;
     }
@@ -156,7 +161,9 @@ fn open_batches<'a, 'n>(
     rt: &'a HostRuntime,
     request: Request<'n>,
     names: &[&str],
-) -> Result<Option<Batches<'a, 'n>>, Failure<'n>> {
+) -> Result<Option<Batches<'a, 'n>>, Failure<'n>>
+    ensures { IfOk result (λ batches. IfSome batches (Current IsBeside)) }
+{
     let (Some(limits), Some(word)) = (request.batches, request.output) else {
         return Ok(None);
     };
@@ -190,7 +197,10 @@ fn open_stream<'n>(
     rt: &HostRuntime,
     request: Request<'n>,
     names: &[&str],
-) -> Result<Option<Stream>, Failure<'n>> {
+) -> Result<Option<Stream>, Failure<'n>>
+    ensures none { request.entry.refused ≡ None → result ≡ Ok None }
+    ensures told { IfErr result (λ failure. IfSome request.entry.refused (λ name. (error : Error) × (failure ≡ file_failure name error))) }
+{
     let Some(name) = request.refused else {
         return Ok(None);
     };
@@ -282,6 +292,60 @@ fn open_files<'a, 'n>(
     }
 }
 
+// Ends a run that gave this answer, whose refused pieces are written as they come, to what has this name: all of them are on the device
+// then, if the run succeeded.
+fn finish_stream<'n, T: Drop>(
+    stream: &Option<Stream>,
+    name: Option<&'n str>,
+    answer: Result<T, Failure<'n>>,
+) -> Result<T, Failure<'n>>
+    ensures failed { IfErr answer.entry (λ failure. result ≡ Err failure) }
+    ensures value { IfOk answer.entry (λ value. IfOk result (λ other. other ≡ value)) }
+{
+    if let (Ok(_), Some(Stream::Opened(file)), Some(name)) = (&answer, stream, name) {
+        if let Err(error) = sync_known(file) {
+            return Err(failure_of(name, error));
+        }
+    }
+    answer
+}
+
+// Ends the batches of a run that gave this answer, if there are any.
+fn finish_batches<'n, T: Drop>(
+    batches: &mut Option<Batches<'_, 'n>>,
+    answer: Result<T, Failure<'n>>,
+) -> Result<T, Failure<'n>>
+    ensures placed { OnOk result (AreDone batches.old batches.new) }
+    ensures settled { IfSome batches.new (Current IsSettled) }
+    ensures failed { IfErr answer.entry (λ failure. result ≡ Err failure) }
+    ensures value { IfOk answer.entry (λ value. IfOk result (λ other. other ≡ value)) }
+{
+    match batches {
+        Some(batches) => batches.finish(answer),
+        None => answer,
+    }
+}
+
+// Ends a run that gave this answer: the last batch and each file come to their places. After a failure what is not in its place is removed,
+// but for a batch that is kept.
+fn finish_outputs<'n, T: Drop>(
+    files: &mut Files<FileBeside<'_, 'n>>,
+    batches: &mut Option<Batches<'_, 'n>>,
+    answer: Result<T, Failure<'n>>,
+) -> Result<T, Failure<'n>>
+    requires { Each (λ file. file.state) IsBeside files.old }
+    ensures placed { OnOk result (Each (λ file. file.state) IsInPlace files.new) }
+    ensures whole { ArePutWhole (λ file. file.state) files.new }
+    ensures batches { OnOk result (AreDone batches.old batches.new) }
+    ensures settled { Each (λ file. file.state) IsSettled files.new }
+    ensures left { IfSome batches.new (Current IsSettled) }
+    ensures failed { IfErr answer.entry (λ failure. (result ≡ Err failure) × Each (λ file. file.state) IsRemoved files.new) }
+    ensures value { IfOk answer.entry (λ value. IfOk result (λ other. other ≡ value)) }
+{
+    let answer = finish_batches(batches, answer);
+    files.finish(answer)
+}
+
 /// Relays the inputs of these names, by a program of this name, to the files that a request names, and puts these in their places. A
 /// watcher takes all bytes that are read, and is given back. What is told of an input that is relayed all the same, the program tells.
 ///
@@ -315,20 +379,17 @@ pub fn relay_to_files<'n, W: Watcher + Drop>(
                 destinations,
                 &mut batches,
             );
-            let answer = match batches {
-                Some(batches) => batches.finish(answer),
-                None => answer,
-            };
-            let answer = files.finish(answer);
+            let answer = finish_stream(&stream, request.refused, answer);
+            let answer = finish_outputs(&mut files, &mut batches, answer);
             files.let_go();
-            return (answer, watcher);
+            (answer, watcher)
         }
-        Err(failure) => (Err(failure), watcher),
+        Err(failure) => (finish_batches(&mut batches, Err(failure)), watcher),
     };
-    match batches {
-        Some(batches) => (batches.finish(answer), watcher),
-        None => (answer, watcher),
+    if let Some(batches) = batches {
+        batches.let_go();
     }
+    (answer, watcher)
 }
 
 // Writes all of a text.
@@ -426,12 +487,9 @@ pub fn remove_all_left(rt: &HostRuntime, program: Speaker<'_>, name: Option<&str
 }
 
 /// Relays what a request names, by a program of this name, and answers with the exit status.
-pub fn relay<'n>(
-    rt: &HostRuntime,
-    program: &str,
-    request: Request<'n>,
-    names: &'n [&'n str],
-) -> u8 {
+pub fn relay<'n>(rt: &HostRuntime, program: &str, request: Request<'n>, names: &'n [&'n str]) -> u8
+    ensures { result ≢ 2 → (answer : Result Totals Failure) × IsLastStatus (relay_ending request.entry.relay answer) result }
+{
     let program = Speaker::as_faults(program, request.relay.faults);
     if let Some(status) = refuse_request(rt, program, request, names) {
         return status;

@@ -1,4 +1,4 @@
--- What is carried: lines that were read, and points that are admitted, so that the batch reads back.
+-- Carried lines were read, and their points are admitted, so the batch reads back.
 use Rattle.std.proofs.Common.{◌≡◌, ℕ, ◌<◌, ◌==◌, List, [], ◌∷◌, ◌++◌, length, map, Result, Ok, Err}
 use Rattle.std.proofs.Common.{refl, sym, ap, subst, ◌∙◌, inl, inr, arith, true, Contains}
 use Rattle.std.specs.Prelude.{IfOk}
@@ -29,7 +29,7 @@ line_is_read dialect text line (Err e) is filled = tt
 line_is_read dialect text line (Ok done) is filled =
     record { dialect = dialect; text = is.0; answered = ap (answer dialect) (sym is.1) ∙ filled }
 
--- what the text says is the item
+-- The item that was read is the answer for the text.
 pub filled_answers : (line : ParsedLine) (read : Result Unit Error) (answer : Result Line Fault) → FillsLine line read answer
     → Answers (item_in line read) answer
 filled_answers line (Ok done) answer filled = filled
@@ -43,12 +43,12 @@ has_field are dialect text line read =
     subst (λ (n : ℕ). 0 < n) (length-map (map field_of line.field_set.items) logical_field ∙ length-map line.field_set.items field_of)
     point.some_field
 
--- what holds of all of two lists holds of all of both
+-- A property of all elements of two lists holds for all elements of the joined list.
 all_joined : {X : Type 0} (P : X → Type 0) (xs ys : List X) → AllByRecursion P xs → AllByRecursion P ys → AllByRecursion P (xs ++ ys)
 all_joined P [] ys first second = second
 all_joined P (x ∷ xs) ys first second = (first.0, all_joined P xs ys first.1 second)
 
--- what is carried of an answer is a point
+-- The carried point of the answer for a text is a point.
 answer_is_point : LinesArePoints → (dialect : Dialect) (text : List ℕ) (a : Result Line Fault)
     → answer dialect text ≡ a → AllByRecursion IsPoint (carried_point a)
 answer_is_point are dialect text (Err e) h = tt
@@ -58,7 +58,7 @@ answer_is_point are dialect text (Ok line) h =
       | inr bad ↦ rw bad tt
     ]
 
--- so are all that are carried
+-- All carried points of the answers for pieces are points.
 points_are : LinesArePoints → (dialect : Dialect) (pieces : List (List ℕ))
     → AllByRecursion IsPoint (flat_map carried_point (answers_of dialect pieces))
 unfolding answers_of_piece
@@ -74,7 +74,7 @@ points_are are dialect (piece ∷ pieces) =
           (answer_is_point are dialect (trimmed piece) a refl) others)
     ]
 
--- the point of each line that is carried is admitted, if such a point is admitted in the dialect
+-- The point of each carried line is admitted in a dialect, if each admitted point of these lines is admitted there.
 lines_admitted : (dialect : Dialect) (items : List (Result Line Fault))
     → ((line : Line) → Contains items (Ok line) → is_admitted_point (point_of line) ≡ true → is_admitted_in dialect (point_of line) ≡ true)
     → list_all (is_admitted_in dialect) (flat_map carried_point items) ≡ true

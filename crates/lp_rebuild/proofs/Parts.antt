@@ -1,4 +1,4 @@
--- What a run that could not write has written.
+-- The parts of the output that a run has written which could not write all of it.
 use Rattle.std.proofs.Common.{◌≡◌, ℕ, List, length, Option, Result, Ok, Err, true, false, is_err, OnErr, OnOk, IfSome}
 use Rattle.std.proofs.Common.{subst, arith, take_all, le_refl}
 use Rattle.std.specs.Io.KnownBytes.{Consumes, Appends, IsAtEnd}
@@ -18,7 +18,7 @@ pub at_no_fault : {T E P : Type 0} (r : Result T E) → false ≡ is_err r → O
 at_no_fault (Ok x) failed h = h
 at_no_fault (Err e) failed h = absurd (cc)
 
--- what is said of a run that could not write
+-- The result of a run that could not write: the input was rebuilt, and each writer gained a front of its text.
 abbrev pub LeftParts : Dialect → (out out_after err err_after : Option (List ℕ)) → List ℕ → Type 0
 LeftParts dialect out out_after err err_after input =
     (r : Rebuilt) × RebuildsIn dialect input r × WritesFronts r.batch.items r.faults.items out out_after err err_after

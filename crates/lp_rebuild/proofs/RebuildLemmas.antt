@@ -1,4 +1,4 @@
--- How a rebuild goes over the pieces of a text.
+-- A rebuild takes the pieces of a text one after another.
 use Rattle.std.proofs.Common.{None, Some, ◌≡◌, ℕ, ◌+◌, ◌==◌, ◌<◌, Bool, true, false, not, cond, List, [], ◌∷◌, ◌++◌, length}
 use Rattle.std.proofs.Common.{Result, Ok, string_bytes, refl, sym, ap, subst, ◌∙◌, arith, append_assoc}
 use Rattle.std.proofs.Common.{append-nil, eq-eqb, inl, inr}
@@ -23,7 +23,7 @@ use Rattle.lp_rebuild.specs.RebuildSteps.{IsRefusedFor, Refuses, Takes, TakesLin
 use Rattle.lp_rebuild.specs.declared.refusals.LineRefusal.{LineRefusal}
 use Rattle.lp_rebuild.specs.declared.refusals.LineRefusal.TheVariants as why
 
--- an answer that is refused for this is not carried, and this is what is wrong with it
+-- An answer that is refused for a reason is not carried, and the text of the refusal is the text of this reason.
 pub refused_for : (refusal : LineRefusal) (answer : Result Line Fault) → IsRefusedFor (Some refusal) answer
     → (is_carried_answer answer ≡ false) × (refusal_text answer ≡ line_refusal_text refusal)
 refused_for (why.Fault fault) answer is = rw is (refl, refl)
@@ -41,7 +41,7 @@ carried_answer old new answer took faults carried refused =
       refused = rw carries refused;
     }
 
--- and one that is refused
+-- An answer that is refused was taken.
 pub refused_answer : (old mid new : Progress) (refusal : LineRefusal) (answer : Result Line Fault)
     → TakesLine old.batch.items (Some refusal) answer mid.batch.items → mid.faults ≡ old.faults → mid.carried ≡ old.carried
     → mid.refused ≡ old.refused → Refuses mid (line_refusal_text refusal) new → Takes old answer new
@@ -65,7 +65,7 @@ pub refused_cons : (answer : Result Line Fault) (answers : List (Result Line Fau
 refused_cons answer answers = omega
     (arith, sum_by-append (λ (a : Result Line Fault). cond (not (is_carried_answer a)) 1 0) (answer ∷ []) answers)
 
--- one of two
+-- Exactly one of a test and its negation counts one.
 pub one_of_two : (b : Bool) → cond b 1 0 + cond (not b) 1 0 ≡ 1
 one_of_two true = refl
 one_of_two false = refl
@@ -76,7 +76,7 @@ counts_add_up [] = refl
 counts_add_up (answer ∷ answers) =
     omega (arith, carried_cons answer answers, refused_cons answer answers, one_of_two (is_carried_answer answer), counts_add_up answers)
 
--- the fault of an answer comes after the faults of those before it
+-- The fault line of an answer comes after the fault lines of the answers before it.
 faults_push : (number : ℕ) (answers : List (Result Line Fault)) (answer : Result Line Fault)
     → faults_from number (answers ++ answer ∷ []) ≡ faults_from number answers ++ fault_of (number + length answers) answer
 faults_push number [] answer = append-nil (fault_of number answer) ∙ ap (λ (n : ℕ). fault_of n answer) {y = number + 0} (omega arith)
@@ -115,17 +115,17 @@ pub record Took (answers : List (Result Line Fault)) (so_far : Progress) : Type 
   pub carried : so_far.carried ≡ carried_of answers
   pub refused : so_far.refused ≡ refused_of answers
 
--- one is added if the test holds
+-- A count of the answers that pass a test grows by one if the test holds for the answer.
 pub add_where : (b : Bool) (m n : ℕ) → m ≡ n → cond b (m + 1) m ≡ n + cond b 1 0
 add_where true m n e = omega arith
 add_where false m n e = omega arith
 
--- one is added if the test does not hold
+-- A count of the answers that fail a test grows by one if the test does not hold for the answer.
 pub add_elsewhere : (b : Bool) (m n : ℕ) → m ≡ n → cond b m (m + 1) ≡ n + cond (not b) 1 0
 add_elsewhere true m n e = omega arith
 add_elsewhere false m n e = omega arith
 
--- one answer more was taken, whose fault line names its number
+-- If one more answer was taken, its fault line names its number, and the list of taken answers has this answer at its end.
 pub Took-more : (answers : List (Result Line Fault)) (answer : Result Line Fault) (old new : Progress)
     → Took answers old → Takes old answer new → Took (answers ++ answer ∷ []) new
 Took-more answers answer old new h t =
@@ -162,7 +162,7 @@ pub record SoFar (dialect : Dialect) (text : List ℕ) (others : List (List ℕ)
   pub pieces : Pieces dialect text (front ++ others)
   pub took : Took (answers_of dialect front) so_far
 
--- the answers after those of these pieces
+-- The answers of one more piece come after the answers of the pieces before it.
 answers_push : (dialect : Dialect) (front : List (List ℕ)) (piece : List ℕ)
     → answers_of dialect (front ++ piece ∷ []) ≡ answers_of dialect front ++ answers_of_piece dialect piece
 answers_push dialect front piece =
@@ -197,7 +197,7 @@ SoFar-piece dialect text piece others old new h blank takes =
           (took_piece dialect h.front piece old new h.took blank takes);
     }
 
--- no piece was left
+-- If no piece is left, the progress so far is the result of the whole text.
 pub SoFar-end : (dialect : Dialect) (text : List ℕ) (so_far : Progress) → SoFar dialect text [] so_far
     → (r : Rebuilt) → r.batch ≡ so_far.batch → r.faults.items ≡ string_bytes so_far.faults
     → r.carried ≡ so_far.carried → r.refused ≡ so_far.refused → RebuildsIn dialect text r

@@ -1,11 +1,11 @@
--- What calls of readers and writers do.
+-- The effects of calls of readers and writers.
 use Rattle.std.specs.Prelude.{◌≡◌, ℕ, ◌+◌, Bool, List, Result, MatchResult}
 use Rattle.std.specs.Vec.{vec_capacity}
 use Rattle.lp_rebuild.specs.declared.devices.Kept.{Kept}
 use Rattle.lp_rebuild.specs.declared.devices.Reading.{Reading}
 use Rattle.lp_rebuild.specs.declared.devices.Writing.{Writing}
 
--- a failed call adds one to the count of failures, and no other does
+-- A failed call adds one to the count of failures. A call that succeeds leaves the count as it was.
 abbrev pub CountsFailure : {T E : Type 0} → Result T E → ℕ → ℕ → Type 0
 CountsFailure result old new = MatchResult result (λ _. new ≡ old) (λ _. new ≡ old + 1)
 

@@ -1,4 +1,4 @@
--- What each step of a rebuild adds.
+-- The steps of a rebuild: each adds to the batch, to the faults and to the counts.
 use Rattle.std.specs.Prelude.{◌≡◌, ℕ, ◌+◌, ◌++◌, string_bytes, true, false, List, [], codes, Option, Some, None, Result, Ok, Err, if◌then◌else◌}
 use Rattle.lp_rebuild.specs.declared.batch.Progress.{Progress}
 use Rattle.lp_rebuild.specs.declared.refusals.LineRefusal.{LineRefusal}
@@ -14,35 +14,36 @@ use Rattle.influxdb_line_protocol.specs.types.ParsedLine.{ParsedLine}
 use Rattle.lp_values.specs.code.SpelledParts.{spelled_fault}
 use Rattle.lp_values.specs.declared.spelled.SpelledFault.{SpelledFault}
 
--- what is wrong with a line that is refused for this
+-- The text of the reason why a line is refused.
 abbrev pub line_refusal_text : LineRefusal → List ℕ
 line_refusal_text (refusal.Fault fault) = fault_text (spelled_fault fault)
 line_refusal_text refusal.NotAdmitted = codes "a name cannot be written again"
 
--- the answer is the line that was read, if no fault is given, and else that fault
+-- Without a fault, the answer is the line that was read. With a fault, the answer is this fault.
 abbrev pub IsReadAs : Option SpelledFault → ParsedLine → Result Line Fault → Type 0
 IsReadAs None line answer = answer ≡ Ok (line_read line)
 IsReadAs (Some fault) line answer = answer ≡ Err (spelled_fault fault)
 
--- an answer is carried, or refused for this: it is this fault, or a line that has a name which is not admitted
+-- Without a refusal, the answer is carried. With a refusal, the answer is the fault of the refusal, or a line that has a name which is not
+-- admitted.
 abbrev pub IsRefusedFor : Option LineRefusal → Result Line Fault → Type 0
 IsRefusedFor None answer = is_carried_answer answer ≡ true
 IsRefusedFor (Some (refusal.Fault fault)) answer = answer ≡ Err (spelled_fault fault)
 IsRefusedFor (Some refusal.NotAdmitted) answer = (line : Line) × (answer ≡ Ok line) × (is_admitted_point (point_of line) ≡ false)
 
--- an answer was written after a batch, if it is carried, and else is refused for this
+-- The batch gained the line of the answer, if the answer is carried. Otherwise the batch stayed as it was, and the refusal has the reason.
 pub record TakesLine (before : List ℕ) (refusal : Option LineRefusal) (answer : Result Line Fault) (after : List ℕ) : Type 0 where
   pub batch : after ≡ before ++ built_all (carried_point answer)
   pub refused : IsRefusedFor refusal answer
 
--- one item was refused with this text
+-- One item was refused with this text: the faults gained its fault line, one more item is refused, and the batch stayed as it was.
 pub record Refuses (old : Progress) (text : List ℕ) (new : Progress) : Type 0 where
   pub batch : new.batch.items ≡ old.batch.items
   pub faults : string_bytes new.faults ≡ string_bytes old.faults ++ fault_line (old.carried + old.refused + 1) text
   pub carried : new.carried ≡ old.carried
   pub refused : new.refused ≡ old.refused + 1
 
--- one answer was taken
+-- One answer was taken: the batch gained its line, or the faults gained its fault line, and it was counted.
 pub record Takes (old : Progress) (answer : Result Line Fault) (new : Progress) : Type 0 where
   pub batch : new.batch.items ≡ old.batch.items ++ built_all (carried_point answer)
   pub faults : string_bytes new.faults ≡ string_bytes old.faults
@@ -50,6 +51,6 @@ pub record Takes (old : Progress) (answer : Result Line Fault) (new : Progress) 
   pub carried : new.carried ≡ (if is_carried_answer answer then old.carried + 1 else old.carried)
   pub refused : new.refused ≡ (if is_carried_answer answer then old.refused else old.refused + 1)
 
--- a text is what is left of some text once it is trimmed
+-- The text is some text that was trimmed.
 abbrev pub IsTrimmed : List ℕ → Type 0
 IsTrimmed text = (piece : List ℕ) × (text ≡ trimmed piece)

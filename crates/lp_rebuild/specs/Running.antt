@@ -1,4 +1,4 @@
--- What a run answers, and what it leaves in its reader and its writers.
+-- The result of a run, and the state in which a run leaves its reader and its writers.
 use Rattle.std.specs.Prelude.{◌≡◌, ◌≢◌, ◌⊎◌, ◌↔◌, ℕ, ◌+◌, ◌<◌, ◌≤◌, List, [], ◌∷◌, bytes_eq, take, codes, Option, Some}
 use Rattle.std.specs.Prelude.{None, Result, Ok, Err, IfOk, IfErr, IfSome, ◌==◌, Bool, true, OnOk, if◌then◌else◌}
 use Rattle.std.specs.Borrow.{Bor}
@@ -10,25 +10,25 @@ use Rattle.lp_rebuild.specs.declared.program.RunFault.TheVariants.{Read, NotUtf8
 use Rattle.lp_rebuild.specs.declared.batch.Rebuilt.{Rebuilt}
 use Rattle.lp_rebuild.specs.Rebuilding.{RebuildsIn}
 
--- the text of a fault of a run
+-- The text of the error of a run.
 abbrev pub run_fault_text : RunFault → List ℕ
 run_fault_text Read = codes "cannot read the input"
 run_fault_text NotUtf8 = codes "the input is not UTF-8"
 run_fault_text OutOfMemory = codes "out of memory"
 run_fault_text Write = codes "cannot write the output"
 
--- the dialect that the words after the program's name ask for
+-- The dialect that the words after the program's name ask for.
 abbrev pub dialect_of : List (Bor (List ℕ)) → Option Dialect
 dialect_of [] = Some Crate
 dialect_of (word ∷ []) = if bytes_eq word.now (codes "--strict") then Some Strict else None
 dialect_of (word ∷ next ∷ words) = None
 
--- 0 if every item was carried, 1 if some item was not, 2 for a fault of the run
+-- The exit status: 0 if every item was carried, 1 if an item was refused, and 2 if the run failed.
 abbrev pub status_of : Result Rebuilt RunFault → ℕ
 status_of (Ok r) = if r.refused == 0 then 0 else 1
 status_of (Err _) = 2
 
--- this holds, unless the input could not be read or memory ran out
+-- The statement holds, unless the input could not be read or memory ran out.
 abbrev pub OnceRead : Result Rebuilt RunFault → Type 0 → Type 0
 OnceRead (Ok r) P = P
 OnceRead (Err NotUtf8) P = P
@@ -36,7 +36,7 @@ OnceRead (Err Write) P = P
 OnceRead (Err Read) P = Unit {0}
 OnceRead (Err OutOfMemory) P = Unit {0}
 
--- the answer is `NotUtf8` exactly if the input is no UTF-8, unless it could not be read or memory ran out
+-- The result is `NotUtf8` exactly if the input is not UTF-8, unless the input could not be read or memory ran out.
 abbrev pub TestsUtf8 : Result Rebuilt RunFault → List ℕ → Type 0
 TestsUtf8 (Ok r) input = IsUtf8 input
 TestsUtf8 (Err NotUtf8) input = ¬ IsUtf8 input
@@ -44,7 +44,8 @@ TestsUtf8 (Err Write) input = IsUtf8 input
 TestsUtf8 (Err Read) input = Unit {0}
 TestsUtf8 (Err OutOfMemory) input = Unit {0}
 
--- the first sink gained a front of the batch and the second one of the faults, and none unless the batch is whole
+-- The first sink gained a front of the batch, and the second sink gained a front of the faults. The second sink gained nothing unless the
+-- first gained the whole batch.
 pub record WritesFronts (batch faults : List ℕ) (out out_after err err_after : Option (List ℕ)) : Type 0 where
   pub batch_written : ℕ
   pub faults_written : ℕ
@@ -52,7 +53,8 @@ pub record WritesFronts (batch faults : List ℕ) (out out_after err err_after :
   pub err_gained : Appends err err_after (take faults_written faults)
   pub batch_first : 0 < faults_written → take batch_written batch ≡ batch
 
--- `Read` adds one failure to the reader's count, and nothing else changes it; no other fault but `OutOfMemory` comes
+-- The error `Read` adds one to the reader's count of failures, and no other result changes the count. The only other error is
+-- `OutOfMemory`.
 abbrev pub CountsReadFault : {T : Type 0} → Result T RunFault → ℕ → ℕ → Type 0
 CountsReadFault (Ok x) old new = new ≡ old
 CountsReadFault (Err Read) old new = new ≡ old + 1
@@ -60,59 +62,59 @@ CountsReadFault (Err OutOfMemory) old new = new ≡ old
 CountsReadFault (Err NotUtf8) old new = ⊥
 CountsReadFault (Err Write) old new = ⊥
 
--- known bytes grew by a front of bs
+-- The bytes of a sink, if they are known, grew by a front of these bytes.
 abbrev pub AppendsFront : Option (List ℕ) → Option (List ℕ) → List ℕ → Type 0
 AppendsFront old new bs = (n : ℕ) × Appends old new (take n bs)
 
--- what a reader tells of itself: the bytes that are left, if they are known, and how many of its calls failed so far
+-- The facts that contracts know about a reader: the bytes that are left, if they are known, and how many of its calls failed so far.
 pub record ReaderTold : Type 0 where
   pub bytes : Option (List ℕ)
   pub failures : ℕ
 
--- what a reader tells, by the members of its trait
+-- The facts about a reader, from the members of its trait.
 abbrev pub reader_told : {D : Type 0} → (D → Option (List ℕ)) → (D → ℕ) → D → ReaderTold
 reader_told bytes failures reader = record { bytes = bytes reader; failures = failures reader }
 
--- what a writer tells of itself: the bytes that it holds, if they are known, how many of its calls failed so far, and
--- whether all that was written was flushed
+-- The facts that contracts know about a writer: the bytes that it holds, if they are known, how many of its calls failed so far, and
+-- whether all bytes that were written were flushed.
 pub record WriterTold : Type 0 where
   pub bytes : Option (List ℕ)
   pub failures : ℕ
   pub is_flushed : Bool
 
--- what a writer tells, by the members of its trait
+-- The facts about a writer, from the members of its trait.
 abbrev pub writer_told : {D : Type 0} → (D → Option (List ℕ)) → (D → ℕ) → (D → Bool) → D → WriterTold
 writer_told bytes failures is_flushed writer =
     record { bytes = bytes writer; failures = failures writer; is_flushed = is_flushed writer }
 
--- a run by the rules of a dialect: what it answers, and what it leaves in its reader and in its two writers
+-- A run by the rules of a dialect: its result, and the state in which it leaves its reader and its two writers.
 pub record RunsIn (dialect : Dialect) (result : Result Rebuilt RunFault)
     (reader reader_after : ReaderTold) (out out_after err err_after : WriterTold) : Type 0 where
   -- nothing was written, unless a writer failed
   pub quiet : IfErr result (λ f. f ≢ Write → Keeps out.bytes out_after.bytes × Keeps err.bytes err_after.bytes)
-  -- `Read` is answered exactly if the reader failed
+  -- the result is `Read` exactly if the reader failed
   pub read : (result ≡ Err Read) ↔ (reader.failures < reader_after.failures)
-  -- all was read, unless reading failed or memory ran out
+  -- all bytes were read, unless reading failed or memory ran out
   pub all_read : IfSome reader.bytes (λ bs. OnceRead result (reader_after.bytes ≡ Some []))
-  -- `NotUtf8` is answered exactly if what was read is no UTF-8
+  -- the result is `NotUtf8` exactly if the bytes that were read are not UTF-8
   pub utf8 : IfSome reader.bytes (λ bs. TestsUtf8 result bs)
-  -- what is returned is what was read, rebuilt
+  -- the returned value is the result of rebuilding the bytes that were read
   pub rebuilt : IfOk result (λ r. IfSome reader.bytes (λ bs. RebuildsIn dialect bs r))
   -- the first writer gained the batch
   pub batch : IfOk result (λ r. Appends out.bytes out_after.bytes r.batch.items)
   -- the second writer gained the faults
   pub faults : IfOk result (λ r. Appends err.bytes err_after.bytes r.faults.items)
-  -- all that was written to each writer was flushed
+  -- all bytes that were written to each writer were flushed
   pub flushed : OnOk result ((out_after.is_flushed ≡ true) × (err_after.is_flushed ≡ true))
-  -- if a writer failed, each gained a front of what was meant for it
+  -- if a writer failed, each writer gained a front of the text that was meant for it
   pub part : result ≡ Err Write → IfSome reader.bytes
       (λ bs. (r : Rebuilt) × RebuildsIn dialect bs r
       × WritesFronts r.batch.items r.faults.items out.bytes out_after.bytes err.bytes err_after.bytes)
-  -- `Write` is answered exactly if a writer failed
+  -- the result is `Write` exactly if a writer failed
   pub write : (result ≡ Err Write) ↔ ((out.failures < out_after.failures) ⊎ (err.failures < err_after.failures))
-  -- no count of failures falls, so one that has not risen is as before
+  -- no count of failures falls, so a count that has not risen is as it was before
   pub counts : (out.failures ≤ out_after.failures) × (err.failures ≤ err_after.failures)
 
--- a run by the rules of the Rust crate
+-- A run by the rules of the Rust crate.
 abbrev pub Runs : Result Rebuilt RunFault → (reader reader_after : ReaderTold) → (out out_after err err_after : WriterTold) → Type 0
 Runs = RunsIn Crate

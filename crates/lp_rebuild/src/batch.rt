@@ -21,20 +21,21 @@ use lp_scan::trim::trimmed;
 use std::alloc::{AllocError, Global};
 use std::mem;
 
-/// What a text gives when it is rebuilt: its items, numbered from 1, each written again or refused.
+/// The result of rebuilding a text. Each item of the text, numbered from 1, is either carried or refused: it is written again in
+/// `batch`, or it has a line in `faults`.
 #[derive(Drop)]
 pub struct Rebuilt {
-    /// The lines that were written again, each with its newline.
+    /// The carried lines, each with a newline.
     pub batch: Vec<u8>,
-    /// A line for each other item: its number, and what is wrong with it.
+    /// A line for each refused item: `item N: ` and the reason.
     pub faults: Vec<u8>,
-    /// How many items `batch` holds.
+    /// The number of items in `batch`.
     pub carried: usize,
-    /// How many items `faults` holds.
+    /// The number of items in `faults`.
     pub refused: usize,
 }
 
-// What was rebuilt so far.
+// The result of the pieces that were taken so far.
 #[derive(Drop)]
 struct Progress {
     batch: Vec<u8>,
@@ -43,20 +44,24 @@ struct Progress {
     refused: usize,
 }
 
-/// What reads lines again, one after another, each in the room of the ones before.
+/// Reads lines one after another and reuses one buffer for all of them.
 #[derive(Drop)]
 pub struct LineReader<'a> {
-    /// Where memory for what is read comes from.
+    /// The allocator that lines take memory from.
     pub alloc: Global,
-    /// The dialect whose rules hold.
+    /// The dialect by which lines are read.
     pub dialect: Dialect,
     line: ParsedLine<'a>,
-    // A tag set that has grown, of a line that has none now.
+    // A grown tag set that the line, which has no tags, does not use now.
     spare: Option<TagSet<'a>>,
 }
 
 impl<'a> LineReader<'a> {
-    /// Before the first line. It takes no memory.
+    /// Returns a reader that has read no line. Takes no memory.
+    ///
+    /// ```
+    /// let mut reader = LineReader::new(alloc, Dialect::Strict);
+    /// ```
     #[inline(always)]
     pub fn new(alloc: Global, dialect: Dialect) -> Self
         ensures { result.dialect ≡ dialect }
@@ -77,11 +82,16 @@ impl<'a> LineReader<'a> {
         }
     }
 
-    /// Reads a trimmed text into its line, and gives the fault of the text if that is no line.
+    /// Reads a trimmed text. Returns `None` if the text is a line, which [`LineReader::line`] then returns. Returns the fault of
+    /// the text if it is not.
+    ///
+    /// ```text
+    /// read("m f=1i") returns Ok(None),  and  read("m 5") returns the fault `No fields were provided`
+    /// ```
     ///
     /// # Errors
     ///
-    /// If memory was refused for the line.
+    /// Returns `AllocError` if memory for the line was refused.
     #[inline(always)]
     pub fn read(&mut self, text: &'a str) -> Result<Option<SpelledFault<'a>>, AllocError>
         ensures read { IfOk result (λ fault. IsReadAs fault self.new.line (answer (rules_of self.old.dialect) text.now)) }
@@ -101,7 +111,7 @@ impl<'a> LineReader<'a> {
         }
     }
 
-    /// The line that it read last.
+    /// Returns the line that was read last. After a fault, no contract says what the line holds.
     #[inline(always)]
     pub fn line(&self) -> &ParsedLine<'a>
         ensures { result.now ≡ self.now.line }
@@ -109,7 +119,7 @@ impl<'a> LineReader<'a> {
         &self.line
     }
 
-    /// Gives the line that it read last this timestamp, in the place of its own if it has one.
+    /// Sets the timestamp of the line that was read last, and replaces the timestamp that the line has.
     #[inline(always)]
     pub fn set_timestamp(&mut self, timestamp: i64)
         ensures line { self.new.line ≡ record self.old.line { timestamp = Some timestamp } }
@@ -118,7 +128,7 @@ impl<'a> LineReader<'a> {
         self.line.timestamp = Some(timestamp);
     }
 
-    /// Lets it go, without a visit to each place of its line's sets. Its memory is freed.
+    /// Frees the memory of the reader without a visit to each place of its sets.
     #[inline(always)]
     pub fn free(mut self) {
         free_line(self.alloc, &mut self.line);
@@ -126,7 +136,7 @@ impl<'a> LineReader<'a> {
     }
 }
 
-// Writes the line again, after `batch`.
+// Appends the text of a line to `batch`, as the builder writes it.
 fn append(batch: Vec<u8>, line: &ParsedLine<'_>) -> Result<Vec<u8>, AllocError>
     requires { 0 < length line.now.field_set.items }
     ensures { IfOk result (λ longer. longer.items ≡ batch.items ++ built (parsed_point line.now)) }
@@ -137,13 +147,20 @@ fn append(batch: Vec<u8>, line: &ParsedLine<'_>) -> Result<Vec<u8>, AllocError>
     }
 }
 
-/// Takes a line that was read, which has a field: it is written again, after the batch, or refused; then the batch stays as it was.
+/// Writes a line that was read again, at the end of `batch`. Returns `None` if the line was written. Returns
+/// [`LineRefusal::NotAdmitted`], and leaves `batch` as it was, if a name of the line is not admitted.
 ///
-/// If each newline ends a line, no string that was read holds one, so `is_admitted` says whether it reads back in each dialect.
+/// The line must have a field, as each line has that was read. In the newline-delimited dialect, no string that was read holds a
+/// newline, so `is_admitted` decides in each dialect whether the line reads back.
+///
+/// ```text
+/// the line of  m a=007i                         appends m a=7i⏎   and returns None
+/// the line of  login,user=guest\⏎payments ok=t  appends nothing   and returns NotAdmitted
+/// ```
 ///
 /// # Errors
 ///
-/// If memory was refused for the batch, which then may be lost.
+/// Returns `AllocError` if memory for `batch` was refused. `batch` may then be empty.
 pub fn take_line<'a>(
     alloc: Global,
     batch: &mut Vec<u8>,
@@ -160,11 +177,15 @@ pub fn take_line<'a>(
     Ok(None)
 }
 
-/// Appends a line and a newline.
+/// Appends the bytes of a line and a newline.
+///
+/// ```text
+/// of  m f=1i  appends m f=1i⏎
+/// ```
 ///
 /// # Errors
 ///
-/// If memory was refused; then a front of them was appended.
+/// Returns `AllocError` if memory was refused. Nothing is then appended, or a front of these bytes.
 #[inline(always)]
 pub fn copy_line(batch: &mut Vec<u8>, line: &[u8]) -> Result<(), AllocError>
     ensures { OnOk result (batch.new.items ≡ batch.old.items ++ (line.now ++ newline ∷ [])) }
@@ -175,11 +196,18 @@ pub fn copy_line(batch: &mut Vec<u8>, line: &[u8]) -> Result<(), AllocError>
     Ok(())
 }
 
-/// Reads a line and writes it again, after the batch, or tells why it is refused: then the batch stays as it was.
+/// Reads a trimmed text and writes its line again, at the end of `batch`. Returns `None` if the line was written. Returns the
+/// reason, and leaves `batch` as it was, if the text is not a line or a name of the line is not admitted.
+///
+/// ```text
+/// of  m a=007i       appends m a=7i⏎          and returns None
+/// of  cpu usage=64i  appends cpu usage=64i⏎   and returns None
+/// of  m 5            appends nothing          and returns the fault `No fields were provided`
+/// ```
 ///
 /// # Errors
 ///
-/// If memory was refused for the line, or for the batch, which then may be lost.
+/// Returns `AllocError` if memory for the line or for `batch` was refused. `batch` may then be empty.
 pub fn take_text<'a>(
     batch: &mut Vec<u8>,
     reader: &mut LineReader<'a>,
@@ -197,11 +225,13 @@ pub fn take_text<'a>(
     }
 }
 
-/// Takes a line, as [`take_text`] does, but its text is copied if it is as the builder writes it.
+/// Does what [`take_text`] does, but copies the text if it is already written as the builder writes it.
+///
+/// A copied text is not parsed, and takes no memory except for the growth of `batch`.
 ///
 /// # Errors
 ///
-/// Those of [`take_text`].
+/// Returns the errors of [`take_text`].
 #[inline(always)]
 pub fn put_line<'a>(
     batch: &mut Vec<u8>,
@@ -221,7 +251,7 @@ pub fn put_line<'a>(
     take_text(batch, reader, text)
 }
 
-// Writes a fault line for the next item.
+// Appends a fault line for the next item, and counts the item as refused.
 #[cold]
 #[inline(never)]
 fn refuse(so_far: &mut Progress, refusal: LineRefusal<'_>) -> Result<(), AllocError>
@@ -234,7 +264,7 @@ fn refuse(so_far: &mut Progress, refusal: LineRefusal<'_>) -> Result<(), AllocEr
     Ok(())
 }
 
-// Takes the next piece of a text. A blank piece has no item.
+// Takes the next piece of a text: carries or refuses its item. A blank piece has no item.
 #[tactic(auto, using(crate::proofs::RebuildLemmas::carried_answer, crate::proofs::RebuildLemmas::refused_answer))]
 #[inline(always)]
 fn take_piece<'a>(
@@ -261,19 +291,25 @@ fn take_piece<'a>(
     Ok(())
 }
 
-/// Writes again each line of a text whose names are all admitted, and refuses every other item.
+/// Writes each line of a text whose names are all admitted again, and refuses every other item.
 ///
-/// [`is_admitted`] says which lines these are. For every other item `faults` gains `item N: TEXT` and
-/// a newline, if TEXT is the error, or `a name cannot be written again`. With any text after it,
-/// `batch` reads back as the lines that were written, and then as that text alone.
+/// [`is_admitted`] decides whether the names of a line are admitted. For every other item, `faults` gains `item N: TEXT` and a
+/// newline, where TEXT is the error of the item or `a name cannot be written again`. With any text after it, `batch` reads back
+/// as the lines that were written, and then as that text alone.
 ///
-/// A line that is as the builder writes it is copied, and takes no memory but for the growth of `batch`. Another line is gone over
-/// twice: it is read after that was asked of its text, and its copies take memory.
+/// A line that is already written as the builder writes it is copied, and takes no memory except for the growth of `batch`. Any
+/// other line is read twice, first to compare its text with the text that the builder writes, and takes memory for its copies.
+///
+/// ```text
+/// the text           gives the batch     and the faults
+/// cpu usage=64i⏎m 5⏎ cpu usage=64i⏎      item 2: No fields were provided⏎
+/// m a=007i⏎m a=-0i⏎  m a=7i⏎m a=0i⏎
+/// ```
 ///
 /// # Errors
 ///
-/// If a request for memory is refused, also one of the parser for a line, and if a line, once it is written, would be
-/// longer than `usize::MAX` bytes; what was rebuilt so far is dropped.
+/// Returns `AllocError` if a request for memory is refused, also a request of the parser for a line, and if the text of a line
+/// would be longer than `usize::MAX` bytes. The lines that were rebuilt so far are dropped.
 pub fn rebuild(alloc: Global, input: &str) -> Result<Rebuilt, AllocError>
     ensures rebuilds { IfOk result (λ r. Rebuilds input.now r) }
     ensures reads_back { IfOk result (λ r. ReadsBack input.now r) }
@@ -281,16 +317,20 @@ pub fn rebuild(alloc: Global, input: &str) -> Result<Rebuilt, AllocError>
     rebuild_in(alloc, Dialect::Crate, input)
 }
 
-/// Writes again each line of a text whose names are all admitted, and refuses every other item, by the rules of a
-/// dialect.
+/// Writes each line of a text whose names are all admitted again, and refuses every other item, by the rules of a dialect.
 ///
-/// [`rebuild`] does so by those of the crate; what it says of the batch, the faults and memory holds here too. The batch
-/// reads back in each dialect, whichever one the text was read in. But if each newline ends a line in the one and not in the
-/// other, it does if no string that was carried holds a newline.
+/// [`rebuild`] does the same by the rules of the Rust crate, and describes the batch, the faults and the memory. The batch reads
+/// back in each dialect, whichever dialect the text was read in, with one exception: a batch that was read in another dialect
+/// reads back in `NewlineDelimited` only if no string in it holds a newline.
+///
+/// ```text
+/// m s="a⏎n b=01i    in Crate and Strict has one item, and the fault `item 1: No fields were provided`
+///                  in NewlineDelimited has the same fault, and the batch `n b=1i⏎`
+/// ```
 ///
 /// # Errors
 ///
-/// Those of [`rebuild`].
+/// Returns the errors of [`rebuild`].
 #[inline]
 pub fn rebuild_in(alloc: Global, dialect: Dialect, input: &str) -> Result<Rebuilt, AllocError>
     ensures rebuilds { IfOk result (λ r. RebuildsIn (rules_of dialect) input.now r) }

@@ -1,7 +1,7 @@
-//! Readers and writers that may fail.
+//! Sources and sinks: readers and writers that can fail.
 //!
-//! A fault says no more than that the device failed. What a device's bytes are, how often it has failed, and
-//! whether all that was written to it was flushed, is told to contracts alone.
+//! The error [`DeviceFault`] says only that a device failed. Contracts also know the bytes of a device, how often it has failed,
+//! and whether all bytes that were written to it were flushed.
 ghost use Rattle.std.specs.Prelude.{Option, ◌≡◌, ℕ, ◌+◌, ◌≤◌, ◌<◌, Bool, true, false, List, [], length, Some, None};
 ghost use Rattle.std.specs.Prelude.{IfOk, IsOk, OnOk, OnErr};
 ghost use Rattle.std.specs.Io.KnownBytes.{ReadConsumes, WriteAppends, Keeps};
@@ -13,36 +13,39 @@ use crate::tries::{flush_again, read_again, write_again};
 use std::alloc::Global;
 use std::io::{Read, Write};
 
-/// A device failed.
+/// The error of a source or a sink: the device failed.
 #[derive(Clone, Copy, Debug, PartialEq, Eq)]
 pub struct DeviceFault;
 
-/// Bytes that come in.
+/// A source of bytes, such as standard input or a slice.
 ///
-/// For contracts it has two members: `bytes`, those that are left, if they are known, and
-/// `failures`, how many calls failed so far.
+/// Contracts know two facts about a source: `bytes`, the bytes that are left, if they are known, and `failures`, how many calls
+/// failed so far.
 pub trait Source {
     ghost bytes: { Self → Option (List ℕ) };
 
     ghost failures: { Self → ℕ };
 
-    /// Hands over the first bytes that are left: so many as it answers, to the front of `buf`. It
-    /// answers 0 for a `buf` that is not empty only at the end.
+    /// Reads the next bytes into the front of `buf`, and returns how many bytes it read. Returns 0 only at the end of the input,
+    /// or if `buf` is empty.
+    ///
+    /// ```text
+    /// reads of the slice b"abc" into 2 bytes return 2, then 1, and then 0
+    /// ```
     ///
     /// # Errors
     ///
-    /// A fault of the device; no byte is lost.
+    /// Returns `DeviceFault` if the device failed. No byte of the source is lost.
     fn read(&mut self, buf: &mut [u8]) -> Result<usize, DeviceFault>
         ensures bound { IfOk result (λ n. n ≤ length buf.new) }
         ensures bytes { ReadConsumes (bytes self.old) (bytes self.new) result buf.new }
         ensures counts { CountsFailure result (failures self.old) (failures self.new) };
 }
 
-/// Bytes that go out.
+/// A sink for bytes, such as standard output or memory.
 ///
-/// For contracts it has three members: `bytes`, those that it holds, if they are known;
-/// `failures`, how many calls failed so far; and `is_flushed`, whether all that was written was
-/// flushed.
+/// Contracts know three facts about a sink: `bytes`, the bytes that it holds, if they are known; `failures`, how many calls
+/// failed so far; and `is_flushed`, whether all bytes that were written were flushed.
 pub trait Sink {
     ghost bytes: { Self → Option (List ℕ) };
 
@@ -50,12 +53,11 @@ pub trait Sink {
 
     ghost is_flushed: { Self → Bool };
 
-    /// Appends the first bytes of `buf`: so many as it answers, and never 0 for a `buf` that is not
-    /// empty.
+    /// Appends the first bytes of `buf`, and returns how many bytes it appended. Returns 0 only if `buf` is empty.
     ///
     /// # Errors
     ///
-    /// A fault of the device; nothing was appended.
+    /// Returns `DeviceFault` if the device failed. No byte was appended.
     fn write(&mut self, buf: &[u8]) -> Result<usize, DeviceFault>
         ensures bound { IfOk result (λ n. n ≤ length buf.now) }
         ensures moves { IfOk result (λ n. 0 < length buf.now → 0 < n) }
@@ -63,19 +65,20 @@ pub trait Sink {
         ensures counts { CountsFailure result (failures self.old) (failures self.new) }
         ensures unflushed { IfOk result (λ n. 0 < n → is_flushed self.new ≡ false) };
 
-    /// Hands on what it may still keep back. Its bytes stay as they are.
+    /// Hands on all bytes that the sink may still hold back. The bytes of the sink stay as they are.
     ///
     /// # Errors
     ///
-    /// A fault of the device.
+    /// Returns `DeviceFault` if the device failed.
     fn flush(&mut self) -> Result<(), DeviceFault>
         ensures bytes { Keeps (bytes self.old) (bytes self.new) }
         ensures counts { CountsFailure result (failures self.old) (failures self.new) }
         ensures flushed { OnOk result (is_flushed self.new ≡ true) };
 }
 
-/// A source over a reader of std. Its `bytes` are not known to contracts, but each read hands over what the reader gives. A read that a
-/// signal interrupts is tried again.
+/// A source that reads from a reader of `std`, such as standard input. A read that a signal interrupts is tried again.
+///
+/// Contracts do not know the `bytes` of such a source, but each read returns the bytes that the reader gives.
 #[derive(Drop)]
 pub struct Reading<R> {
     inner: R,
@@ -83,7 +86,11 @@ pub struct Reading<R> {
 }
 
 impl<R: Read> Reading<R> {
-    /// A source that has not failed so far. It takes no memory.
+    /// Returns a source over `inner` that has not failed so far. Takes no memory.
+    ///
+    /// ```
+    /// let mut reader = Reading::new(rt.stdin());
+    /// ```
     pub fn new(inner: R) -> Self
         ensures inner { reading_inner result ≡ inner }
         ensures unfailed { reading_failures result ≡ 0 }
@@ -115,7 +122,7 @@ impl<R: Read> Source for Reading<R> {
     }
 }
 
-/// The bytes of a slice, from the first one on. It never fails.
+/// A slice is a source of its bytes, from the first byte on. A read from it never fails.
 impl<'a> Source for &'a [u8] {
     ghost bytes = { λ s. Some s.now };
 
@@ -130,18 +137,24 @@ impl<'a> Source for &'a [u8] {
     }
 }
 
-/// A sink over a writer of std. Its `bytes` are not known to contracts, but each write hands the writer what it takes. A
-/// writer that takes nothing of bytes that it was given has failed. A call that a signal interrupts is tried again.
+/// A sink that writes to a writer of `std`, such as standard output. A call that a signal interrupts is tried again. A write that
+/// takes none of the bytes it was given is a failure.
+///
+/// Contracts do not know the `bytes` of such a sink, but each write hands its bytes to the writer.
 #[derive(Drop)]
 pub struct Writing<W> {
     inner: W,
     failures: Failures,
-    // Whether all that was written was flushed, for contracts.
+    // Whether all bytes that were written were flushed, for contracts.
     is_flushed: bool,
 }
 
 impl<W: Write> Writing<W> {
-    /// A sink that has not failed so far. It takes no memory.
+    /// Returns a sink over `inner` that has not failed so far. Takes no memory.
+    ///
+    /// ```
+    /// let mut out = Writing::new(rt.stdout());
+    /// ```
     pub fn new(inner: W) -> Self
         ensures inner { writing_inner result ≡ inner }
         ensures unfailed { writing_failures result ≡ 0 }
@@ -199,17 +212,23 @@ impl<W: Write> Sink for Writing<W> {
     }
 }
 
-/// A sink in memory.
+/// A sink that keeps all bytes in memory.
 #[derive(Drop)]
 pub struct Kept {
     bytes: Vec<u8>,
     failures: Failures,
-    // Whether all that was written was flushed, for contracts.
+    // Whether all bytes that were written were flushed, for contracts.
     is_flushed: bool,
 }
 
 impl Kept {
-    /// An empty sink that has not failed so far. It takes no memory until the first write.
+    /// Returns an empty sink that has not failed so far. Takes no memory until the first write.
+    ///
+    /// ```
+    /// let mut out = Kept::new(alloc);
+    /// write_bytes(&mut out, b"m f=1i")?;
+    /// // out.as_slice() is b"m f=1i"
+    /// ```
     pub fn new(alloc: Global) -> Self
         ensures empty { kept_bytes result ≡ [] }
         ensures unfailed { kept_failures result ≡ 0 }
@@ -222,7 +241,11 @@ impl Kept {
         }
     }
 
-    /// All that was written so far.
+    /// Returns all bytes that were written so far.
+    ///
+    /// ```text
+    /// after writes of b"m f" and b"=1i", as_slice() is b"m f=1i"
+    /// ```
     pub fn as_slice(&self) -> &[u8]
         ensures { result.now ≡ kept_bytes self.now }
     {
@@ -230,7 +253,7 @@ impl Kept {
     }
 }
 
-/// A write is taken whole, and fails only if memory for it was refused. A flush moves no byte.
+/// A write takes all of `buf`, and fails only if memory was refused. A flush changes no byte.
 impl Sink for Kept {
     ghost bytes = { λ k. Some (kept_bytes k) };
 

@@ -1,7 +1,7 @@
-//! Rebuilds the lines of a text: those that can be written again go to one output, and every other
-//! one is a fault, numbered, in another.
+//! Rebuilds the lines of a text: writes each line that reads back again, and writes a numbered fault line for every other item.
 //!
-//! [`rebuild`] does it for a text, and [`run`] from a reader to two writers. `lp_relay` does it as the lines come.
+//! [`rebuild`] rebuilds a text in memory. [`run`] reads a whole input, and writes the lines to one output and the faults to
+//! another. `lp_relay` does the same while lines come in.
 #![tactic(auto)]
 
 // The public modules are shared with `lp_relay`.

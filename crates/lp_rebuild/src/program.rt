@@ -1,4 +1,4 @@
-//! From a reader to two writers.
+//! Runs from a source to two sinks.
 ghost use Rattle.std.specs.Prelude.{◌≡◌, ◌+◌, ◌<◌, ◌≤◌, take, drop, length, max, option_map, vec_len, true, IfOk, OnOk, OnErr};
 ghost use Rattle.std.specs.Io.KnownBytes.{Appends, Consumes, IsAtEnd};
 ghost use Rattle.influxdb_line_protocol.specs.code.Rules.{rules_of};
@@ -10,7 +10,7 @@ use influxdb_line_protocol::Dialect;
 use std::alloc::{AllocError, Global};
 use std::fmt;
 
-/// Why a run failed.
+/// The error of a run.
 #[derive(Clone, Copy, Debug, PartialEq, Eq)]
 pub enum RunFault {
     /// The reader failed.
@@ -39,7 +39,7 @@ impl fmt::Display for RunFault {
     }
 }
 
-/// The room that each read is given.
+/// The number of bytes that each read has room for.
 pub const BLOCK: usize = 65_536;
 
 // Makes room for a block after the first `filled` bytes of `input`, which stay as they are.
@@ -57,7 +57,7 @@ fn grow_by_block(input: &mut Vec<u8>, filled: usize) -> Result<(), AllocError>
     Ok(())
 }
 
-// One read into `buf`, after its first `at` bytes, which stay as they are.
+// Reads once into `buf`, after its first `at` bytes. These bytes stay as they are.
 fn read_at<R: Source>(reader: &mut R, buf: &mut [u8], at: usize) -> Result<usize, DeviceFault>
     requires { at < length buf.old }
     ensures front { take at buf.new ≡ take at buf.old }
@@ -70,7 +70,14 @@ fn read_at<R: Source>(reader: &mut R, buf: &mut [u8], at: usize) -> Result<usize
     reader.read(&mut buf[at..])
 }
 
-/// One read after the first `filled` bytes of `input`, which stay as they are.
+/// Reads once, after the first `filled` bytes of `input`. Returns how many bytes it read, or 0 at the end of the input.
+///
+/// The first `filled` bytes stay as they are. `input` grows if it has room for less than a block after them.
+///
+/// # Errors
+///
+/// * `Read` if `reader` failed.
+/// * `OutOfMemory` if memory was refused.
 pub fn read_block<R: Source>(
     reader: &mut R,
     input: &mut Vec<u8>,
@@ -95,14 +102,19 @@ pub fn read_block<R: Source>(
     }
 }
 
-/// All bytes that `reader` has left.
+/// Reads all bytes that `reader` has left.
 ///
-/// They are held once, with room for a block after them, in a buffer that grows by doubling. A reader that never ends uses up
-/// the memory.
+/// The bytes are held once, with room for a block after them, in a buffer that grows by doubling. A reader that never ends uses
+/// up the memory.
+///
+/// ```
+/// let mut reader = Reading::new(rt.stdin());
+/// let input = read_all(rt.alloc(), &mut reader)?;
+/// ```
 ///
 /// # Errors
 ///
-/// * `Read` if `reader` failed, and only there.
+/// * `Read` if and only if `reader` failed.
 /// * `OutOfMemory` if memory was refused.
 pub fn read_all<R: Source>(alloc: Global, reader: &mut R) -> Result<Vec<u8>, RunFault>
     ensures ok { IfOk result (λ input. Consumes (R.bytes reader.old) (R.bytes reader.new) input.items) }
@@ -124,7 +136,16 @@ pub fn read_all<R: Source>(alloc: Global, reader: &mut R) -> Result<Vec<u8>, Run
     Err(RunFault::OutOfMemory)
 }
 
-/// Writes all of `bytes`.
+/// Writes all of `bytes` to `sink`.
+///
+/// ```
+/// let mut out = Kept::new(alloc);
+/// write_bytes(&mut out, b"m f=1i")?;
+/// ```
+///
+/// # Errors
+///
+/// Returns `DeviceFault` if `sink` failed. A front of the bytes may be written.
 pub fn write_bytes<W: Sink>(sink: &mut W, bytes: &[u8]) -> Result<(), DeviceFault>
     ensures ok { OnOk result (Appends (W.bytes sink.old) (W.bytes sink.new) bytes.now) }
     ensures part { OnErr result (AppendsFront (W.bytes sink.old) (W.bytes sink.new) bytes.now) }
@@ -138,7 +159,7 @@ pub fn write_bytes<W: Sink>(sink: &mut W, bytes: &[u8]) -> Result<(), DeviceFaul
     Ok(())
 }
 
-// Writes all of `bytes`, and flushes.
+// Writes all of `bytes` to `sink`, and flushes it.
 fn write_all<W: Sink>(sink: &mut W, bytes: &[u8]) -> Result<(), DeviceFault>
     ensures ok { OnOk result (Appends (W.bytes sink.old) (W.bytes sink.new) bytes.now) }
     ensures part { OnErr result (AppendsFront (W.bytes sink.old) (W.bytes sink.new) bytes.now) }
@@ -149,17 +170,23 @@ fn write_all<W: Sink>(sink: &mut W, bytes: &[u8]) -> Result<(), DeviceFault>
     sink.flush()
 }
 
-/// Reads all that `reader` gives, rebuilds it, and writes the batch to `out` and the faults to `err`.
+/// Reads all bytes of `reader`, rebuilds them, and writes the batch to `out` and the faults to `err`.
 ///
-/// It reads to the end before it writes, and what it holds of the input is one copy. A reader that
-/// never ends uses up the memory. `err` gets nothing before `out` has taken all of the batch.
+/// `run` reads to the end before it writes, and holds one copy of the input. A reader that never ends uses up the memory. `err`
+/// gets nothing before `out` has taken the whole batch. Both are flushed.
+///
+/// ```text
+/// the input          writes to `out`     and to `err`                     status
+/// cpu usage=64i⏎m 5⏎ cpu usage=64i⏎      item 2: No fields were provided⏎ 1
+/// m a=007i⏎m a=-0i⏎  m a=7i⏎m a=0i⏎                                       0
+/// ```
 ///
 /// # Errors
 ///
-/// * `Read` if `reader` failed, and only there; nothing was written.
-/// * `NotUtf8` if the input is not UTF-8; nothing was written.
-/// * `OutOfMemory` if memory was refused; nothing was written.
-/// * `Write` if `out` or `err` failed, and only there; a part of the output may be written.
+/// * `Read` if and only if `reader` failed. Nothing was written.
+/// * `NotUtf8` if the input is not UTF-8. Nothing was written.
+/// * `OutOfMemory` if memory was refused. Nothing was written.
+/// * `Write` if and only if `out` or `err` failed. A part of the output may be written.
 pub fn run<R: Source, W: Sink, E: Sink>(
     alloc: Global,
     reader: &mut R,
@@ -174,14 +201,19 @@ pub fn run<R: Source, W: Sink, E: Sink>(
     run_in(alloc, Dialect::Crate, reader, out, err)
 }
 
-/// Reads all that `reader` gives, rebuilds it by the rules of a dialect, and writes the batch to `out` and the faults to
-/// `err`.
+/// Reads all bytes of `reader`, rebuilds them by the rules of a dialect, and writes the batch to `out` and the faults to `err`.
 ///
-/// [`run`] does so by those of the crate; what it says of the order, of memory and of its faults holds here too.
+/// [`run`] does the same by the rules of the Rust crate, and describes the order, the memory and the errors.
+///
+/// ```text
+/// the input          in Crate and Strict         in NewlineDelimited
+/// m s="a⏎n b=01i     `out` gets nothing          `out` gets n b=1i⏎
+/// ```
+/// In each dialect, `err` gets `item 1: No fields were provided⏎`.
 ///
 /// # Errors
 ///
-/// Those of [`run`].
+/// Returns the errors of [`run`].
 #[inline]
 pub fn run_in<R: Source, W: Sink, E: Sink>(
     alloc: Global,
@@ -211,8 +243,14 @@ pub fn run_in<R: Source, W: Sink, E: Sink>(
     Ok(rebuilt)
 }
 
-/// The exit status of the program: 0 if every item was carried, 1 if some item was not, and 2
-/// for a fault of the run.
+/// Returns the exit status of the program: 0 if every item was carried, 1 if an item was refused, and 2 if the run failed.
+///
+/// ```text
+/// a run over                  gives
+/// m a=007i⏎m a=-0i⏎           0
+/// cpu usage=64i⏎m 5⏎          1
+/// an input that is not UTF-8  2
+/// ```
 pub fn status(answer: &Result<Rebuilt, RunFault>) -> u8
     ensures { result ≡ status_of answer.now }
 {
@@ -222,13 +260,11 @@ pub fn status(answer: &Result<Rebuilt, RunFault>) -> u8
     }
 }
 
-/// How the program is called: the line that it prints if its arguments ask for no dialect, without the newline.
+/// How the program is called: the usage line, without a newline. The program prints it if its arguments name no dialect.
 pub const USAGE: &str = "usage: lp_rebuild [--strict]";
 
-/// The dialect that the words after the program's name ask for: that of the crate if there is no word, the strict
-/// one for the one word `--strict`, and `None` for all else.
-///
-/// It takes no memory.
+/// Returns the dialect that the words after the program's name ask for: `Crate` if there is no word, `Strict` if the only word is
+/// `--strict`, and `None` otherwise. Takes no memory.
 ///
 /// ```text
 /// dialect_of(&[])                        gives  Some(Dialect::Crate)

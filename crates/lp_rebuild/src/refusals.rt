@@ -1,20 +1,20 @@
-//! Why a line is refused.
+//! The reason why a line is refused.
 ghost use Rattle.std.specs.Prelude.{Some};
 ghost use Rattle.lp_rebuild.specs.RebuildSteps.{line_refusal_text};
 
 use influxdb_line_protocol::SpelledFault;
 use std::fmt;
 
-/// Why a line is refused. It takes no memory: a text of its fault is a part of the line.
+/// The reason why a line is refused. It takes no memory: its text is a part of the line.
 #[derive(Clone, Copy, Debug)]
 pub enum LineRefusal<'a> {
-    /// It cannot be read: this is its fault.
+    /// The line cannot be read, and has this fault.
     Fault(SpelledFault<'a>),
-    /// A name of it is not admitted.
+    /// A name of the line is not admitted.
     NotAdmitted,
 }
 
-/// What is wrong with the line, as a fault line says it.
+/// Writes the reason as it stands in a fault line.
 impl<'a> fmt::Display for LineRefusal<'a> {
     ghost output = { λ refusal. Some (line_refusal_text refusal) };
 

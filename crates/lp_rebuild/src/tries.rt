@@ -1,19 +1,20 @@
-//! Calls of readers and writers that a signal interrupts, tried again.
+//! Calls of readers and writers that are tried again if a signal interrupts them.
 //!
-//! A process that was stopped and goes on may find its read or write interrupted, with no byte moved. That is no fault of the device.
+//! If a process is stopped and continued, a signal can interrupt its read or write before any byte is moved. Such an interruption
+//! is not a fault of the device.
 ghost use Rattle.std.specs.Io.{ReadsAtMost, WritesAtMost};
 ghost use Rattle.std.specs.Io.KnownBytes.{Keeps, ReadConsumes, WriteAppends};
 
 use std::io::{self, ErrorKind, Read, Write};
 
-// How often a call is tried: a process gets no such number of signals.
+// How often a call is tried. No process gets so many signals.
 const TRIES: u64 = u64::MAX;
 
-/// Reads, and again as often as a signal interrupts that.
+/// Reads from `reader`, and tries again each time a signal interrupts the read.
 ///
 /// # Errors
 ///
-/// What the reader says.
+/// Returns the error of the reader.
 pub(crate) fn read_again<R: Read>(reader: &mut R, buf: &mut [u8]) -> io::Result<usize>
     ensures bound { ReadsAtMost result buf.new }
     ensures bytes { ReadConsumes (R.remaining reader.old) (R.remaining reader.new) result buf.new }
@@ -27,11 +28,11 @@ pub(crate) fn read_again<R: Read>(reader: &mut R, buf: &mut [u8]) -> io::Result<
     Err(io::Error::from(ErrorKind::Interrupted))
 }
 
-/// Writes, and again as often as a signal interrupts that.
+/// Writes to `writer`, and tries again each time a signal interrupts the write.
 ///
 /// # Errors
 ///
-/// What the writer says.
+/// Returns the error of the writer.
 pub(crate) fn write_again<W: Write>(writer: &mut W, buf: &[u8]) -> io::Result<usize>
     ensures bound { WritesAtMost result buf.now }
     ensures bytes { WriteAppends (W.contents writer.old) (W.contents writer.new) result buf.now }
@@ -45,11 +46,11 @@ pub(crate) fn write_again<W: Write>(writer: &mut W, buf: &[u8]) -> io::Result<us
     Err(io::Error::from(ErrorKind::Interrupted))
 }
 
-/// Flushes, and again as often as a signal interrupts that.
+/// Flushes `writer`, and tries again each time a signal interrupts the flush.
 ///
 /// # Errors
 ///
-/// What the writer says.
+/// Returns the error of the writer.
 pub(crate) fn flush_again<W: Write>(writer: &mut W) -> io::Result<()>
     ensures bytes { Keeps (W.contents writer.old) (W.contents writer.new) }
 {

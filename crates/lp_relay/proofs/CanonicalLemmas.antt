@@ -42,35 +42,35 @@ otherwise front text line admitted other = rw (admitted, other) refl
 -- a text that is as written goes out as it came if lines are written again, or go out only if they are as written
 pub takes_copied : (lines : LineForm) (dialect : Dialect) (piece text before after : List ℕ) → copies lines ≡ true → text ≡ trimmed piece
     → WrittenLinesStay → IsAsWritten text → after ≡ before ++ (text ++ newline ∷ [])
-    → TakesItem took.Carried (item_of lines piece (answer dialect text)) before after
+    → TakesItem took.Carried (item_of dialect lines piece (answer dialect text)) before after
 takes_copied Rebuilt dialect piece text before after other is stay written copied =
     let stays = stay dialect text written in
     let point : carried_point (Ok stays.0) ≡ point_of stays.0 ∷ [] = rw stays.2.0 refl in
     let same : text ++ newline ∷ [] ≡ built_all (carried_point (Ok stays.0)) =
     sym stays.2.1 ∙ sym (append-nil (built (point_of stays.0))) ∙ ap built_all (sym point) in
-    subst (λ (a : Result Line Fault). TakesItem took.Carried (item_of Rebuilt piece a) before after) (sym stays.1)
+    subst (λ (a : Result Line Fault). TakesItem took.Carried (item_of dialect Rebuilt piece a) before after) (sym stays.1)
     (stays.2.0, copied ∙ ap (λ (l : List ℕ). before ++ l) same)
 takes_copied Verbatim dialect piece text before after other is stay written copied = absurd (cc)
 takes_copied Canonical dialect piece text before after other is stay written copied =
     let stays = stay dialect text written in
-    let item : item_of Canonical piece (answer dialect text) ≡ put_out (text ++ newline ∷ []) =
-    ap (item_of Canonical piece) stays.1 ∙ ap (λ (l : List ℕ). canonical_item (front_of piece) l stays.0) (sym is)
+    let item : item_of dialect Canonical piece (answer dialect text) ≡ put_out (text ++ newline ∷ []) =
+    ap (item_of dialect Canonical piece) stays.1 ∙ ap (λ (l : List ℕ). canonical_item (front_of piece) l stays.0) (sym is)
     ∙ as_it_is (front_of piece) text stays.0 stays.2.0 stays.2.1 in
     subst (λ (i : Item). TakesItem took.Carried i before after) (sym item) (refl, copied)
 takes_copied Keyed dialect piece text before after other is stay written copied = absurd (cc)
 takes_copied (OfShard shard) dialect piece text before after other is stay written copied = absurd (cc)
 
 -- what is refused as a rebuild does is that item
-refused_item : (piece : List ℕ) (refusal : LineRefusal) (a : Result Line Fault) → IsRefusedFor (Some refusal) a
-    → item_of Canonical piece a ≡ answered (front_of piece) a
-refused_item piece (line.Fault fault) a is = rw is refl
-refused_item piece line.NotAdmitted a (l, same, not_admitted) = rw (same, not_admitted) refl
+refused_item : (dialect : Dialect) (piece : List ℕ) (refusal : LineRefusal) (a : Result Line Fault) → IsRefusedFor (Some refusal) a
+    → item_of dialect Canonical piece a ≡ answered (front_of piece) a
+refused_item dialect piece (line.Fault fault) a is = rw is refl
+refused_item dialect piece line.NotAdmitted a (l, same, not_admitted) = rw (same, not_admitted) refl
 
 -- a line was refused as a rebuild does
-pub takes_refused : (piece before after : List ℕ) (refusal : LineRefusal) (a : Result Line Fault) → TakesLine before (Some refusal) a after
-    → TakesItem (took.Refused (why.Line refusal)) (item_of Canonical piece a) before after
-takes_refused piece before after refusal a t =
-    subst (λ (i : Item). TakesItem (took.Refused (why.Line refusal)) i before after) (sym (refused_item piece refusal a t.refused))
+pub takes_refused : (dialect : Dialect) (piece before after : List ℕ) (refusal : LineRefusal) (a : Result Line Fault) → TakesLine before (Some refusal) a after
+    → TakesItem (took.Refused (why.Line refusal)) (item_of dialect Canonical piece a) before after
+takes_refused dialect piece before after refusal a t =
+    subst (λ (i : Item). TakesItem (took.Refused (why.Line refusal)) i before after) (sym (refused_item dialect piece refusal a t.refused))
     (refuses_answer (front_of piece) refusal a t.refused, same_batch before after refusal a t)
 
 -- what is not refused is carried
@@ -79,75 +79,11 @@ pub no_refusal : (before after : List ℕ) (refusal : Option LineRefusal) (a : R
 no_refusal before after None a none t = t
 no_refusal before after (Some r) a none t = absurd (none r refl)
 
--- what the builder writes, without its newline
-cut_newline : (line : List ℕ) → take (length (line ++ newline ∷ []) - 1) (line ++ newline ∷ []) ≡ line
-cut_newline line =
-    let long : length (line ++ newline ∷ []) - 1 ≡ length line = omega (arith, length-append {A = ℕ}) in
-    ap (λ n. take n (line ++ newline ∷ [])) long ∙ take-append_seam line (newline ∷ [])
-
--- a line that was read was written again, and what was written is a text and a newline exactly if this line of it is the text
-record WroteLine (before mid line : List ℕ) (l : Line) : Type 0 where
-  admitted : is_admitted_point (point_of l) ≡ true
-  batch : mid ≡ before ++ built (point_of l)
-  written : drop (length before) mid ≡ built (point_of l)
-  is_line : line ≡ line_of (point_of l)
-
--- so it is
-wrote : (before mid written line : List ℕ) (start n : ℕ) (l : Line) → TakesLine before None (Ok l) mid → start ≡ length before
-    → written ≡ drop start mid → n ≡ length written - 1 → line ≡ take n written → WroteLine before mid line l
-wrote before mid written line start n l t starts rest cut is =
-    let admitted : is_admitted_point (point_of l) ≡ true = t.refused in
-    let batch : mid ≡ before ++ built (point_of l) = rw admitted at t.batch ∙ ap (λ (p : List ℕ). before ++ p) (append-nil (built (point_of l))) in
-    let whole : drop (length before) mid ≡ built (point_of l) = ap (drop (length before)) batch ∙ drop-append_seam before (built (point_of l)) in
-    let all : written ≡ built (point_of l) = rest ∙ ap (λ (k : ℕ). drop k mid) starts ∙ whole in
-    record {
-      admitted = admitted;
-      batch = batch;
-      written = whole;
-      is_line = is ∙ ap (λ k. take k written) cut ∙ ap (λ (w : List ℕ). take (length w - 1) w) all ∙ cut_newline (line_of (point_of l));
-    }
-
--- a line that was read goes out as it came if it is that text
-pub takes_same : (piece text before mid written line : List ℕ) (start n : ℕ) (l : Line) → text ≡ trimmed piece → TakesLine before None (Ok l) mid
-    → start ≡ length before → written ≡ drop start mid → n ≡ length written - 1 → line ≡ take n written → line ≡ text
-    → TakesItem took.Carried (item_of Canonical piece (Ok l)) before mid
-takes_same piece text before mid written line start n l is t starts rest cut cuts same =
-    let w = wrote before mid written line start n l t starts rest cut cuts in
-    let writes : built (point_of l) ≡ text ++ newline ∷ [] = ap (λ (x : List ℕ). x ++ newline ∷ []) (sym w.is_line ∙ same) in
-    let item : item_of Canonical piece (Ok l) ≡ put_out (text ++ newline ∷ []) =
-    ap (λ (x : List ℕ). canonical_item (front_of piece) x l) (sym is) ∙ as_it_is (front_of piece) text l w.admitted writes in
-    subst (λ (i : Item). TakesItem took.Carried i before mid) (sym item) (refl, w.batch ∙ ap (λ (x : List ℕ). before ++ x) writes)
-
--- and else it is refused, and taken back
-pub takes_other : (piece text before mid written line after : List ℕ) (start n : ℕ) (l : Line) (part : Part) (wrong : _) → text ≡ trimmed piece
-    → TakesLine before None (Ok l) mid → start ≡ length before → written ≡ drop start mid → n ≡ length written - 1 → line ≡ take n written
-    → (¬ (line ≡ text)) → part ≡ differing_part text (drop start mid) → string_bytes wrong ≡ part_text part → after ≡ take start mid
-    → TakesItem (took.Refused (why.NotAsWritten wrong)) (item_of Canonical piece (Ok l)) before after
-takes_other piece text before mid written line after start n l part wrong is t starts rest cut cuts differs part_is says back =
-    let w = wrote before mid written line start n l t starts rest cut cuts in
-    let p = point_of l in
-    let all : drop start mid ≡ built p = ap (λ (k : ℕ). drop k mid) starts ∙ w.written in
-    let other : bytes_eq (built p) (text ++ newline ∷ []) ≡ false =
-    elim (cases_Bool (bytes_eq (built p) (text ++ newline ∷ []))) [
-      | inl good ↦
-          let same = (bytes_eq-Decides (built p) (text ++ newline ∷ [])).0 good in
-          absurd (differs (w.is_line ∙ sym (cut_newline (line_of p)) ∙ ap (λ (x : List ℕ). take (length x - 1) x) same ∙ cut_newline text))
-      | inr bad ↦ bad
-    ] in
-    let item : item_of Canonical piece (Ok l) ≡ not_as_written (front_of piece) (part_text part) =
-    ap (λ (x : List ℕ). canonical_item (front_of piece) x l) (sym is) ∙ otherwise (front_of piece) text l w.admitted other
-    ∙ ap (λ (x : List ℕ). not_as_written (front_of piece) (part_text (differing_part text x))) (sym all)
-    ∙ ap (λ (q : Part). not_as_written (front_of piece) (part_text q)) (sym part_is) in
-    subst (λ (i : Item). TakesItem (took.Refused (why.NotAsWritten wrong)) i before after) (sym item) (
-      record { refused = refl; wrong = sym says; kind = refl; fault = refl },
-      back ∙ ap (λ (k : ℕ). take k mid) starts ∙ ap (take (length before)) w.batch ∙ take-append_seam before (built p),
-    )
-
 -- a line that is not as written was written again, to find the part in which it differs, and taken back
 pub takes_differing : (dialect : Dialect) (piece text before mid after : List ℕ) (start : ℕ) (part : Part) (wrong : _)
     → text ≡ trimmed piece → LinesThatStayAreWritten → (¬ IsAsWritten text) → TakesLine before None (answer dialect text) mid
     → start ≡ length before → part ≡ differing_part text (drop start mid) → string_bytes wrong ≡ part_text part
-    → after ≡ take start mid → TakesItem (took.Refused (why.NotAsWritten wrong)) (item_of Canonical piece (answer dialect text)) before after
+    → after ≡ take start mid → TakesItem (took.Refused (why.NotAsWritten wrong)) (item_of dialect Canonical piece (answer dialect text)) before after
 takes_differing dialect piece text before mid after start part wrong is stay not_written t starts part_is says back =
     let w = a_line before mid (answer dialect text) t in
     let p = point_of w.line in
@@ -159,8 +95,8 @@ takes_differing dialect piece text before mid after start part wrong is stay not
           absurd (not_written (stay dialect text w.line w.is (w.admitted, (bytes_eq-Decides (built p) (text ++ newline ∷ [])).0 good)))
       | inr bad ↦ bad
     ] in
-    let item : item_of Canonical piece (answer dialect text) ≡ not_as_written (front_of piece) (part_text part) =
-    ap (item_of Canonical piece) w.is ∙ ap (λ (l : List ℕ). canonical_item (front_of piece) l w.line) (sym is) ∙ otherwise (front_of piece) text w.line w.admitted other
+    let item : item_of dialect Canonical piece (answer dialect text) ≡ not_as_written (front_of piece) (part_text part) =
+    ap (item_of dialect Canonical piece) w.is ∙ ap (λ (l : List ℕ). canonical_item (front_of piece) l w.line) (sym is) ∙ otherwise (front_of piece) text w.line w.admitted other
     ∙ ap (λ (l : List ℕ). not_as_written (front_of piece) (part_text (differing_part text l))) (sym written)
     ∙ ap (λ (q : Part). not_as_written (front_of piece) (part_text q)) (sym part_is) in
     subst (λ (i : Item). TakesItem (took.Refused (why.NotAsWritten wrong)) i before after) (sym item) (

@@ -8,6 +8,7 @@ use Rattle.std.proofs.lemmas.Bool.{cases_Bool, eqb-false, eqb-true, false≢true
 use Rattle.std.proofs.lemmas.Str.{IsUtf8-from_is_utf8, is_utf8-from_IsUtf8}
 use Rattle.influxdb_line_protocol.specs.code.Rules.{rules_of}
 use Rattle.influxdb_line_protocol.specs.format.Bytes.{newline}
+use Rattle.influxdb_line_protocol.specs.format.Dialects.{Dialect}
 use Rattle.influxdb_line_protocol.specs.types.Dialect.{Dialect as TheDialect}
 use Rattle.influxdb_line_protocol.specs.format.Readings.{Fault}
 use Rattle.influxdb_line_protocol.specs.format.Points.{built, is_admitted_point}
@@ -32,8 +33,9 @@ use Rattle.lp_faults.specs.Objects.{item_front, stop_given}
 use Rattle.lp_faults.specs.Refusals.{IsRefusal, has_fault, is_fault, line_piece, stop_in}
 use Rattle.lp_relay.specs.Taking.{TakesItem, TakesPiece}
 use Rattle.lp_faults.specs.Relaying.{Item, after_item, allowed, answered, canonical_item, goes_out, if_portable, if_typed, is_carried_item, item_by, item_line, item_of}
+use Rattle.lp_conditions.specs.LineEnds.{ends_at_newline}
 use Rattle.lp_conditions.specs.LineTimes.{front_of}
-use Rattle.lp_faults.specs.Relaying.{items_of_bytes, kept_of, keyed_item, line_in, line_of, timed_item, too_long, typed_item}
+use Rattle.lp_faults.specs.Relaying.{is_of_shard, items_of_bytes, kept_of, keyed_item, line_in, line_of, timed_item, too_long, typed_item, unchanged_item}
 use Rattle.lp_conditions.specs.Portables.{is_shown_portable, told_of_bytes}
 use Rattle.lp_conditions.specs.declared.portable.Portable.{Portable}
 use Rattle.lp_conditions.specs.Verdicts.{fault_in}
@@ -75,24 +77,30 @@ a_line before after (Ok l) t =
     }
 a_line before after (Err fault) t = let refused = t.refused in absurd (cc)
 
+-- a line whose piece no newline ends is written again, however it would go out
+pub again : (dialect : Dialect) (piece : List ℕ) (a : Result Line Fault) → ends_at_newline dialect piece ≡ false
+    → item_of dialect Rebuilt piece a ≡ item_of dialect Verbatim piece a
+again dialect piece (Ok l) on = rw on refl
+again dialect piece (Err fault) on = refl
+
 -- a line goes out as it came
-pub takes_line : (piece before after : List ℕ) (a : Result Line Fault) → None ≡ fault_in a → after ≡ before ++ (piece ++ newline ∷ [])
-    → TakesItem took.Carried (item_of Verbatim piece a) before after
-takes_line piece before after (Ok l) none copied = (refl, copied)
-takes_line piece before after (Err fault) none copied = absurd (cc)
+pub takes_line : (dialect : Dialect) (piece before after : List ℕ) (a : Result Line Fault) → ends_at_newline dialect piece ≡ true → None ≡ fault_in a
+    → after ≡ before ++ (piece ++ newline ∷ []) → TakesItem took.Carried (item_of dialect Verbatim piece a) before after
+takes_line dialect piece before after (Ok l) ends none copied = rw ends (refl, copied)
+takes_line dialect piece before after (Err fault) ends none copied = absurd (cc)
 
 -- a text at fault is refused
-pub takes_fault : (piece before : List ℕ) (fault : SpelledFault) (a : Result Line Fault) → Some (spelled_fault fault) ≡ fault_in a
-    → TakesItem (took.Refused (why.Line (line.Fault fault))) (item_of Verbatim piece a) before before
-takes_fault piece before fault (Ok l) is = absurd (cc)
-takes_fault piece before fault (Err e) is =
+pub takes_fault : (dialect : Dialect) (piece before : List ℕ) (fault : SpelledFault) (a : Result Line Fault) → Some (spelled_fault fault) ≡ fault_in a
+    → TakesItem (took.Refused (why.Line (line.Fault fault))) (item_of dialect Verbatim piece a) before before
+takes_fault dialect piece before fault (Ok l) is = absurd (cc)
+takes_fault dialect piece before fault (Err e) is =
     let same : spelled_fault fault ≡ e = cc in
     (refuses_answer (front_of piece) (line.Fault fault) (Err e) (ap Err (sym same)), refl)
 
 -- a line was refused as a rebuild does
-pub takes_refused : (piece before after : List ℕ) (refusal : LineRefusal) (a : Result Line Fault) → TakesLine before (Some refusal) a after
-    → TakesItem (took.Refused (why.Line refusal)) (item_of Rebuilt piece a) before after
-takes_refused piece before after refusal a t =
+pub takes_refused : (dialect : Dialect) (piece before after : List ℕ) (refusal : LineRefusal) (a : Result Line Fault) → TakesLine before (Some refusal) a after
+    → TakesItem (took.Refused (why.Line refusal)) (item_of dialect Rebuilt piece a) before after
+takes_refused dialect piece before after refusal a t =
     (refuses_answer (front_of piece) refusal a t.refused, same_batch before after refusal a t)
 
 -- what is known of an item that is refused, and of the answer that it is made of
@@ -117,28 +125,38 @@ keyed_is_of : (front text : List ℕ) (l : Line) → is_carried_item (keyed_item
 keyed_is_of front text l refused =
     elim (cases_Bool (is_admitted_point (point_of l))) [ inl good ↦ let carried = rw good at refused in absurd (cc) | inr bad ↦ rw bad (refl, refl) ]
 
+-- and with a line that goes out as it came, or is written again
+unchanged_is_of : (dialect : Dialect) (piece : List ℕ) (l : Line) → is_carried_item (unchanged_item dialect piece l) ≡ false
+    → IsOf (front_of piece) (Ok l) (unchanged_item dialect piece l)
+unchanged_is_of dialect piece l refused =
+    elim (cases_Bool (ends_at_newline dialect piece)) [ inl ends ↦ let carried = rw ends at refused in absurd (cc) | inr on ↦ rw on (refl, refl) ]
+
 -- and with each item
-item_is_of : (lines : LineForm) (piece : List ℕ) (a : Result Line Fault) → is_carried_item (item_of lines piece a) ≡ false
-    → IsOf (front_of piece) a (item_of lines piece a)
-item_is_of Rebuilt piece (Ok l) refused = (refl, refl)
-item_is_of Rebuilt piece (Err fault) refused = (refl, refl)
-item_is_of Verbatim piece (Ok l) refused = absurd (cc)
-item_is_of Verbatim piece (Err fault) refused = (refl, refl)
-item_is_of Canonical piece (Ok l) refused = canonical_is_of (front_of piece) (trimmed piece) l refused
-item_is_of Canonical piece (Err fault) refused = (refl, refl)
-item_is_of Keyed piece (Ok l) refused = keyed_is_of (front_of piece) (trimmed piece) l refused
-item_is_of Keyed piece (Err fault) refused = (refl, refl)
-item_is_of (OfShard shard) piece (Ok l) refused = absurd (cc)
-item_is_of (OfShard shard) piece (Err fault) refused = (refl, refl)
+item_is_of : (dialect : Dialect) (lines : LineForm) (piece : List ℕ) (a : Result Line Fault) → is_carried_item (item_of dialect lines piece a) ≡ false
+    → IsOf (front_of piece) a (item_of dialect lines piece a)
+item_is_of dialect Rebuilt piece (Ok l) refused = (refl, refl)
+item_is_of dialect Rebuilt piece (Err fault) refused = (refl, refl)
+item_is_of dialect Verbatim piece (Ok l) refused = unchanged_is_of dialect piece l refused
+item_is_of dialect Verbatim piece (Err fault) refused = (refl, refl)
+item_is_of dialect Canonical piece (Ok l) refused = canonical_is_of (front_of piece) (trimmed piece) l refused
+item_is_of dialect Canonical piece (Err fault) refused = (refl, refl)
+item_is_of dialect Keyed piece (Ok l) refused = keyed_is_of (front_of piece) (trimmed piece) l refused
+item_is_of dialect Keyed piece (Err fault) refused = (refl, refl)
+item_is_of dialect (OfShard shard) piece (Ok l) refused =
+    elim (cases_Bool (is_of_shard shard (point_of l))) [
+      | inl is ↦ rw is (unchanged_is_of dialect piece l (rw is at refused))
+      | inr other ↦ let carried = rw other at refused in absurd (cc)
+    ]
+item_is_of dialect (OfShard shard) piece (Err fault) refused = (refl, refl)
 
 -- what is carried is made of a line
-a_line_is_carried : (lines : LineForm) (piece : List ℕ) (a : Result Line Fault) → is_carried_item (item_of lines piece a) ≡ true → is_err a ≡ false
-a_line_is_carried lines piece (Ok l) carried = refl
-a_line_is_carried Rebuilt piece (Err fault) carried = absurd (cc)
-a_line_is_carried Verbatim piece (Err fault) carried = absurd (cc)
-a_line_is_carried Canonical piece (Err fault) carried = absurd (cc)
-a_line_is_carried Keyed piece (Err fault) carried = absurd (cc)
-a_line_is_carried (OfShard shard) piece (Err fault) carried = absurd (cc)
+a_line_is_carried : (dialect : Dialect) (lines : LineForm) (piece : List ℕ) (a : Result Line Fault) → is_carried_item (item_of dialect lines piece a) ≡ true → is_err a ≡ false
+a_line_is_carried dialect lines piece (Ok l) carried = refl
+a_line_is_carried dialect Rebuilt piece (Err fault) carried = absurd (cc)
+a_line_is_carried dialect Verbatim piece (Err fault) carried = absurd (cc)
+a_line_is_carried dialect Canonical piece (Err fault) carried = absurd (cc)
+a_line_is_carried dialect Keyed piece (Err fault) carried = absurd (cc)
+a_line_is_carried dialect (OfShard shard) piece (Err fault) carried = absurd (cc)
 
 -- both hold of two tests that hold together
 both_hold : (a b : Bool) → (a && b) ≡ true → (a ≡ true) × (b ≡ true)
@@ -156,18 +174,18 @@ if_portable_is_of p front line a item carried good refused =
     ]
 
 -- and with each item that is allowed only if it is portable
-allowed_is_of : (portable : Option Portable) (lines : LineForm) (piece : List ℕ) (a : Result Line Fault)
-    → is_carried_item (allowed portable lines piece (item_of lines piece a)) ≡ false
-    → IsOf (front_of piece) a (allowed portable lines piece (item_of lines piece a))
-allowed_is_of None lines piece a refused = item_is_of lines piece a refused
-allowed_is_of (Some p) lines piece a refused =
-    let item = item_of lines piece a in
+allowed_is_of : (portable : Option Portable) (dialect : Dialect) (lines : LineForm) (piece : List ℕ) (a : Result Line Fault)
+    → is_carried_item (allowed portable lines piece (item_of dialect lines piece a)) ≡ false
+    → IsOf (front_of piece) a (allowed portable lines piece (item_of dialect lines piece a))
+allowed_is_of None dialect lines piece a refused = item_is_of dialect lines piece a refused
+allowed_is_of (Some p) dialect lines piece a refused =
+    let item = item_of dialect lines piece a in
     elim (cases_Bool (goes_out item)) [
       | inl out ↦
           let carried = (both_hold (is_carried_item item) (nat_lt 0 (length (item_line item))) out).0 in
           rw out (if_portable_is_of p (front_of piece) (line_in lines piece (item_line item)) a item carried
-          (a_line_is_carried lines piece a carried) (rw out at refused))
-      | inr none ↦ rw none (item_is_of lines piece a (rw none at refused))
+          (a_line_is_carried dialect lines piece a carried) (rw out at refused))
+      | inr none ↦ rw none (item_is_of dialect lines piece a (rw none at refused))
     ]
 
 -- and with each item, if the types of fields stay
@@ -193,7 +211,7 @@ if_typed_is_of (Some strict) types front (Ok l) item is refused =
 pub by_is_of : (s : Settings) (types : Types) (piece : List ℕ) (a : Result Line Fault) → is_carried_item (typed_item s types piece a) ≡ false
     → IsOf (front_of piece) a (typed_item s types piece a)
 by_is_of s types piece a refused =
-    if_typed_is_of s.types types (front_of piece) a (item_by s piece a) (allowed_is_of s.portable s.lines piece a) refused
+    if_typed_is_of s.types types (front_of piece) a (item_by s piece a) (allowed_is_of s.portable (rules_of s.dialect) s.lines piece a) refused
 
 -- an item whose line is looked at, once it was added
 looked_at : (p : Portable) (front line before after : List ℕ) (item : Item) → is_carried_item item ≡ true → after ≡ before ++ item_line item
@@ -282,11 +300,11 @@ takes_text s types piece line text taken before after same =
 
 -- what came of the item of a line came of it by the settings
 pub takes_by : (s : Settings) (piece text : List ℕ) (taken : Taken) (before after : List ℕ) (lines : LineForm) (dialect : TheDialect)
-    → s.lines ≡ lines → dialect ≡ s.dialect → TakesItem taken (item_of lines piece (answer (rules_of dialect) text)) before after
-    → TakesItem taken (item_of s.lines piece (answer (rules_of s.dialect) text)) before after
+    → s.lines ≡ lines → dialect ≡ s.dialect → TakesItem taken (item_of (rules_of dialect) lines piece (answer (rules_of dialect) text)) before after
+    → TakesItem taken (item_of (rules_of s.dialect) s.lines piece (answer (rules_of s.dialect) text)) before after
 takes_by s piece text taken before after lines dialect its same takes =
-    subst (λ l. TakesItem taken (item_of l piece (answer (rules_of s.dialect) text)) before after) (sym its)
-    (subst (λ e. TakesItem taken (item_of lines piece (answer (rules_of e) text)) before after) same takes)
+    subst (λ l. TakesItem taken (item_of (rules_of s.dialect) l piece (answer (rules_of s.dialect) text)) before after) (sym its)
+    (subst (λ e. TakesItem taken (item_of (rules_of e) lines piece (answer (rules_of e) text)) before after) same takes)
 
 -- a piece that is too long is refused
 pub takes_too_long : (s : Settings) (types : Types) (fault : PieceTooLong) (kept : Option ℕ) (before : List ℕ) → kept ≡ kept_of s

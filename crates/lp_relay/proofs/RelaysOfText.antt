@@ -143,8 +143,8 @@ one_more s types piece pieces again each any untimed kept fits u others =
           (one types (front_of piece) a piece pieces _ (items ∙ text_item s types piece u some
           ∙ ap (λ (i : Item). i ∷ []) (untimed_item s types piece a untimed)
           ∙ ap (λ (t : Option StrictTypes). if_typed (front_of piece) (item_by s piece a) (after_item t types a (item_by s piece a)) ∷ []) any
-          ∙ ap (λ (p : Option Portable). allowed p s.lines piece (item_of s.lines piece a) ∷ []) each
-          ∙ ap (λ l. item_of l piece a ∷ []) again) others)
+          ∙ ap (λ (p : Option Portable). allowed p s.lines piece (item_of d s.lines piece a) ∷ []) each
+          ∙ ap (λ l. item_of d l piece a ∷ []) again) others)
     ]
 
 -- the pieces of a text that is UTF-8, if none is too long, have its answers

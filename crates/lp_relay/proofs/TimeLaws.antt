@@ -71,7 +71,7 @@ unfolding answers_of_piece
 text_answers dialect piece text line is some read = rw (is, ne_eqb (length text) 0 (λ none. absurd (omega (arith, some, none))), read) refl
 
 -- The trimmed text of the piece with another time is the text with this time.
-trimmed_at : (came : Option ℤ) (time : ℤ) (piece : List ℕ) → fits_i64 time ≡ true → 0 < length (trimmed piece)
+pub trimmed_at : (came : Option ℤ) (time : ℤ) (piece : List ℕ) → fits_i64 time ≡ true → 0 < length (trimmed piece)
     → trimmed (piece_at came time piece) ≡ text_at came time (trimmed piece)
 trimmed_at came time piece fits some =
     let new = piece_at came time piece in

@@ -317,7 +317,7 @@ pub(crate) fn counts_of(settings: Settings<'_>, pending: &Pending) -> Relayed
 
 /// Relays the lines that `reader` gives, as they come: each that [`rebuild`](lp_rebuild::rebuild) would write again goes to the
 /// lines of `outputs`, and the fault of every other item to its faults, with what `settings.numbering` says. By `LineForm::Verbatim`
-/// each line that can be read goes out as it came, also one that a rebuild would refuse for a name. By `LineForm::Keyed` it goes out after
+/// each line that can be read goes out as it came, also one that a rebuild would refuse for a name, unless no newline ends its piece. By `LineForm::Keyed` it goes out after
 /// the key of its series, and by `LineForm::OfShard` only if it is of that shard.
 ///
 /// If `settings.portable` names servers, each line is looked at as it would go out, by whatever form: if it is not portable to them, it is

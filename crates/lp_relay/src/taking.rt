@@ -10,9 +10,9 @@ ghost use Rattle.influxdb_line_protocol.specs.format.Trimming.{trimmed};
 ghost use Rattle.lp_conditions.specs.KindCounts.{counts_if, with_fault};
 ghost use Rattle.lp_conditions.specs.LineTimes.{relayed, timed, front_of};
 ghost use Rattle.lp_conditions.specs.FieldTypes.{Types, types_of};
-ghost use Rattle.lp_relay.specs.Taking.{EndsPiece, KeepsItem, RefusesPiece, TakesItem, TakesPiece};
+ghost use Rattle.lp_relay.specs.Taking.{BecomesAt, EndsPiece, HasLine, HasTime, KeepsItem, RefusesPiece, TakesItem, TakesPiece};
 ghost use Rattle.lp_faults.specs.Refusals.{GaveSame, IsKnown, IsLineOf, given_of, line_piece, reason_of, refusal_kind};
-ghost use Rattle.lp_faults.specs.Relaying.{Item, allowed, canonical_item, copies, if_portable, is_of_shard, item_line, item_of, keyed_item, kept_of, line_in, line_of};
+ghost use Rattle.lp_faults.specs.Relaying.{Item, answered, unchanged_item, allowed, canonical_item, copies, if_portable, is_of_shard, item_line, item_of, keyed_item, kept_of, line_in, line_of};
 ghost use Rattle.lp_faults.specs.FaultsTold.{first_line, is_told, line_after, told_at, told_fault};
 ghost use Rattle.lp_relay.specs.RelaySteps.{EndsAhead, HoldsLess, TakesAhead, TakesBy, TakesGiven, after_given, items_before, made};
 ghost use Rattle.lp_faults.specs.Objects.{len_given, newlines_given};
@@ -25,6 +25,7 @@ use influxdb_line_protocol::{
 use lp_conditions::differing::{differing_part, part_text};
 use lp_conditions::field_types::{KnownTypes, StrictTypes};
 use lp_conditions::kinds::{Kind, KindCounts};
+use lp_conditions::line_ends::ends_at_newline;
 use lp_conditions::portable::{Portable, is_shown_portable, told_of_bytes};
 use lp_conditions::settings::{LineForm, Numbering, Settings, Shard};
 use lp_conditions::times::{TimeChange, Times, change_of, piece_at};
@@ -81,6 +82,17 @@ pub(crate) enum Taken<'a> {
     Refused(Refusal<'a>),
 }
 
+// A line of a piece.
+#[derive(Clone, Copy)]
+struct Line<'a> {
+    // The piece, as it came.
+    whole: &'a str,
+    // Its line, as it goes out, with what comes before the text.
+    piece: &'a str,
+    // What is left of that once it is trimmed.
+    text: &'a str,
+}
+
 // How many items are counted before the first item: if fault lines name items, as many as give it its number.
 pub(crate) fn items_before(settings: Settings<'_>) -> usize
     ensures { result ≡ items_before settings.entry.numbering settings.entry.first }
@@ -132,26 +144,6 @@ pub(crate) fn nothing_made(alloc: Global, settings: Settings<'_>, types: KnownTy
     }
 }
 
-// Takes a line as it came, with what its piece has before it.
-#[inline(always)]
-fn take_verbatim<'a>(
-    batch: &mut Vec<u8>,
-    dialect: Dialect,
-    piece: &'a str,
-    text: &'a str,
-) -> Result<Taken<'a>, AllocError>
-    ensures { IfOk result (λ taken. TakesItem taken (item_of LineForm.Verbatim piece.now (answer (rules_of dialect) text.now))
-        batch.old.items batch.new.items) }
-{
-    match fault_of(dialect, text) {
-        None => {
-            copy_line(batch, piece.as_bytes())?;
-            Ok(Taken::Carried)
-        }
-        Some(fault) => Ok(Taken::Refused(Refusal::Line(LineRefusal::Fault(fault)))),
-    }
-}
-
 // Takes a line that is not as the builder writes it: it is written again, to find the part that is not so, and taken back.
 #[inline(always)]
 fn take_canonical<'a>(
@@ -163,7 +155,7 @@ fn take_canonical<'a>(
     requires text { text.now ≡ trimmed piece.now }
     requires unwritten { ¬ (IsAsWritten text.now) }
     ensures taken { IfOk result (λ taken. TakesItem taken
-        (item_of LineForm.Canonical piece.now (answer (rules_of reader.old.dialect) text.now)) batch.old.items batch.new.items) }
+        (item_of (rules_of reader.old.dialect) LineForm.Canonical piece.now (answer (rules_of reader.old.dialect) text.now)) batch.old.items batch.new.items) }
     ensures dialect { reader.new.dialect ≡ reader.old.dialect }
 {
     laws::written_lines_stay();
@@ -187,12 +179,38 @@ fn take_rebuilt<'a>(
 ) -> Result<Taken<'a>, AllocError>
     requires { text.now ≡ trimmed piece.now }
     ensures taken { IfOk result (λ taken. TakesItem taken
-        (item_of LineForm.Rebuilt piece.now (answer (rules_of reader.old.dialect) text.now)) batch.old.items batch.new.items) }
+        (item_of (rules_of reader.old.dialect) LineForm.Rebuilt piece.now (answer (rules_of reader.old.dialect) text.now)) batch.old.items batch.new.items) }
     ensures dialect { reader.new.dialect ≡ reader.old.dialect }
 {
     match batch::take_text(batch, reader, text)? {
         None => Ok(Taken::Carried),
         Some(refusal) => Ok(Taken::Refused(Refusal::Line(refusal))),
+    }
+}
+
+// Takes a line as it came, with what its piece has before it. It is written again if no newline ends its piece.
+#[inline(always)]
+fn take_verbatim<'a>(
+    batch: &mut Vec<u8>,
+    reader: &mut LineReader<'a>,
+    piece: &'a str,
+    text: &'a str,
+) -> Result<Taken<'a>, AllocError>
+    requires { text.now ≡ trimmed piece.now }
+    ensures taken { IfOk result (λ taken. TakesItem taken
+        (item_of (rules_of reader.old.dialect) LineForm.Verbatim piece.now (answer (rules_of reader.old.dialect) text.now))
+        batch.old.items batch.new.items) }
+    ensures dialect { reader.new.dialect ≡ reader.old.dialect }
+{
+    if !ends_at_newline(reader.dialect, piece.as_bytes()) {
+        return take_rebuilt(batch, reader, piece, text);
+    }
+    match fault_of(reader.dialect, text) {
+        None => {
+            copy_line(batch, piece.as_bytes())?;
+            Ok(Taken::Carried)
+        }
+        Some(fault) => Ok(Taken::Refused(Refusal::Line(LineRefusal::Fault(fault)))),
     }
 }
 
@@ -215,7 +233,7 @@ fn put_by_key<'a>(
     text: &str,
 ) -> Result<Taken<'a>, AllocError>
     requires { text.now ≡ trimmed piece.now }
-    ensures { IfOk result (λ taken. TakesItem taken (item_of LineForm.Keyed piece.now (Ok (line_read line.now))) batch.old.items batch.new.items) }
+    ensures { IfOk result (λ taken. TakesItem taken (keyed_item (front_of piece.now) (trimmed piece.now) (line_read line.now)) batch.old.items batch.new.items) }
 {
     if !is_admitted(line) {
         return Ok(Taken::Refused(Refusal::Line(LineRefusal::NotAdmitted)));
@@ -235,7 +253,7 @@ fn take_keyed<'a>(
 ) -> Result<Taken<'a>, AllocError>
     requires { text.now ≡ trimmed piece.now }
     ensures taken { IfOk result (λ taken. TakesItem taken
-        (item_of LineForm.Keyed piece.now (answer (rules_of reader.old.dialect) text.now)) batch.old.items batch.new.items) }
+        (item_of (rules_of reader.old.dialect) LineForm.Keyed piece.now (answer (rules_of reader.old.dialect) text.now)) batch.old.items batch.new.items) }
     ensures dialect { reader.new.dialect ≡ reader.old.dialect }
 {
     if let Some(fault) = reader.read(text)? {
@@ -252,22 +270,41 @@ fn is_of_shard(alloc: Global, shard: Shard, line: &ParsedLine<'_>) -> Result<boo
     Ok(hash % shard.count.max(1) == shard.number)
 }
 
-// Takes a line that was read: its piece goes out if it is of a shard.
-#[inline(always)]
+// Takes a line that was read: it goes out as it came, or is written again if no newline ends its piece.
+fn put_unchanged<'a>(
+    alloc: Global,
+    dialect: Dialect,
+    batch: &mut Vec<u8>,
+    line: &ParsedLine<'_>,
+    piece: &str,
+) -> Result<Taken<'a>, AllocError>
+    requires { 0 < length line.now.field_set.items }
+    ensures { IfOk result (λ taken. TakesItem taken (unchanged_item (rules_of dialect) piece.now (line_read line.now)) batch.old.items batch.new.items) }
+{
+    if !ends_at_newline(dialect, piece.as_bytes()) {
+        return put_rebuilt(alloc, batch, line, piece);
+    }
+    copy_line(batch, piece.as_bytes())?;
+    Ok(Taken::Carried)
+}
+
+// Takes a line that was read: it goes out if it is of a shard.
 fn put_if_of_shard<'a>(
     alloc: Global,
+    dialect: Dialect,
     shard: Shard,
     batch: &mut Vec<u8>,
     line: &ParsedLine<'_>,
     piece: &str,
 ) -> Result<Taken<'a>, AllocError>
+    requires { 0 < length line.now.field_set.items }
     ensures { IfOk result (λ taken.
-        TakesItem taken (item_of (LineForm.OfShard shard) piece.now (Ok (line_read line.now))) batch.old.items batch.new.items) }
+        TakesItem taken (item_of (rules_of dialect) (LineForm.OfShard shard) piece.now (Ok (line_read line.now))) batch.old.items batch.new.items) }
 {
-    if is_of_shard(alloc, shard, line)? {
-        copy_line(batch, piece.as_bytes())?;
+    if !is_of_shard(alloc, shard, line)? {
+        return Ok(Taken::Carried);
     }
-    Ok(Taken::Carried)
+    put_unchanged(alloc, dialect, batch, line, piece)
 }
 
 // Takes a line: it goes out as it came if it is of a shard.
@@ -280,34 +317,36 @@ fn take_of_shard<'a>(
     text: &'a str,
 ) -> Result<Taken<'a>, AllocError>
     ensures taken { IfOk result (λ taken. TakesItem taken
-        (item_of (LineForm.OfShard shard) piece.now (answer (rules_of reader.old.dialect) text.now)) batch.old.items batch.new.items) }
+        (item_of (rules_of reader.old.dialect) (LineForm.OfShard shard) piece.now (answer (rules_of reader.old.dialect) text.now))
+        batch.old.items batch.new.items) }
     ensures dialect { reader.new.dialect ≡ reader.old.dialect }
 {
+    laws::lines_are_points();
     if let Some(fault) = reader.read(text)? {
         return Ok(Taken::Refused(Refusal::Line(LineRefusal::Fault(fault))));
     }
-    put_if_of_shard(reader.alloc, shard, batch, reader.line(), piece)
+    let (alloc, dialect) = (reader.alloc, reader.dialect);
+    put_if_of_shard(alloc, dialect, shard, batch, reader.line(), piece)
 }
 
-// Takes a line: it goes out by the settings, or is refused.
+// Takes a line that is not copied: it goes out by the settings, or is refused.
 #[inline(always)]
-fn take_line<'a>(
-    settings: &Settings<'_>,
+fn put_uncopied<'a>(
+    lines: LineForm,
     batch: &mut Vec<u8>,
     reader: &mut LineReader<'a>,
     piece: &'a str,
     text: &'a str,
 ) -> Result<Taken<'a>, AllocError>
     requires text { text.now ≡ trimmed piece.now }
-    requires dialect { reader.old.dialect ≡ settings.now.dialect }
-    requires unwritten { settings.now.lines ≡ LineForm.Canonical → ¬ (IsAsWritten text.now) }
+    requires unwritten { lines ≡ LineForm.Canonical → ¬ (IsAsWritten text.now) }
     ensures taken { IfOk result (λ taken. TakesItem taken
-        (item_of settings.now.lines piece.now (answer (rules_of settings.now.dialect) text.now)) batch.old.items batch.new.items) }
+        (item_of (rules_of reader.old.dialect) lines piece.now (answer (rules_of reader.old.dialect) text.now)) batch.old.items batch.new.items) }
     ensures dialect { reader.new.dialect ≡ reader.old.dialect }
 {
-    match settings.lines {
+    match lines {
         LineForm::Rebuilt => take_rebuilt(batch, reader, piece, text),
-        LineForm::Verbatim => take_verbatim(batch, reader.dialect, piece, text),
+        LineForm::Verbatim => take_verbatim(batch, reader, piece, text),
         LineForm::Canonical => take_canonical(batch, reader, piece, text),
         LineForm::Keyed => take_keyed(batch, reader, piece, text),
         LineForm::OfShard(shard) => take_of_shard(shard, batch, reader, piece, text),
@@ -322,63 +361,11 @@ fn put_rebuilt<'a>(
     piece: &str,
 ) -> Result<Taken<'a>, AllocError>
     requires { 0 < length line.now.field_set.items }
-    ensures { IfOk result (λ taken. TakesItem taken (item_of LineForm.Rebuilt piece.now (Ok (line_read line.now))) batch.old.items batch.new.items) }
+    ensures { IfOk result (λ taken. TakesItem taken (answered (front_of piece.now) (Ok (line_read line.now))) batch.old.items batch.new.items) }
 {
     match batch::take_line(alloc, batch, line)? {
         None => Ok(Taken::Carried),
         Some(refusal) => Ok(Taken::Refused(Refusal::Line(refusal))),
-    }
-}
-
-// Takes a line that was read and has this text: it is written again, and taken back if that is another text.
-fn put_canonical<'a>(
-    alloc: Global,
-    batch: &mut Vec<u8>,
-    read: &ParsedLine<'_>,
-    piece: &str,
-    text: &str,
-) -> Result<Taken<'a>, AllocError>
-    requires text { text.now ≡ trimmed piece.now }
-    requires some { 0 < length read.now.field_set.items }
-    ensures { IfOk result (λ taken. TakesItem taken (item_of LineForm.Canonical piece.now (Ok (line_read read.now))) batch.old.items batch.new.items) }
-{
-    let start = batch.len();
-    if let Some(refusal) = batch::take_line(alloc, batch, read)? {
-        return Ok(Taken::Refused(Refusal::Line(refusal)));
-    }
-    let written = &batch[start..];
-    let line = &written[..written.len().saturating_sub(1)];
-    if line == text.as_bytes() {
-        return Ok(Taken::Carried);
-    }
-    let part = differing_part(text, written);
-    batch.truncate(start);
-    let wrong = part_text(alloc, part)?;
-    Ok(Taken::Refused(Refusal::NotAsWritten(wrong)))
-}
-
-// Takes a line that was read, and has this piece and this text: it goes out by the settings, or is refused.
-fn put_read<'a>(
-    alloc: Global,
-    lines: LineForm,
-    batch: &mut Vec<u8>,
-    line: &ParsedLine<'_>,
-    piece: &str,
-    text: &str,
-) -> Result<Taken<'a>, AllocError>
-    requires text { text.now ≡ trimmed piece.now }
-    requires some { 0 < length line.now.field_set.items }
-    ensures { IfOk result (λ taken. TakesItem taken (item_of lines piece.now (Ok (line_read line.now))) batch.old.items batch.new.items) }
-{
-    match lines {
-        LineForm::Rebuilt => put_rebuilt(alloc, batch, line, piece),
-        LineForm::Verbatim => {
-            copy_line(batch, piece.as_bytes())?;
-            Ok(Taken::Carried)
-        }
-        LineForm::Canonical => put_canonical(alloc, batch, line, piece, text),
-        LineForm::Keyed => put_by_key(alloc, batch, line, piece, text),
-        LineForm::OfShard(shard) => put_if_of_shard(alloc, shard, batch, line, piece),
     }
 }
 
@@ -509,32 +496,6 @@ fn keep<'a>(
         return Ok(taken);
     }
     keep_added(strict, types, batch, reader, begin, text)
-}
-
-// Keeps the types of the fields of a line that was read, if these are to stay and something was added for it, which begins at this place of the
-// batch.
-fn keep_if_read<'a>(
-    alloc: Global,
-    settings: &Settings<'_>,
-    types: &mut KnownTypes,
-    batch: &mut Vec<u8>,
-    line: &ParsedLine<'_>,
-    begin: usize,
-    taken: Taken<'a>,
-) -> Result<Taken<'a>, AllocError>
-    ensures { IfOk result (λ after. KeepsItem settings.now.types (Ok (line_read line.now)) begin
-        taken.entry batch.old.items (types_of types.old) after batch.new.items (types_of types.new)) }
-{
-    let Some(strict) = settings.types else {
-        return Ok(taken);
-    };
-    let Taken::Carried = taken else {
-        return Ok(taken);
-    };
-    if batch.len() <= begin {
-        return Ok(taken);
-    }
-    keep_read(alloc, strict, types, batch, line, begin)
 }
 
 // How many bytes are kept of a piece that is too long, if any are.
@@ -753,161 +714,134 @@ fn copies(lines: LineForm) -> bool
     matches!(lines, LineForm::Rebuilt | LineForm::Canonical)
 }
 
-// Takes a piece that is text and whose line is not copied.
+// Takes a line: it is copied if it is as the builder writes it, or else goes out by the settings, or is refused.
+#[inline(always)]
+fn put_line<'a>(
+    lines: LineForm,
+    batch: &mut Vec<u8>,
+    reader: &mut LineReader<'a>,
+    piece: &'a str,
+    text: &'a str,
+) -> Result<Taken<'a>, AllocError>
+    requires text { text.now ≡ trimmed piece.now }
+    ensures taken { IfOk result (λ taken. TakesItem taken
+        (item_of (rules_of reader.old.dialect) lines piece.now (answer (rules_of reader.old.dialect) text.now)) batch.old.items batch.new.items) }
+    ensures dialect { reader.new.dialect ≡ reader.old.dialect }
+{
+    laws::written_lines_stay();
+    if copies(lines) && is_as_written(text) {
+        copy_line(batch, text.as_bytes())?;
+        return Ok(Taken::Carried);
+    }
+    put_uncopied(lines, batch, reader, piece, text)
+}
+
+// Adds the line of a piece, which has its time, to what goes out, allows it, keeps its types, and ends the piece.
 #[inline(never)]
-fn take_uncopied<'a>(
+fn take_line<'a>(
     settings: &Settings<'_>,
     pending: &mut Pending,
     reader: &mut LineReader<'a>,
-    piece: &'a str,
-    line: &'a str,
-    text: &'a str,
+    line: Line<'a>,
 ) -> Result<(), AllocError>
-    requires line { line.now ≡ line_of settings.now piece.now }
-    requires text { text.now ≡ trimmed line.now }
-    requires some { 0 < length text.now }
     requires dialect { reader.old.dialect ≡ settings.now.dialect }
-    requires untimed { settings.now.times ≡ None }
-    requires unwritten { settings.now.lines ≡ LineForm.Canonical → ¬ (IsAsWritten text.now) }
+    requires text { line.text.now ≡ trimmed line.piece.now }
+    requires timed { HasTime settings.now line.whole.now line.piece.now (answer (rules_of settings.now.dialect) line.text.now) }
     requires fits { pending.old.so_far.carried + pending.old.so_far.refused < usize.MAX }
-    ensures taken { OnOk result (TakesGiven settings.now (unwritten_of pending.old) (Ok piece.entry) (unwritten_of pending.new)) }
+    ensures taken { OnOk result (TakesGiven settings.now (unwritten_of pending.old) (Ok line.entry.whole) (unwritten_of pending.new)) }
     ensures counted { OnOk result (pending.new.so_far.carried + pending.new.so_far.refused ≤ usize.MAX) }
     ensures dialect { reader.new.dialect ≡ reader.old.dialect }
 {
+    let (alloc, text) = (pending.alloc, line.text);
     let batch = &mut pending.so_far.batch;
     let start = batch.len();
-    let added = take_line(settings, batch, reader, line, text)?;
-    let allowed = allow(pending.alloc, settings, batch, start, text, added)?;
-    let types = &mut pending.types;
-    let taken = keep(settings, types, batch, reader, start, text, allowed)?;
-    end_piece(settings, pending, taken, Piece::Text(piece))
-}
-
-// Takes a line that was read of the line of a piece, and goes out as that of a piece with its time.
-fn take_read(
-    settings: &Settings<'_>,
-    pending: &mut Pending,
-    line: &ParsedLine<'_>,
-    whole: &str,
-    came: &str,
-    piece: &str,
-    text: &str,
-) -> Result<(), AllocError>
-    requires line { came.now ≡ line_of settings.now whole.now }
-    requires text { text.now ≡ trimmed piece.now }
-    requires some { 0 < length (trimmed came.now) }
-    requires field { 0 < length line.now.field_set.items }
-    requires front { front_of piece.now ≡ front_of came.now }
-    requires timed { timed settings.now.times came.now (answer (rules_of settings.now.dialect) (trimmed came.now))
-        ≡ relayed piece.now (Ok (line_read line.now)) }
-    requires fits { pending.old.so_far.carried + pending.old.so_far.refused < usize.MAX }
-    ensures taken { OnOk result (TakesGiven settings.now (unwritten_of pending.old) (Ok whole.entry) (unwritten_of pending.new)) }
-    ensures counted { OnOk result (pending.new.so_far.carried + pending.new.so_far.refused ≤ usize.MAX) }
-{
-    let alloc = pending.alloc;
-    let batch = &mut pending.so_far.batch;
-    let start = batch.len();
-    let added = put_read(alloc, settings.lines, batch, line, piece, text)?;
+    let added = put_line(settings.lines, batch, reader, line.piece, text)?;
     let allowed = allow(alloc, settings, batch, start, text, added)?;
     let types = &mut pending.types;
-    let taken = keep_if_read(alloc, settings, types, batch, line, start, allowed)?;
-    end_piece(settings, pending, taken, Piece::Text(whole))
+    let taken = keep(settings, types, batch, reader, start, text, allowed)?;
+    end_piece(settings, pending, taken, Piece::Text(line.whole))
 }
 
-// Takes a piece that is text, if the times of lines are looked at. Its line is read first, and if its time changes, it is that of a copy.
+// Takes the line of a piece that came with this time, if any, with another time: a copy of it that has this time.
+fn take_at(
+    settings: &Settings<'_>,
+    pending: &mut Pending,
+    line: Line<'_>,
+    came: Option<i64>,
+    time: i64,
+) -> Result<(), AllocError>
+    requires line { HasLine settings.now line.whole.now line.piece.now line.text.now }
+    requires becomes { BecomesAt settings.now line.text.now came time }
+    requires fits { pending.old.so_far.carried + pending.old.so_far.refused < usize.MAX }
+    ensures taken { OnOk result (TakesGiven settings.now (unwritten_of pending.old) (Ok line.entry.whole) (unwritten_of pending.new)) }
+    ensures counted { OnOk result (pending.new.so_far.carried + pending.new.so_far.refused ≤ usize.MAX) }
+{
+    let copy = piece_at(pending.alloc, line.piece, line.text, came, time)?;
+    let piece = copy.as_str();
+    let text = trimmed(piece);
+    let mut reader = LineReader::new(pending.alloc, settings.dialect);
+    let whole = line.whole;
+    let taken = take_line(settings, pending, &mut reader, Line { whole, piece, text });
+    reader.free();
+    taken
+}
+
+// Takes the line of a piece if the times of lines are looked at. It is read first, and if its time changes, it is that of a copy.
 #[inline(never)]
 fn take_timed<'a>(
     times: &Times,
     settings: &Settings<'_>,
     pending: &mut Pending,
     reader: &mut LineReader<'a>,
-    piece: &'a str,
-    line: &'a str,
-    text: &'a str,
+    line: Line<'a>,
 ) -> Result<(), AllocError>
-    requires line { line.now ≡ line_of settings.now piece.now }
-    requires text { text.now ≡ trimmed line.now }
-    requires some { 0 < length text.now }
-    requires dialect { reader.old.dialect ≡ settings.now.dialect }
     requires times { settings.now.times ≡ Some times.now }
+    requires dialect { reader.old.dialect ≡ settings.now.dialect }
+    requires line { HasLine settings.now line.whole.now line.piece.now line.text.now }
     requires fits { pending.old.so_far.carried + pending.old.so_far.refused < usize.MAX }
-    ensures taken { OnOk result (TakesGiven settings.now (unwritten_of pending.old) (Ok piece.entry) (unwritten_of pending.new)) }
+    ensures taken { OnOk result (TakesGiven settings.now (unwritten_of pending.old) (Ok line.entry.whole) (unwritten_of pending.new)) }
     ensures counted { OnOk result (pending.new.so_far.carried + pending.new.so_far.refused ≤ usize.MAX) }
     ensures dialect { reader.new.dialect ≡ reader.old.dialect }
 {
-    laws::lines_are_points();
-    if let Some(fault) = reader.read(text)? {
-        let refusal = Refusal::Line(LineRefusal::Fault(fault));
-        return end_piece(
-            settings,
-            pending,
-            Taken::Refused(refusal),
-            Piece::Text(piece),
-        );
+    if let Some(_) = reader.read(line.text)? {
+        return take_line(settings, pending, reader, line);
     }
     let came = reader.line().timestamp;
     match change_of(times, came) {
-        TimeChange::Stays => take_read(settings, pending, reader.line(), piece, line, line, text),
-        TimeChange::Becomes(time) => {
-            reader.set_timestamp(time);
-            let copy = piece_at(pending.alloc, line, text, came, time)?;
-            let new = copy.as_str();
-            take_read(
-                settings,
-                pending,
-                reader.line(),
-                piece,
-                line,
-                new,
-                trimmed(new),
-            )
-        }
+        TimeChange::Stays => take_line(settings, pending, reader, line),
+        TimeChange::Becomes(time) => take_at(settings, pending, line, came, time),
         TimeChange::Wrong(fault) => {
             let refusal = Refusal::NotOfTime(fault);
-            end_piece(
-                settings,
-                pending,
-                Taken::Refused(refusal),
-                Piece::Text(piece),
-            )
+            let whole = Piece::Text(line.whole);
+            end_piece(settings, pending, Taken::Refused(refusal), whole)
         }
     }
 }
 
-// Takes a piece that is text. It is called for each line, so that the test whether a line is as written is compiled once, in line here;
-// such a line is copied here, and makes no value of what came of it.
+// Takes a piece that is text. It is called for each line, so that the test whether a line is as written is compiled once.
 #[inline(never)]
 fn take_text<'a>(
     settings: &Settings<'_>,
     pending: &mut Pending,
     reader: &mut LineReader<'a>,
-    piece: &'a str,
+    whole: &'a str,
 ) -> Result<(), AllocError>
     requires dialect { reader.old.dialect ≡ settings.now.dialect }
     requires fits { pending.old.so_far.carried + pending.old.so_far.refused < usize.MAX }
-    ensures taken { OnOk result (TakesGiven settings.now (unwritten_of pending.old) (Ok piece.entry) (unwritten_of pending.new)) }
+    ensures taken { OnOk result (TakesGiven settings.now (unwritten_of pending.old) (Ok whole.entry) (unwritten_of pending.new)) }
     ensures counted { OnOk result (pending.new.so_far.carried + pending.new.so_far.refused ≤ usize.MAX) }
     ensures dialect { reader.new.dialect ≡ reader.old.dialect }
 {
-    laws::written_lines_stay();
-    let line = line_of(settings, piece);
-    let text = trimmed(line);
+    let piece = line_of(settings, whole);
+    let text = trimmed(piece);
     if text.is_empty() {
-        return end_piece(settings, pending, Taken::Blank, Piece::Text(piece));
+        return end_piece(settings, pending, Taken::Blank, Piece::Text(whole));
     }
-    if let Some(times) = &settings.times {
-        return take_timed(times, settings, pending, reader, piece, line, text);
+    let line = Line { whole, piece, text };
+    match &settings.times {
+        Some(times) => take_timed(times, settings, pending, reader, line),
+        None => take_line(settings, pending, reader, line),
     }
-    if copies(settings.lines) && is_as_written(text) {
-        let batch = &mut pending.so_far.batch;
-        let start = batch.len();
-        copy_line(batch, text.as_bytes())?;
-        let allowed = allow(pending.alloc, settings, batch, start, text, Taken::Carried)?;
-        let types = &mut pending.types;
-        let taken = keep(settings, types, batch, reader, start, text, allowed)?;
-        return end_piece(settings, pending, taken, Piece::Text(piece));
-    }
-    take_uncopied(settings, pending, reader, piece, line, text)
 }
 
 // Takes the item of a piece.

@@ -1,5 +1,5 @@
 -- What words ask of the program.
-use Rattle.std.specs.Prelude.{ℕ, ◌^◌, nat_lt, pos, Bool, true, false, not, ◌&&◌, ◌||◌, List, [], ◌∷◌, length, bytes_eq, codes}
+use Rattle.std.specs.Prelude.{◌==◌, ℕ, ◌^◌, nat_lt, pos, Bool, true, false, not, ◌&&◌, ◌||◌, List, [], ◌∷◌, length, bytes_eq, codes}
 use Rattle.std.specs.Prelude.{Option, Some, None, is_none, is_some, option_and_then, option_map, unwrap_or}
 use Rattle.std.specs.Prelude.{if◌then◌else◌}
 use Rattle.std.specs.Borrow.{Bor}
@@ -322,15 +322,20 @@ abbrev mutual
   asked_after given word (value ∷ words) =
       option_map_or (λ more. asked_request more words) (with_value given word.now value) (request_of given (word ∷ value ∷ words))
 
--- what one option alone asks for: `--help` or `-h` the usage, `--version` the version
+-- What `--help` or `-h` asks for with these words after it: the options that people use most, or, with the word `all`, all options.
+abbrev pub asked_help : List (Bor (List ℕ)) → Option Task
+asked_help [] = Some (Help false)
+asked_help (name ∷ []) = if bytes_eq name.now (codes "all") then Some (Help true) else None
+asked_help (name ∷ next ∷ words) = None
+
+-- What one option alone asks for: `--help` or `-h` the help, also with the word `all` after it, and `--version` the version.
 abbrev pub asked_alone : List (Bor (List ℕ)) → Option Task
 asked_alone [] = None
 asked_alone (word ∷ []) = None
-asked_alone (word ∷ mark ∷ []) =
+asked_alone (word ∷ mark ∷ names) =
     if not (bytes_eq mark.now (codes "--")) then None
-    else (if bytes_eq word.now (codes "--help") || bytes_eq word.now (codes "-h") then Some Help
-    else (if bytes_eq word.now (codes "--version") then Some Version else None))
-asked_alone (word ∷ mark ∷ name ∷ words) = None
+    else (if bytes_eq word.now (codes "--help") || bytes_eq word.now (codes "-h") then asked_help names
+    else (if bytes_eq word.now (codes "--version") && length names == 0 then Some Version else None))
 
 -- `--cut` and a number ask for the ends of so many parts of the inputs that the other words name
 abbrev pub cut_task : Dialect → List (Bor (List ℕ)) → Option Task

@@ -2,7 +2,7 @@
 ghost use Rattle.std.specs.Prelude.{◌≡◌, IfNone, IfSome};
 ghost use Rattle.lp_relay_program.specs.Words.{asked_task};
 
-use crate::words::{HELP, MANUAL, Task, USAGE, options_in, task_of};
+use crate::words::{HELP, MANUAL, SHORT_HELP, Task, USAGE, options_in, task_of};
 use influxdb_line_protocol::Dialect;
 use lp_endings::arguments::refuse_words;
 use lp_endings::endings::{Device, LastErrors, ending_of_cut, status_of_print};
@@ -133,7 +133,8 @@ pub(crate) fn run_words(rt: &HostRuntime, words: &[&str]) -> u8
                 None => cut(rt, dialect, parts, names),
             }
         }
-        Some(Task::Help) => status_of_print(println!(rt; "{USAGE}\n{HELP}")),
+        Some(Task::Help(false)) => status_of_print(println!(rt; "{SHORT_HELP}")),
+        Some(Task::Help(true)) => status_of_print(println!(rt; "{USAGE}\n{HELP}")),
         Some(Task::Version) => print_version(rt, NAME),
         None => refuse_wrong(rt, words),
     }

@@ -1,6 +1,6 @@
 //! What the words after the program's name ask for.
 ghost use Rattle.std.specs.Prelude.{◌≡◌};
-ghost use Rattle.lp_relay_program.specs.Words.{are_at_odds, are_opposed, asked_alone, asked_cut, asked_dialect, asked_request, asked_task, cut_task};
+ghost use Rattle.lp_relay_program.specs.Words.{are_at_odds, are_opposed, asked_alone, asked_cut, asked_dialect, asked_help, asked_request, asked_task, cut_task};
 ghost use Rattle.lp_relay_program.specs.Words.{first_given, first_named, first_offset, given_batches, given_old_pieces, given_settings, is_json, lacks_newlines, lacks_option, lacks_refused, lacks_types, names_lines, told_form};
 ghost use Rattle.lp_relay_program.specs.Words.{nothing_given, portable_form, request_of, servers_named, start_number, times_form, types_form, with_file, with_flag, with_form, with_number, with_old_pieces, with_switch, with_times, with_value, with_word};
 
@@ -31,106 +31,146 @@ pub const USAGE: &str = "usage: lp_relay [--strict | --newline-delimited] [--who
 /// Of how many fields the types are kept at most, if the words do not say it.
 pub const DEFAULT_MAX_FIELDS: usize = 1_000_000;
 
-/// What `--help` prints after that, without the last newline.
-pub const HELP: &str =
-    "Relays lines of InfluxDB line protocol from each FILE, one after another, or from standard input,
-to standard output as they come, and writes `item N: FAULT` to standard error for each item that
-it refuses, with the name of its FILE before it if there are several, but not by --faults raw. A
-FILE that is - is standard input; ./-x names a file -x.
+/// What `--help` prints, without the last newline: the options that people use most.
+pub const SHORT_HELP: &str = "usage: lp_relay [OPTION].. [FILE..]
+Reads InfluxDB line protocol from each FILE, or from standard input. Writes
+good lines to standard output, and an error for each bad line to standard error.
 
-  --strict           reads the strict dialect
+  --strict           Read lines by the rules of the strict dialect.
   --newline-delimited
-                     reads the newline-delimited dialect: that of --strict, but each newline ends a
-                     line, whatever is open, so that no line takes in the next one
-  --whole-lines      leaves the bytes after the last newline of each input unread, because a program
-                     that still writes to FILE may have written half a line; --summary tells how many
-                     bytes were read, so that the next run can go on there by --range
-  --crlf             takes a carriage return before the newline that ends a line, or at the end of
-                     the input, for no byte of the line
-  --verbatim         writes each line that can be read as it came, byte for byte; if it is not
-                     given, lines are written again in one spelling, which some servers read as
-                     other points if a name has a backslash
-  --canonical        writes each line as it came that is as it would be written again, byte for
-                     byte, and refuses each other line, for a name that is not admitted or else for
-                     its first part that is not so
-  --portable TO      refuses each line, as it would go out, that the servers TO read otherwise or that
-                     harms the others: influx1 is InfluxDB 1.x, victoria is VictoriaMetrics, all is
-                     both, with their options as they come; the fault names what is not portable
-  --types HOW        strict: refuses each line that gives a field another type than the first line
-                     with it that went out, of any FILE, or two types; a field is a measurement and a
-                     field key, its type float, integer, unsigned integer, string or Boolean; a line
-                     that is refused, also by --portable, gives it none
-  --max-fields N     of how many fields --types keeps the types: of 1000000 if it is not given; a line
-                     with a new field beyond these is refused. Each takes about as much memory as its
-                     names and 100 bytes
-  --time-unit UNIT   s, ms, us or ns: in which unit each timestamp comes. It is multiplied to
-                     nanoseconds, and all else of the line stays; a line whose timestamp is more than
-                     64 bits hold then is refused. By ns, or if it is not given, it stays as it came
-  --default-time NS  the time, in nanoseconds, of each line that comes without a timestamp; of two
-                     lines of one series and one time servers keep the last
-  --now              gives each line that comes without a timestamp the time of the read with which
-                     it ended; one FILE, or standard input. All lines that end with one read have
-                     one time, and of two of one series servers keep the last
-  --times FROM..TO   refuses each line whose time, in nanoseconds, is before FROM, or not before TO,
-                     or that has none; one of the two may be missing, as in FROM.. or ..TO
-  --lines            names the line of the input in each fault, instead of the number of the item
-  --first-item N     the number of the first item, in faults: 1 if it is not given
-  --first-line N     the number of the first line, in faults, which name lines then
-  --faults FORM      line, as if it is not given: each fault on one line, with \\n, \\t, \\r, \\\\ and
-                     \\x.. for what ASCII does not print, cut after 200 bytes; raw: as lp_rebuild
-                     writes it, with newlines within; json: each as an object on one line, which
-                     names its FILE, the item, where its text and its piece begin, how long that
-                     is, the kind of the fault, what is wrong, cut after 200 bytes, and where
-                     reading stopped; json+text: the same with the piece, whole. By both, the
-                     counts of --summary and why the run failed are objects too; editor: each as
-                     FILE:LINE:COLUMN: and what is wrong, as editors go by, and what was found there
-  --max-faults N     tells at most N faults; the others are counted, and go to --refused, as ever,
-                     and a last line says how many were not told
-  --max-line BYTES   a longer line is passed over, and is a fault: 16777216 if it is not given
-  --progress         shows on standard error, if that is a terminal, how far the relay is: bytes
-                     read, percent if all inputs are files, lines written, faults, and MB/s,
-                     each second while input comes, and once more at the end
-  --summary          says at the end on standard error, if the status is 0 or 1, how many bytes,
-                     lines and items there were, and how many were refused for each kind of
-                     fault, as objects name it:
-                     `B bytes, L lines, N items: C carried, R refused: K KIND, ..`
-  --check            writes no line, but the faults and the status are as ever
-  --output FILE, -o  writes the lines to FILE, which is there, and whole, once the status is 0 or 1;
-                     until then a FILE that was there stays as it was
-  --batch-lines N    writes the lines to batches of at most N lines, a file each; --output has one
-                     %0Nd in the name of the file, in whose place the number of the batch stands
-                     with N digits, 1 to 9, as in lines-%06d.lp; each is there, whole, once no line
-                     more goes to it, and stays if the run fails later
-  --batch-bytes N    the same, of at most N bytes; a longer line is a batch of its own. With
-                     --batch-lines a batch has at most so many lines and at most so many bytes
-  --refused FILE     writes each piece that is refused to FILE as it came, with its newline, and of a
-                     line that is too long its first BYTES. FILE is there as that of --output is; one
-                     that holds anything needs --append or --replace. A FIFO or a device takes each
-                     piece as it comes, and - is standard output, with --check or --output
-  --append           adds the refused pieces to the end of a regular FILE of --refused as they come;
-                     they stay if the run fails later. No other run adds to it meanwhile
-  --replace          puts a new file in the place of a regular FILE of --refused that holds anything
-  --range FROM..TO   relays a part of one FILE, a regular file: its bytes from place FROM on, counted
-                     from 0, and before place TO, or to its end if it is FROM.. alone; objects tell
-                     the offset in FILE
-  --cut PARTS        prints where the input can be cut into so many parts of about one length, from
-                     1 to 1000000, to be relayed apart: the end of each, in bytes, a line each. One
-                     FILE that is a regular file is read by blocks, other inputs are held whole
-  --help, -h         prints this
-  --version          prints the version, and the sum of the logic that it is proved by
+                     End each line at its newline, also inside a string.
+  --verbatim         Write each valid line exactly as it came, byte for byte.
+  --portable TO      Reject each line that these servers read otherwise:
+                     influx1, victoria or all.
+  --lines            Name the line of the input in each fault, instead of the
+                     number of the item.
+  --faults FORM      Report faults in this form: line, raw, json, json+text or
+                     editor.
+  --summary          Report at the end how many items were rejected for each
+                     kind of fault.
+  --check            Check the input, and write no line.
+  --output FILE, -o  Write the lines to FILE.
+  --refused FILE     Write each rejected line to FILE, byte for byte as it
+                     came.
 
-The options of a relay come in any order, each at most once, before, between or after the files. A
-value may stand after =, as in --max-line=80, and each word after -- names a FILE. Not --check with
---output, --batch-lines or --batch-bytes, not both --verbatim and --canonical, not both --strict
-and --newline-delimited, not both --append and --replace, not both --default-time and --now, nor
---first-item with --lines or --first-line, but with --faults json, which names items and lines.
---batch-lines and --batch-bytes need --output, --max-fields needs --types, --append and --replace
-need --refused, --whole-lines needs --newline-delimited. --cut PARTS comes first, or after --strict
-or --newline-delimited.
+Exit status: 0 if each line was good, 1 if a line was rejected, 2 if the run
+failed. `lp_relay --help all` prints all options, `man lp_relay` explains them.";
 
-Status 0: every item was carried; 1: some item was not; 2: the input could not be read, memory
-ran out, an output could not be written, or is an input too, or the arguments are wrong; 141:
-nothing reads the output, which is said by no message.";
+/// What `--help all` prints after the usage, without the last newline.
+pub const HELP: &str = "Reads lines of InfluxDB line protocol from each FILE, one after another, or
+from standard input. Writes good lines to standard output, and an error for each
+bad line to standard error. An error begins with `item N:`; an item is one line
+of the format, whose strings can hold newlines. If you name several files, an
+error begins with the name of its file, except with --faults raw. The file name
+- means standard input; use ./-x for a file -x.
+
+  --strict           Read lines by the rules of the strict dialect. By default
+                     lines are read by the rules of the Rust crate
+                     influxdb-line-protocol. Cannot be combined with
+                     --newline-delimited.
+  --newline-delimited
+                     Read lines by the rules of the newline-delimited dialect:
+                     each newline ends a line. By default a newline inside a
+                     string, or after a backslash, is part of the line. Cannot
+                     be combined with --strict.
+  --whole-lines      Leave the bytes after the last newline of each input
+                     unread. By default these bytes are a last line. Needs
+                     --newline-delimited.
+  --crlf             Treat \\r\\n as a line terminator as well as \\n. By default
+                     a carriage return is part of the line, and most lines that
+                     end with a carriage return are rejected.
+  --verbatim         Write each valid line exactly as it came, byte for byte.
+                     By default lp_relay writes each line again in one
+                     spelling, for example with one space between its parts.
+                     Cannot be combined with --canonical.
+  --canonical        Pass a line on only if it is already in canonical form,
+                     that is, if lp_relay without this option would write
+                     exactly the same bytes. By default each valid line is
+                     written in canonical form. Cannot be combined with
+                     --verbatim.
+  --portable TO      Reject each line that these servers read otherwise than
+                     the strict dialect does, and each line that harms other
+                     lines on these servers: influx1, victoria or all. By
+                     default no line is rejected for what a server makes of it.
+  --types strict     Reject each line that gives a field another type than it
+                     had before. By default a field can have another type in
+                     each line.
+  --max-fields N     Keep the types of at most N fields. The default is
+                     1000000. Needs --types.
+  --time-unit UNIT   Read each timestamp in this unit, and write it in
+                     nanoseconds: s, ms, us or ns. The default is ns:
+                     timestamps do not change.
+  --default-time NS  Add this timestamp, in nanoseconds, to each line that has
+                     no timestamp. By default such a line is written without a
+                     timestamp, and a server gives it the time at which the
+                     line arrives. Cannot be combined with --now.
+  --now              Add the current time, in nanoseconds, to each line that
+                     has no timestamp. By default such a line is written
+                     without a timestamp, and a server gives it the time at
+                     which the line arrives. Cannot be combined with
+                     --default-time.
+  --times FROM..TO   Reject each line whose time is before FROM, or not before
+                     TO, or missing. By default a line can have any time, or
+                     none.
+  --lines            Name the line of the input in each fault, instead of the
+                     number of the item. By default faults name items, which
+                     are numbered from 1 over all files. Cannot be combined
+                     with --first-item, except with --faults json.
+  --first-item N     Number the first item N in faults. The default is 1.
+                     Cannot be combined with --lines or --first-line, except
+                     with --faults json.
+  --first-line N     Number the first line N in faults, which name lines then
+                     as with --lines. The default is 1. Cannot be combined with
+                     --first-item, except with --faults json.
+  --faults FORM      Report faults in this form: line, raw, json, json+text or
+                     editor. The default is line.
+  --max-faults N     Report at most N faults. By default each fault is
+                     reported.
+  --max-line BYTES   Reject lines longer than BYTES bytes. The default is
+                     16777216, which is 16 MiB.
+  --progress         Show on standard error how far the run is, if standard
+                     error is a terminal. By default nothing is shown.
+  --summary          Report at the end how many bytes, lines and items there
+                     were, and how many items were rejected for each kind of
+                     fault. By default nothing is reported at the end.
+  --check            Check the input, and write no line. By default each valid
+                     line is written. Cannot be combined with --output,
+                     --batch-lines or --batch-bytes.
+  --output FILE, -o  Write the lines to FILE. By default lines go to standard
+                     output. Cannot be combined with --check.
+  --batch-lines N    Write the lines to several files of at most N lines each.
+                     By default all lines go to one file. Cannot be combined
+                     with --check. Needs --output.
+  --batch-bytes N    Write the lines to several files of at most N bytes each.
+                     By default all lines go to one file. Cannot be combined
+                     with --check. Needs --output.
+  --refused FILE     Write each rejected line to FILE, byte for byte as it
+                     came. By default rejected lines are not kept.
+  --append           Add the rejected lines to the end of the regular file that
+                     --refused names. By default that file must be new or
+                     empty. Cannot be combined with --replace. Needs --refused.
+  --replace          Replace the regular file that --refused names, even if it
+                     is not empty. By default that file must be new or empty.
+                     Cannot be combined with --append. Needs --refused.
+  --range FROM..TO   Relay a part of one regular file: its bytes from offset
+                     FROM up to, but not including, offset TO. By default each
+                     file is relayed as a whole.
+  --cut PARTS        Print where the input can be cut into PARTS parts of about
+                     the same length.
+  --help, -h         Print the options that people use most. --help all prints
+                     the usage and all options.
+  --version          Print the version, and the checksum of the logic by which
+                     the program is proved.
+
+Options can come in any order, before, between or after the files, each at most
+once. A value can also follow an equals sign, as in --max-line=80. Each word
+after -- is a file name. --cut PARTS must come first, or after --strict or
+--newline-delimited.
+
+Exit status: 0 if each line was good; 1 if a line was rejected; 2 if the input
+could not be read, memory ran out, an output could not be written or is also an
+input, or the arguments are wrong; 141, without a message, if nothing reads the
+output.";
 
 /// Options that have a value after them.
 pub(crate) const VALUED: &[&str] = &[
@@ -192,8 +232,8 @@ pub enum Task<'a> {
     Relay(Request<'a>),
     /// Print where the inputs can be cut, by the rules of a dialect, into so many parts. So many of the last words name them.
     Cut(Dialect, usize, usize),
-    /// Print how the program is called.
-    Help,
+    /// Print the options that people use most, or, if true, all options.
+    Help(bool),
     /// Print the version.
     Version,
 }
@@ -759,19 +799,30 @@ fn cut_of<'a>(words: &[&str]) -> Option<Task<'a>>
     }
 }
 
+// What `--help` asks for with these words after it.
+fn help_of<'a>(names: &[&str]) -> Option<Task<'a>>
+    ensures { result ≡ asked_help names.now }
+{
+    match names {
+        [] => Some(Task::Help(false)),
+        [name] if *name == "all" => Some(Task::Help(true)),
+        _ => None,
+    }
+}
+
 // What one option alone asks for.
 fn alone_of<'a>(words: &[&str]) -> Option<Task<'a>>
     ensures { result ≡ asked_alone words.now }
 {
-    let [word, mark] = words else {
+    let [word, mark, names @ ..] = words else {
         return None;
     };
     if *mark != "--" {
         return None;
     }
     match *word {
-        "--help" | "-h" => Some(Task::Help),
-        "--version" => Some(Task::Version),
+        "--help" | "-h" => help_of(names),
+        "--version" if names.is_empty() => Some(Task::Version),
         _ => None,
     }
 }
@@ -794,6 +845,7 @@ fn alone_of<'a>(words: &[&str]) -> Option<Task<'a>>
 /// task_of(&["--cut", "4", "--strict", "--"])  gives  None
 /// task_of(&["--range", "14..", "--", "a"])    gives  a relay of the file `a` from place 14 on
 /// task_of(&["--range", "14..", "--"])         gives  None
+/// task_of(&["--help", "--", "all"])           gives  the help with all options
 /// task_of(&["--help", "--strict", "--"])      gives  None
 /// ```
 pub fn task_of<'a>(words: &[&'a str]) -> Option<Task<'a>>

@@ -1,4 +1,4 @@
-//! Which bytes of one load end a token or are backslashes.
+//! Masks of the bytes of one load that end a token or are backslashes.
 ghost use Rattle.std.specs.Prelude.{◌≡◌, ◌+◌, ◌<◌, ◌≤◌, bit_and, false, length, map, not, slice_index};
 ghost use Rattle.lp_format.specs.format.{is_one_of};
 ghost use Rattle.lp_scan.specs.code.{is_end, is_mark, is_plain, known_of, stops_of, IsRunIn, first_set, mask_of};
@@ -9,7 +9,7 @@ use std::simd::prelude::*;
 
 pub const LANES: usize = 16;
 
-/// The place of the lowest bit that is set, or `lanes`.
+/// Returns the place of the lowest bit of `mask` that is set, or `lanes` if no bit is set.
 #[inline(always)]
 pub fn first_set(mask: u64, lanes: usize) -> usize
     ensures { result ≡ first_set mask lanes }
@@ -21,14 +21,15 @@ pub fn first_set(mask: u64, lanes: usize) -> usize
     }
 }
 
-// The bytes that end a key, and the backslash, each at its low half. If there is none is 0, whose own place the
-// space has.
+// The bytes that end a key, and the backslash, each at its low half. The entry 0 stands for no byte; the low half of the byte 0
+// itself has the space.
 const KEY_ENDS: [u8; 16] = *b" \0\0\0\0\0\0\0\0\t\n\0\\=\0\0";
 
-// The bytes that end a tag's value, in the same way. The backslash has its low half in common with the comma.
+// The bytes that end the value of a tag, each at its low half. The backslash is left out, because it has the low half of the
+// comma.
 const TAG_VALUE_ENDS: [u8; 16] = *b" \0\0\0\0\0\0\0\0\t\n\0,\0\0\0";
 
-// What the table has for the low half of each byte.
+// Looks up the entry of the table for the low half of each byte.
 #[inline(always)]
 fn by_low_half(table: [u8; 16], v: u8x16) -> u8x16
     requires { length v ≡ LANES }
@@ -37,7 +38,7 @@ fn by_low_half(table: [u8; 16], v: u8x16) -> u8x16
     u8x16::from_array(table).swizzle_dyn(v & u8x16::splat(15))
 }
 
-/// The mask of those of the 16 bytes from `at` on that end a token of this kind or are backslashes.
+/// Returns the mask of the bytes that end a token of this kind or are backslashes, among the 16 bytes from `at` on.
 #[inline(always)]
 pub fn end_mask(kind: TokenKind, bytes: &[u8], at: usize) -> u64
     requires { at + LANES ≤ length bytes.now }
@@ -64,8 +65,8 @@ pub fn end_mask(kind: TokenKind, bytes: &[u8], at: usize) -> u64
     }
 }
 
-/// The mask of those of the 16 bytes from `at` on that end a token of this kind if they are bare, or that get a backslash
-/// in it.
+/// Returns the mask of the bytes that end a token of this kind if they are bare, or that a backslash escapes in it, among the 16
+/// bytes from `at` on.
 #[inline(always)]
 pub fn mark_mask(kind: TokenKind, bytes: &[u8], at: usize) -> u64
     requires { at + LANES ≤ length bytes.now }
@@ -81,7 +82,8 @@ pub fn mark_mask(kind: TokenKind, bytes: &[u8], at: usize) -> u64
     }
 }
 
-/// How many of the 16 bytes from `at` on come before the first that ends a token of this kind, or that gets a backslash in it.
+/// Returns how many of the 16 bytes from `at` on come before the first that ends a token of this kind, or that a backslash
+/// escapes in it.
 #[inline(always)]
 pub fn unmarked_run(kind: TokenKind, bytes: &[u8], at: usize) -> usize
     requires { at + LANES ≤ length bytes.now }
@@ -90,7 +92,7 @@ pub fn unmarked_run(kind: TokenKind, bytes: &[u8], at: usize) -> usize
     first_set(mark_mask(kind, bytes, at), LANES)
 }
 
-/// The mask of those of the 64 bytes from `at` on that end a token of this kind if they are bare.
+/// Returns the mask of the bytes that end a token of this kind if they are bare, among the 64 bytes from `at` on.
 #[inline(always)]
 pub fn stops_in(kind: TokenKind, bytes: &[u8], at: usize) -> u64
     requires { at + WIDE ≤ length bytes.now }
@@ -103,7 +105,7 @@ pub fn stops_in(kind: TokenKind, bytes: &[u8], at: usize) -> u64
     (v.simd_eq(u8x64::splat(first)) | others).to_bitmask()
 }
 
-/// The mask of those of the 64 bytes from `at` on that a backslash escapes in a token of this kind.
+/// Returns the mask of the bytes that a backslash escapes in a token of this kind, among the 64 bytes from `at` on.
 #[inline(always)]
 pub fn known_in(kind: TokenKind, bytes: &[u8], at: usize) -> u64
     requires { at + WIDE ≤ length bytes.now }
@@ -116,7 +118,7 @@ pub fn known_in(kind: TokenKind, bytes: &[u8], at: usize) -> u64
     (first | others).to_bitmask()
 }
 
-/// How many of the 16 bytes from `at` on come before the first that ends a token of this kind or is a backslash.
+/// Returns how many of the 16 bytes from `at` on come before the first that ends a token of this kind or is a backslash.
 #[inline(always)]
 pub fn plain_run(kind: TokenKind, bytes: &[u8], at: usize) -> usize
     requires { at + LANES ≤ length bytes.now }
@@ -125,7 +127,7 @@ pub fn plain_run(kind: TokenKind, bytes: &[u8], at: usize) -> usize
     first_set(end_mask(kind, bytes, at), LANES)
 }
 
-/// The mask of the backslashes among the 16 bytes from `at` on.
+/// Returns the mask of the backslashes among the 16 bytes from `at` on.
 #[inline(always)]
 pub fn backslashes(bytes: &[u8], at: usize) -> u64
     requires { at + LANES ≤ length bytes.now }
@@ -135,7 +137,7 @@ pub fn backslashes(bytes: &[u8], at: usize) -> u64
     lanes.to_bitmask()
 }
 
-/// How many of the 16 bytes from `at` on come before the first backslash.
+/// Returns how many of the 16 bytes from `at` on come before the first backslash.
 #[inline(always)]
 pub fn backslash_run(bytes: &[u8], at: usize) -> usize
     requires { at + LANES ≤ length bytes.now }

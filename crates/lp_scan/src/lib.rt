@@ -1,8 +1,8 @@
-//! Masks of the bytes of a load: which of them end a name or a string, which are backslashes, which are escaped. And what is
-//! dropped at the start of a text, and how many newlines it has.
+//! Masks of the bytes of a load: of the bytes that end a name or a string, of the backslashes, and of the escaped bytes. Besides,
+//! this crate trims the start of a text and counts newlines.
 //!
-//! The splitter and the readers of names and strings both search by these masks, and neither uses the other: so what they
-//! share is a crate below both.
+//! The splitter and the readers of names and strings all search by these masks. The splitter and the readers do not use each
+//! other, so the masks are in a crate below them.
 #![tactic(auto)]
 
 pub mod lanes;

@@ -1,4 +1,4 @@
-//! Searches of a text for one of a few bytes, many of its bytes at a time.
+//! Searches of a text for one of a few bytes. A search loads many bytes at a time.
 ghost use Rattle.std.specs.Prelude.{◌≡◌, ◌+◌, ◌<◌, ◌≤◌, length, not};
 ghost use Rattle.lp_format.specs.format.Bytes.{is_one_of};
 ghost use Rattle.lp_scan.specs.code.{IsRunAt, IsRunIn};
@@ -6,7 +6,7 @@ ghost use Rattle.lp_scan.specs.code.{IsRunAt, IsRunIn};
 use crate::lanes::first_set;
 use std::simd::prelude::*;
 
-// Whether the byte is one of the marks, of which some may be the same.
+// Returns whether the byte is one of the marks. The array can have a mark twice.
 #[inline(always)]
 fn is_mark(marks: [u8; 4], byte: u8) -> bool
     ensures { result ≡ is_one_of marks byte }
@@ -14,7 +14,7 @@ fn is_mark(marks: [u8; 4], byte: u8) -> bool
     (byte == marks[0]) | (byte == marks[1]) | (byte == marks[2]) | (byte == marks[3])
 }
 
-// How many bytes of the text come before the first mark, one by one.
+// Returns how many bytes of the text come before the first mark, by looking at one byte after another.
 #[inline(always)]
 fn walked_before_first(marks: [u8; 4], text: &[u8]) -> usize
     ensures { IsRunAt (λ b. not (is_one_of marks b)) text.now 0 result }
@@ -26,7 +26,7 @@ fn walked_before_first(marks: [u8; 4], text: &[u8]) -> usize
     at
 }
 
-// How many of the `N` bytes from `at` on come before the first mark.
+// Returns how many of the `N` bytes from `at` on come before the first mark.
 #[inline(always)]
 fn run_of<const N: usize>(marks: [u8; 4], text: &[u8], at: usize) -> usize
     requires few { N ≤ 64 }
@@ -39,7 +39,8 @@ fn run_of<const N: usize>(marks: [u8; 4], text: &[u8], at: usize) -> usize
     first_set(found.to_bitmask(), N)
 }
 
-// The same of a whole text of `N` bytes or more, `N` at a time. The last load may overlap the one before it.
+// Returns how many bytes of a text of `N` bytes or more come before the first mark, by loads of `N` bytes. The last load can
+// overlap the one before it.
 #[inline(always)]
 fn loaded_before_first<const N: usize>(marks: [u8; 4], text: &[u8]) -> usize
     requires some { 0 < N }
@@ -58,7 +59,7 @@ fn loaded_before_first<const N: usize>(marks: [u8; 4], text: &[u8]) -> usize
     text.len() - N + run_of::<N>(marks, text, text.len() - N)
 }
 
-/// How many bytes of the text come before the first mark, by the longest loads that it has room for.
+/// Returns how many bytes of the text come before the first mark, by the longest loads that the text has room for.
 #[inline(always)]
 pub fn before_first(marks: [u8; 4], text: &[u8]) -> usize
     ensures { IsRunAt (λ b. not (is_one_of marks b)) text.now 0 result }

@@ -1,11 +1,11 @@
-//! How many newlines a text has.
+//! Counts the newlines of a text.
 ghost use Rattle.std.specs.Prelude.{◌≡◌, ◌≤◌, length};
 ghost use Rattle.lp_format.specs.format.Bytes.{newlines_in};
 
-// Of so many bytes the newlines are counted in a byte, by which the compiler counts 16 at a time.
+// The newlines of this many bytes are counted in one byte, so that the compiler counts 16 at a time.
 const FEW: usize = 240;
 
-// How many newlines a few bytes have.
+// Returns how many newlines at most `FEW` bytes have.
 fn few_newlines(bytes: &[u8]) -> u8
     requires { length bytes.now ≤ FEW }
     ensures few { result ≤ length bytes.now }
@@ -20,7 +20,11 @@ fn few_newlines(bytes: &[u8]) -> u8
     count
 }
 
-/// How many newlines there are. It goes over the bytes once, and takes no memory.
+/// Returns how many newlines the bytes have. It looks at each byte once, and takes no memory.
+///
+/// ```text
+/// newlines_in(b"a\nb\n")  gives  2
+/// ```
 pub fn newlines_in(bytes: &[u8]) -> usize
     ensures few { result ≤ length bytes.now }
     ensures value { result ≡ newlines_in bytes.now }

@@ -1,16 +1,16 @@
-//! Masks of 64 bytes of a text, and which of those bytes are escaped.
+//! Masks of 64 bytes of a text: their places with a given byte, their escaped bytes, and their bare marks.
 ghost use Rattle.std.specs.Prelude.{◌≡◌, ◌+◌, ◌%◌, ◌^◌, ◌≤◌, ◌==◌, count_ones, length};
 ghost use Rattle.lp_scan.specs.code.{mask_of, TellsBare, TellsEscaped, TellsEscapesNext};
 
 use std::simd::prelude::*;
 
-/// How many bytes are looked at together.
+/// The number of bytes that one wide load looks at.
 pub const WIDE: usize = 64;
 
-// The odd ones of 64 places.
+// The odd places of 64.
 const ODD: u64 = 0xAAAA_AAAA_AAAA_AAAA;
 
-/// The mask of those of the 64 bytes from `at` on that are this one.
+/// Returns the mask of the places of `byte` among the 64 bytes from `at` on.
 #[inline(always)]
 pub fn places_of(byte: u8, text: &[u8], at: usize) -> u64
     requires { at + WIDE ≤ length text.now }
@@ -20,10 +20,11 @@ pub fn places_of(byte: u8, text: &[u8], at: usize) -> u64
     v.simd_eq(u8x64::splat(byte)).to_bitmask()
 }
 
-/// Which of 64 bytes are escaped, if the first is not and these are the backslashes among them.
+/// Returns the mask of the escaped bytes among 64 bytes, by the mask of their backslashes. The first of the 64 bytes must not be
+/// escaped.
 ///
-/// The backslashes are taken, as one number, from the places after a backslash and the odd ones. What is borrowed goes
-/// along each run of backslashes, so that one subtraction tells at which parity it began.
+/// The backslashes are subtracted, as one number, from the mask of the places that are odd or come after a backslash. A borrow
+/// goes along each run of backslashes, so that one subtraction tells whether the run began at an odd or an even place.
 #[inline(always)]
 pub fn escaped(backslashes: u64) -> u64
     ensures { TellsEscaped backslashes result }
@@ -35,8 +36,8 @@ pub fn escaped(backslashes: u64) -> u64
     left ^ ODD ^ backslashes
 }
 
-/// Which of 64 bytes are bare marks, if the first is not escaped and these are the marks and the backslashes among
-/// them.
+/// Returns the mask of the bare marks among 64 bytes, by the masks of their marks and of their backslashes. The first of the 64
+/// bytes must not be escaped.
 #[inline(always)]
 pub fn bare(marks: u64, backslashes: u64) -> u64
     ensures { TellsBare marks backslashes result }
@@ -44,7 +45,8 @@ pub fn bare(marks: u64, backslashes: u64) -> u64
     marks & !escaped(backslashes)
 }
 
-/// How many bytes after 64 are escaped by these, of which the first is not and the backslashes are given.
+/// Returns 1 if the last of 64 bytes escapes the byte after it, and else 0, by the mask of the backslashes. The first of the 64
+/// bytes must not be escaped.
 #[inline(always)]
 pub fn escapes_next(backslashes: u64) -> usize
     ensures { TellsEscapesNext backslashes result }
@@ -52,7 +54,7 @@ pub fn escapes_next(backslashes: u64) -> usize
     (bare(backslashes, backslashes) >> (WIDE - 1)) as usize
 }
 
-/// How many of the lowest `n` bits are set.
+/// Returns how many of the lowest `n` bits of `mask` are set.
 #[inline(always)]
 #[tactic(auto, using(crate::proofs::lemmas::scan::MaskLemmas::below_is))]
 pub fn ones_below(mask: u64, n: usize) -> usize

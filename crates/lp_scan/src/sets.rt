@@ -1,8 +1,8 @@
-//! The bytes that end a name or a string, and those that a backslash escapes in it: by kind, as arrays and as tests.
+//! The bytes that end a name or a string, and the bytes that a backslash escapes in it, by kind: as arrays and as tests.
 //!
-//! What is written and what is searched from the first backslash on is made from the arrays, of which each has a place for the most
-//! bytes that a kind has: a kind with fewer has a byte twice. The tests of a byte stand beside them, since they are a part of each
-//! reader of names, which the compiler inlines only if they are small before it knows the kind.
+//! The writers, and the searches from the first backslash on, use the arrays. Each array has as many places as a kind has bytes
+//! at most, so a kind with fewer bytes has a byte twice. The tests are separate functions, because each reader of names contains
+//! them, and the compiler inlines a reader only if it is small before its kind is known.
 
 ghost use Rattle.std.specs.Prelude.{◌≡◌, ℕ, length};
 ghost use Rattle.lp_format.specs.format.Bytes.{is_one_of};
@@ -19,7 +19,7 @@ pub enum TokenKind {
 }
 
 impl TokenKind {
-    /// The bytes that end a token of this kind if they are bare.
+    /// Returns the bytes that end a token of this kind if they are bare. A byte can stand twice.
     #[inline(always)]
     pub fn stops(self) -> [u8; 5]
         ensures bytes { (b : ℕ) → is_one_of result b ≡ stops_of self b }
@@ -33,7 +33,7 @@ impl TokenKind {
         }
     }
 
-    /// The bytes that a backslash escapes in a token of this kind.
+    /// Returns the bytes that a backslash escapes in a token of this kind. A byte can stand twice.
     #[inline(always)]
     pub fn known(self) -> [u8; 4]
         ensures bytes { (b : ℕ) → is_one_of result b ≡ is_one_of (known_of self) b }
@@ -46,7 +46,7 @@ impl TokenKind {
         }
     }
 
-    /// Whether a bare byte ends a token of this kind.
+    /// Returns whether a bare byte ends a token of this kind.
     #[inline(always)]
     pub fn is_stop(self, byte: u8) -> bool
         ensures { result ≡ stops_of self byte }
@@ -61,7 +61,7 @@ impl TokenKind {
         }
     }
 
-    /// Whether a backslash before the byte is a known escape.
+    /// Returns whether a backslash before the byte is a known escape in a token of this kind.
     #[inline(always)]
     pub fn is_known(self, byte: u8) -> bool
         ensures { result ≡ is_one_of (known_of self) byte }

@@ -1,9 +1,14 @@
-//! What is dropped at the start of a text: blanks and comments, spaces, one byte.
+//! Trimming: blanks and comments, spaces, or one byte are dropped at the start of a text.
 
 ghost use Rattle.std.specs.Prelude.{◌≡◌, ◌<◌, drop, length, true, None, Some, IfSome, MatchOption};
 ghost use Rattle.lp_format.specs.format.{Lines.byte, Lines.spaces, Trimming.trimmed, Readings.miss, Readings.reads};
 
-/// `text` without the blanks and comments at the start of it.
+/// Returns `text` without the blanks and comments at its start. It takes no memory, and looks at each byte that it drops once.
+///
+/// ```text
+/// trimmed("\n # c\nm a=1i ")  gives  "m a=1i "
+/// trimmed("# c")              gives  ""
+/// ```
 #[inline(always)]
 pub fn trimmed(text: &str) -> &str
     ensures { result.now ≡ trimmed text.now }
@@ -22,7 +27,7 @@ pub fn trimmed(text: &str) -> &str
     &text[text.len()..]
 }
 
-/// What follows `mark`, if it is at the start of `text`.
+/// Returns the text after `mark`, if `mark` is the first byte of `text`, and else `None`.
 #[inline(always)]
 pub fn strip_byte(mark: u8, text: &str) -> Option<&str>
     requires { mark < 128 }
@@ -43,7 +48,7 @@ fn spaces_len(bytes: &[u8]) -> usize
     bytes.iter().take_while(|byte| **byte == b' ').count()
 }
 
-/// What follows the spaces at the start of `text`.
+/// Returns `text` without the spaces at its start.
 #[inline(always)]
 pub fn trim_start_spaces(text: &str) -> &str
     ensures { result.now ≡ drop (spaces text.now) text.now }

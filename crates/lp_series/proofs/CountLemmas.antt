@@ -1,7 +1,8 @@
 -- What is counted, with one line more.
-use Rattle.std.proofs.Common.{◌≡◌, ℕ, ◌+◌, ◌<◌, List, [], ◌∷◌, ◌++◌, true, false, Option, Some, None, String, BTreeMap, Global, ℤ}
+use Rattle.std.proofs.Common.{◌≡◌, ℕ, ◌+◌, ◌<◌, List, [], ◌∷◌, ◌++◌, true, false, Option, Some, None, String, BTreeMap, HashMap, Global, ℤ}
 use Rattle.std.proofs.Common.{refl, sym, ap, subst, ◌∙◌, arith, append-nil, IfSome}
-use Rattle.std.specs.{BTreeMap.get_by_text, BTreeSet.BTreeSet}
+use Rattle.std.specs.{BTreeMap.get_by_text, HashSet.HashSet}
+use Rattle.std.specs.declared.random_state.RandomState.{RandomState}
 use Rattle.std.specs.List.{count_by, filter, filter_map, flat_map}
 use Rattle.std.proofs.lemmas.{Grind.flat_map-append, List.Elements.filter_map-append}
 use Rattle.influxdb_line_protocol.specs.format.Points.{Point, Tag}
@@ -25,7 +26,7 @@ times_push ps p = filter_map-append (λ (q : Point). q.timestamp) ps (p ∷ []) 
 
 module _ (tell : KeysTellSeries) (old : SeriesCounts) (p : Point) (ps : List Point) (before : CountsKept old ps) where
   -- a point more of a known series
-  pub known_kept : (series : BTreeMap (String Global) ℕ) (measurements : BTreeMap (String Global) MeasurementCounts)
+  pub known_kept : (series : HashMap (String Global) ℕ RandomState) (measurements : BTreeMap (String Global) MeasurementCounts)
       → CountsKey old.max_series Known (key_of p) old.series series → CountsIn false p old.measurements measurements
       → CountsKept (record old { series = series; measurements = measurements }) (ps ++ p ∷ [])
   known_kept series measurements step counts =
@@ -49,8 +50,8 @@ module _ (tell : KeysTellSeries) (old : SeriesCounts) (p : Point) (ps : List Poi
       }
 
   -- a point more of a new series
-  pub new_kept : (series : BTreeMap (String Global) ℕ) (measurements : BTreeMap (String Global) MeasurementCounts)
-      (tags : BTreeMap (String Global) (BTreeSet (String Global)))
+  pub new_kept : (series : HashMap (String Global) ℕ RandomState) (measurements : BTreeMap (String Global) MeasurementCounts)
+      (tags : BTreeMap (String Global) (HashSet (String Global) RandomState))
       → CountsKey old.max_series New (key_of p) old.series series → CountsIn true p old.measurements measurements
       → ((earlier : List Tag) → HasTags old.tags earlier → HasTags tags (earlier ++ p.tags))
       → CountsKept (record old { series = series; measurements = measurements; tags = tags }) (ps ++ p ∷ [])
@@ -76,7 +77,7 @@ module _ (tell : KeysTellSeries) (old : SeriesCounts) (p : Point) (ps : List Poi
       }
 
   -- a point more of a series that is not kept
-  pub beyond_kept : (series : BTreeMap (String Global) ℕ) → CountsKey old.max_series Beyond (key_of p) old.series series
+  pub beyond_kept : (series : HashMap (String Global) ℕ RandomState) → CountsKey old.max_series Beyond (key_of p) old.series series
       → CountsKept (record old { series = series; beyond = old.beyond + 1 }) (ps ++ p ∷ [])
   beyond_kept series step =
       let none = step.0 in
@@ -87,5 +88,5 @@ module _ (tell : KeysTellSeries) (old : SeriesCounts) (p : Point) (ps : List Poi
             (before.measurements m);
         tags = subst (λ (ks : List Point). HasTags old.tags (flat_map (λ q. q.tags) ks)) (sym kept) before.tags;
       } in
-      subst (λ (table : BTreeMap (String Global) ℕ). CountsKept (record old { series = table; beyond = old.beyond + 1 }) (ps ++ p ∷ []))
+      subst (λ (table : HashMap (String Global) ℕ RandomState). CountsKept (record old { series = table; beyond = old.beyond + 1 }) (ps ++ p ∷ []))
       (sym step.2) same

@@ -1,8 +1,8 @@
 -- The kinds of fields' values, and tags, with one more.
 use Rattle.std.proofs.Common.{◌≡◌, ℕ, List, [], ◌∷◌, ◌++◌, Bool, true, false, ◌||◌, ◌&&◌, Some, String, BTreeMap, refl, sym, ap, subst, ◌∙◌, arith}
 use Rattle.std.proofs.Common.{◌+◌, ◌<◌, bytes_eq, append_assoc, map, cond, get_or, length, take, string_bytes}
-use Rattle.std.specs.{BTreeMap.get_by_text, BTreeSet.BTreeSet, BTreeSet.Updates, BTreeSet.contains_text, Cmp.Lexicographic.same_text, List.list_any, String.string_cmp}
-use Rattle.std.proofs.lemmas.{Cmp.nat_list_eq_equiv, Grind.take_at_read, List.map-append, Map.Text.btree_set_updates_text}
+use Rattle.std.specs.{BTreeMap.get_by_text, HashSet.HashSet, HashSet.Updates, HashSet.contains_text, Cmp.Lexicographic.same_text, List.list_any, String.string_eq}
+use Rattle.std.proofs.lemmas.{Cmp.nat_list_eq_equiv, Grind.take_at_read, List.map-append, Map.Text.hash_set_updates_text}
 use Rattle.influxdb_line_protocol.specs.format.Points.{Field, Tag}
 use Rattle.influxdb_line_protocol.specs.format.Values.{Value}
 use Rattle.lp_series.specs.declared.kinds.FieldKinds.{FieldKinds}
@@ -58,7 +58,7 @@ kinds_more old new fields f sets has key = by_test (bytes_eq f.key key) refl
     by_test false other = grind (arith, sets key, has key, kinds_elsewhere key fields f other)
 
 -- the tags have one more once it was put there
-pub tags_more : {Y : Type 0} (old new : BTreeMap (String Y) (BTreeSet (String Y))) (tags : List Tag) (t : Tag)
+pub tags_more : {Y S : Type 0} (old new : BTreeMap (String Y) (HashSet (String Y) S)) (tags : List Tag) (t : Tag)
     → PutsTag old new t → HasTags old tags → HasTags new (tags ++ t ∷ [])
 tags_more old new tags t puts has = record {
   keys = λ key. grind (arith, puts.keys key, has.keys key, any_push (λ (u : Tag). bytes_eq u.key key) tags t);
@@ -75,10 +75,10 @@ made_more {X} {Y} {Z} h g before xs i x below is =
     ∙ ap (λ (ys : List X). before ++ map g (map h ys)) (sym taken)
 
 -- a text that is put into a set is there
-pub set_put : {Y : Type 0} (old new : BTreeSet (String Y)) (key : String Y) (value : List ℕ) → string_bytes key ≡ value
-    → Updates string_cmp old new key true → PutsText old new value
+pub set_put : {Y S : Type 0} (old new : HashSet (String Y) S) (key : String Y) (value : List ℕ) → string_bytes key ≡ value
+    → Updates string_eq old new key true → PutsText old new value
 set_put old new key value is put q =
-    let there = btree_set_updates_text (string_bytes key) old new true put q in
+    let there = hash_set_updates_text (string_bytes key) old new true put q in
     there ∙ ap (λ (bytes : List ℕ). cond (bytes_eq bytes q) true (contains_text old q)) is ∙ or_is (bytes_eq value q) (contains_text old q)
   where
     -- a choice that may be true is an or

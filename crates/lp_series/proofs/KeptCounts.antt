@@ -1,5 +1,6 @@
 -- What an error leaves as it was.
-use Rattle.std.proofs.Common.{◌≡◌, ℕ, ◌<◌, List, Bool, true, false, Option, Some, None, Result, Ok, Err, String, BTreeMap, ℤ, refl, sym, ap, subst, ◌∙◌, arith, bytes_eq, cond, is_some, map}
+use Rattle.std.proofs.Common.{◌≡◌, ℕ, ◌<◌, List, Bool, true, false, Option, Some, None, Result, Ok, Err, String, BTreeMap, HashMap, ℤ, refl, sym, ap, subst, ◌∙◌, arith, bytes_eq, cond, is_some, map}
+use Rattle.std.specs.HashMap as hash
 use Rattle.std.specs.{BTreeMap.get_by_text, Cmp.Lexicographic.same_text, Map.update}
 use Rattle.std.specs.List.{count_by, filter}
 use Rattle.std.specs.Prelude.{IfSome, OnErr}
@@ -7,7 +8,7 @@ use Rattle.std.proofs.lemmas.Cmp.{nat_list_eq_equiv}
 use Rattle.influxdb_line_protocol.specs.format.Points.{Point}
 use Rattle.lp_series.specs.declared.{counts.SeriesCounts.SeriesCounts, measurements.MeasurementCounts.MeasurementCounts}
 use Rattle.lp_series.specs.Counting.{Counts, CountsAll, CountsIfAny, CountsNumbers, CountsSeries, HasNumbers, IsGreatest, IsLeast, different, has_key, is_kept, is_of, kept_by, key_of, times_of}
-use Rattle.lp_series.specs.CountSteps.{KeepsCounts, KeepsMeasurements, KeepsNumbers, SetsText}
+use Rattle.lp_series.specs.CountSteps.{KeepsCounts, KeepsMeasurements, KeepsNumbers, SetsSeries, SetsText}
 use Rattle.lp_series.proofs.KeptLemmas.{Agree, agree_all, count_agree, filter_agree}
 
 -- what holds at an error
@@ -16,32 +17,34 @@ at_err (Ok x) q = tt
 at_err (Err e) q = q
 
 -- if a map had at a key what was set there, it has what it had
-pub set_same : {X Y : Type 0} (old new : BTreeMap (String Y) X) (key : List ℕ) (here : Option X) → get_by_text old key ≡ here
-    → ((q : List ℕ) → get_by_text new q ≡ update bytes_eq (get_by_text old) key here q) → (q : List ℕ) → get_by_text new q ≡ get_by_text old q
+pub set_same : {X Y S : Type 0} (old new : HashMap (String Y) X S) (key : List ℕ) (here : Option X) → hash.get_by_text old key ≡ here
+    → ((q : List ℕ) → hash.get_by_text new q ≡ update bytes_eq (hash.get_by_text old) key here q) → (q : List ℕ)
+    → hash.get_by_text new q ≡ hash.get_by_text old q
 set_same old new key here had sets q = by_test (bytes_eq key q) refl
   where
     -- in both cases of the test
-    by_test : (same : Bool) → bytes_eq key q ≡ same → get_by_text new q ≡ get_by_text old q
+    by_test : (same : Bool) → bytes_eq key q ≡ same → hash.get_by_text new q ≡ hash.get_by_text old q
     by_test true same =
-        sets q ∙ ap (λ (b : Bool). cond b here (get_by_text old q)) same ∙ sym had ∙ ap (get_by_text old) (same_text key q (sym same))
-    by_test false other = sets q ∙ ap (λ (b : Bool). cond b here (get_by_text old q)) other
+        sets q ∙ ap (λ (b : Bool). cond b here (hash.get_by_text old q)) same ∙ sym had ∙ ap (hash.get_by_text old) (same_text key q (sym same))
+    by_test false other = sets q ∙ ap (λ (b : Bool). cond b here (hash.get_by_text old q)) other
 
 -- if a map was set at a key, and then to what it had there before, it has what it had before
-pub set_back : {X Y : Type 0} (before counted new : BTreeMap (String Y) X) (key : List ℕ) (here : Option X) (value : X)
-    → get_by_text before key ≡ here → SetsText before counted key value
-    → ((q : List ℕ) → get_by_text new q ≡ update bytes_eq (get_by_text counted) key here q) → (q : List ℕ) → get_by_text new q ≡ get_by_text before q
+pub set_back : {Y S : Type 0} (before counted new : HashMap (String Y) ℕ S) (key : List ℕ) (here : Option ℕ) (value : ℕ)
+    → hash.get_by_text before key ≡ here → SetsSeries before counted key value
+    → ((q : List ℕ) → hash.get_by_text new q ≡ update bytes_eq (hash.get_by_text counted) key here q) → (q : List ℕ)
+    → hash.get_by_text new q ≡ hash.get_by_text before q
 set_back before counted new key here value had sets back =
     set_same before new key here had (λ q. back q ∙ by_test q (bytes_eq key q) refl)
   where
     -- in both cases of the test
     by_test : (q : List ℕ) (same : Bool) → bytes_eq key q ≡ same
-        → update bytes_eq (get_by_text counted) key here q ≡ update bytes_eq (get_by_text before) key here q
+        → update bytes_eq (hash.get_by_text counted) key here q ≡ update bytes_eq (hash.get_by_text before) key here q
     by_test q true same =
-        ap (λ (b : Bool). cond b here (get_by_text counted q)) same ∙ sym (ap (λ (b : Bool). cond b here (get_by_text before q)) same)
+        ap (λ (b : Bool). cond b here (hash.get_by_text counted q)) same ∙ sym (ap (λ (b : Bool). cond b here (hash.get_by_text before q)) same)
     by_test q false other =
-        ap (λ (b : Bool). cond b here (get_by_text counted q)) other ∙ sets q
-        ∙ ap (λ (b : Bool). cond b (Some value) (get_by_text before q)) other
-        ∙ sym (ap (λ (b : Bool). cond b here (get_by_text before q)) other)
+        ap (λ (b : Bool). cond b here (hash.get_by_text counted q)) other ∙ sets q
+        ∙ ap (λ (b : Bool). cond b (Some value) (hash.get_by_text before q)) other
+        ∙ sym (ap (λ (b : Bool). cond b here (hash.get_by_text before q)) other)
 
 -- a measurement has the numbers that it has
 pub same_numbers : (o : Option MeasurementCounts) → KeepsNumbers o o

@@ -1,31 +1,32 @@
 -- What is counted by series, with one point more.
-use Rattle.std.proofs.Common.{cond, ◌≡◌, ℕ, ◌+◌, ◌<◌, ◌≤◌, List, [], ◌∷◌, ◌++◌, Bool, true, false, not, ◌||◌, ◌&&◌, Option, Some, None, String, BTreeMap}
+use Rattle.std.proofs.Common.{cond, ◌≡◌, ℕ, ◌+◌, ◌<◌, ◌≤◌, List, [], ◌∷◌, ◌++◌, Bool, true, false, not, ◌||◌, ◌&&◌, Option, Some, None, String, BTreeMap, HashMap}
 use Rattle.std.proofs.Common.{refl, sym, ap, subst, ◌∙◌, arith, bytes_eq, append-nil, map, is_some, IfSome, true≢false}
-use Rattle.std.specs.{BTreeMap.btree_map_len, BTreeMap.get_by_text, BTreeSet.BTreeSet, Cmp.Lexicographic.same_text}
+use Rattle.std.specs.HashMap as hash
+use Rattle.std.specs.{BTreeMap.get_by_text, HashMap.hash_map_len, HashSet.HashSet, Cmp.Lexicographic.same_text}
 use Rattle.std.specs.List.{AllByRecursion, count_by, filter, flat_map, list_any}
 use Rattle.std.proofs.lemmas.{Cmp.nat_list_eq_equiv, Grind.flat_map-append, List.length_push, List.map-append, List.Folds.list_any-append}
 use Rattle.influxdb_line_protocol.specs.format.Points.{Field, Point, Tag}
 use Rattle.lp_lines.specs.laws.KeyLaws.{KeysTellSeries}
 use Rattle.lp_series.specs.declared.measurements.MeasurementCounts.{MeasurementCounts}
 use Rattle.lp_series.specs.Counting.{different, CountsIfAny, CountsMeasurement, CountsSeries, HasKinds, HasTags, has_key, is_kept, is_of, is_tag, kept_by, key_of}
-use Rattle.lp_series.specs.CountSteps.{CountsAfter, CountsIn, CountsPoint, SetsText}
+use Rattle.lp_series.specs.CountSteps.{CountsAfter, CountsIn, CountsPoint, SetsSeries}
 use Rattle.lp_series.proofs.KeptLemmas.{Agree, any_counted, any_filter, any_flat, any_map, count_agree, count_push, different_push}
 use Rattle.lp_series.proofs.KeptLemmas.{filter_agree, filter_no, filter_yes, none_counted, none_kept, tags_alike, keys_alike}
 
-module _ {Y : Type 0} (old new : BTreeMap (String Y) ℕ) (key : List ℕ) (value : ℕ) (sets : SetsText old new key value) where
+module _ {Y S : Type 0} (old new : HashMap (String Y) ℕ S) (key : List ℕ) (value : ℕ) (sets : SetsSeries old new key value) where
   -- a table has the key that was set
-  set_here : get_by_text new key ≡ Some value
+  set_here : hash.get_by_text new key ≡ Some value
   set_here = grind (arith, sets key, nat_list_eq_equiv.refl key)
 
   -- if a table had the key that was set, it keeps the same points
-  pub known_agree : (n : ℕ) → get_by_text old key ≡ Some n → (p : Point) → is_kept new p ≡ is_kept old p
+  pub known_agree : (n : ℕ) → hash.get_by_text old key ≡ Some n → (p : Point) → is_kept new p ≡ is_kept old p
   known_agree n was p = by_test (bytes_eq key (key_of p)) refl
     where
       -- in both cases of the test
       by_test : (same : Bool) → bytes_eq key (key_of p) ≡ same → is_kept new p ≡ is_kept old p
       by_test true same =
           let is = same_text key (key_of p) (sym same) in
-          subst (λ (k : List ℕ). is_some (get_by_text new k) ≡ is_some (get_by_text old k)) is (grind (arith, set_here, was))
+          subst (λ (k : List ℕ). is_some (hash.get_by_text new k) ≡ is_some (hash.get_by_text old k)) is (grind (arith, set_here, was))
       by_test false other = grind (arith, sets (key_of p), other)
 
   -- if a table keeps all of these points without the key that was set, it does then
@@ -42,31 +43,31 @@ module _ {Y : Type 0} (old new : BTreeMap (String Y) ℕ) (key : List ℕ) (valu
 
   -- the counts of series have one point more
   counted_more : (ps : List Point) (p : Point) → key_of p ≡ key → 0 < value → value ≡ count_by (has_key key) ps + 1
-      → ((q : List ℕ) → IfSome (get_by_text old q) (λ n. (0 < n) × (n ≡ count_by (has_key q) ps)))
-      → (q : List ℕ) → IfSome (get_by_text new q) (λ n. (0 < n) × (n ≡ count_by (has_key q) (ps ++ p ∷ [])))
+      → ((q : List ℕ) → IfSome (hash.get_by_text old q) (λ n. (0 < n) × (n ≡ count_by (has_key q) ps)))
+      → (q : List ℕ) → IfSome (hash.get_by_text new q) (λ n. (0 < n) × (n ≡ count_by (has_key q) (ps ++ p ∷ [])))
   counted_more ps p is some counts before q = by_test (bytes_eq key q) refl
     where
       -- in both cases of the test
       by_test : (same : Bool) → bytes_eq key q ≡ same
-          → IfSome (get_by_text new q) (λ n. (0 < n) × (n ≡ count_by (has_key q) (ps ++ p ∷ [])))
+          → IfSome (hash.get_by_text new q) (λ n. (0 < n) × (n ≡ count_by (has_key q) (ps ++ p ∷ [])))
       by_test true same =
           let q_is = same_text key q (sym same) in
           let here : value ≡ count_by (has_key key) (ps ++ p ∷ [])
           = grind (arith, counts, count_push (has_key key) ps p, is, nat_list_eq_equiv.refl key) in
-          subst (λ (k : List ℕ). IfSome (get_by_text new k) (λ n. (0 < n) × (n ≡ count_by (has_key k) (ps ++ p ∷ [])))) q_is
+          subst (λ (k : List ℕ). IfSome (hash.get_by_text new k) (λ n. (0 < n) × (n ≡ count_by (has_key k) (ps ++ p ∷ [])))) q_is
           (subst (λ (o : Option ℕ). IfSome o (λ n. (0 < n) × (n ≡ count_by (has_key key) (ps ++ p ∷ [])))) (sym set_here) (some, here))
       by_test false other =
-          let as_before : get_by_text new q ≡ get_by_text old q = grind (arith, sets q, other) in
+          let as_before : hash.get_by_text new q ≡ hash.get_by_text old q = grind (arith, sets q, other) in
           let counted : count_by (has_key q) (ps ++ p ∷ []) ≡ count_by (has_key q) ps
           = grind (arith, count_push (has_key q) ps p, is, other) in
           subst (λ (o : Option ℕ). IfSome o (λ n. (0 < n) × (n ≡ count_by (has_key q) (ps ++ p ∷ [])))) (sym as_before)
-          (subst (λ (count : ℕ). IfSome (get_by_text old q) (λ n. (0 < n) × (n ≡ count))) (sym counted) (before q))
+          (subst (λ (count : ℕ). IfSome (hash.get_by_text old q) (λ n. (0 < n) × (n ≡ count))) (sym counted) (before q))
 
   -- the table has as many keys as there are different ones of the points that are kept
   len_more : (ps : List Point) (p : Point) (known : Bool) → key_of p ≡ key → Agree (is_kept new) (is_kept old) ps
-      → list_any (has_key key) (kept_by old ps) ≡ known → btree_map_len new ≡ btree_map_len old + cond known 0 1
-      → btree_map_len old ≡ different (map key_of (kept_by old ps))
-      → btree_map_len new ≡ different (map key_of (kept_by new (ps ++ p ∷ [])))
+      → list_any (has_key key) (kept_by old ps) ≡ known → hash_map_len new ≡ hash_map_len old + cond known 0 1
+      → hash_map_len old ≡ different (map key_of (kept_by old ps))
+      → hash_map_len new ≡ different (map key_of (kept_by new (ps ++ p ∷ [])))
   len_more ps p known is agree before_is longer before =
       let ks = kept_by old ps in
       let kept = kept_more ps p is agree in
@@ -81,7 +82,7 @@ module _ {Y : Type 0} (old new : BTreeMap (String Y) ℕ) (key : List ℕ) (valu
   -- the table has one point more of a series that is kept
   pub series_more : (most others : ℕ) (ps : List Point) (p : Point) → key_of p ≡ key → 0 < value → value ≡ count_by (has_key key) ps + 1
       → Agree (is_kept new) (is_kept old) ps → (known : Bool) → list_any (has_key key) (kept_by old ps) ≡ known
-      → btree_map_len new ≡ btree_map_len old + cond known 0 1 → btree_map_len new ≤ most
+      → hash_map_len new ≡ hash_map_len old + cond known 0 1 → hash_map_len new ≤ most
       → CountsSeries most old others ps → CountsSeries most new others (ps ++ p ∷ [])
   series_more most others ps p is some counts agree known before_is longer few before =
       let here : is_kept new p ≡ true = grind (arith, set_here, is) in
@@ -93,7 +94,7 @@ module _ {Y : Type 0} (old new : BTreeMap (String Y) ℕ) (key : List ℕ) (valu
         full = λ some_beyond. let full = before.full some_beyond in omega (arith, longer, full);
       }
 
-module _ {Y : Type 0} (table : BTreeMap (String Y) ℕ) (key : List ℕ) (none : get_by_text table key ≡ None) where
+module _ {Y S : Type 0} (table : HashMap (String Y) ℕ S) (key : List ℕ) (none : hash.get_by_text table key ≡ None) where
   -- points that are kept are of other series than one that is not
   pub other_keys : (ps : List Point) → AllByRecursion (λ p. is_kept table p ≡ true) ps → AllByRecursion (λ p. has_key key p ≡ false) ps
   other_keys [] all = tt
@@ -104,7 +105,7 @@ module _ {Y : Type 0} (table : BTreeMap (String Y) ℕ) (key : List ℕ) (none :
       by_test false other = other
       by_test true same =
           let is = same_text (key_of p) key (sym same) in
-          absurd (true≢false (sym all.0 ∙ ap (λ (k : List ℕ). is_some (get_by_text table k)) is ∙ ap is_some none))
+          absurd (true≢false (sym all.0 ∙ ap (λ (k : List ℕ). is_some (hash.get_by_text table k)) is ∙ ap is_some none))
 
   -- a point of a series that is not kept is not kept
   not_kept : (p : Point) → key_of p ≡ key → is_kept table p ≡ false
@@ -115,7 +116,7 @@ module _ {Y : Type 0} (table : BTreeMap (String Y) ℕ) (key : List ℕ) (none :
   kept_without ps p is = filter_no (is_kept table) ps p (not_kept p is)
 
   -- it is one more of those that are not
-  pub series_beyond : (most others : ℕ) (ps : List Point) (p : Point) → key_of p ≡ key → most ≤ btree_map_len table
+  pub series_beyond : (most others : ℕ) (ps : List Point) (p : Point) → key_of p ≡ key → most ≤ hash_map_len table
       → CountsSeries most table others ps → CountsSeries most table (others + 1) (ps ++ p ∷ [])
   series_beyond most others ps p is full before = record {
     counted = λ q. by_test q (bytes_eq key q) refl;
@@ -127,14 +128,14 @@ module _ {Y : Type 0} (table : BTreeMap (String Y) ℕ) (key : List ℕ) (none :
     where
       -- in both cases of the test
       by_test : (q : List ℕ) (same : Bool) → bytes_eq key q ≡ same
-          → IfSome (get_by_text table q) (λ n. (0 < n) × (n ≡ count_by (has_key q) (ps ++ p ∷ [])))
-      by_test q true same = subst (λ (k : List ℕ). IfSome (get_by_text table k) (λ n. (0 < n) × (n ≡ count_by (has_key k) (ps ++ p ∷ []))))
+          → IfSome (hash.get_by_text table q) (λ n. (0 < n) × (n ≡ count_by (has_key q) (ps ++ p ∷ [])))
+      by_test q true same = subst (λ (k : List ℕ). IfSome (hash.get_by_text table k) (λ n. (0 < n) × (n ≡ count_by (has_key k) (ps ++ p ∷ []))))
           (same_text key q (sym same))
           (subst (λ (o : Option ℕ). IfSome o (λ n. (0 < n) × (n ≡ count_by (has_key key) (ps ++ p ∷ [])))) (sym none) tt)
       by_test q false other =
           let counted : count_by (has_key q) (ps ++ p ∷ []) ≡ count_by (has_key q) ps
           = grind (arith, count_push (has_key q) ps p, is, other) in
-          subst (λ (count : ℕ). IfSome (get_by_text table q) (λ n. (0 < n) × (n ≡ count))) (sym counted) (before.counted q)
+          subst (λ (count : ℕ). IfSome (hash.get_by_text table q) (λ n. (0 < n) × (n ≡ count))) (sym counted) (before.counted q)
 
 -- a measurement has one point more
 point_more : (is_new : Bool) (p : Point) (old new : MeasurementCounts) (qs : List Point) → CountsMeasurement old qs
@@ -191,14 +192,14 @@ measurements_more old new is_new p ks before more known m = by_test (bytes_eq p.
         subst (λ (o : Option MeasurementCounts). CountsIfAny o (filter (is_of m) (ks ++ p ∷ []))) (sym as_before)
         (subst (CountsIfAny (get_by_text old m)) (sym (filter_no (is_of m) ks p other)) (before m))
 
-module _ {Y : Type 0} (tell : KeysTellSeries) (table : BTreeMap (String Y) ℕ) (ps : List Point) (p : Point) (n : ℕ)
-    (found : get_by_text table (key_of p) ≡ Some n) (some : 0 < count_by (has_key (key_of p)) ps) where
+module _ {Y S : Type 0} (tell : KeysTellSeries) (table : HashMap (String Y) ℕ S) (ps : List Point) (p : Point) (n : ℕ)
+    (found : hash.get_by_text table (key_of p) ≡ Some n) (some : 0 < count_by (has_key (key_of p)) ps) where
   -- a test that each point of a known series passes is passed by some point that is kept
   some_kept : (test : Point → Bool) → ((q : Point) → key_of q ≡ key_of p → test q ≡ true) → list_any test (kept_by table ps) ≡ true
   some_kept test passes =
       any_filter (is_kept table) test ps ∙ any_counted (has_key (key_of p)) (λ (q : Point). is_kept table q && test q) ps some
       (λ q same. let is = same_text (key_of q) (key_of p) (sym same) in
-      let kept : is_kept table q ≡ true = ap (λ (k : List ℕ). is_some (get_by_text table k)) is ∙ ap is_some found in
+      let kept : is_kept table q ≡ true = ap (λ (k : List ℕ). is_some (hash.get_by_text table k)) is ∙ ap is_some found in
       grind (arith, kept, passes q is))
 
   -- a point of a known series is kept
@@ -238,7 +239,7 @@ module _ {Y : Type 0} (tell : KeysTellSeries) (table : BTreeMap (String Y) ℕ) 
           grind (arith, split, earlier)
 
   -- a point of a known series that is kept has its tags, so they are there
-  pub known_tags : (tags : BTreeMap (String Y) (BTreeSet (String Y))) → HasTags tags (flat_map (λ q. q.tags) (kept_by table ps))
+  pub known_tags : (tags : BTreeMap (String Y) (HashSet (String Y) S)) → HasTags tags (flat_map (λ q. q.tags) (kept_by table ps))
       → HasTags tags (flat_map (λ q. q.tags) (kept_by table ps ++ p ∷ []))
   known_tags tags before = record {
     keys = λ key. before.keys key ∙ known_test (λ (t : Tag). bytes_eq t.key key) (λ q same. keys_alike tell p q same key);

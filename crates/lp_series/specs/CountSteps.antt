@@ -1,7 +1,8 @@
 -- What one line more changes of what is counted.
 use Rattle.std.specs.Prelude.{◌≡◌, ℕ, ◌+◌, ◌<◌, ◌≤◌, ◌||◌, Bool, false, List, [], ◌++◌, if◌then◌else◌}
 use Rattle.std.specs.Prelude.{ℤ, ◌∷◌, Option, Some, None, String, is_some}
-use Rattle.std.specs.{BTreeMap.BTreeMap, BTreeMap.btree_map_len, BTreeMap.get_by_text, BTreeSet.BTreeSet, BTreeSet.contains_text, Map.update, Str.bytes_eq}
+use Rattle.std.specs.{BTreeMap.BTreeMap, BTreeMap.get_by_text, HashMap.HashMap, HashMap.hash_map_len, HashSet.HashSet, HashSet.contains_text, Map.update, Str.bytes_eq}
+use Rattle.std.specs.HashMap as hash
 use Rattle.influxdb_line_protocol.specs.format.Points.{Field, Point, Tag}
 use Rattle.influxdb_line_protocol.specs.format.Values.{Value}
 use Rattle.lp_series.specs.declared.{kinds.FieldKinds.FieldKinds, measurements.MeasurementCounts.MeasurementCounts, tables.Found.Found, counts.SeriesCounts.SeriesCounts}
@@ -32,22 +33,27 @@ module _ {Y X : Type 0} where
   abbrev pub SetsText : BTreeMap (String Y) X → BTreeMap (String Y) X → List ℕ → X → Type 0
   SetsText old new key value = (q : List ℕ) → get_by_text new q ≡ update bytes_eq (get_by_text old) key (Some value) q
 
-module _ {Y : Type 0} where
-  -- a line more of the series with this key was counted, if that is kept
-  abbrev pub CountsKey : ℕ → Found → List ℕ → BTreeMap (String Y) ℕ → BTreeMap (String Y) ℕ → Type 0
-  CountsKey most Known key old new = (n : ℕ) × (get_by_text old key ≡ Some n) × SetsText old new key (n + 1)
-      × (btree_map_len new ≡ btree_map_len old)
-  CountsKey most New key old new = (get_by_text old key ≡ None) × SetsText old new key 1
-      × (btree_map_len old < most) × (btree_map_len new ≡ btree_map_len old + 1)
-  CountsKey most Beyond key old new = (get_by_text old key ≡ None) × (most ≤ btree_map_len old) × (new ≡ old)
+module _ {Y S : Type 0} where
+  -- a series with this key has so many points now, and each other as many as before
+  abbrev pub SetsSeries : HashMap (String Y) ℕ S → HashMap (String Y) ℕ S → List ℕ → ℕ → Type 0
+  SetsSeries old new key n = (q : List ℕ) → hash.get_by_text new q ≡ update bytes_eq (hash.get_by_text old) key (Some n) q
 
-module _ {Y : Type 0} where
+module _ {Y S : Type 0} where
+  -- a line more of the series with this key was counted, if that is kept
+  abbrev pub CountsKey : ℕ → Found → List ℕ → HashMap (String Y) ℕ S → HashMap (String Y) ℕ S → Type 0
+  CountsKey most Known key old new = (n : ℕ) × (hash.get_by_text old key ≡ Some n) × SetsSeries old new key (n + 1)
+      × (hash_map_len new ≡ hash_map_len old)
+  CountsKey most New key old new = (hash.get_by_text old key ≡ None) × SetsSeries old new key 1
+      × (hash_map_len old < most) × (hash_map_len new ≡ hash_map_len old + 1)
+  CountsKey most Beyond key old new = (hash.get_by_text old key ≡ None) × (most ≤ hash_map_len old) × (new ≡ old)
+
+module _ {Y S : Type 0} where
   -- a value more is in a set of texts
-  abbrev pub PutsText : BTreeSet (String Y) → BTreeSet (String Y) → List ℕ → Type 0
+  abbrev pub PutsText : HashSet (String Y) S → HashSet (String Y) S → List ℕ → Type 0
   PutsText old new value = (q : List ℕ) → contains_text new q ≡ (bytes_eq value q || contains_text old q)
 
   -- a tag more is among these
-  pub record PutsTag (old new : BTreeMap (String Y) (BTreeSet (String Y))) (t : Tag) : Type 0 where
+  pub record PutsTag (old new : BTreeMap (String Y) (HashSet (String Y) S)) (t : Tag) : Type 0 where
     pub keys : (key : List ℕ) → is_some (get_by_text new key) ≡ (bytes_eq t.key key || is_some (get_by_text old key))
     pub values : (key value : List ℕ) → has_tag new key value ≡ (is_tag key value t || has_tag old key value)
 
@@ -89,20 +95,21 @@ KeepsNumbers None new = new ≡ None
 KeepsNumbers (Some old) new =
     (counts : MeasurementCounts) × (new ≡ Some counts) × (counts.points ≡ old.points) × (counts.series ≡ old.series)
 
-module _ {Y : Type 0} where
+module _ {Y S : Type 0} where
   -- each series has as many points as before, and none is new
-  abbrev pub KeepsSeries : (old new : BTreeMap (String Y) ℕ) → Type 0
-  KeepsSeries old new = ((key : List ℕ) → get_by_text new key ≡ get_by_text old key) × (btree_map_len new ≡ btree_map_len old)
+  abbrev pub KeepsSeries : (old new : HashMap (String Y) ℕ S) → Type 0
+  KeepsSeries old new = ((key : List ℕ) → hash.get_by_text new key ≡ hash.get_by_text old key) × (hash_map_len new ≡ hash_map_len old)
 
+module _ {Y : Type 0} where
   -- each measurement has as many points and series as before, and none is new
   abbrev pub KeepsMeasurements : (old new : BTreeMap (String Y) MeasurementCounts) → Type 0
   KeepsMeasurements old new = (m : List ℕ) → KeepsNumbers (get_by_text old m) (get_by_text new m)
 
-module _ {Y : Type 0} where
+module _ {Y S : Type 0} where
   -- each series has as many points as it had before one was counted of the series with this key, which was found so
-  abbrev pub TakesBack : Found → List ℕ → (counted new : BTreeMap (String Y) ℕ) → Type 0
+  abbrev pub TakesBack : Found → List ℕ → (counted new : HashMap (String Y) ℕ S) → Type 0
   TakesBack found key counted new =
-      (most : ℕ) (before : BTreeMap (String Y) ℕ) → CountsKey most found key before counted → KeepsSeries before new
+      (most : ℕ) (before : HashMap (String Y) ℕ S) → CountsKey most found key before counted → KeepsSeries before new
 
 -- a point more was counted beside its series, which was found so, and counted before
 abbrev pub CountsFound : Found → Point → (old new : SeriesCounts) → Type 0

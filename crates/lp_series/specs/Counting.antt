@@ -1,7 +1,8 @@
 -- What is counted of points by their series.
 use Rattle.std.specs.Prelude.{◌≡◌, ℕ, ◌<◌, ◌≤◌, ◌+◌, ◌&&◌, Bool, true, false, not, List, [], ◌∷◌, length, map, flat_map, if◌then◌else◌}
 use Rattle.std.specs.Prelude.{ℤ, ◌≤ℤ◌, Option, Some, None, IfSome, is_some, is_none, String}
-use Rattle.std.specs.{BTreeMap.BTreeMap, BTreeMap.btree_map_len, BTreeMap.get_by_text, BTreeSet.BTreeSet, BTreeSet.contains_text}
+use Rattle.std.specs.{BTreeMap.BTreeMap, BTreeMap.get_by_text, HashMap.HashMap, HashMap.hash_map_len, HashSet.HashSet, HashSet.contains_text}
+use Rattle.std.specs.HashMap as hash
 use Rattle.std.specs.{Option.option_map_or, List.All, List.Contains, List.count_by, List.filter, List.filter_map, List.list_any, Str.bytes_eq}
 use Rattle.influxdb_line_protocol.specs.code.Keys.{series_key}
 use Rattle.influxdb_line_protocol.specs.format.Points.{Field, Point, Tag}
@@ -85,34 +86,36 @@ kinds_at key fields =
     })
     else None
 
-module _ {Y : Type 0} where
+module _ {Y S : Type 0} where
   -- whether the series of a point is in a table
-  abbrev pub is_kept : BTreeMap (String Y) ℕ → Point → Bool
-  is_kept table p = is_some (get_by_text table (key_of p))
+  abbrev pub is_kept : HashMap (String Y) ℕ S → Point → Bool
+  is_kept table p = is_some (hash.get_by_text table (key_of p))
 
   -- the points whose series are in a table
-  abbrev pub kept_by : BTreeMap (String Y) ℕ → List Point → List Point
+  abbrev pub kept_by : HashMap (String Y) ℕ S → List Point → List Point
   kept_by table points = filter (is_kept table) points
 
   -- a table of at most this many series has for each how many points are of it, at least one, and as many keys as these have series.
   -- So many points are of series that are not there, which is none as long as the table is not full
-  pub record CountsSeries (most : ℕ) (table : BTreeMap (String Y) ℕ) (others : ℕ) (ps : List Point) : Type 0 where
-    pub counted : (key : List ℕ) → IfSome (get_by_text table key) (λ n. (0 < n) × (n ≡ count_by (has_key key) ps))
-    pub few : btree_map_len table ≤ most
-    pub distinct : btree_map_len table ≡ different (map key_of (kept_by table ps))
+  pub record CountsSeries (most : ℕ) (table : HashMap (String Y) ℕ S) (others : ℕ) (ps : List Point) : Type 0 where
+    pub counted : (key : List ℕ) → IfSome (hash.get_by_text table key) (λ n. (0 < n) × (n ≡ count_by (has_key key) ps))
+    pub few : hash_map_len table ≤ most
+    pub distinct : hash_map_len table ≡ different (map key_of (kept_by table ps))
     pub beyond : others ≡ count_by (λ p. not (is_kept table p)) ps
-    pub full : 0 < others → most ≤ btree_map_len table
+    pub full : 0 < others → most ≤ hash_map_len table
 
+module _ {Y : Type 0} where
   -- the kinds of the values of these fields, by their keys
   abbrev pub HasKinds : BTreeMap (String Y) FieldKinds → List Field → Type 0
   HasKinds kinds fields = (key : List ℕ) → get_by_text kinds key ≡ kinds_at key fields
 
+module _ {Y S : Type 0} where
   -- whether a tag value is among those of a tag key
-  abbrev pub has_tag : BTreeMap (String Y) (BTreeSet (String Y)) → List ℕ → List ℕ → Bool
+  abbrev pub has_tag : BTreeMap (String Y) (HashSet (String Y) S) → List ℕ → List ℕ → Bool
   has_tag tags key value = option_map_or (λ values. contains_text values value) (get_by_text tags key) false
 
   -- the keys of these tags, and the values of each
-  pub record HasTags (tags : BTreeMap (String Y) (BTreeSet (String Y))) (of : List Tag) : Type 0 where
+  pub record HasTags (tags : BTreeMap (String Y) (HashSet (String Y) S)) (of : List Tag) : Type 0 where
     pub keys : (key : List ℕ) → is_some (get_by_text tags key) ≡ list_any (λ t. bytes_eq t.key key) of
     pub values : (key value : List ℕ) → has_tag tags key value ≡ list_any (is_tag key value) of
 

@@ -1,6 +1,7 @@
 //! Counts the lines of a text that comes in parts.
 
 ghost use Rattle.std.specs.Prelude.{◌≡◌, ◌+◌, ◌++◌, ◌<◌, ℕ, [], List, IfOk, OnErr, OnOk, true};
+ghost use Rattle.std.specs.HashMap.{hasher_of};
 ghost use Rattle.influxdb_line_protocol.specs.code.{Bounded.most_given, Rules.rules_of};
 ghost use Rattle.influxdb_line_protocol.specs.format.{Dialects.Dialect as Format, Pieces.Pieces, Points.Point};
 ghost use Rattle.lp_series.specs.CountSteps.{KeepsCounts};
@@ -12,6 +13,7 @@ use crate::lines::count_given;
 use crate::sums::{count_if, one_of};
 use influxdb_line_protocol::{BoundedLineStream, Dialect, laws};
 use std::alloc::{AllocError, Global};
+use std::hash::RandomState;
 
 /// Counts the lines of a text that comes in parts, however it is cut.
 ///
@@ -19,7 +21,7 @@ use std::alloc::{AllocError, Global};
 /// held of the text is the line that has not ended yet, no more of it than the limit, and the part that was given last.
 ///
 /// ```text
-/// new(alloc, Dialect::Crate, usize::MAX, 1000)
+/// new(alloc, RandomState::new(&rt)?, Dialect::Crate, usize::MAX, 1000)
 /// push(b"m a=1 1\nm a=")   counts: 1 point
 /// push(b"2 2\nno line\n")  counts: 2 points
 /// push(b"m a=3 3")         counts: 2 points
@@ -36,17 +38,25 @@ pub struct SeriesCounter {
 
 impl SeriesCounter {
     /// Before the first part, by the rules of a dialect. A line may have so many bytes at most, without the newline that ends it;
-    /// `usize::MAX` is no limit. At most so many series are kept. It takes no memory.
-    pub fn new(alloc: Global, dialect: Dialect, limit: usize, max_series: usize) -> Self
+    /// `usize::MAX` is no limit. At most so many series are kept, in tables that hash by `hashes`: [`SeriesCounts::new`] says how to make it.
+    /// It takes no memory.
+    pub fn new(
+        alloc: Global,
+        hashes: RandomState,
+        dialect: Dialect,
+        limit: usize,
+        max_series: usize,
+    ) -> Self
         ensures counts { HasCounted result (rules_of dialect) limit [] 0 [] }
         ensures most { result.counts.max_series ≡ max_series }
+        ensures hashes { hasher_of result.counts.series ≡ hashes }
     {
         laws::pieces_join();
         SeriesCounter {
             alloc,
             dialect,
             stream: BoundedLineStream::new_in(alloc, dialect, limit),
-            counts: SeriesCounts::new(alloc, max_series),
+            counts: SeriesCounts::new(alloc, hashes, max_series),
             refused: 0,
         }
     }

@@ -1,6 +1,7 @@
 //! What lines have by their series.
 
 ghost use Rattle.std.specs.Prelude.{◌≡◌, ◌++◌, ◌∷◌, [], List, IfSome, OnOk, OnErr};
+ghost use Rattle.std.specs.HashMap.{hasher_of};
 ghost use Rattle.influxdb_line_protocol.specs.code.Parsed.{IsReadLine, parsed_point};
 ghost use Rattle.influxdb_line_protocol.specs.format.Points.{Point};
 ghost use Rattle.lp_series.specs.Counting.{Counts, CountsKept, key_of};
@@ -12,7 +13,8 @@ use crate::tables::{Found, count_key, count_tags, tags_in, uncount_key};
 use crate::times::{greatest, least};
 use influxdb_line_protocol::{ParsedLine, key_of_text, laws};
 use std::alloc::{AllocError, Global};
-use std::collections::{BTreeMap, BTreeSet};
+use std::collections::{BTreeMap, HashMap, HashSet};
+use std::hash::RandomState;
 
 /// What was counted of lines.
 ///
@@ -37,11 +39,11 @@ pub struct SeriesCounts {
     /// as many keys as that.
     pub beyond: u64,
     /// How many lines each series that is kept has, by its key, which [`Series::key`](influxdb_line_protocol::Series::key) gives.
-    pub series: BTreeMap<String, u64>,
+    pub series: HashMap<String, u64, RandomState>,
     /// What was counted of the lines of kept series, by their measurement.
     pub measurements: BTreeMap<String, MeasurementCounts>,
     /// The values of each tag of kept series, by the tag key.
-    pub tags: BTreeMap<String, BTreeSet<String>>,
+    pub tags: BTreeMap<String, HashSet<String, RandomState>>,
 }
 
 // The key of the series of a line that was read, lent, if its text is that key.
@@ -63,9 +65,13 @@ fn lent_key<'a>(line: &ParsedLine<'a>) -> Option<&'a str>
 
 impl SeriesCounts {
     /// Before the first line. At most so many series are kept; `usize::MAX` is no limit. It takes no memory.
-    pub fn new(alloc: Global, max_series: usize) -> Self
+    ///
+    /// The tables of series and of tag values hash their keys by `hashes`. Make `hashes` by `RandomState::new` for each count. Who writes
+    /// the lines must not know it, and so cannot choose keys that fall into one place of a table.
+    pub fn new(alloc: Global, hashes: RandomState, max_series: usize) -> Self
         ensures counts { Counts result [] }
         ensures most { result.max_series ≡ max_series }
+        ensures hashes { hasher_of result.series ≡ hashes }
     {
         SeriesCounts {
             max_series,
@@ -74,7 +80,7 @@ impl SeriesCounts {
             least_time: None,
             greatest_time: None,
             beyond: 0,
-            series: BTreeMap::new(alloc),
+            series: HashMap::with_hasher(alloc, hashes),
             measurements: BTreeMap::new(alloc),
             tags: BTreeMap::new(alloc),
         }
@@ -99,7 +105,7 @@ impl SeriesCounts {
             Found::Known => count_line(alloc, &mut self.measurements, line, false),
             // Its tags come first: they are no counts, which an error must not change.
             Found::New => {
-                count_tags(alloc, &mut self.tags, tags_in(line))?;
+                count_tags(alloc, *self.series.hasher(), &mut self.tags, tags_in(line))?;
                 count_line(alloc, &mut self.measurements, line, true)
             }
             Found::Beyond => {

@@ -8,7 +8,8 @@ ghost use Rattle.lp_series.specs.CountSteps.{CountsKey, KeepsSeries, PutsTag, Pu
 
 use influxdb_line_protocol::{EscapedStr, ParsedLine};
 use std::alloc::{AllocError, Global};
-use std::collections::{BTreeMap, BTreeSet};
+use std::collections::{BTreeMap, HashMap, HashSet};
+use std::hash::RandomState;
 
 /// How a series was found in a table.
 #[derive(Clone, Copy)]
@@ -24,7 +25,7 @@ pub(crate) enum Found {
 // Counts a line more of the series with this key, if that is in the table, or there is room for one more of so many.
 pub(crate) fn count_key(
     alloc: Global,
-    series: &mut BTreeMap<String, u64>,
+    series: &mut HashMap<String, u64, RandomState>,
     max_series: usize,
     key: &str,
 ) -> Result<Found, AllocError>
@@ -43,7 +44,7 @@ pub(crate) fn count_key(
 }
 
 // Takes back that a line more of the series with this key was counted, which was found so.
-pub(crate) fn uncount_key(series: &mut BTreeMap<String, u64>, found: Found, key: &str)
+pub(crate) fn uncount_key(series: &mut HashMap<String, u64, RandomState>, found: Found, key: &str)
     ensures { TakesBack found key.now series.old series.new }
 {
     match found {
@@ -70,7 +71,11 @@ pub(crate) fn tags_in<'l, 'a>(line: &'l ParsedLine<'a>) -> &'l [(EscapedStr<'a>,
 }
 
 // Puts a value among those of a tag.
-fn put_value(alloc: Global, values: &mut BTreeSet<String>, value: &str) -> Result<(), AllocError>
+fn put_value(
+    alloc: Global,
+    values: &mut HashSet<String, RandomState>,
+    value: &str,
+) -> Result<(), AllocError>
     ensures { OnOk result (PutsText values.old values.new value.now) }
 {
     if values.contains(value) {
@@ -80,10 +85,11 @@ fn put_value(alloc: Global, values: &mut BTreeSet<String>, value: &str) -> Resul
     Ok(())
 }
 
-// Puts a tag among those that series have.
+// Puts a tag among those that series have. A table of its values hashes them by `hashes`.
 fn count_tag(
     alloc: Global,
-    tags: &mut BTreeMap<String, BTreeSet<String>>,
+    hashes: RandomState,
+    tags: &mut BTreeMap<String, HashSet<String, RandomState>>,
     key: &str,
     value: &str,
 ) -> Result<(), AllocError>
@@ -93,7 +99,7 @@ fn count_tag(
         put_value(alloc, values, value)?;
         return Ok(());
     }
-    let mut values = BTreeSet::new(alloc);
+    let mut values = HashSet::with_hasher(alloc, hashes);
     put_value(alloc, &mut values, value)?;
     tags.insert(String::from_str(alloc, key)?, values)?;
     Ok(())
@@ -102,14 +108,15 @@ fn count_tag(
 // Puts the tags of a series among those that series have.
 pub(crate) fn count_tags(
     alloc: Global,
-    tags: &mut BTreeMap<String, BTreeSet<String>>,
+    hashes: RandomState,
+    tags: &mut BTreeMap<String, HashSet<String, RandomState>>,
     of: &[(EscapedStr<'_>, EscapedStr<'_>)],
 ) -> Result<(), AllocError>
     ensures { OnOk result ((before : List Tag) → HasTags tags.old before
         → HasTags tags.new (before ++ map logical_tag (map tag_of of.now))) }
 {
     for (key, value) in of {
-        count_tag(alloc, tags, key.as_str(), value.as_str())?;
+        count_tag(alloc, hashes, tags, key.as_str(), value.as_str())?;
     }
     Ok(())
 }

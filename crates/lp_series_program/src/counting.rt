@@ -4,14 +4,14 @@
 
 use crate::report::{Counted, tell};
 use crate::words::Report;
-use influxdb_line_protocol::Dialect;
 use lp_endings::endings::Failure;
 use lp_endings::speaking::Speaker;
 use lp_inputs::counted::Counts;
 use lp_inputs::watched::Watcher;
-use lp_relay::KindCounts;
+use lp_relay::{KindCounts, Settings};
 use lp_series::SeriesCounter;
 use std::alloc::AllocError;
+use std::hash::RandomState;
 use std::time::Instant;
 
 /// What is counted of the inputs.
@@ -33,12 +33,12 @@ pub(crate) struct Counting<'a, 'n> {
 }
 
 impl<'a, 'n> Counting<'a, 'n> {
-    /// Nothing was read so far. Lines longer than `limit` are not counted.
+    /// Nothing was read so far, by a relay of these settings, whose `limit` holds for the lines that are counted too.
     pub(crate) fn new(
         rt: &'a HostRuntime,
         program: Speaker<'a>,
-        dialect: Dialect,
-        limit: usize,
+        hashes: RandomState,
+        relay: Settings<'n>,
         report: Report<'n>,
     ) -> Self {
         Counting {
@@ -46,7 +46,13 @@ impl<'a, 'n> Counting<'a, 'n> {
             program,
             report,
             read: Counts::none(),
-            counter: SeriesCounter::new(rt.alloc(), dialect, limit, report.max_series),
+            counter: SeriesCounter::new(
+                rt.alloc(),
+                hashes,
+                relay.dialect,
+                relay.limit,
+                report.max_series,
+            ),
             started: Instant::now(rt).ok(),
             told_at: 0,
             is_refused: false,

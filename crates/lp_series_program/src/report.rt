@@ -11,7 +11,8 @@ use lp_rebuild::RunFault;
 use lp_relay::{KINDS, KindCounts, put_json_text, tell_bytes};
 use lp_series::{FieldKinds, MeasurementCounts, SeriesCounts};
 use std::alloc::{AllocError, Global};
-use std::collections::{BTreeMap, BTreeSet};
+use std::collections::{BTreeMap, HashSet};
+use std::hash::RandomState;
 use std::io::{self, ErrorKind};
 
 /// What was counted of what was read.
@@ -135,7 +136,7 @@ fn put_mixed(
 // Adds a line for each tag key.
 fn put_tags(
     text: &mut String,
-    tags: &BTreeMap<String, BTreeSet<String>>,
+    tags: &BTreeMap<String, HashSet<String, RandomState>>,
 ) -> Result<(), AllocError> {
     let number = tags.len();
     writeln!(text, "{number} tag keys")?;
@@ -238,7 +239,7 @@ fn put_json_measurements(
 // Adds the tag keys as members of an object, each with how many values it has.
 fn put_json_tags(
     json: &mut String,
-    tags: &BTreeMap<String, BTreeSet<String>>,
+    tags: &BTreeMap<String, HashSet<String, RandomState>>,
 ) -> Result<(), AllocError> {
     let start = json.len();
     for (key, values) in tags.iter() {
@@ -422,7 +423,7 @@ fn put_measurement_metrics(
 // Adds the metrics of tags.
 fn put_tag_metrics(
     text: &mut String,
-    tags: &BTreeMap<String, BTreeSet<String>>,
+    tags: &BTreeMap<String, HashSet<String, RandomState>>,
 ) -> Result<(), AllocError> {
     put_metric(text, "tag_values", "gauge", "Values of a tag key.")?;
     for (key, values) in tags.iter() {

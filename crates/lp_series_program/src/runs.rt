@@ -1,17 +1,20 @@
 //! Does what the words ask for.
-ghost use Rattle.std.specs.Prelude.{◌≡◌, IfNone};
+ghost use Rattle.std.specs.Prelude.{◌≡◌, false, IfNone};
+ghost use Rattle.lp_rebuild.specs.declared.program.RunFault.TheVariants.{Read};
 ghost use Rattle.lp_series_program.specs.Words.{asked_task};
 
 use crate::counting::Counting;
 use crate::words::{HELP, MANUAL, NAME, Report, Task, USAGE, options_in, task_of};
 use lp_endings::arguments::refuse_words;
-use lp_endings::endings::{Failure, ending_of_relay, status_of_print};
+use lp_endings::endings::{Device, Failure, ending_of_relay, status_of_print};
 use lp_endings::speaking::Speaker;
 use lp_endings::summary::Totals;
 use lp_endings::version::print_version;
 use lp_programs::relays::{Request, end, refuse_files, relay, relay_to_files, remove_all_left};
 use lp_rebuild::RunFault;
 use lp_words::refusals::names_of;
+use std::hash::RandomState;
+use std::io;
 
 // How a count ended that a relay answered so: if memory was refused for it, or it could not be told, that is why.
 fn answer_of<'n>(
@@ -30,6 +33,22 @@ fn answer_of<'n>(
     }
 }
 
+// Why nothing is counted if the system gives no random numbers: they are read before the inputs.
+fn no_random_numbers<'n>(error: io::Error) -> Failure<'n>
+    ensures fault { result.fault ≡ Read }
+    ensures pipe { result.is_pipe_closed ≡ false }
+{
+    Failure {
+        fault: RunFault::Read,
+        device: Device {
+            name: Some("random numbers"),
+            batch: None,
+            error: Some(error),
+        },
+        is_pipe_closed: false,
+    }
+}
+
 // Counts the lines of the inputs of these names, and tells what was counted, also if the inputs could not be read to their end.
 fn count<'n>(
     rt: &HostRuntime,
@@ -38,13 +57,11 @@ fn count<'n>(
     names: &'n [&'n str],
     report: Report<'n>,
 ) -> Result<Totals, Failure<'n>> {
-    let counting = Counting::new(
-        rt,
-        program,
-        request.relay.dialect,
-        request.relay.limit,
-        report,
-    );
+    let hashes = match RandomState::new(rt) {
+        Ok(hashes) => hashes,
+        Err(error) => return Err(no_random_numbers(error)),
+    };
+    let counting = Counting::new(rt, program, hashes, request.relay, report);
     let (answer, counting) = relay_to_files(rt, program, request, names, counting);
     let totals = answer_of(answer, &counting);
     if counting.failure.is_some() {

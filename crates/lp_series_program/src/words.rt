@@ -29,45 +29,62 @@ pub const USAGE: &str =
 
 /// What `--help` prints after that, without the last newline.
 pub const HELP: &str =
-    "Reads lines of InfluxDB line protocol from each FILE, one after another, or from standard input,
-and tells what series they have, or writes them by their series to standard output. It writes
-`item N: FAULT` to standard error for each item that it refuses, with the name of its FILE before
-it if there are several, but not by --faults raw. A FILE that is - is standard input; ./-x names a
+    "Reads lines of InfluxDB line protocol from each FILE, one after another, or
+from standard input. Counts their series, or writes the lines by their series to
+standard output. Writes an error for each bad line to standard error. An error
+begins with `item N:`; an item is one line of the format, whose strings can hold
+newlines. If you name several files, an error begins with the name of its file,
+except with --faults raw. The file name - means standard input; use ./-x for a
 file -x.
 
-  --stats            tells, at the end, how many bytes, lines and points there are, their times,
-                     how many series, the points, series and fields of each measurement, the fields
-                     with values of more than one type, and how many values each tag has; that is
-                     done if nothing else is asked for
-  --json             tells that as one object of JSON on a line
-  --every SECONDS    tells what was counted so far too, so often while input comes
-  --prometheus FILE  writes that to FILE in Prometheus' text format, for node_exporter's folder: it
-                     is put in its place whole; nothing then goes to standard output
-  --max-series N     keeps N series at most: 1000000 if it is not given. Of lines of other series it
-                     counts the points and the times alone, and tells how many there were
-  --key              writes each line as it came, after the key of its series and a tab, so that
-                     sort, uniq, awk and split go by series; a line with a name that is not
-                     admitted is refused. It reads the newline-delimited dialect
-  --shard K/N        writes each line as it came whose series is of shard K of N, from 0: the
-                     FNV-1a hash, of 64 bits, of the key of its series, modulo N
-  --strict           reads the strict dialect
+  --stats            Print the counts of the lines and of their series at the
+                     end. This is the default if neither --key nor --shard is
+                     given. Cannot be combined with --key or --shard.
+  --json             Print the counts as one JSON object on one line. By
+                     default the counts are several lines of text. Cannot be
+                     combined with --key or --shard.
+  --every SECONDS    Print the counts so far too, every SECONDS seconds while
+                     input comes. By default the counts are printed only at the
+                     end. Cannot be combined with --key or --shard.
+  --prometheus FILE  Write the counts to FILE in the text format of Prometheus,
+                     and nothing to standard output. By default the counts go
+                     to standard output. Cannot be combined with --key or
+                     --shard.
+  --max-series N     Count at most N series. The default is 1000000. Cannot be
+                     combined with --key or --shard.
+  --key              Write each line as it came, after the key of its series
+                     and a tab. By default the series are counted, and no line
+                     is written. Cannot be combined with --stats, --json,
+                     --every, --prometheus, --max-series, --shard or --strict.
+  --shard K/N        Write only the lines whose series belongs to shard K of N.
+                     By default the series are counted, and no line is written.
+                     Cannot be combined with --stats, --json, --every,
+                     --prometheus, --max-series or --key.
+  --strict           Read lines by the rules of the strict dialect. By default
+                     lines are read by the rules of the Rust crate
+                     influxdb-line-protocol. Cannot be combined with --key or
+                     --newline-delimited.
   --newline-delimited
-                     reads the newline-delimited dialect: that of --strict, but each newline ends a
-                     line, whatever is open, so that no line takes in the next one
-  --faults FORM      line, as if it is not given: each fault on one line; raw: as lp_rebuild writes
-                     it, with newlines within; json: each as an object on one line; json+text: the
-                     same with the text of what is refused; editor: each as FILE:LINE:COLUMN: and
-                     what is wrong
-  --max-line BYTES   a longer line is passed over, and is a fault: 16777216 if it is not given
-  --help, -h         prints this
-  --version          prints the version, and the sum of the logic that it is proved by
+                     Read lines by the rules of the newline-delimited dialect:
+                     each newline ends a line. By default a newline inside a
+                     string, or after a backslash, is part of the line. Cannot
+                     be combined with --strict.
+  --faults FORM      Report faults in this form: line, raw, json, json+text or
+                     editor. The default is line.
+  --max-line BYTES   Reject lines longer than BYTES bytes. The default is
+                     16777216, which is 16 MiB.
+  --help, -h         Print the usage and what each option does.
+  --version          Print the version, and the checksum of the logic by which
+                     the program is proved.
 
-The options come in any order, each at most once, before, between or after the files. A value may
-stand after =, as in --every=60, and each word after -- names a FILE.
+Options can come in any order, before, between or after the files, each at most
+once. A value can also follow an equals sign, as in --every=60. Each word after
+-- is a file name.
 
-Status 0: every item was read, and with --key written; 1: some item was not; 2: the input could not
-be read, memory ran out, an output could not be written, or is an input too, or the arguments are
-wrong; 141: nothing reads the output, which is said by no message.";
+Exit status: 0 if each line was read, and with --key written; 1 if a line was
+rejected; 2 if the input could not be read, memory ran out, an output could not
+be written or is also an input, or the arguments are wrong; 141, without a
+message, if nothing reads the output.";
 
 /// Options that have a value after them.
 pub(crate) const VALUED: &[&str] = &[

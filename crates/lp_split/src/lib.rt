@@ -1,7 +1,7 @@
-//! The pieces of a text, whole or in parts.
+//! The pieces of a text, which is whole or comes in parts.
 //!
-//! Where a piece ends is told by its quotes and backslashes, and by nothing else that a line says. So pieces are split here
-//! with no reader of lines: a program that only cuts a text, or gathers what comes in parts, needs no more than this crate.
+//! The end of a piece is found by its quotes, its backslashes and a few other bytes, without reading its lines. A program that
+//! only cuts a text, or gathers lines that come in parts, needs no more than this crate.
 #![tactic(auto)]
 
 pub mod split;

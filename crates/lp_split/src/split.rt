@@ -1,4 +1,4 @@
-//! The pieces of a text.
+//! The splitter, which cuts a text into its pieces.
 
 ghost use Rattle.std.specs.Prelude.{◌≡◌, ◌≢◌, ◌+◌, ◌/◌, ◌^◌, ◌<◌, ◌≤◌, ◌==◌, ◌||◌, ℕ, length, take, drop, option_map, slice_index, IfSome};
 ghost use Rattle.std.specs.Prelude.{MatchOption, true, false, All};
@@ -23,38 +23,38 @@ pub use resumed::{Region, cut_or_track};
 pub(crate) use resumed::{Search, search_on};
 pub use tracked::{Place, Track, track_on};
 
-// How many bytes are looked at by wide loads, if they show nothing, before `memchr` searches on.
+// The number of bytes that wide loads look at, if they find nothing, before `memchr` goes on with the search.
 const NEAR: usize = 320;
 
-/// A dialect of line protocol: which rules hold.
+/// A dialect of line protocol, that is, a set of rules.
 ///
-/// The calls that name no dialect read that of the Rust crate.
+/// A call that names no dialect uses [`Dialect::Crate`].
 #[derive(Clone, Copy, Debug, PartialEq, Eq)]
 pub enum Dialect {
     /// The rules of the Rust crate `influxdb-line-protocol`.
     Crate,
-    /// The same but for two: a comment ends at its own newline, whatever it holds, and the comma after the first
-    /// field is taken only together with a second field.
+    /// The rules of `Crate` with two differences: a comment ends at the first newline, whatever the comment holds, and the comma
+    /// after the first field is taken only together with a second field.
     Strict,
-    /// The strict rules, and each newline ends a line, whatever is open: a quote, a comment or a backslash. So whatever a
-    /// line holds, each other line is read as if it were alone. No string holds a newline.
+    /// The strict rules, and each newline ends a line, even within a string, within a comment or after a backslash. Each line is
+    /// read as if it were alone, whatever the other lines hold. No string holds a newline.
     NewlineDelimited,
 }
 
-// The bytes that end a stretch, of which both may be the same.
+// The two bytes that end a stretch. Both can be the same byte.
 #[derive(Clone, Copy)]
 struct Stops(u8, u8);
 
-// What ends a head.
+// The bytes that end a head.
 const HEAD: Stops = Stops(b' ', b'\n');
 
-// What ends a plain stretch.
+// The bytes that end a plain stretch.
 const PLAIN: Stops = Stops(b'\n', b'"');
 
-// What ends a quoted stretch.
+// The byte that ends a quoted stretch.
 const QUOTED: Stops = Stops(b'"', b'"');
 
-// The mask of those of the 64 bytes from `at` on that end a stretch.
+// Returns the mask of the bytes that end a stretch, among the 64 bytes from `at` on.
 #[inline(always)]
 fn stops_in(stops: Stops, text: &[u8], at: usize) -> u64
     requires { at + WIDE ≤ length text.now }
@@ -64,8 +64,8 @@ fn stops_in(stops: Stops, text: &[u8], at: usize) -> u64
     (v.simd_eq(u8x64::splat(stops.0)) | v.simd_eq(u8x64::splat(stops.1))).to_bitmask()
 }
 
-// How many of the 64 bytes from `at` on come before the first bare one that ends a stretch; if
-// there is none 64, or 65 if the last one is a bare backslash. The backslashes among them are given.
+// Returns how many of the 64 bytes from `at` on come before the first bare byte that ends a stretch. Returns 64 if there is none,
+// or 65 if the last byte is a bare backslash. `backslashes` is the mask of the backslashes among the 64 bytes.
 #[inline(always)]
 fn stop_in(stops: Stops, text: &[u8], at: usize, backslashes: u64) -> usize
     requires room { at + WIDE < length text.now }
@@ -82,8 +82,8 @@ fn stop_in(stops: Stops, text: &[u8], at: usize, backslashes: u64) -> usize
     WIDE + escapes_next(backslashes)
 }
 
-// The place of the first byte that ends a stretch or is a backslash: `memchr3` looks for these three
-// in a head, `memchr2` for the backslash and the quote in a quoted stretch.
+// Returns the place of the first byte that ends a stretch or is a backslash. In a head `memchr3` looks for three bytes, and in a
+// quoted stretch `memchr2` looks for the backslash and the quote.
 #[inline(always)]
 fn next_mark(stops: Stops, text: &[u8]) -> Option<usize>
     ensures { IsFirstByte (is_byte3 backslash stops.0 stops.1) text.now result }
@@ -94,8 +94,8 @@ fn next_mark(stops: Stops, text: &[u8]) -> Option<usize>
     memchr3(b'\\', stops.0, stops.1, text)
 }
 
-// How many bytes come before the first bare one that ends a stretch; if there is none all of them, but for a bare backslash
-// at the end, which escapes what comes. Wide loads look at them as long as they show something near, and then `memchr`.
+// Returns how many bytes come before the first bare byte that ends a stretch. Returns the length of the text if there is none,
+// less one if the text ends in a bare backslash. Wide loads look at the first bytes, and then `memchr` goes on.
 #[inline(always)]
 fn bare_len(stops: Stops, text: &[u8]) -> usize
     requires { is_stop stops backslash ≡ false }
@@ -126,8 +126,8 @@ fn bare_len(stops: Stops, text: &[u8]) -> usize
     }
 }
 
-// What a load showed of the bytes from a place on: the masks of the bare newlines and quotes, of the bare `=` and of the bare
-// `,` among them, and where the bytes end that are passed with them.
+// The masks that a load showed of the bytes from a place on: of the bare newlines and quotes, of the bare `=`, and of the bare
+// `,`. `end` is the place after the bytes that are passed with them.
 #[derive(Clone, Copy)]
 struct Ahead {
     stops: u64,
@@ -136,7 +136,7 @@ struct Ahead {
     end: usize,
 }
 
-// Nothing was seen from this place on.
+// Returns the masks of a load that saw nothing from this place on.
 #[inline(always)]
 fn nothing_from(at: usize) -> Ahead
     ensures { result ≡ record { stops = 0; equals = 0; commas = 0; end = at } }
@@ -149,7 +149,7 @@ fn nothing_from(at: usize) -> Ahead
     }
 }
 
-// What the load of the 64 bytes from `at` on shows.
+// Loads the 64 bytes from `at` on, and returns their masks.
 #[inline(always)]
 fn load_ahead(text: &[u8], at: usize) -> Ahead
     requires room { at + WIDE < length text.now }
@@ -166,7 +166,7 @@ fn load_ahead(text: &[u8], at: usize) -> Ahead
     }
 }
 
-// What it showed of the bytes after the first `run` and one more.
+// Returns the masks of the bytes that come after the first `run` bytes and one more.
 #[inline(always)]
 fn seen_past(ahead: Ahead, run: usize) -> Ahead
     requires { run < WIDE }
@@ -185,8 +185,8 @@ fn seen_past(ahead: Ahead, run: usize) -> Ahead
     }
 }
 
-// A bare place up to which a quoted stretch goes that begins at another: that of its first bare quote, if it has any; and what
-// was seen after it.
+// Returns the place of the first bare quote of a quoted stretch that begins at the bare place `at`, or else a bare place up to
+// which the stretch goes on, and the masks of the bytes after it.
 #[tactic(auto, using(crate::proofs::lemmas::split::SplitStretches::quoted_ends))]
 #[inline(always)]
 fn quoted_end(text: &[u8], at: usize, ahead: Ahead) -> (usize, Ahead)
@@ -206,8 +206,8 @@ fn quoted_end(text: &[u8], at: usize, ahead: Ahead) -> (usize, Ahead)
     (end, nothing_from(end + 1))
 }
 
-/// The place of the newline that ends the first piece, or `None` if the text is one piece, with no regard to
-/// comments. Loads show where plain stretches end, and what comes after the last load or stretch is tracked.
+/// Returns the place of the newline that ends the first piece, or `None` if the text is one piece. Comments are not looked for.
+/// Loads find the ends of plain stretches, and the bytes after the last load or stretch are tracked.
 #[tactic(auto, using(crate::proofs::lemmas::split::SplitStretches::stretches))]
 #[inline(never)]
 fn cut_by_stretches(text: &[u8]) -> Option<usize>
@@ -252,18 +252,18 @@ fn cut_by_stretches(text: &[u8]) -> Option<usize>
     }
 }
 
-/// A byte that tells of a cut: a newline, and, unless each newline ends a line, a quote or a backslash.
+/// A byte that can tell of a cut: a newline, and, except in the newline-delimited dialect, a quote or a backslash.
 #[derive(Clone, Copy)]
 pub struct Mark {
-    /// Where it is.
+    /// The place of the byte in the text.
     pub at: usize,
-    /// The mask of such bytes that were seen after it, of at most 64 bytes.
+    /// The mask of the bytes that can tell of a cut, among at most 64 bytes after this one.
     pub later: u64,
-    /// Whether none comes before it.
+    /// Whether no other byte that can tell of a cut comes before it.
     pub is_first: bool,
 }
 
-// The mask of the newlines among the 64 bytes from `at` on.
+// Returns the mask of the newlines among the 64 bytes from `at` on.
 #[inline(always)]
 fn newlines_at(text: &[u8], at: usize) -> u64
     requires { at + WIDE ≤ length text.now }
@@ -274,7 +274,7 @@ fn newlines_at(text: &[u8], at: usize) -> u64
         .to_bitmask()
 }
 
-// The mask of those of these bytes that are a newline, a quote or a backslash.
+// Returns the mask of the newlines, quotes and backslashes among the 64 bytes from `at` on.
 #[inline(always)]
 fn three_at(text: &[u8], at: usize) -> u64
     requires { at + WIDE ≤ length text.now }
@@ -286,7 +286,7 @@ fn three_at(text: &[u8], at: usize) -> u64
     (newlines | others).to_bitmask()
 }
 
-// The mask of those of these bytes that tell of a cut.
+// Returns the mask of the bytes that can tell of a cut, among the 64 bytes from `at` on.
 #[inline(always)]
 fn marks_in(dialect: Dialect, text: &[u8], at: usize) -> u64
     requires { at + WIDE ≤ length text.now }
@@ -298,7 +298,7 @@ fn marks_in(dialect: Dialect, text: &[u8], at: usize) -> u64
     }
 }
 
-// The place of the first such byte.
+// Returns the place of the first byte that can tell of a cut.
 #[inline(always)]
 fn find_mark(dialect: Dialect, text: &[u8]) -> Option<usize>
     ensures { IsFirstByte (is_mark (rules_of dialect)) text.now result }
@@ -309,7 +309,7 @@ fn find_mark(dialect: Dialect, text: &[u8]) -> Option<usize>
     }
 }
 
-// The first such byte, if these are the ones that were seen at the start of the text.
+// Returns the first byte that can tell of a cut. `seen` is the mask of the bytes that were seen at the start of the text.
 #[inline(always)]
 fn first_mark(dialect: Dialect, text: &[u8], seen: u64) -> Option<Mark>
     requires { AreSeen (rules_of dialect) text.now seen }
@@ -345,7 +345,7 @@ fn first_mark(dialect: Dialect, text: &[u8], seen: u64) -> Option<Mark>
     })
 }
 
-/// Whether a text is spaces and tabs and then `#`.
+/// Returns whether a text begins with any spaces and tabs and then `#`.
 fn is_comment(text: &[u8]) -> bool
     ensures { result ≡ begins_comment text.now }
 {
@@ -359,7 +359,7 @@ fn is_comment(text: &[u8]) -> bool
     false
 }
 
-/// The place of the first newline.
+/// Returns the place of the first newline.
 fn first_newline(text: &[u8]) -> Option<usize>
     ensures { MatchOption result (All (λ b. b ≢ newline) text.now)
         (λ i. (i < length text.now) × (slice_index text.now i ≡ newline) × All (λ b. b ≢ newline) (take i text.now)) }
@@ -367,7 +367,7 @@ fn first_newline(text: &[u8]) -> Option<usize>
     memchr(b'\n', text)
 }
 
-/// The place of the newline that ends the first piece, or `None` if the text is one piece.
+/// Returns the place of the newline that ends the first piece, or `None` if the text is one piece.
 #[tactic(auto, using(lp_format::proofs::lemmas::split::SplitPieces::strict_cuts))]
 #[inline(always)]
 fn late_cut(dialect: Dialect, text: &[u8]) -> Option<usize>
@@ -381,10 +381,10 @@ fn late_cut(dialect: Dialect, text: &[u8]) -> Option<usize>
     }
 }
 
-/// The newline that ends the first piece, or `None` if the text is one piece. `seen` are the bytes that tell of a cut that were seen at
-/// the start of the text, as a search of the text before it gave them, or 0.
+/// Returns the newline that ends the first piece, or `None` if the text is one piece. It takes no memory.
 ///
-/// No memory is taken.
+/// `seen` is the mask of the bytes at the start of the text that can tell of a cut: the mask that the search of the text before
+/// it returned in [`Mark::later`], or 0.
 #[tactic(auto, using(crate::proofs::lemmas::split::FirstMarks::no_cut, crate::proofs::lemmas::split::FirstMarks::cut_at_newline, crate::proofs::lemmas::split::FirstMarks::no_newlines))]
 #[inline(always)]
 pub fn first_cut(dialect: Dialect, text: &[u8], seen: u64) -> Option<Mark>
@@ -405,15 +405,15 @@ pub fn first_cut(dialect: Dialect, text: &[u8], seen: u64) -> Option<Mark>
     })
 }
 
-/// The pieces of a text, in order: what [`split_lines`] gives.
+/// The pieces of a text, in order. [`split_lines`] returns it.
 ///
-/// It gives one piece more than the newlines that it cuts at, at most `input.len() + 1`, and stays
-/// ended. It takes no memory.
+/// The iterator gives one piece more than the number of newlines that it cuts at, at most `input.len() + 1` pieces. After the
+/// last piece it gives `None`, also if it is called again. It takes no memory.
 #[derive(Drop)]
 pub struct SplitLines<'a> {
     dialect: Dialect,
     rest: Option<&'a str>,
-    // The bytes that tell of a cut that were seen at the start of the rest.
+    // The mask of the bytes at the start of the rest that can tell of a cut.
     seen: u64,
 }
 
@@ -431,8 +431,8 @@ impl<'a> Model for SplitLines<'a> {
 
 /// Splits a text into its pieces, at each newline that ends a line.
 ///
-/// A newline after a backslash, or between the quotes of a string value, ends no line. Joined by
-/// newlines, the pieces are the text. Each piece borrows from the input; no memory is taken.
+/// A newline after a backslash, or between the quotes of a string value, does not end a line. Joined by newlines, the pieces are
+/// the text. Each piece borrows from the input; no memory is taken.
 ///
 /// ```text
 /// split_lines("m s=\"a\nb\"\nn c=1i")  gives  "m s=\"a\nb\""  and  "n c=1i"
@@ -445,9 +445,9 @@ pub fn split_lines(input: &str) -> SplitLines<'_>
 
 /// Splits a text into its pieces by the rules of a dialect.
 ///
-/// [`split_lines`] does so by those of the crate. In the strict dialect a piece that begins with any spaces and tabs
-/// and then `#` ends at the first newline, even after a backslash or an open quote. In the newline-delimited dialect each
-/// piece does. No memory is taken.
+/// [`split_lines`] uses [`Dialect::Crate`]. In the strict dialect, a piece that begins with any spaces and tabs and then `#` ends
+/// at the first newline, even after a backslash or within quotes. In the newline-delimited dialect, each piece ends at the first
+/// newline. No memory is taken.
 ///
 /// ```text
 /// split_lines_in(Dialect::Crate, "# a=\"\nm b=1i")   gives  "# a=\"\nm b=1i"
@@ -465,10 +465,10 @@ pub fn split_lines_in(dialect: Dialect, input: &str) -> SplitLines<'_>
 }
 
 impl<'a> SplitLines<'a> {
-    /// The text that is left: what comes after the newline of the last cut, or `None` once the last piece was given.
+    /// Returns the text that is left: the text after the newline of the last cut, or `None` after the last piece was given.
     ///
-    /// Where a piece ends in the text, and so where it begins and in which line, is told by what is left before and
-    /// after it.
+    /// You can tell from it where a piece begins and ends in the text, and in which line, by the number of bytes that are left
+    /// before and after the piece.
     ///
     /// ```text
     /// "a\nb"   after split_lines  Some("a\nb")
@@ -483,7 +483,7 @@ impl<'a> SplitLines<'a> {
     }
 }
 
-// The dialect whose rules hold.
+// Returns the dialect by whose rules the text is split.
 pub fn dialect_of(lines: &SplitLines<'_>) -> Dialect
     ensures { rules_of result ≡ lines.now.dialect }
 {

@@ -15,8 +15,8 @@ mod bounded;
 
 pub use bounded::{BoundedLineStream, PieceTooLong};
 
-// Drops the bytes before `start` if they are as many as those after it, and tells where those after it begin. So each byte
-// is moved once at most, and what was given takes no more room than what is held.
+// Drops the bytes before `start` if they are at least as many as the bytes after it, and returns where the bytes after it begin.
+// Each byte is moved at most once, and bytes that were given take no more room than bytes that are held.
 fn compact(buffer: &mut Vec<u8>, start: usize) -> usize
     requires { start ≤ vec_len buffer.old }
     ensures few { result ≤ vec_len buffer.old - start }
@@ -32,7 +32,7 @@ fn compact(buffer: &mut Vec<u8>, start: usize) -> usize
     0
 }
 
-// The bytes as text. The test goes by wide loads, and if it fails once more byte by byte, for the place of the error.
+// Returns the bytes as text. Wide loads test the bytes. If the test fails, a second test finds the place of the error.
 fn read_text(bytes: &[u8]) -> Result<&str, Utf8Error>
     ensures { MatchResult result (λ text. (text.now ≡ bytes.now) × IsUtf8 bytes.now) (λ _. ¬ (IsUtf8 bytes.now)) }
 {
@@ -42,12 +42,12 @@ fn read_text(bytes: &[u8]) -> Result<&str, Utf8Error>
     }
 }
 
-/// The pieces of a text that comes in parts: what [`split_lines`](crate::split_lines) gives for all of it.
+/// The pieces of a text that comes in parts: the pieces that [`split_lines`](crate::split_lines) gives for the whole text.
 ///
-/// A part is given by [`push`](Self::push) and may be cut anywhere, also inside a character or an escape. Each piece is
-/// there as soon as the newline that ends it has come, and the last one once no more parts come.
+/// [`push`](Self::push) takes a part, which can be cut anywhere, also within a character or an escape. A piece is there as soon
+/// as the newline that ends it has come, and the last piece when no more parts come.
 ///
-/// Memory is asked for only if the buffer grows.
+/// The stream asks for memory only if its buffer grows.
 ///
 /// ```text
 /// stream.push(b"m s=\"a")         next_text gives None
@@ -58,9 +58,9 @@ fn read_text(bytes: &[u8]) -> Result<&str, Utf8Error>
 pub struct LineStream {
     dialect: Dialect,
     buffer: Vec<u8>,
-    // Where the held bytes begin.
+    // The place in the buffer where the bytes begin that are held.
     start: usize,
-    // What a search for a cut knows of them.
+    // The knowledge of a search for a cut about the bytes that are held.
     known: Search,
 }
 
@@ -84,14 +84,14 @@ impl Model for LineStream {
 impl LineStream {
     ghost use Rattle.lp_split.specs.code.Lending.{EndsBy};
 
-    /// A stream that holds nothing, by the rules of the crate. No memory is taken.
+    /// Makes a stream that holds nothing and splits by the rules of the crate. No memory is taken.
     pub fn new(alloc: Global) -> LineStream
         ensures { result ≡ record { dialect = Crate; bytes = []; capacity = 0; given = 0 } }
     {
         LineStream::new_in(alloc, Dialect::Crate)
     }
 
-    /// A stream that holds nothing, by the rules of a dialect. No memory is taken.
+    /// Makes a stream that holds nothing and splits by the rules of a dialect. No memory is taken.
     pub fn new_in(alloc: Global, dialect: Dialect) -> LineStream
         ensures { result ≡ record { dialect = rules_of dialect; bytes = []; capacity = 0; given = 0 } }
     {
@@ -103,10 +103,13 @@ impl LineStream {
         }
     }
 
-    /// Takes the next part of the text.
+    /// Appends the next part of the text.
     ///
-    /// If memory was refused, nothing is lost, and the same part can be given again. Either way, the buffer has no more bytes
-    /// that were taken than bytes that are held.
+    /// After a call, the buffer has no more bytes that were already given than bytes that are held.
+    ///
+    /// # Errors
+    ///
+    /// A request for memory was refused. The stream then holds all that it held before, and you can push the same part again.
     #[tactic(auto, using(crate::proofs::lemmas::stream::HeldTexts::held_longer))]
     pub fn push(&mut self, part: &[u8]) -> Result<(), AllocError>
         ensures dialect { self.new.dialect ≡ self.old.dialect }
@@ -118,8 +121,8 @@ impl LineStream {
         self.buffer.extend_from_slice(part)
     }
 
-    // The cut that ends the first piece, or `None` until its newline has come. Most are found with no look at where a search
-    // stopped, which is large.
+    // Returns the cut that ends the first piece, or `None` until its newline has come. Most cuts are found without the state of
+    // an earlier search, which is large.
     #[inline(always)]
     fn cut(&mut self) -> Option<Mark>
         ensures stays { self.new ≡ self.old }
@@ -133,7 +136,7 @@ impl LineStream {
         self.cut_on()
     }
 
-    // The same, by a search that goes on where it stopped.
+    // Returns the cut that ends the first piece, by a search that goes on where it stopped.
     #[cold]
     #[inline(never)]
     fn cut_on(&mut self) -> Option<Mark>
@@ -161,7 +164,7 @@ impl LineStream {
         &self.buffer[from..from + cut.at]
     }
 
-    /// The first piece that a newline ends, or `None` until that newline has come.
+    /// Takes and returns the first piece that a newline ends, or returns `None` until this newline has come. No memory is taken.
     #[inline(always)]
     pub fn next(&mut self) -> Option<&[u8]>
         ensures* after { sem 𝓛 (EndsBy self.entry (λ before held. GivesCut before result held)) }
@@ -170,7 +173,8 @@ impl LineStream {
         Some(self.take(cut))
     }
 
-    /// The first piece that a newline ends, as text, or an error if it is not UTF-8. Such a piece is taken all the same.
+    /// Takes and returns the first piece that a newline ends, as text, or returns `None` until this newline has come. A piece
+    /// that is not UTF-8 is an error, and is taken all the same.
     pub fn next_text(&mut self) -> Option<Result<&str, Utf8Error>>
         ensures* after { sem 𝓛 (EndsBy self.entry (λ before held. GivesCutText before result held)) }
     {
@@ -178,8 +182,8 @@ impl LineStream {
         Some(read_text(piece))
     }
 
-    /// The last piece: all that is held, once [`next`](Self::next) has given `None` and no more parts come. Then nothing
-    /// is held, and the parts of another text can be given.
+    /// Takes and returns the last piece: all bytes that are held. Call it when [`next`](Self::next) has given `None` and no more
+    /// parts come. The stream then holds nothing, and the parts of another text can be pushed.
     pub fn finish(&mut self) -> &[u8]
         requires { IsLastPiece self.old.dialect self.old.bytes }
         ensures* after { sem 𝓛 (EndsBy self.entry (λ before held. GivesLast before result.now held)) }
@@ -187,7 +191,7 @@ impl LineStream {
         self.take_all()
     }
 
-    // Takes all that is held.
+    // Takes all bytes that are held.
     fn take_all(&mut self) -> &[u8]
         ensures* after { sem 𝓛 (EndsBy self.entry (λ before held. GivesLast before result.now held)) }
     {
@@ -197,7 +201,7 @@ impl LineStream {
         &self.buffer[from..]
     }
 
-    // Takes so many bytes, and gives the first of them.
+    // Takes the first `taken` bytes, and returns the first `len` of them.
     fn take_front(&mut self, len: usize, taken: usize) -> &[u8]
         requires within { (len ≤ taken) × (taken ≤ length self.old.bytes) }
         ensures* after { sem 𝓛 (EndsBy self.entry (λ before held. GivesFront before len taken result.now held)) }
@@ -208,7 +212,7 @@ impl LineStream {
         &self.buffer[from..from + len]
     }
 
-    // Keeps so many bytes, the first ones.
+    // Keeps the first `len` bytes, and lets the others go.
     #[tactic(auto, using(crate::proofs::lemmas::stream::HeldTexts::front_of_rest))]
     fn keep_front(&mut self, len: usize)
         requires within { len ≤ length self.old.bytes }
@@ -218,21 +222,22 @@ impl LineStream {
         self.known = Search::Begins(0);
     }
 
-    // What is held.
+    // Returns the bytes that are held.
     fn held(&self) -> &[u8]
         ensures { result.now ≡ self.now.bytes }
     {
         &self.buffer[self.start..]
     }
 
-    // The dialect whose rules hold.
+    // Returns the dialect by whose rules the stream splits.
     fn dialect(&self) -> Dialect
         ensures { rules_of result ≡ self.now.dialect }
     {
         self.dialect
     }
 
-    /// The last piece as text, or an error if it is not UTF-8. Such a piece is taken all the same.
+    /// Takes and returns the last piece as text, as [`finish`](Self::finish) does. A piece that is not UTF-8 is an error, and is
+    /// taken all the same.
     pub fn finish_text(&mut self) -> Result<&str, Utf8Error>
         requires { IsLastPiece self.old.dialect self.old.bytes }
         ensures* after { sem 𝓛 (EndsBy self.entry (λ before held. GivesLastText before result held)) }

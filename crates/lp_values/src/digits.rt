@@ -10,28 +10,29 @@ ghost use Rattle.lp_format.specs.format.Values.{IsSigned, digits_len, fits_i64};
 use lp_scan::lanes::{LANES, first_set};
 use std::simd::prelude::*;
 
-// So many digits write a number that a u64 holds.
+// A number of this many digits fits a u64.
 const MOST_DIGITS: usize = 19;
 
-// What four zeros add up to by their codes, each times what its place is worth.
+// The sum of the codes of four zeros, each multiplied by the weight of its place.
 const FOUR_ZEROS: u32 = 1111 * 48;
 
-// What a number is worth before 16 digits.
+// The weight of a digit that comes before 16 others.
 const BEFORE_LANES: u64 = 10_000_000_000_000_000;
 
-// 16 of these from place n on move n lanes to the end: 255 makes a lane 0, and another number is where its lane comes from.
+// A table of moves. Its 16 entries from place n on move the first n lanes to the end: the entry 255 makes a lane 0, and any other
+// entry is the place of the lane that is moved there.
 const MOVES: [u8; 32] = [
     255, 255, 255, 255, 255, 255, 255, 255, 255, 255, 255, 255, 255, 255, 255, 255, 0, 1, 2, 3, 4,
     5, 6, 7, 8, 9, 10, 11, 12, 13, 14, 15,
 ];
 
-// What the first of each four digits is worth, by eights, since a weight is less than 128.
+// The weight of the first of each four digits, divided by eight, because a weight must be less than 128.
 const FIRST_WEIGHTS: [u8; 16] = [125, 0, 0, 0, 125, 0, 0, 0, 125, 0, 0, 0, 125, 0, 0, 0];
 
-// What the others are worth.
+// The weights of the other three of each four digits.
 const OTHER_WEIGHTS: [u8; 16] = [0, 100, 10, 1, 0, 100, 10, 1, 0, 100, 10, 1, 0, 100, 10, 1];
 
-// How many digits are at the start of `bytes`, by one byte after another.
+// Returns how many digits are at the start of `bytes`, by looking at one byte after another.
 #[inline(always)]
 fn walked_len(bytes: &[u8]) -> usize
     ensures value { result ≡ digits_len bytes.now }
@@ -43,7 +44,7 @@ fn walked_len(bytes: &[u8]) -> usize
         .count()
 }
 
-// How many of the first 16 bytes, from the first, are digits.
+// Returns how many digits are at the start of the first 16 bytes.
 #[inline(always)]
 fn lanes_len(bytes: &[u8]) -> usize
     requires { LANES ≤ length bytes.now }
@@ -54,7 +55,7 @@ fn lanes_len(bytes: &[u8]) -> usize
     first_set(others.to_bitmask(), LANES)
 }
 
-/// How many digits are at the start of `bytes`.
+/// Returns how many digits are at the start of `bytes`.
 #[inline(always)]
 pub(crate) fn digits_len(bytes: &[u8]) -> usize
     ensures value { result ≡ digits_len bytes.now }
@@ -71,7 +72,7 @@ pub(crate) fn digits_len(bytes: &[u8]) -> usize
     }
 }
 
-// The number that at most three `digits` write after the digits of `before`.
+// Returns the number `before` with at most three `digits` after its own.
 #[tactic(auto, using(crate::proofs::lemmas::digits::DigitLemmas::digits_after))]
 #[inline(always)]
 fn value_after(before: u64, digits: &[u8]) -> u64
@@ -91,7 +92,7 @@ fn value_after(before: u64, digits: &[u8]) -> u64
     }
 }
 
-// The number that at most 19 digits write, by four digits after four.
+// Returns the number of at most 19 digits, four digits at a time.
 #[tactic(auto, using(crate::proofs::lemmas::digits::DigitLemmas::four_steps))]
 #[inline(never)]
 fn value_by_fours(digits: &[u8]) -> u64
@@ -110,7 +111,7 @@ fn value_by_fours(digits: &[u8]) -> u64
     value_after(value, left)
 }
 
-// What the first 16 bytes are as digits, as far as they are digits.
+// Returns the first 16 bytes as values of digits, as far as they are digits.
 #[tactic(auto, using(crate::proofs::lemmas::digits::DigitLemmas::lanes_are_digits))]
 #[inline(always)]
 fn digit_lanes(bytes: &[u8]) -> u8x16
@@ -121,7 +122,7 @@ fn digit_lanes(bytes: &[u8]) -> u8x16
     u8x16::from_slice(bytes) - u8x16::splat(b'0')
 }
 
-// The first `len` lanes at the end, after zeros.
+// Moves the first `len` lanes to the end, after zeros.
 #[tactic(auto, using(crate::proofs::lemmas::digits::DigitLemmas::window_steps))]
 #[inline(always)]
 fn moved_to_end(lanes: u8x16, len: usize) -> u8x16
@@ -132,7 +133,7 @@ fn moved_to_end(lanes: u8x16, len: usize) -> u8x16
     lanes.swizzle_dyn(u8x16::from_slice(&MOVES[len..]))
 }
 
-// The number of 16 digits: each four by two sums of products, then two and two of those.
+// Returns the number of 16 digits: two sums of products give the number of each four, and these are joined two by two.
 #[tactic(auto, using(crate::proofs::lemmas::digits::DigitLemmas::lanes_steps))]
 #[inline(always)]
 fn lanes_number(digits: u8x16) -> u64
@@ -148,7 +149,7 @@ fn lanes_number(digits: u8x16) -> u64
     front * 100_000_000 + back
 }
 
-// The number that the first `len` bytes write, by one load.
+// Returns the number of the first `len` bytes, by one load.
 #[tactic(auto, using(crate::proofs::lemmas::digits::DigitLemmas::moved_steps))]
 #[inline(always)]
 fn loaded_value(bytes: &[u8], len: usize) -> u64
@@ -160,7 +161,7 @@ fn loaded_value(bytes: &[u8], len: usize) -> u64
     lanes_number(moved_to_end(digit_lanes(bytes), len))
 }
 
-// The number that 17 to 19 digits write: the last 16 by one load, after the first.
+// Returns the number of 17 to 19 digits: one load reads the last 16, after the first ones.
 #[tactic(auto, using(crate::proofs::lemmas::digits::DigitLemmas::last_steps))]
 #[inline(always)]
 fn long_value(digits: &[u8]) -> u64
@@ -173,7 +174,7 @@ fn long_value(digits: &[u8]) -> u64
     value_after(0, first) * BEFORE_LANES + lanes_number(digit_lanes(last))
 }
 
-// The number that at most 19 digits at the start of `text` write.
+// Returns the number of at most 19 digits at the start of `text`.
 #[inline(always)]
 fn digits_value(digits: &[u8], text: &[u8]) -> u64
     requires digits { AllDigits 10 digits.now }
@@ -191,7 +192,7 @@ fn digits_value(digits: &[u8], text: &[u8]) -> u64
     loaded_value(text, len)
 }
 
-// Whether `number`, at the start of `text`, has `-` at its start, its digits, and the text from those on.
+// Returns whether `number`, at the start of `text`, begins with `-`, and its digits, and the text from its digits on.
 #[inline(always)]
 fn sign_and_digits<'a>(number: &'a str, text: &'a str) -> (bool, &'a [u8], &'a [u8])
     requires signed { IsSigned (codes "-") number.now }
@@ -207,7 +208,7 @@ fn sign_and_digits<'a>(number: &'a str, text: &'a str) -> (bool, &'a [u8], &'a [
     }
 }
 
-// The integer of a number of any length; `None` if no i64 holds it.
+// Returns the integer of a number of any length, or `None` if it does not fit an i64.
 #[cold]
 #[inline(never)]
 fn parsed_integer(number: &str) -> Option<i64>
@@ -218,7 +219,7 @@ fn parsed_integer(number: &str) -> Option<i64>
     number.parse::<i64>().ok()
 }
 
-/// The number that the digits `number`, at the start of `text`, write; `None` if no u64 holds it.
+/// Returns the number of the digits `number`, which are at the start of `text`, or `None` if it does not fit a u64.
 #[inline(always)]
 pub fn unsigned_value(number: &str, text: &str) -> Option<u64>
     requires numeral { IsNumeral 10 number.now }
@@ -232,7 +233,8 @@ pub fn unsigned_value(number: &str, text: &str) -> Option<u64>
     number.parse::<u64>().ok()
 }
 
-/// The integer that `number`, at the start of `text`, writes, with `-` at the start or not; `None` if no i64 holds it.
+/// Returns the integer that `number`, at the start of `text`, writes, or `None` if it does not fit an i64. The number can begin
+/// with `-`.
 #[inline(always)]
 pub fn integer_value(number: &str, text: &str) -> Option<i64>
     requires signed { IsSigned (codes "-") number.now }

@@ -1,4 +1,4 @@
-//! What can be wrong with a line.
+//! The faults of lines, and the errors that the library returns.
 
 ghost use Rattle.std.specs.Prelude.{◌≡◌};
 ghost use Rattle.lp_values.specs.declared.error.Error.TheVariants.{OutOfMemory};
@@ -8,7 +8,7 @@ use std::alloc::{AllocError, AllocFailed};
 /// A result whose error is an [`Error`].
 pub type Result<T> = std::result::Result<T, Error>;
 
-/// On which side of its type's range a number lies.
+/// The side on which a number is out of the range of its type.
 #[derive(Clone, Copy, Debug, PartialEq, Eq)]
 pub enum OutOfRange {
     /// The number is greater than the type's greatest value.
@@ -17,18 +17,23 @@ pub enum OutOfRange {
     Below,
 }
 
-/// What was missing if a line could not be read at all.
+/// The kind of text that is missing in a line that could not be read at all.
 #[derive(Clone, Copy, Debug, PartialEq, Eq)]
 pub enum ErrorKind {
     /// At least one space.
     TakeWhile1,
 }
 
-/// The fault of a line or of a series, or `OutOfMemory`.
+/// The fault of a line or of a series, or `OutOfMemory`. `{}` writes its message.
+///
+/// ```text
+/// m a=9223372036854775808i  has the fault  IntegerValueInvalid, whose message is
+/// Unable to parse integer value '9223372036854775808'
+/// ```
 #[derive(Debug, Drop)]
 pub enum Error {
-    /// A series has no base: `tag_key` is the first key, in the order of the line, that is at
-    /// an earlier place too.
+    /// A series has no base, because a tag key is repeated. `tag_key` is the first key, in the order of the line, that is also at
+    /// an earlier place.
     DuplicateTag { tag_key: String },
     /// The line does not begin with a measurement.
     MeasurementValueInvalid,

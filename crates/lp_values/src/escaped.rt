@@ -13,10 +13,13 @@ use std::cmp::Ordering;
 use std::fmt;
 use std::hash::{Hash, Hasher};
 
-/// A name or a string value, as one logical text.
+/// A name or a string value, with its logical text.
 ///
-/// Equality, order and hash are those of the text, whichever variant holds it; the order is that of
-/// the bytes.
+/// Equality, order and hash are those of the text, whichever variant holds it. The order is by bytes.
+///
+/// ```text
+/// cpu  is  SingleSlice("cpu"),  cpu\ load  is  CopiedValue("cpu load")
+/// ```
 #[derive(Drop)]
 pub enum EscapedStr<'a> {
     /// A part of the input, or a fixed text.
@@ -48,7 +51,7 @@ impl<'a> fmt::Debug for EscapedStr<'a> {
 }
 
 impl<'a> EscapedStr<'a> {
-    /// The text.
+    /// Returns the text.
     pub fn as_str(&self) -> &str
         ensures value { result.now ≡ text_of self.now }
         ensures len { length result.now ≡ length (text_of self.now) }
@@ -59,7 +62,7 @@ impl<'a> EscapedStr<'a> {
         }
     }
 
-    /// Whether the text equals `other`.
+    /// Returns whether the text equals `other`.
     pub fn eq_text(&self, other: &str) -> bool
         ensures { IsTrue result ↔ (text_of self.now ≡ other.now) }
     {
@@ -67,11 +70,11 @@ impl<'a> EscapedStr<'a> {
         text == other
     }
 
-    /// The text, as a `String`. A copy is given as it is, which takes no memory.
+    /// Returns the text as a `String`. A copy is returned as it is, which takes no memory.
     ///
     /// # Errors
     ///
-    /// If the memory for a slice's text was refused; the value is dropped.
+    /// The memory for the text of a slice was refused. The value is dropped.
     pub fn into_string(self, alloc: Global) -> Result<String, AllocError>
         ensures ok { IfOk result (λ s. string_bytes s ≡ text_of self.entry) }
         ensures succeeds { is_single_slice self.entry ≡ false → IsOk result }
@@ -82,22 +85,22 @@ impl<'a> EscapedStr<'a> {
         }
     }
 
-    /// A copy of the text.
+    /// Returns a copy of the text.
     ///
     /// # Errors
     ///
-    /// If memory was refused; the value stays as it is.
+    /// A request for memory was refused. The value stays as it is.
     pub fn to_string(&self, alloc: Global) -> Result<String, AllocError>
         ensures { IfOk result (λ s. string_bytes s ≡ text_of self.now) }
     {
         String::from_str(alloc, self.as_str())
     }
 
-    /// The same text in the same variant. A slice takes no memory.
+    /// Returns an equal text in the same variant. A slice takes no memory.
     ///
     /// # Errors
     ///
-    /// If the memory for a copy was refused; the value stays as it is.
+    /// The memory for a copy was refused. The value stays as it is.
     pub fn clone(&self, alloc: Global) -> Result<EscapedStr<'a>, AllocError>
         ensures ok { IfOk result (λ copy. read_of copy ≡ read_of self.now) }
         ensures succeeds { is_single_slice self.now ≡ true → IsOk result }

@@ -1,4 +1,4 @@
-//! The texts of faults, of those that are spelled in the input and of those that have copies, in one place.
+//! The messages of faults, for those that are spelled in the input and for those that have copies.
 
 ghost use Rattle.std.specs.Prelude.{◌≡◌, Some, option_map};
 ghost use Rattle.lp_values.specs.code.Faults.{error_text, fault_text};
@@ -9,7 +9,7 @@ use crate::error::{Error, ErrorKind};
 use crate::spelled::SpelledFault;
 use std::fmt;
 
-/// What is wrong with the line, as the [`Error`] of this fault says it.
+/// Writes the message of the fault, which is the message of its [`Error`].
 impl<'a> fmt::Display for SpelledFault<'a> {
     ghost output = { λ fault. Some (fault_text (spelled_fault fault)) };
 
@@ -42,7 +42,7 @@ impl<'a> fmt::Display for SpelledFault<'a> {
     }
 }
 
-// The fault of a line that an error is, if it is one.
+// Returns the fault of a line that an error is, or `None` if it is `DuplicateTag` or `OutOfMemory`.
 fn fault_of(error: &Error) -> Option<SpelledFault<'_>>
     ensures { option_map spelled_fault result ≡ fault_of error.now }
 {

@@ -1,7 +1,7 @@
-//! The parts of a line: names, values, timestamps, and what can be wrong with them.
+//! The parts of a line: names, values, timestamps, and the faults of lines.
 //!
-//! Each reader here takes the front of a text and gives what is left of it. The readers know nothing of pieces or of lines,
-//! so they are a crate beside the splitter, below what reads a whole line.
+//! Each reader of this crate takes the front of a text and returns the rest. The readers know nothing of pieces or of lines. This
+//! crate is therefore beside the splitter, and below the crates that read whole lines.
 #![tactic(auto)]
 
 pub mod digits;

@@ -10,16 +10,16 @@ ghost use Rattle.lp_format.specs.format.{float_at, number_len};
 use crate::digits::digits_len;
 use std::fmt;
 
-/// The text of a float: digits with `-` at the start or not, then a point and digits or not, then `e` or
-/// `E` and digits, with `+` or `-` before them or not, or no such exponent.
+/// The text of a float: digits, optionally with `-` before them; then optionally a point and digits; then optionally `e` or `E`
+/// and digits, optionally with `+` or `-` before these.
 #[derive(Clone, Copy, Debug)]
 pub struct FloatText<'a> {
     text: &'a str,
     ghost is_literal: { ∥ IsFloat text.now ∥₁ },
 }
 
-// How many bytes `-` and the digits after it take: none, if no digit is there. Few numbers have a sign, and a
-// branch takes it out of the way of the others.
+// Returns how many bytes `-` and the digits after it have, or 0 if no digit is there. Few numbers have a sign, and a branch takes
+// the sign out of the way of the others.
 #[inline(never)]
 fn negative_len(digits: &[u8]) -> usize
     ensures value { result ≡ if digits_len digits.now == 0 then 0 else 1 + digits_len digits.now }
@@ -28,7 +28,11 @@ fn negative_len(digits: &[u8]) -> usize
     if len == 0 { 0 } else { 1 + len }
 }
 
-/// How many bytes of `text` an integer takes at the start: none, if none is there.
+/// Returns how many bytes of `text` the integer at the start has, or 0 if no integer is there.
+///
+/// ```text
+/// integer_len("-5i")  gives  2
+/// ```
 #[inline(always)]
 pub fn integer_len(text: &str) -> usize
     ensures value { result ≡ integer_len text.now }
@@ -40,7 +44,7 @@ pub fn integer_len(text: &str) -> usize
     }
 }
 
-// How many bytes a point and digits take at the start of `bytes`: none, if they are not there.
+// Returns how many bytes a point and digits have at the start of `bytes`, or 0 if they are not there.
 #[inline(always)]
 fn fraction_len(bytes: &[u8]) -> usize
     ensures value { result ≡ fraction_len bytes.now }
@@ -53,7 +57,7 @@ fn fraction_len(bytes: &[u8]) -> usize
     if digits == 0 { 0 } else { 1 + digits }
 }
 
-// How many bytes digits, with a sign or none, take at the start of `bytes`.
+// Returns how many bytes digits, optionally with a sign before them, have at the start of `bytes`.
 #[cold]
 #[inline(never)]
 fn power_len(bytes: &[u8]) -> usize
@@ -67,7 +71,7 @@ fn power_len(bytes: &[u8]) -> usize
     if digits == 0 { 0 } else { 1 + digits }
 }
 
-// How many bytes an exponent takes at the start of `bytes`: none, if none is there.
+// Returns how many bytes the exponent at the start of `bytes` has, or 0 if no exponent is there.
 #[inline(always)]
 fn exponent_len(bytes: &[u8]) -> usize
     ensures value { result ≡ exponent_len bytes.now }
@@ -80,7 +84,7 @@ fn exponent_len(bytes: &[u8]) -> usize
     if power == 0 { 0 } else { 1 + power }
 }
 
-// How many bytes of `text` the longest float at the start takes, where an integer takes `whole`.
+// Returns how many bytes of `text` the longest float at the start has. The integer at the start has `whole` bytes.
 #[tactic(auto, using(crate::proofs::lemmas::fields::ReadingLemmas::float_len_steps))]
 #[inline(always)]
 fn float_len(text: &str, whole: usize) -> usize
@@ -99,7 +103,11 @@ fn float_len(text: &str, whole: usize) -> usize
 impl<'a> FloatText<'a> {
     ghost use Rattle.lp_values.specs.code.Texts.{literal_of};
 
-    /// A float of this text: `Some` exactly if the whole text is one.
+    /// Makes a float of this text. Returns `Some` exactly if the whole text is a float.
+    ///
+    /// ```text
+    /// "-1.234456E+3"  gives Some,  "1."  and  "+1"  give None
+    /// ```
     #[tactic(auto, using(crate::proofs::lemmas::fields::ReadingLemmas::whole_float_steps))]
     pub fn new(text: &'a str) -> Option<Self>
         ensures { MatchOption result (¬ IsFloat text.now) (λ f. IsFloat text.now × (literal_of f ≡ text.now)) }
@@ -111,14 +119,15 @@ impl<'a> FloatText<'a> {
         Some(FloatText { text })
     }
 
-    /// The text, as it was given.
+    /// Returns the text, as it was given.
     pub fn as_str(&self) -> &'a str
         ensures { result.now ≡ literal_of self.now }
     {
         self.text
     }
 
-    /// The longest float at the start of `text`, and the rest, where an integer takes `whole` bytes.
+    /// Returns the longest float at the start of `text`, and the rest, or `None` if no float is there. The integer at the start
+    /// has `whole` bytes.
     #[tactic(auto, using(crate::proofs::lemmas::fields::ReadingLemmas::float_steps))]
     #[inline(always)]
     pub fn front(text: &'a str, whole: usize) -> Option<(Self, &'a str)>

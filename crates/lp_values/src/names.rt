@@ -1,4 +1,4 @@
-//! The kinds of name: measurements, keys and tag values.
+//! The kinds of names: measurements, keys and tag values.
 
 ghost use Rattle.std.specs.Prelude.{◌≡◌};
 ghost use Rattle.lp_scan.specs.code.Tokens.{stops_of, known_of};
@@ -16,7 +16,7 @@ pub enum NameKind {
 }
 
 impl NameKind {
-    /// The kind of token that a name of this kind is.
+    /// Returns the kind of token that a name of this kind is.
     #[inline(always)]
     pub fn token(self) -> TokenKind
         ensures stops { stops_of result ≡ is_stop (kind_of self) }

@@ -10,8 +10,8 @@ use lp_scan::marks::before_first;
 use lp_scan::sets::TokenKind;
 use std::fmt;
 
-/// Writes `text` with its backslashes. What is between two of them is written as one run, and the first is looked for many bytes at a
-/// time.
+/// Writes `text` with its backslashes to a formatter. The bytes between two backslashes are written as one run, and the first
+/// byte that gets a backslash is searched for many bytes at a time. It takes no memory.
 pub fn show_escaped<W: fmt::Write>(
     kind: TokenKind,
     text: &str,
@@ -22,7 +22,7 @@ pub fn show_escaped<W: fmt::Write>(
     let bytes = text.as_bytes();
     let mut start = 0;
     for at in before_first(kind.known(), bytes)..bytes.len() {
-        // The bytes that a backslash escapes get one, but for the backslash.
+        // A byte that a backslash escapes is written with one, except the backslash itself.
         if bytes[at] != b'\\' && kind.is_known(bytes[at]) {
             f.write_str(&text[start..at])?;
             f.write_str("\\")?;

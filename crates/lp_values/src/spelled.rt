@@ -1,4 +1,4 @@
-//! Names, strings, values and faults as they are spelled in the input, with no memory.
+//! Names, strings, values and faults as they are spelled in the input. They take no memory.
 
 ghost use Rattle.std.specs.Prelude.{◌≡◌, ◌≤◌, ◌+◌, ◌++◌, true, false, drop, length, not, IfOk, IsOk, MatchOption, bytes_eq};
 ghost use Rattle.lp_format.specs.format.{backslash, is_one_of};
@@ -21,7 +21,7 @@ pub struct Spelled<'a> {
 }
 
 impl<'a> Spelled<'a> {
-    /// The spelling: a part of the input.
+    /// Returns the spelling, which is a part of the input.
     ///
     /// ```text
     /// cpu\ load  is spelled  cpu\ load
@@ -33,7 +33,7 @@ impl<'a> Spelled<'a> {
         self.token.text
     }
 
-    /// Whether it holds no backslash, so that it is spelled as it reads.
+    /// Returns whether the spelling holds no backslash, so that it equals the logical text.
     ///
     /// ```text
     /// cpu  is plain,  cpu\ load  is not
@@ -45,10 +45,10 @@ impl<'a> Spelled<'a> {
         self.token.is_plain
     }
 
-    /// How many bytes the logical text takes.
+    /// Returns how many bytes the logical text has.
     ///
     /// ```text
-    /// cpu\ load  has  8, those of  cpu load
+    /// cpu\ load  has 8 bytes, because its logical text is  cpu load
     /// ```
     #[inline(always)]
     pub fn len(&self) -> usize
@@ -57,10 +57,10 @@ impl<'a> Spelled<'a> {
         self.token.len
     }
 
-    /// Whether the logical text is `other`. It takes no memory.
+    /// Returns whether the logical text equals `other`. It takes no memory.
     ///
     /// ```text
-    /// cpu\ load  is  "cpu load"
+    /// cpu\ load  equals  "cpu load"
     /// ```
     #[tactic(auto, using(crate::proofs::lemmas::tokens::TokenLemmas::spelling_steps))]
     pub fn eq_text(&self, other: &str) -> bool
@@ -79,10 +79,10 @@ impl<'a> Spelled<'a> {
         left.is_empty()
     }
 
-    /// Puts the logical text to the front of `to`, which has room for it. It takes no memory.
+    /// Writes the logical text to the front of `to`, which must have room for it. It takes no memory.
     ///
     /// ```text
-    /// cpu\ load  puts  cpu load  to the first 8 bytes
+    /// cpu\ load  writes  cpu load  to the first 8 bytes
     /// ```
     #[tactic(auto, using(crate::proofs::lemmas::tokens::TokenLemmas::spelling_steps))]
     pub fn put(&self, to: &mut [u8])
@@ -100,7 +100,7 @@ impl<'a> Spelled<'a> {
         }
     }
 
-    /// The logical text. Only a copy takes memory: one request, for just its length.
+    /// Returns the logical text. Only a copy takes memory: one request, for exactly its length.
     ///
     /// ```text
     /// cpu  gives a slice,  cpu\ load  gives the copy  cpu load
@@ -108,7 +108,7 @@ impl<'a> Spelled<'a> {
     ///
     /// # Errors
     ///
-    /// If memory was refused.
+    /// A request for memory was refused.
     #[tactic(auto, using(std::proofs::lemmas::Grind::common_steps, crate::proofs::lemmas::tokens::TokenLemmas::read_plain))]
     #[inline(always)]
     pub fn to_escaped_str(&self, alloc: Global) -> Result<EscapedStr<'a>, AllocError>
@@ -123,10 +123,11 @@ impl<'a> Spelled<'a> {
     }
 }
 
-/// Puts the logical text of a spelling into the place of another text, unless memory for it is refused. Only a copy takes memory.
+/// Replaces the text at `place` by the logical text of a spelling, and returns whether memory for it was granted. Only a copy
+/// takes memory.
 ///
 /// ```text
-/// cpu\ load  puts the copy  cpu load  in the place of  disk load
+/// cpu\ load  replaces  disk load  by the copy  cpu load
 /// ```
 #[tactic(auto, using(std::proofs::lemmas::Grind::common_steps, crate::proofs::lemmas::tokens::TokenLemmas::read_plain))]
 #[inline(always)]
@@ -138,7 +139,7 @@ pub fn put_text<'a>(alloc: Global, place: &mut EscapedStr<'a>, text: Spelled<'a>
     if !token.is_plain {
         return put_unescaped(alloc, token.kind, token.text, token.len, place);
     }
-    // A slice in the place of a slice is two words.
+    // To replace a slice by a slice is to write two words.
     if let EscapedStr::SingleSlice(slice) = place {
         *slice = token.text;
     } else {
@@ -147,10 +148,11 @@ pub fn put_text<'a>(alloc: Global, place: &mut EscapedStr<'a>, text: Spelled<'a>
     true
 }
 
-/// The logical text, if it is a part of the input: without a backslash it is the spelling, and of one escape the byte after it.
+/// Returns the logical text of a spelling if it is a part of the input, and else `None`. Without a backslash it is the whole
+/// spelling, and of one known escape it is the byte after the backslash.
 ///
 /// ```text
-/// cpu  gives  cpu,  \,  gives  ,  and  cpu\ load  none
+/// cpu  gives  cpu,  \,  gives  ,  and  cpu\ load  gives None
 /// ```
 #[inline(always)]
 pub fn shared<'a>(text: Spelled<'a>) -> Option<&'a str>
@@ -186,7 +188,7 @@ pub enum SpelledValue<'a> {
     Boolean(bool),
 }
 
-/// The fault of a line, its texts parts of the input.
+/// The fault of a line. Its texts are parts of the input.
 ///
 /// ```text
 /// m a=9223372036854775808i  has  IntegerValueInvalid  with the value  9223372036854775808
@@ -219,10 +221,11 @@ impl<'a> SpelledFault<'a> {
     ghost use Rattle.lp_values.specs.code.Outcomes.{IsFault};
     ghost use Rattle.lp_values.specs.code.SpelledParts.{spelled_fault};
 
-    /// The same fault, with a copy of its text. Only a fault with a text takes memory: `OutOfMemory` if that was refused.
+    /// Returns the fault as an [`Error`], with a copy of its text. Only a fault with a text takes memory. Returns `OutOfMemory`
+    /// if this memory was refused.
     ///
     /// ```text
-    /// IntegerValueInvalid  with the part  9223372036854775808  of the input  gives it with a copy of that text
+    /// IntegerValueInvalid  with the part  9223372036854775808  of the input  gives it with a copy of this text
     /// ```
     #[cold]
     #[inline(never)]

@@ -1,4 +1,4 @@
-//! Reads names, values and timestamps as they are spelled, with no memory.
+//! Readers of names, values and timestamps as they are spelled. They take no memory.
 
 ghost use Rattle.std.specs.Prelude.{◌≡◌, ◌≤◌, ◌<◌, false, true, length, slice_index, IfOk, IfSome};
 ghost use Rattle.lp_format.specs.format.{letter_i, letter_u, timestamp, name, ◌otherwise◌, boolean_at, digits_len, false_words, float_at};
@@ -16,10 +16,18 @@ use crate::values::{begins_number, has_byte_at, longest_word};
 use lp_scan::sets::TokenKind;
 use lp_scan::trim::{strip_byte, trim_start_spaces};
 
-/// A part at the start of a text, and the rest; `None` if none is there.
+/// A part at the start of a text and the rest after it, or `None` if no such part is there.
 pub type Front<'a, T> = Result<Option<(T, &'a str)>, SpelledFault<'a>>;
 
-/// The name at the start of `text` as it is spelled, and the rest. `None` if no name is there.
+/// Reads the name at the start of `text`, and returns it as it is spelled, with the rest. Returns `None` if no name is there.
+///
+/// # Errors
+///
+/// `EndsWithBackslash` if the name ends in a backslash.
+///
+/// ```text
+/// name(NameKind::TagKey, "host=a f=1i")  gives  host, and the rest =a f=1i
+/// ```
 #[inline(always)]
 pub fn name<'a>(kind: NameKind, text: &'a str) -> Front<'a, Spelled<'a>>
     ensures value { GivesSpelled spelled_text result (name (kind_of kind) text.now) }
@@ -35,7 +43,7 @@ pub fn name<'a>(kind: NameKind, text: &'a str) -> Front<'a, Spelled<'a>>
     Ok(Some((Spelled { token }, rest)))
 }
 
-// On which side of its range a number lies that is out of it.
+// Returns the side on which a number is out of its range.
 fn side_of(number: &str) -> OutOfRange
     ensures { side result ≡ side_of number.now }
 {
@@ -46,7 +54,7 @@ fn side_of(number: &str) -> OutOfRange
     }
 }
 
-// An integer and `i` at the start of `text`, and the rest, where the integer takes `whole` bytes.
+// Reads an integer and `i` at the start of `text`, and returns the rest with it. The integer has `whole` bytes.
 #[tactic(auto, using(crate::proofs::lemmas::fields::ReadingLemmas::integer_steps))]
 #[inline(always)]
 fn integer<'a>(text: &'a str, whole: usize) -> Front<'a, SpelledValue<'a>>
@@ -66,7 +74,7 @@ fn integer<'a>(text: &'a str, whole: usize) -> Front<'a, SpelledValue<'a>>
     }
 }
 
-// Digits and `u` at the start of `text`, and the rest, where the digits take `whole` bytes.
+// Reads digits and `u` at the start of `text`, and returns the rest with them. There are `whole` digits.
 #[tactic(auto, using(crate::proofs::lemmas::fields::ReadingLemmas::unsigned_steps))]
 #[inline(always)]
 fn unsigned<'a>(text: &'a str, whole: usize) -> Front<'a, SpelledValue<'a>>
@@ -86,7 +94,7 @@ fn unsigned<'a>(text: &'a str, whole: usize) -> Front<'a, SpelledValue<'a>>
     }
 }
 
-// A number at the start of `text`, by the byte after its integer, and the rest.
+// Reads a number at the start of `text`, by the byte after its integer, and returns the rest with it.
 #[tactic(auto, using(crate::proofs::lemmas::fields::ReadingLemmas::which_number))]
 #[inline(always)]
 fn number<'a>(text: &'a str) -> Front<'a, SpelledValue<'a>>
@@ -110,7 +118,7 @@ fn number<'a>(text: &'a str) -> Front<'a, SpelledValue<'a>>
     Ok(Some((SpelledValue::F64(value), rest)))
 }
 
-// A text between quotes at the start of `text`, and the rest.
+// Reads a text between quotes at the start of `text`, and returns the rest with it.
 #[inline(always)]
 fn string<'a>(text: &'a str) -> Front<'a, SpelledValue<'a>>
     ensures value { GivesSpelled spelled_value result (string_at text.now) }
@@ -126,7 +134,7 @@ fn string<'a>(text: &'a str) -> Front<'a, SpelledValue<'a>>
     Ok(Some((SpelledValue::String(Spelled { token }), rest)))
 }
 
-// A Boolean at the start of `text`, and the rest.
+// Reads a Boolean at the start of `text`, and returns the rest with it.
 #[tactic(auto, using(crate::proofs::lemmas::fields::ReadingLemmas::boolean_steps))]
 #[inline(always)]
 fn boolean<'a>(text: &'a str) -> Front<'a, SpelledValue<'a>>
@@ -139,7 +147,15 @@ fn boolean<'a>(text: &'a str) -> Front<'a, SpelledValue<'a>>
     Ok(Some((SpelledValue::Boolean(value), &text[len..])))
 }
 
-/// The value at the start of `text` as it is spelled, and the rest. `None` if none is there.
+/// Reads the value at the start of `text`, and returns it as it is spelled, with the rest. Returns `None` if no value is there.
+///
+/// # Errors
+///
+/// `IntegerValueInvalid` or `UIntegerValueInvalid` if an integer is out of the range of its type.
+///
+/// ```text
+/// value("64i 5")  gives  I64(64), and the rest " 5"
+/// ```
 #[tactic(auto, using(crate::proofs::lemmas::fields::ReadingLemmas::value_forms))]
 #[inline(always)]
 pub fn value<'a>(text: &'a str) -> Front<'a, SpelledValue<'a>>
@@ -156,7 +172,16 @@ pub fn value<'a>(text: &'a str) -> Front<'a, SpelledValue<'a>>
     boolean(text)
 }
 
-/// The timestamp at the start of `text`, if spaces and a number are there, and the rest, without the spaces after the number.
+/// Reads the timestamp at the start of `text`, which is spaces and a number. Returns the number, and the rest after it and after the
+/// spaces that follow it. Returns no number, and the whole text, if the spaces or the number are missing.
+///
+/// # Errors
+///
+/// `TimestampValueInvalid` if the number is out of the range of `i64`.
+///
+/// ```text
+/// timestamp(" -5  ")  gives  Some(-5), and the rest ""
+/// ```
 #[tactic(auto, using(crate::proofs::lemmas::fields::ReadingLemmas::integer_steps))]
 #[inline(always)]
 pub fn timestamp<'a>(text: &'a str) -> Result<(Option<i64>, &'a str), SpelledFault<'a>>

@@ -1,4 +1,4 @@
-//! Tokens: names and the texts between quotes. Where each ends, and its logical text.
+//! Tokens, which are names and the texts between quotes: their ends, and their logical texts.
 
 ghost use Rattle.std.specs.Prelude.{◌≡◌, ◌+◌, ◌-◌, ◌<◌, ◌≤◌, ◌==◌, ◌&&◌, ◌++◌, ◌∷◌, [], true, false, length, take, drop};
 ghost use Rattle.std.specs.Prelude.{slice_index, string_bytes, IsCharBoundary, IfOk, IsOk, OnOk, string_capacity};
@@ -17,16 +17,16 @@ use std::alloc::{AllocError, Global};
 #[derive(Clone, Copy)]
 pub struct RawToken<'a> {
     pub text: &'a str,
-    // How many bytes it takes without its escapes.
+    // The length of the token without its escapes.
     pub(crate) len: usize,
     pub kind: TokenKind,
-    // Whether it holds no backslash.
+    // Whether the token holds no backslash.
     pub(crate) is_plain: bool,
     ghost told: { IsTold (known_of kind) text.now len is_plain },
 }
 
 impl<'a> RawToken<'a> {
-    /// Whether it ends in a backslash.
+    /// Returns whether the token ends in a backslash.
     #[inline(always)]
     pub fn ends_in_backslash(self) -> bool
         ensures { result ≡ ends_in_backslash self.entry.text.now }
@@ -35,7 +35,7 @@ impl<'a> RawToken<'a> {
     }
 }
 
-// The first place from `at` on of a backslash or of a byte that ends a token of this kind; else the end. Byte by byte.
+// Returns the first place from `at` on of a backslash or of a byte that ends a token of this kind, or the end, byte by byte.
 #[inline(always)]
 fn plain_tail(kind: TokenKind, bytes: &[u8], at: usize) -> usize
     requires { at ≤ length bytes.now }
@@ -48,7 +48,8 @@ fn plain_tail(kind: TokenKind, bytes: &[u8], at: usize) -> usize
     end
 }
 
-// The same place, 16 bytes at a time.
+// Returns the first place from `at` on of a backslash or of a byte that ends a token of this kind, or the end, 16 bytes at a
+// time.
 #[inline(always)]
 fn plain_end(kind: TokenKind, bytes: &[u8], at: usize) -> usize
     requires { at ≤ length bytes.now }
@@ -65,8 +66,8 @@ fn plain_end(kind: TokenKind, bytes: &[u8], at: usize) -> usize
     plain_tail(kind, bytes, end)
 }
 
-// Goes over the 64 bytes from `at` on, up to one that ends the token or to the next bare place after them: how far,
-// and how many of the escapes before it are known.
+// Goes over the 64 bytes from `at` on, up to one that ends the token or to the next bare place after them. Returns the place that
+// is reached, and how many of the escapes before it are known.
 #[inline(always)]
 fn escapes_in_load(kind: TokenKind, bytes: &[u8], at: usize, found: usize) -> (usize, usize)
     requires walked { EscapeScan (known_of kind) (stops_of kind) bytes.now at found }
@@ -76,7 +77,7 @@ fn escapes_in_load(kind: TokenKind, bytes: &[u8], at: usize, found: usize) -> (u
 {
     let backslashes = places_of(b'\\', bytes, at);
     let run = first_set(bare(stops_in(kind, bytes, at), backslashes), WIDE);
-    // The bare backslashes of which the next byte is known.
+    // The bare backslashes before a known byte.
     let known = bare(backslashes, backslashes) & known_in(kind, bytes, at + 1);
     let found = found + ones_below(known, run);
     if run < WIDE {
@@ -85,7 +86,7 @@ fn escapes_in_load(kind: TokenKind, bytes: &[u8], at: usize, found: usize) -> (u
     (at + (WIDE + escapes_next(backslashes)), found)
 }
 
-// Goes on from escape to escape to the end of the token, with no regard to how many bytes are left: how far, and how
+// Goes on from escape to escape to the end of the token, however many bytes are left. Returns the place that is reached, and how
 // many of the escapes before it are known.
 #[inline(never)]
 fn escapes_to_end(kind: TokenKind, bytes: &[u8], at: usize, found: usize) -> (usize, usize)
@@ -107,8 +108,8 @@ fn escapes_to_end(kind: TokenKind, bytes: &[u8], at: usize, found: usize) -> (us
     (end, known)
 }
 
-// The end of the token at the start of `bytes`, of which the first backslash is at `at`, and how many bytes it takes without its
-// escapes.
+// Returns the end of the token at the start of `bytes`, and the length of the token without its escapes. `at` is the place of the
+// first backslash of the token.
 #[inline(always)]
 fn escaped_end_of(kind: TokenKind, bytes: &[u8], at: usize) -> (usize, usize)
     requires run { IsRunAt (is_plain (stops_of kind)) bytes.now 0 at }
@@ -133,8 +134,8 @@ fn escaped_end_of(kind: TokenKind, bytes: &[u8], at: usize) -> (usize, usize)
     (end, end - known)
 }
 
-// The same, with a loop for each set of bytes that end a token, which then compares with bytes that are known: with one loop for
-// all of them, events take 2.8 times the instructions on `escapes`.
+// Does what `escaped_end_of` does, with a loop for each set of bytes that end a token, so that the compiler knows these bytes:
+// with one loop for all of them, events take 2.8 times the instructions on `escapes`.
 #[cold]
 #[inline(never)]
 fn escaped_end(kind: TokenKind, bytes: &[u8], at: usize) -> (usize, usize)
@@ -154,7 +155,8 @@ fn escaped_end(kind: TokenKind, bytes: &[u8], at: usize) -> (usize, usize)
     }
 }
 
-// The end of the token at the start of `text`, how many bytes it takes without its escapes, and whether it holds no backslash.
+// Returns the end of the token at the start of `text`, the length of the token without its escapes, and whether it holds no
+// backslash.
 #[inline(always)]
 fn scan_token(kind: TokenKind, text: &str) -> (usize, usize, bool)
     ensures end { result.0 ≡ first_bare (stops_of kind) text.now }
@@ -170,7 +172,7 @@ fn scan_token(kind: TokenKind, text: &str) -> (usize, usize, bool)
     (end, end, true)
 }
 
-/// The token at the start of `text`, also an empty one, and the rest.
+/// Takes the token at the start of `text`, which can be empty, and returns it with the rest.
 #[inline(always)]
 pub fn take_token(kind: TokenKind, text: &str) -> (RawToken<'_>, &str)
     ensures kind { result.0.kind ≡ kind }
@@ -188,7 +190,7 @@ pub fn take_token(kind: TokenKind, text: &str) -> (RawToken<'_>, &str)
     (token, rest)
 }
 
-// Whether a spelling begins with a known escape.
+// Returns whether a spelling begins with a known escape.
 #[inline(always)]
 fn begins_escaped(kind: TokenKind, spelling: &[u8]) -> bool
     ensures { result ≡ (slice_index spelling.now 0 == backslash && is_one_of (known_of kind) (slice_index spelling.now 1)) }
@@ -196,7 +198,8 @@ fn begins_escaped(kind: TokenKind, spelling: &[u8]) -> bool
     matches!(spelling, [b'\\', byte, ..] if kind.is_known(*byte))
 }
 
-// The place of the first byte of the logical text that is spelled from `at` on: after the backslash of a known escape.
+// Returns the place of the byte that the logical text from `at` on begins with: after the backslash of a known escape, and else
+// `at`.
 #[tactic(auto, using(crate::proofs::lemmas::tokens::TokenLemmas::byte_steps))]
 #[inline(always)]
 fn first_byte_at(kind: TokenKind, spelling: &[u8], at: usize) -> usize
@@ -213,7 +216,7 @@ fn first_byte_at(kind: TokenKind, spelling: &[u8], at: usize) -> usize
     at
 }
 
-// The first backslash from `at` on, or the end, byte by byte.
+// Returns the place of the first backslash from `at` on, or the end, byte by byte.
 #[inline(always)]
 fn backslash_walk(bytes: &[u8], at: usize) -> usize
     requires { at ≤ length bytes.now }
@@ -226,7 +229,8 @@ fn backslash_walk(bytes: &[u8], at: usize) -> usize
     end
 }
 
-// The first backslash of the last bytes, fewer than 16: by a load that overlaps what was seen, if the text has so many.
+// Returns the place of the first backslash of the last bytes, which are fewer than 16, or the end: by a load that overlaps the
+// bytes before them, if the text is long enough.
 #[inline(always)]
 fn backslash_tail(bytes: &[u8], at: usize) -> usize
     requires within { at ≤ length bytes.now }
@@ -241,9 +245,9 @@ fn backslash_tail(bytes: &[u8], at: usize) -> usize
     at + first_set(mask, left)
 }
 
-// The first backslash from `at` on, or the end, 16 bytes at a time.
+// Returns the place of the first backslash from `at` on, or the end, 16 bytes at a time.
 //
-// It is a function beside `plain_end`: one search with and without stops makes the reader of a field so large that the compiler drops
+// This function is separate from `plain_end`: one search for both makes the reader of a field so large that the compiler drops
 // `inline(always)` from it, and events take 1.4 times the instructions.
 #[inline(always)]
 fn backslash_at(bytes: &[u8], at: usize) -> usize
@@ -261,7 +265,8 @@ fn backslash_at(bytes: &[u8], at: usize) -> usize
     backslash_tail(bytes, end)
 }
 
-/// The first stretch from `at` on that a spelling and its logical text have in common: from one place up to a backslash, or the end.
+/// Returns the first stretch from `at` on that a spelling and its logical text have in common: it goes from a place up to a
+/// backslash, or to the end.
 #[tactic(auto, using(std::proofs::lemmas::Grind::common_steps, crate::proofs::lemmas::tokens::TokenLemmas::stretch_stays))]
 #[inline(always)]
 pub(crate) fn stretch_at(kind: TokenKind, spelling: &[u8], at: usize) -> (usize, usize)
@@ -278,7 +283,7 @@ pub(crate) fn stretch_at(kind: TokenKind, spelling: &[u8], at: usize) -> (usize,
     (from, backslash_at(spelling, from + 1))
 }
 
-// Puts after `to`, which has room for it, the logical text of `spelled`. It asks for no memory.
+// Appends the logical text of `spelled` to `to`, which must have room for it. It asks for no memory.
 #[tactic(auto, using(crate::proofs::lemmas::tokens::TokenLemmas::spelling_steps))]
 #[inline(always)]
 fn put(kind: TokenKind, spelled: &str, to: &mut String) -> Result<(), AllocError>
@@ -296,7 +301,7 @@ fn put(kind: TokenKind, spelled: &str, to: &mut String) -> Result<(), AllocError
     Ok(())
 }
 
-// A copy of the logical text of `spelled`, which takes `len` bytes. It asks for memory once.
+// Returns a copy of the logical text of `spelled`, which has `len` bytes. It asks for memory once.
 #[inline(never)]
 fn copy(alloc: Global, kind: TokenKind, spelled: &str, len: usize) -> Result<String, AllocError>
     requires { len ≡ length (without_escapes (known_of kind) spelled.now) }
@@ -307,7 +312,7 @@ fn copy(alloc: Global, kind: TokenKind, spelled: &str, len: usize) -> Result<Str
     Ok(text)
 }
 
-// The logical text of `text`, which holds a backslash, and takes `len` bytes without its escapes.
+// Returns the logical text of `text`, which holds a backslash and has `len` bytes without its escapes.
 #[tactic(auto, using(std::proofs::lemmas::Grind::common_steps, crate::proofs::lemmas::tokens::TokenLemmas::read_escape))]
 #[inline(always)]
 pub(crate) fn unescaped<'a>(
@@ -327,10 +332,10 @@ pub(crate) fn unescaped<'a>(
     Ok(EscapedStr::CopiedValue(text))
 }
 
-// Puts the logical text of `text`, which holds a backslash, into the place of another, unless memory for it is refused. The other
-// is let go first, so that its memory can serve again.
+// Replaces another text by the logical text of `text`, which holds a backslash, and returns whether memory for it was granted.
+// The old text is let go first, so that its memory can be used again.
 //
-// It takes the parts of a token, and not the token: so no reader has to put a token together in memory.
+// It takes the parts of a token, and not the token, so that no reader has to put a token together in memory.
 #[inline(never)]
 pub(crate) fn put_unescaped<'a>(
     alloc: Global,

@@ -13,6 +13,10 @@ use crate::spelled::SpelledValue;
 use std::alloc::{AllocError, Global};
 
 /// A value of a field.
+///
+/// ```text
+/// 64i  is  I64(64),  1.5  is  F64 of the text 1.5,  "a\"b"  is  String, with the logical text  a"b
+/// ```
 #[derive(Debug, Drop, PartialEq)]
 pub enum FieldValue<'a> {
     /// An integer: digits and `i`.
@@ -41,7 +45,11 @@ impl<'a> Default for FieldValue<'a> {
 }
 
 impl<'a> FieldValue<'a> {
-    /// Whether both are integers, both unsigned integers, both floats, both texts or both Booleans.
+    /// Returns whether both values are integers, both unsigned integers, both floats, both strings, or both Booleans.
+    ///
+    /// ```text
+    /// 64i and 5i  are of one type,  64i and 64u  are not
+    /// ```
     pub fn is_same_type(&self, other: &Self) -> bool
         ensures { result ≡ is_same_variant self.now other.now }
     {
@@ -55,7 +63,11 @@ impl<'a> FieldValue<'a> {
         }
     }
 
-    /// The same value again. Only a text that is a copy takes memory: `Err` if it is refused.
+    /// Returns an equal value. Only a string that is a copy takes memory.
+    ///
+    /// # Errors
+    ///
+    /// A request for memory was refused.
     pub fn clone(&self, alloc: Global) -> Result<Self, AllocError>
         ensures same { IfOk result (λ copy. value_of copy ≡ value_of self.now) }
         ensures no_memory { is_single_value (value_of self.now) ≡ true → IsOk result }
@@ -69,7 +81,7 @@ impl<'a> FieldValue<'a> {
         })
     }
 
-    /// The value that is spelled so. Only a text that is a copy takes memory: one request, for just its length.
+    /// Makes a value from its spelling. Only a string that is a copy takes memory: one request, for exactly its length.
     ///
     /// ```text
     /// 64i  gives  I64(64),  "a\"b"  gives  String, with the copy  a"b
@@ -77,7 +89,7 @@ impl<'a> FieldValue<'a> {
     ///
     /// # Errors
     ///
-    /// If memory was refused.
+    /// A request for memory was refused.
     #[inline(always)]
     pub fn from_spelled(alloc: Global, value: SpelledValue<'a>) -> Result<Self, AllocError>
         ensures value { IfOk result (λ read. value_of read ≡ spelled_value value.entry) }
@@ -93,7 +105,7 @@ impl<'a> FieldValue<'a> {
     }
 }
 
-/// Whether `byte` is at `place`.
+/// Returns whether `byte` is at `place`. Returns `false` if `place` is past the end.
 #[inline(always)]
 pub fn has_byte_at(bytes: &[u8], place: usize, byte: u8) -> bool
     requires { 0 < byte }
@@ -102,7 +114,7 @@ pub fn has_byte_at(bytes: &[u8], place: usize, byte: u8) -> bool
     matches!(bytes.get(place), Some(found) if *found == byte)
 }
 
-// Whether a number may begin with the first of `bytes`: a digit or `-`.
+// Returns whether the first of `bytes` can begin a number: it is a digit or `-`.
 #[inline(always)]
 pub(crate) fn begins_number(bytes: &[u8]) -> bool
     ensures { result ≡ (is_ascii_digit (slice_index bytes.now 0) || slice_index bytes.now 0 == minus) }
@@ -110,7 +122,7 @@ pub(crate) fn begins_number(bytes: &[u8]) -> bool
     matches!(bytes, [b'0'..=b'9' | b'-', ..])
 }
 
-// Which Boolean the longest word at the start of `bytes` is for, and how many bytes that word takes.
+// Returns the Boolean of the longest word at the start of `bytes`, and the length of this word, or `None` if no word is there.
 #[inline(never)]
 pub(crate) fn longest_word(bytes: &[u8]) -> Option<(bool, usize)>
     ensures value { MatchOption result ((word_len true_words bytes.now ≡ 0) × (word_len false_words bytes.now ≡ 0)) (λ word.

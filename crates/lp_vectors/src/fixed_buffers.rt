@@ -19,7 +19,7 @@ enum Call {
     CloseLine,
 }
 
-// For each capacity from 0 on: the call that is refused, if any is, and what the buffer then holds.
+// For each capacity from 0 on: the call that is refused, if any, and the bytes that the buffer then holds.
 const BY_CALLS: [(Option<Call>, &str); 20] = [
     (Some(Call::Measurement), ""),
     (Some(Call::Measurement), ""),
@@ -43,7 +43,7 @@ const BY_CALLS: [(Option<Call>, &str); 20] = [
     (None, "foo,bar=baz qux=42\n"),
 ];
 
-// For each capacity from 0 on: why the line is refused as a whole, if it is, and what the buffer then holds.
+// For each capacity from 0 on: the cause for which the whole line is refused, if any, and the bytes that the buffer then holds.
 const WHOLE: [(Option<NoRoom>, &str); 20] = [
     (Some(NoRoom::Full), ""),
     (Some(NoRoom::Full), ""),
@@ -67,7 +67,7 @@ const WHOLE: [(Option<NoRoom>, &str); 20] = [
     (None, "foo,bar=baz qux=42\n"),
 ];
 
-// Writes the line call by call: the first call that is refused, and why.
+// Writes the line call by call. Returns the first call that is refused, and the cause.
 fn first_refused<B: BufMut>(buffer: B, literal: FloatText<'_>) -> Option<(Call, NoRoom)> {
     let line = match LineProtocolBuilder::new_with(buffer).measurement("foo") {
         Ok(line) => line,
@@ -87,7 +87,7 @@ fn first_refused<B: BufMut>(buffer: B, literal: FloatText<'_>) -> Option<(Call, 
     }
 }
 
-// Sees that the line is written call by call into a buffer of this capacity as its row says.
+// Checks that the line is written call by call into a buffer of this capacity as its row says.
 fn sees_calls<const CAP: usize>(rt: &impl Abort, literal: FloatText<'_>)
     requires { CAP < 20 }
 {
@@ -101,7 +101,7 @@ fn sees_calls<const CAP: usize>(rt: &impl Abort, literal: FloatText<'_>)
     assert_eq!(rt; bytes.as_slice(), held.as_bytes(), "in {CAP} bytes");
 }
 
-// Writes a line as a whole into a buffer of this capacity: why it is refused, if it is, and the buffer.
+// Writes a whole line into a buffer of this capacity. Returns the cause of the refusal, if any, and the buffer.
 fn written<const CAP: usize>(
     rt: &impl Abort,
     line: &ParsedLine<'_>,
@@ -114,7 +114,7 @@ fn written<const CAP: usize>(
     }
 }
 
-// Sees that a line is written as a whole into a buffer of this capacity as its row says.
+// Checks that a whole line is written into a buffer of this capacity as its row says.
 fn sees_line<const CAP: usize>(rt: &impl Abort, line: &ParsedLine<'_>)
     requires { CAP < 20 }
 {

@@ -1,4 +1,4 @@
-//! What calls give that must succeed.
+//! The results of calls that must succeed.
 
 use crate::fault::Fault;
 use influxdb_line_protocol::{ParsedLine, parse_lines};

@@ -1,5 +1,5 @@
-//! Tests of what only a caller in Rattle can show: buffers of a fixed size, types of the caller's own, members of a set, and the splitter
-//! beside one that goes byte by byte.
+//! Tests of things that only a caller in Rattle can show: buffers of a fixed size, types of the caller's own, members of a set,
+//! and the splitter beside a splitter that goes byte by byte.
 #![tactic(auto)]
 
 #[cfg(test)]

@@ -4,12 +4,12 @@ use crate::fault::Fault;
 use crate::given::parsed;
 use influxdb_line_protocol::{EscapedStr, FieldValue};
 
-// Whether a tag has this value.
+// Returns true if a tag has this value.
 fn is_tag(found: Option<&EscapedStr<'_>>, wanted: &str) -> bool {
     found.map_or(false, |value| value.eq_text(wanted))
 }
 
-// Whether a field has this value.
+// Returns true if a field has this value.
 fn is_field(found: Option<&FieldValue<'_>>, wanted: &FieldValue<'_>) -> bool {
     found.map_or(false, |value| *value == *wanted)
 }

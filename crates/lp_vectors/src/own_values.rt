@@ -1,4 +1,4 @@
-//! A type of the caller's own whose values are written as fields, up to the greatest length. The values come from the format's rules.
+//! A type of the caller's own, whose values are written as fields, up to the greatest length. The values come from the format's rules.
 
 ghost use Rattle.std.specs.Prelude.{replicate};
 
@@ -9,7 +9,7 @@ use influxdb_line_protocol::builder::{AfterMeasurement, BufMut, FieldValue, NoRo
 use std::alloc::Global;
 use std::process::Abort;
 
-// A value whose text is so many zeros.
+// A value whose text is this number of zeros.
 #[derive(Drop)]
 struct Zeros {
     count: u128,
@@ -44,7 +44,7 @@ fn built<V: FieldValue>(
     Ok(accepted(line.close_line())?.build())
 }
 
-// Returns the refusal of a field of so many zeros.
+// Returns the refusal of a field of this number of zeros.
 fn refused(alloc: Global, count: u128) -> Result<Refused<Vec<u8>, AfterMeasurement>, Fault> {
     match begun(alloc)?.field("a", Zeros { count }) {
         Ok(_) => Err(Fault::Unexpected),
@@ -52,7 +52,8 @@ fn refused(alloc: Global, count: u128) -> Result<Refused<Vec<u8>, AfterMeasureme
     }
 }
 
-// Sees that a field of so many zeros is refused for this cause, and that the line is as before: another field is then its only one.
+// Checks that a field of this number of zeros is refused for this cause, and that the line is as it was: another field is then
+// its only field.
 fn is_refused(rt: &impl Abort, alloc: Global, count: u128, cause: NoRoom) -> Result<(), Fault> {
     let refused = refused(alloc, count)?;
     assert_eq!(rt; refused.cause, cause, "for {count} zeros");
@@ -72,7 +73,8 @@ fn a_value_of_the_callers_own_is_written(rt: HostRuntime) -> Result<(), Fault> {
     Ok(())
 }
 
-// For each number of zeros: why a field of them is refused. No `usize` holds the first number, nor the length of the second field.
+// For each number of zeros: the cause for which a field of them is refused. No `usize` can hold the first number, or the length
+// of the second field.
 const REFUSED: [(u128, NoRoom); 3] = [
     (18_446_744_073_709_551_616, NoRoom::TooLong),
     (18_446_744_073_709_551_615, NoRoom::TooLong),

@@ -3,19 +3,19 @@
 // The bytes that mean something to the splitter, and two that do not.
 const BYTES: &[u8; 8] = b"\\ =,\"\n#a";
 
-/// Random numbers: those of a linear congruence, with their bits mixed.
+/// Random numbers: the numbers of a linear congruence, with their bits mixed.
 #[derive(Drop)]
 pub struct Random {
     state: u64,
 }
 
 impl Random {
-    /// The numbers that follow this one.
+    /// Returns the random numbers that follow this number.
     pub fn new(seed: u64) -> Random {
         Random { state: seed }
     }
 
-    /// The next number.
+    /// Returns the next random number.
     pub fn number(&mut self) -> u64 {
         self.state = self
             .state
@@ -25,7 +25,7 @@ impl Random {
         mixed ^ (mixed >> 32)
     }
 
-    /// Fills the buffer with bytes, of which one in a few is drawn and the others are letters.
+    /// Fills the buffer with bytes. One byte in a few is drawn from `BYTES`, and the others are letters.
     pub fn fill(&mut self, buffer: &mut [u8], few: u64) {
         for byte in buffer.iter_mut() {
             let number = self.number();

@@ -1,4 +1,5 @@
-//! The pieces of a text, found byte by byte as the format's rules have them, beside those that the splitter finds by jumps.
+//! Finds the pieces of a text byte by byte, by the format's rules, and compares them with the pieces that the splitter finds by
+//! jumps.
 
 use crate::fault::Fault;
 use crate::random::Random;
@@ -13,7 +14,7 @@ enum Part {
     Quoted,
 }
 
-// What the bytes of a piece so far say of the next one.
+// The facts about the bytes of a piece so far that decide about the next byte.
 #[derive(Drop)]
 struct Scan {
     part: Part,
@@ -23,7 +24,7 @@ struct Scan {
 }
 
 impl Scan {
-    // Reads the next byte. Returns whether the piece goes on: it ends before a newline that cuts.
+    // Reads the next byte. Returns true if the piece goes on: a piece ends before a newline that cuts it.
     fn goes_on(&mut self, byte: u8) -> bool {
         if self.is_escaped {
             self.is_escaped = false;
@@ -60,7 +61,7 @@ fn first_piece(text: &[u8]) -> (&[u8], Option<&[u8]>) {
     (text, None)
 }
 
-// Whether the splitter gives the pieces that are found byte by byte.
+// Returns true if the splitter gives the pieces that are found byte by byte.
 fn is_split_so(text: &str) -> bool {
     let mut left = Some(text.as_bytes());
     for piece in split_lines(text) {
@@ -74,7 +75,7 @@ fn is_split_so(text: &str) -> bool {
     left.is_none()
 }
 
-// For each length up to six: how many texts there are over seven bytes.
+// For each length up to six: the number of texts over seven bytes.
 const COUNTS: [u32; 7] = [1, 7, 49, 343, 2_401, 16_807, 117_649];
 
 // Fills the buffer with the text of this number.

@@ -1,7 +1,10 @@
 -- How batches of lines are named.
 use Rattle.std.specs.Prelude.{ℕ, ◌+◌, ◌-◌, nat_lt, take, drop, slice_index, Bool, not, ◌&&◌, ◌==◌, List, ◌++◌, length, codes, decimal}
 use Rattle.std.specs.Prelude.{Option, Some, None, option_and_then, if◌then◌else◌}
-use Rattle.std.specs.{List.list_all, List.position}
+use Rattle.std.specs.{Cmp.Lexicographic.pointwise, List.list_all, List.position}
+use Rattle.std.specs.Prelude.{nat_eq}
+use Rattle.std.specs.{Char.is_ascii_digit}
+use Rattle.lp_words.specs.Paths.{file_in}
 use Rattle.lp_words.specs.declared.batch_names.BatchNames.{BatchNames}
 
 -- names of batches: what comes before the number, how many digits that has, and what comes after it
@@ -39,3 +42,18 @@ batch_names word = option_and_then (λ at. names_at word at) (position (λ b. b 
 abbrev pub batch_name : Names → (number : ℕ) → List ℕ
 batch_name names number =
     names.before ++ take (names.width - length (decimal number)) (codes "000000000") ++ decimal number ++ names.after
+
+-- whether the rest of a name, once its beginning was taken off, is a number of so many digits and what comes after the number
+abbrev pub ends_batch : (width : ℕ) → (after rest : List ℕ) → Bool
+ends_batch width after rest =
+    pointwise nat_eq (drop (length rest - length after) rest) after && length (take (length rest - length after) rest) == width
+    && list_all is_ascii_digit (take (length rest - length after) rest)
+
+-- whether a name that begins so is the name of a batch
+abbrev pub begins_batch : (start : List ℕ) → Names → List ℕ → Bool
+begins_batch start names file =
+    pointwise nat_eq (take (length start) file) start && ends_batch names.width names.after (drop (length start) file)
+
+-- whether a file of this name, in whichever folder, is named as a batch
+abbrev pub is_batch : Names → List ℕ → Bool
+is_batch names file = begins_batch (file_in names.before) names file

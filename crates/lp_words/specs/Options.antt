@@ -1,7 +1,7 @@
 -- What words say that take one form in all programs.
 use Rattle.std.specs.Prelude.{ℕ, ◌+◌, ◌^◌, nat_lt, take, drop, slice_index, Bool, false, true, not, ◌&&◌, ◌||◌, ◌==◌, List, [], ◌∷◌, length, bytes_eq, codes}
 use Rattle.std.specs.Prelude.{Option, Some, None, option_map, option_and_then, if◌then◌else◌}
-use Rattle.std.specs.{Borrow.Bor, List.list_all, List.position, Str.all_ascii_digits, Str.Parse.digits_value}
+use Rattle.std.specs.{Borrow.Bor, Char.is_ascii_digit, List.list_all, List.position, Str.all_ascii_digits, Str.Parse.digits_value}
 use Rattle.lp_escapes.specs.declared.forms.{Faults.Faults, Faults.TheVariants.Raw, Faults.TheVariants.OneLine, Faults.TheVariants.Editor, Faults.TheVariants.Json}
 use Rattle.lp_words.specs.declared.options.Range.{Range}
 
@@ -14,6 +14,10 @@ abbrev pub decimal : List ℕ → Option ℕ
 decimal word =
     if nat_lt 0 (length word) && all_ascii_digits word && nat_lt (digits_value 10 word) (2 ^ 64)
     then Some (digits_value 10 word) else None
+
+-- whether a word has a digit, and nothing else
+abbrev pub is_number : List ℕ → Bool
+is_number word = nat_lt 0 (length word) && list_all is_ascii_digit word
 
 -- whether a word can be the name of a file: it has a byte, and the first is no `-`
 abbrev pub names_file : List ℕ → Bool

@@ -9,7 +9,8 @@ use Rattle.lp_words.specs.declared.refusals.OldPieces.TheVariants.{Refuse, Appen
 use Rattle.lp_words.specs.declared.refusals.Refusal.TheVariants.{BatchIsThere, BatchesUnnamed, FaultsAreInput, OutputIsFaults, OutputIsInput, RefusedHolds, RefusedIsFaults, StreamsUnseen, RefusedIsBatch, RefusedIsInput, RefusedIsOutput}
 use Rattle.lp_words.specs.declared.refusals.Refusal.TheVariants.{NoClock, PartsOutOfRange, RangeIsBackwards, RangeIsPastEnd, RangeOfNoFile}
 use Rattle.lp_words.specs.declared.options.Range.{Range}
-use Rattle.lp_words.specs.BatchNames.{batch_names}
+use Rattle.lp_words.specs.BatchNames.{Names, batch_names, is_batch}
+use Rattle.lp_words.specs.Paths.{file_in}
 
 -- whether both are files, and one
 abbrev pub are_one : Option FileId → Option FileId → Bool
@@ -82,9 +83,27 @@ parts_refusal parts = if parts == 0 || nat_lt most_parts parts then Some (PartsO
 abbrev pub are_unnamed : (output : Option (Bor (List ℕ))) → Bool
 are_unnamed output = is_none (option_and_then (λ word. batch_names word.now) output)
 
+-- why the refused pieces cannot go to a file, if lines go to batches of these names: it is named as a batch
+abbrev pub refused_batch : Names → Option (Bor (List ℕ)) → Option Refusal
+refused_batch names None = None
+refused_batch names (Some name) = if is_batch names (file_in name.now) then Some (RefusedIsBatch name) else None
+
+-- why lines cannot go to batches of these names, if there are such, and the refused pieces to a file
+abbrev pub named_batches_refusal : Option Names → (refused : Option (Bor (List ℕ))) → Option Refusal
+named_batches_refusal None refused = Some BatchesUnnamed
+named_batches_refusal (Some names) refused = refused_batch names refused
+
+-- the same of batches whose names a word says
+abbrev pub batches_refusal : (output refused : Option (Bor (List ℕ))) → Option Refusal
+batches_refusal output refused = named_batches_refusal (option_and_then (λ word. batch_names word.now) output) refused
+
 -- the path of an input
 abbrev pub input_path : List ℕ → List ℕ
 input_path name = if bytes_eq name (codes "-") then codes "/proc/self/fd/0" else name
+
+-- the path of an output
+abbrev pub output_path : List ℕ → List ℕ
+output_path name = if bytes_eq name (codes "-") then codes "/proc/self/fd/1" else name
 
 -- how an input is named
 abbrev pub input_text : List ℕ → List ℕ

@@ -1,9 +1,11 @@
 //! How batches are named: by a word that has a place for the number of each.
 ghost use Rattle.std.specs.Prelude.{◌≡◌, ◌<◌, ◌+◌, IfOk, IfSome, length, option_map, slice_index, string_bytes};
 ghost use Rattle.std.specs.List.{list_all};
-ghost use Rattle.lp_words.specs.BatchNames.{batch_name, batch_names, is_plain, seen_names, width_at};
+ghost use Rattle.lp_words.specs.BatchNames.{batch_name, batch_names, is_batch, is_plain, seen_names, width_at};
+ghost use Rattle.lp_words.specs.Paths.{folder_of};
 
-use crate::options::place_of;
+use crate::options::{are_digits, place_of};
+use crate::paths::folder_and_file;
 use std::alloc::{AllocError, Global};
 
 // As many zeros as a number may have digits.
@@ -89,30 +91,23 @@ impl<'n> BatchNames<'n> {
         Ok(Some(name))
     }
 
-    // The folder of the batches, and how their names begin there.
-    fn folder_and_start(self) -> (&'n str, &'n str) {
-        match self.before.rsplit_once('/') {
-            Some(("", start)) => ("/", start),
-            Some((folder, start)) => (folder, start),
-            None => (".", self.before),
-        }
-    }
-
     /// The folder of the batches.
-    pub fn folder(self) -> &'n str {
-        self.folder_and_start().0
+    pub fn folder(self) -> &'n str
+        ensures { result.now ≡ folder_of self.entry.before.now }
+    {
+        folder_and_file(self.before).0
     }
 
     /// Whether a file of this name, in whichever folder, is named as a batch.
-    pub fn is_one(self, file: &str) -> bool {
-        let (_, start) = self.folder_and_start();
-        let Some(rest) = file.strip_prefix(start) else {
+    pub fn is_one(self, file: &str) -> bool
+        ensures { result ≡ is_batch (seen_names self.entry) file.now }
+    {
+        let (_, start) = folder_and_file(self.before);
+        let Some(rest) = file.as_bytes().strip_prefix(start.as_bytes()) else {
             return false;
         };
-        match rest.strip_suffix(self.after) {
-            Some(digits) => {
-                digits.len() == self.width && digits.bytes().all(|byte| byte.is_ascii_digit())
-            }
+        match rest.strip_suffix(self.after.as_bytes()) {
+            Some(digits) => digits.len() == self.width && are_digits(digits),
             None => false,
         }
     }

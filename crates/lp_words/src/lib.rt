@@ -5,6 +5,7 @@
 
 pub mod batch_names;
 pub mod options;
+pub mod paths;
 pub mod plain;
 pub mod refusals;
 pub mod told;

@@ -1,7 +1,8 @@
 //! What words say that take one form in all programs: numbers, names of files, ranges, and how faults are told.
 ghost use Rattle.std.specs.Prelude.{◌≡◌, ◌<◌, ◌==◌, IfSome, length, nat_lt, option_map, slice_index};
+ghost use Rattle.std.specs.Char.{is_ascii_digit};
 ghost use Rattle.std.specs.List.{list_all, position};
-ghost use Rattle.lp_words.specs.Options.{are_objects, asked_range, decimal, faults_form, first_number, is_one_if, named_inputs, names_file, names_input, range_between, range_end, name_one_file, told_file};
+ghost use Rattle.lp_words.specs.Options.{are_objects, asked_range, decimal, faults_form, first_number, is_number, is_one_if, named_inputs, names_file, names_input, range_between, range_end, name_one_file, told_file};
 
 use lp_escapes::forms::Faults;
 
@@ -34,6 +35,20 @@ pub fn first_number_of(word: &str) -> Option<usize>
     ensures { result ≡ first_number word.now }
 {
     decimal_of(word).filter(|first| *first > 0)
+}
+
+/// Whether each of these bytes is a digit.
+pub fn are_digits(bytes: &[u8]) -> bool
+    ensures { result ≡ list_all is_ascii_digit bytes.now }
+{
+    bytes.iter().all(|byte| byte.is_ascii_digit())
+}
+
+/// Whether a word has a digit, and nothing else: it is a number in decimal digits, of whatever size.
+pub fn is_number(word: &[u8]) -> bool
+    ensures { result ≡ is_number word.now }
+{
+    !word.is_empty() && are_digits(word)
 }
 
 // The place that a range ends before, as a word writes it: none if it has no byte.

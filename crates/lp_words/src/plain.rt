@@ -3,7 +3,7 @@
 //! Users write options and files in any order, a value after its option or as `--option=value`, and `--` before names that begin
 //! with `-`. Whatever they wrote, what reads the words then sees them in one order, so it need not know of that. It takes memory for two
 //! lists of the words.
-ghost use Rattle.std.specs.Prelude.{◌≡◌, ◌++◌, IfOk, OnOk};
+ghost use Rattle.std.specs.Prelude.{◌≡◌, ◌++◌, IfOk, OnOk, map, string_bytes};
 ghost use Rattle.lp_words.specs.Plain.{has_value, in_order, no_order, order_of, parted, plain_words, texts, with_any, with_word};
 
 use crate::options::{is_input, place_of};
@@ -135,7 +135,12 @@ pub fn words_in_order<'a>(
     alloc: Global,
     valued: &[&str],
     words: &'a [String],
-) -> Result<Vec<&'a str>, AllocError> {
-    let words: Vec<&str> = words.iter().map(|word| word.as_str()).collect(alloc)?;
-    plain_words(alloc, valued, words.as_slice())
+) -> Result<Vec<&'a str>, AllocError>
+    ensures { IfOk result (λ plain. texts plain.items ≡ plain_words valued.now (map string_bytes words.now)) }
+{
+    let mut list = Vec::with_capacity(alloc, words.len())?;
+    for at in 0..words.len() {
+        list.push(words[at].as_str())?;
+    }
+    plain_words(alloc, valued, list.as_slice())
 }

@@ -2,10 +2,11 @@
 //! something, and standard error that is one of these. So are a range that its file does not have, batches that have no names of their own, and parts
 //! that are none or too many.
 ghost use Rattle.std.specs.Prelude.{◌≡◌, ◌≢◌, Some, false, true, ◌<◌, ◌-◌, [], ◌∷◌, codes, drop, length, map};
-ghost use Rattle.lp_words.specs.Refusals.{are_one, are_unnamed, faults_refusal, held_refusal, input_at, input_text, is_backwards, parts_refusal, range_refusal, refusal, refused_refusal, unseen_refusal};
+ghost use Rattle.lp_words.specs.Refusals.{are_one, are_unnamed, batches_refusal, faults_refusal, held_refusal, input_at, input_text, is_backwards, parts_refusal, range_refusal, refusal, refused_refusal, unseen_refusal};
 
 use crate::batch_names::batch_names_of;
 use crate::options::{MOST_PARTS, Range};
+use crate::paths::folder_and_file;
 use crate::told::ToldName;
 use std::fmt;
 
@@ -193,18 +194,11 @@ pub fn refusal_of_range<'a>(range: Range, name: &'a str, len: Option<usize>) -> 
     }
 }
 
-// The name of a file in its folder.
-fn file_name(name: &str) -> &str {
-    match name.rsplit_once('/') {
-        Some((_, file)) => file,
-        None => name,
-    }
-}
-
 /// Why lines cannot go to batches that this word names, and the refused pieces to that file, if they do.
 pub fn refusal_of_batches<'a>(output: Option<&str>, refused: Option<&'a str>) -> Option<Refusal<'a>>
     ensures unnamed { are_unnamed output.entry ≡ true → result ≡ Some Refusal.BatchesUnnamed }
     ensures named { are_unnamed output.entry ≡ false → result ≢ Some Refusal.BatchesUnnamed }
+    ensures value { result ≡ batches_refusal output.entry refused.entry }
 {
     let names = match output {
         Some(word) => batch_names_of(word),
@@ -212,7 +206,7 @@ pub fn refusal_of_batches<'a>(output: Option<&str>, refused: Option<&'a str>) ->
     };
     match (names, refused) {
         (None, _) => Some(Refusal::BatchesUnnamed),
-        (Some(names), Some(name)) if names.is_one(file_name(name)) => {
+        (Some(names), Some(name)) if names.is_one(folder_and_file(name).1) => {
             Some(Refusal::RefusedIsBatch(name))
         }
         _ => None,

@@ -4,6 +4,12 @@
 //! more. Which options there are, and what each takes, is read from the usage and the help, so no further list has to be kept.
 //! That takes time only if the words are wrong.
 
+ghost use Rattle.std.specs.Prelude.{◌≡◌, ◌==◌, Some};
+ghost use Rattle.std.specs.Fmt.{DisplaysOnOk};
+ghost use Rattle.std.specs.List.{before_first};
+ghost use Rattle.lp_words.specs.Wrong.{are_times, is_time, is_times, value_text, word_text, wrong_text};
+
+use crate::options::{is_number, place_of};
 use crate::told::ToldName;
 use std::alloc::Global;
 use std::fmt;
@@ -62,7 +68,9 @@ pub enum Wrong<'a> {
 }
 
 // The first of the words of a text.
-fn first_word<'t>(text: &'t str) -> &'t str {
+fn first_word<'t>(text: &'t str) -> &'t str
+    ensures { result.now ≡ before_first (λ b. b == 32) text.now }
+{
     match text.split_once(' ') {
         Some((word, _)) => word,
         None => text,
@@ -106,23 +114,37 @@ fn have_both(words: &[&str], both: &str) -> bool {
     false
 }
 
-// Whether a word is a number in decimal digits, of whatever size.
-fn is_number(word: &str) -> bool {
-    !word.is_empty() && word.as_bytes().iter().all(|byte| byte.is_ascii_digit())
-}
-
 // Whether a word is a number, or one after a minus sign.
-fn is_time(word: &str) -> bool {
-    is_number(word.strip_prefix('-').unwrap_or(word))
+fn is_time(word: &[u8]) -> bool
+    ensures { result ≡ is_time word.now }
+{
+    match word {
+        [b'-', digits @ ..] => is_number(digits),
+        _ => is_number(word),
+    }
 }
 
-// Whether a word is a range of such numbers, of which one may be missing.
-fn is_times(word: &str) -> bool {
-    match word.split_once("..") {
-        Some(("", to)) => is_time(to),
-        Some((from, "")) => is_time(from),
-        Some((from, to)) => is_time(from) && is_time(to),
-        None => false,
+// Whether two words write a range of such numbers, of which one may be missing.
+fn are_times(from: &[u8], to: &[u8]) -> bool
+    ensures { result ≡ are_times from.now to.now }
+{
+    match (from.is_empty(), to.is_empty()) {
+        (true, true) => false,
+        (true, false) => is_time(to),
+        (false, true) => is_time(from),
+        (false, false) => is_time(from) && is_time(to),
+    }
+}
+
+// Whether a word is two such words, with two dots between them.
+fn is_times(word: &[u8]) -> bool
+    ensures { result ≡ is_times word.now }
+{
+    match place_of(b'.', word) {
+        Some(at) if word.len() - at > 1 && word[at + 1] == b'.' => {
+            are_times(&word[..at], &word[at + 2..])
+        }
+        _ => false,
     }
 }
 
@@ -197,12 +219,14 @@ impl<'a> Manual<'a> {
     fn wrong_value(self, option: &'a str, word: &'a str) -> Wrong<'a> {
         match self.value_of(option) {
             "FILE" => Wrong::NoFile(option, word),
-            "N" | "BYTES" | "PARTS" | "SECONDS" if is_number(word) => {
+            "N" | "BYTES" | "PARTS" | "SECONDS" if is_number(word.as_bytes()) => {
                 Wrong::OutOfRange(option, word)
             }
             "N" | "BYTES" | "PARTS" | "SECONDS" => Wrong::NoNumber(option, word),
-            "NS" if is_time(word) => Wrong::OutOfRange(option, word),
-            "FROM..TO" if option == "--times" && is_times(word) => Wrong::OutOfRange(option, word),
+            "NS" if is_time(word.as_bytes()) => Wrong::OutOfRange(option, word),
+            "FROM..TO" if option == "--times" && is_times(word.as_bytes()) => Wrong::OutOfRange(
+                option, word,
+            ),
             form if form.contains('|') || form.starts_with(|c: char| c.is_ascii_lowercase()) => {
                 Wrong::NoneOf(option, form, word)
             }
@@ -222,7 +246,7 @@ impl<'a> Manual<'a> {
             _ if self.value_of(option).is_empty() => Wrong::Other,
             None => Wrong::LacksValue(option),
             Some(word) if *word == "--" => Wrong::LacksValue(option),
-            Some(word) if option == "--cut" && is_number(word) => Wrong::AroundCut,
+            Some(word) if option == "--cut" && is_number(word.as_bytes()) => Wrong::AroundCut,
             Some(word) => self.wrong_value(option, word),
         }
     }
@@ -276,6 +300,11 @@ impl<'a> Manual<'a> {
 struct Word<'a>(&'a str);
 
 impl<'a> fmt::Display for Word<'a> {
+    ghost use Rattle.std.specs.Prelude.{Some};
+    ghost use Rattle.lp_words.specs.Wrong.{word_text};
+
+    ghost output = { λ word. Some (word_text word.0.now) };
+
     fn fmt<W: fmt::Write>(&self, f: &mut fmt::Formatter<W>) -> fmt::Result {
         if self.0.is_empty() {
             return f.write_str("an empty word");
@@ -297,7 +326,9 @@ fn show_values<W: fmt::Write>(values: &str, f: &mut fmt::Formatter<W>) -> fmt::R
 }
 
 // Writes what is wrong with one option or one word.
-fn show_one<W: fmt::Write>(wrong: Wrong<'_>, f: &mut fmt::Formatter<W>) -> fmt::Result {
+fn show_one<W: fmt::Write>(wrong: Wrong<'_>, f: &mut fmt::Formatter<W>) -> fmt::Result
+    ensures { DisplaysOnOk W.write_str_gives f.old result (Some (wrong_text wrong.entry)) f.new }
+{
     match wrong {
         Wrong::Twice(option) => write!(f, "{option} is given twice"),
         Wrong::LacksValue(option) => write!(f, "{option} needs a value"),
@@ -320,7 +351,9 @@ fn show_value<W: fmt::Write>(
     word: &str,
     what: &str,
     f: &mut fmt::Formatter<W>,
-) -> fmt::Result {
+) -> fmt::Result
+    ensures { DisplaysOnOk W.write_str_gives f.old result (Some (value_text option.now word.now what.now)) f.new }
+{
     let word = Word(word);
     write!(f, "{option}: {word} is {what}")
 }

@@ -1,4 +1,4 @@
--- What is answered for a text: an example that each relation covers, and one just outside.
+-- Worked lines about the answers for a text: an example that each relation covers, and one just outside.
 use Rattle.std.proofs.Common.{◌≡◌, ℕ, List, [], ◌∷◌, map, length, Result, Ok, Err, refl, ap, ◌∙◌, codes, arith, pos}
 use Rattle.lp_format.specs.format.{Strict, NewlineDelimited, Dialect, integer, HasAnswers, HasItems, answers_of, answers_of_piece}
 use Rattle.lp_format.specs.format.{Fault, Line, Point, field_set_missing, item_of, measurement_value_invalid}
@@ -16,7 +16,7 @@ pub answers_are : {dialect : Dialect} {text : List ℕ} {pieces : List (List ℕ
     → HasAnswers dialect text answers → answers ≡ answers_of dialect pieces
 answers_are {dialect} are h = h.answered ∙ ap (answers_of dialect) (same_pieces dialect refl h.are are)
 
--- so it has one list of items
+-- A text has only one list of items: the items of the answers for its pieces.
 pub items_are : {dialect : Dialect} {text : List ℕ} {pieces : List (List ℕ)} {items : List (Result Point Fault)} → Pieces dialect text pieces
     → HasItems dialect text items → items ≡ map item_of (answers_of dialect pieces)
 items_are are h = h.2 ∙ ap (map item_of) (answers_are are h.1)
@@ -35,7 +35,7 @@ pub not_one_answer : ¬ HasAnswers Strict (codes "m f=1i\nm f=2i") (Ok one_line 
 unfolding on_texts
 not_one_answer h = omega (arith, ap length (answers_are two_pieces h))
 
--- Its items are the points of these lines.
+-- The items of `m f=1i⏎m f=2i` are the points of its two lines.
 pub two_items : HasItems Strict (codes "m f=1i\nm f=2i") (map item_of (Ok one_line ∷ Ok two_line ∷ []))
 two_items = (_, two_answers, refl)
 
@@ -64,7 +64,7 @@ pub a_row_answers : IsAnswer Strict (codes ",t=x f=1i") (Err measurement_value_i
 unfolding on_texts
 a_row_answers = no_measurement refl
 
--- No other row does.
+-- No other row of the table of answers holds for `,t=x f=1i`.
 pub no_other_row : ¬ IsAnswer Strict (codes ",t=x f=1i") (Err field_set_missing)
 unfolding on_texts
 no_other_row h = let is = (answer_is_by_rows Strict (codes ",t=x f=1i") (Err field_set_missing)).1 h in absurd (cc)

@@ -1,4 +1,4 @@
--- What single calls give: an example that each relation covers, and one just outside.
+-- Worked lines about single calls: an example that each relation covers, and one just outside.
 use Rattle.std.proofs.Common.{◌≡◌, ◌++◌, ℕ, List, [], ◌∷◌, length, None, Some, Ok, Err, refl, sym, ap, subst, codes, arith, pos, length-append}
 use Rattle.std.specs.Borrow.{Bor}
 use Rattle.lp_format.specs.format.{Strict, NewlineDelimited, integer, GivesPiece, IsAsWrittenIn, IsLastPiece, field_set_missing, Pieces.Pieces, Pieces.cut}
@@ -34,7 +34,7 @@ a_piece_is_given piece is = (
       (cut (codes "m f=1i") (codes "m f=2i") others (m_is_cut (integer (pos 1)) refl) left),
 )
 
--- It does not give `None` while a piece is left.
+-- A call of `next` does not give `None` for `m f=1i`, because a piece is left.
 pub no_end_is_given : ¬ GivesPiece (record { dialect = Strict; text = Some (codes "m f=1i") }) None (record { dialect = Strict; text = None })
 no_end_is_given h = Pieces-nil Strict (codes "m f=1i") h.0
 
@@ -55,7 +55,7 @@ a_key = record { measurement = codes "m"; tags = tag_of "a" "1" ∷ []; named = 
 pub a_key_is_lent : (key : Bor (List ℕ)) → key.now ≡ codes "m,a=1" → LendsKey (codes "m,a=1 f=1i") (Some key)
 a_key_is_lent key is = (subst IsAdmittedKey (sym is) a_key, (codes " f=1i", ap (λ (k : List ℕ). k ++ codes " f=1i") is, refl))
 
--- It does not lend nothing there.
+-- A call of `key_of_text` does not give `None` for `m,a=1 f=1i`, which begins with a key.
 pub a_key_is_not_passed_over : ¬ LendsKey (codes "m,a=1 f=1i") None
 a_key_is_not_passed_over h = h (codes "m,a=1") (codes " f=1i") refl refl a_key
 
@@ -67,11 +67,11 @@ three = named (part "m") ∷ valued (record { key = part "f"; value = integer (p
 pub a_line_has_events : AreEventsOf (codes "m f=1i") three (Ok one_line)
 a_line_has_events = refl
 
--- It does not have its end alone.
+-- The end of the line alone is not the events of `m f=1i`.
 pub no_event_is_missing : ¬ AreEventsOf (codes "m f=1i") (ended (codes "m") None ∷ []) (Ok one_line)
 no_event_is_missing h = omega (arith, ap length h)
 
--- These are the events of the text `m f=1i`.
+-- The text `m f=1i` has three events.
 pub a_text_has_events : AreEventsOfText Strict (codes "m f=1i") three
 unfolding on_texts
 a_text_has_events = record { pieces = codes "m f=1i" ∷ []; has = one_alone; are = (three, [], refl, refl, refl) }
@@ -105,7 +105,7 @@ nothing_is_cut = (refl, one_is_last)
 pub a_line_is_cut : ¬ GivesCut (holding (codes "m f=1i\nm f=2i")) None (holding (codes "m f=1i\nm f=2i"))
 a_line_is_cut h = two_lines_are_not_last h.1
 
--- So it is if the piece is asked for as text.
+-- A stream that holds `m f=1i` gives no piece yet, even if the piece is asked for as text.
 pub no_text_is_cut : GivesCutText {E = ℕ} (holding (codes "m f=1i")) None (holding (codes "m f=1i"))
 no_text_is_cut = (refl, one_is_last)
 
@@ -113,11 +113,11 @@ no_text_is_cut = (refl, one_is_last)
 pub a_text_is_cut : ¬ GivesCutText {E = ℕ} (holding (codes "m f=1i\nm f=2i")) None (holding (codes "m f=1i\nm f=2i"))
 a_text_is_cut h = two_lines_are_not_last h.1
 
--- At its end a stream gives all that it holds.
+-- At the end of the input, a stream that holds `m f=1i` gives this text.
 pub the_last_is_given : GivesLast (holding (codes "m f=1i")) (codes "m f=1i") (holding [])
 the_last_is_given = (refl, (refl, refl))
 
--- It keeps nothing back.
+-- The last piece of a stream that holds `m f=1i` is not `m`: the stream keeps no byte back.
 pub nothing_is_kept_back : ¬ GivesLast (holding (codes "m f=1i")) (codes "m") (holding [])
 nothing_is_kept_back h = omega (arith, ap length h.0)
 
@@ -142,7 +142,7 @@ pub parts_join : JoinsPieces Strict (codes "m f=1i\nm f=1i") (codes "m f=1i\n" �
 unfolding on_texts
 parts_join = (codes "m f=1i" ∷ codes "m f=1i" ∷ [], parts_have_pieces, cut (codes "m f=1i") (codes "m f=1i") _ (m_is_cut (integer (pos 1)) refl) one_alone)
 
--- One of these parts alone does not join to the text.
+-- The piece `m f=1i` alone does not join to the text `m f=1i⏎m f=2i`.
 pub half_the_parts_do_not : ¬ JoinsPieces Strict (codes "m f=1i\nm f=2i") (codes "m f=1i" ∷ [])
 half_the_parts_do_not h = omega (arith, ap length (same_pieces Strict refl h.1 one_alone), ap length (same_pieces Strict refl h.2 two_pieces))
 
@@ -162,7 +162,7 @@ within limit bytes = record { limit = limit; held = holding bytes; skipped = Not
 pub it_holds_its_bytes : Holds (within 64 (codes "m f")) (codes "m f")
 it_holds_its_bytes = refl
 
--- It holds no other text.
+-- A bounded stream that holds `m f` does not hold another text, such as `m`.
 pub it_holds_no_other : ¬ Holds (within 64 (codes "m f")) (codes "m")
 it_holds_no_other h = omega (arith, ap length h)
 
@@ -170,7 +170,7 @@ it_holds_no_other h = omega (arith, ap length h)
 pub the_limit_stays : KeepsRules (within 64 []) (within 64 (codes "m"))
 the_limit_stays = (refl, refl)
 
--- It does not raise the limit.
+-- No call on a bounded stream raises its limit from 64 to 65 bytes.
 pub no_limit_is_raised : ¬ KeepsRules (within 64 []) (within 65 (codes "m"))
 no_limit_is_raised h = omega (arith, h.1)
 

@@ -1,4 +1,4 @@
--- What iterators give, and where reading stops: an example that each relation covers, and one just outside.
+-- Worked lines about iterators, and about the places where reading stops: an example that each relation covers, and one just outside.
 use Rattle.std.proofs.Common.{◌≡◌, ◌++◌, ℕ, List, [], ◌∷◌, map, length, None, Some, Ok, Err, refl, sym, ap, subst, codes, arith, pos, length-append}
 use Rattle.lp_format.specs.format.{Strict, NewlineDelimited, integer, trimmed}
 use Rattle.lp_format.specs.format.{measurement_value_invalid, a_measurement, miss, name, logical_field}
@@ -26,7 +26,7 @@ pub a_fault_is_an_item : AreItemsOf NewlineDelimited (codes "m f=\"a" ∷ []) (E
 unfolding on_texts
 a_fault_is_an_item = (record { answers = refl; light = λ light never. cc; tags = tt; columns_fit = tt }, tt)
 
--- No item is left out.
+-- No item is left out: the line `m f="a` has an item.
 pub no_item_is_left_out : ¬ AreItemsOf NewlineDelimited (codes "m f=\"a" ∷ []) []
 no_item_is_left_out h = h
 
@@ -34,11 +34,11 @@ no_item_is_left_out h = h
 pub no_memory_in_its_place : AreAnswers (Err error.OutOfMemory ∷ []) (Ok one_line ∷ [])
 no_memory_in_its_place = (tt, tt)
 
--- No fault may be in the place of a line.
+-- No fault other than `OutOfMemory` may be in the place of a line.
 pub no_fault_in_its_place : ¬ AreAnswers (Err error.FieldSetMissing ∷ []) (Ok one_line ∷ [])
 no_fault_in_its_place h = absurd (cc (h.0))
 
--- A line that says just what `m f=1i` says was read.
+-- Each line with the content of `m f=1i` was read.
 pub this_line_was_read : (line : ParsedLine) → line_read line ≡ one_line → IsReadLine line
 unfolding on_texts
 this_line_was_read line is = record { dialect = Strict; text = codes "m f=1i"; answered = ap Ok (sym is) }
@@ -51,7 +51,7 @@ no_name missed = no_measurement missed
 pub it_stops_at_the_measurement : (missed : name a_measurement (codes ",t=x f=1i") ≡ miss) → IsStopByRow (no_name missed) (Measurement, codes ",t=x f=1i")
 it_stops_at_the_measurement missed = refl
 
--- It does not stop after the comma.
+-- Reading `,t=x f=1i` does not stop after the comma.
 pub it_does_not_stop_later : (missed : name a_measurement (codes ",t=x f=1i") ≡ miss) → ¬ IsStopByRow (no_name missed) (Measurement, codes "t=x f=1i")
 it_does_not_stop_later missed h = omega (arith, ap (λ p. length p.1) h)
 
@@ -82,7 +82,7 @@ last_is : (skipped : List (List ℕ)) (piece only : List ℕ) → skipped ++ pie
 last_is [] piece only h = cc
 last_is (s ∷ more) piece only h = absurd (omega (arith, ap length h, length-append more (piece ∷ [])))
 
--- It never gives `OutOfMemory` for `m f=1i`, which is light.
+-- A call never gives `OutOfMemory` for `m f=1i`, because this line is light.
 pub a_light_line_has_memory : ¬ GivesItem (record { dialect = Strict; text = Some (codes "m f=1i") })
     (Some (Err error.OutOfMemory)) (record { dialect = Strict; text = None })
 unfolding on_texts is_light_in tags_in fields_in
@@ -91,19 +91,19 @@ a_light_line_has_memory h =
     let piece = last_is gave.skipped gave.piece (codes "m f=1i") (same_pieces Strict refl gave.left one_alone) in
     gave.item_is.light (ap (λ (p : List ℕ). is_light Strict (trimmed p)) piece) refl
 
--- a reader of events before a text, and one at the end of it
+-- A reader of events before the text `m f=1i`, and a reader of events at the end of the text.
 abbrev before_text : ParseEvents
 before_text = record { lines = record { dialect = Strict; text = Some (codes "m f=1i") }; place = Between }
 
 abbrev at_end : ParseEvents
 at_end = record { lines = record { dialect = Strict; text = None }; place = Between }
 
--- The events of `m f=1i` are left of it: its measurement, its field and its end.
+-- Before the text `m f=1i`, three events are left: its measurement, its field and its end.
 pub events_are_left : HasEventsLeft before_text (named (part "m") ∷ valued (record { key = part "f"; value = integer (pos 1) }) ∷ ended (codes "m") None ∷ [])
 unfolding on_texts
 events_are_left = record { pieces = codes "m f=1i" ∷ []; are_left = one_alone; are = (_, [], refl, refl, refl) }
 
--- At the end none is left.
+-- At the end of the text, no event is left.
 pub no_event_is_left : ¬ HasEventsLeft at_end (ended (codes "m") None ∷ [])
 no_event_is_left h = omega (arith, ap length (subst (AreEventsOfAll Strict (ended (codes "m") None ∷ [])) h.are_left h.are))
 

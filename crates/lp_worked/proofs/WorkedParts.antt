@@ -1,4 +1,4 @@
--- What the parts of a line read as: an example that each relation covers, and one just outside.
+-- Worked lines about the parts of a line: an example that each relation covers, and one just outside.
 use Rattle.std.proofs.Common.{List, [], ◌∷◌, length, refl, ap, codes, arith, pos}
 use Rattle.lp_format.specs.format.{integer, a_measurement, is_stop, tag, field, comma, newline, space, Text, Pair, above, integer_value_invalid}
 use Rattle.lp_format.specs.laws.Meanings.{IsLogical, LongestList, WholeList, NextHasFault, IsBeforeStop, IsBlankFront, IsBlankFront.empty, IsBlankFront.comment, IsBlankFront.blank}
@@ -13,7 +13,7 @@ pub a_comma_is_escaped : IsLogical (comma ∷ []) (codes "a\\,b") (codes "a,b")
 unfolding on_texts
 a_comma_is_escaped = (logical_is (comma ∷ []) (codes "a\\,b") (codes "a,b")).1 refl
 
--- It escapes no space there, so the logical text of `a\ b` is not `a b`.
+-- If a backslash escapes only commas, the logical text of `a\ b` is not `a b`.
 pub a_space_is_not_escaped : ¬ IsLogical (comma ∷ []) (codes "a\\ b") (codes "a b")
 unfolding on_texts
 a_space_is_not_escaped h =
@@ -29,7 +29,7 @@ pub two_tags_are_all : WholeList tag (codes "a=1,b=2 f=1i") two_tags (codes " f=
 unfolding on_texts
 two_tags_are_all = (the_most_is_read tag (λ text. (tag_no_longer text).holds) (codes "a=1,b=2 f=1i") two_tags (codes " f=1i")).0 refl
 
--- They are the longest list there.
+-- The two tags of `a=1,b=2 f=1i` are the longest list of tags at its start.
 pub two_tags_are_the_most : LongestList tag (codes "a=1,b=2 f=1i") two_tags (codes " f=1i")
 two_tags_are_the_most = two_tags_are_all.longest
 
@@ -37,7 +37,7 @@ two_tags_are_the_most = two_tags_are_all.longest
 pub one_tag_is_not_the_most : ¬ LongestList tag (codes "a=1,b=2 f=1i") (read_tag "a" "1" ∷ []) (codes ",b=2 f=1i")
 one_tag_is_not_the_most h = omega (arith, h.most two_tags (codes " f=1i") two_tags_are_the_most.separated)
 
--- So it is not the whole list.
+-- The first tag of `a=1,b=2 f=1i` alone is not the whole list of tags at its start.
 pub one_tag_is_not_all : ¬ WholeList tag (codes "a=1,b=2 f=1i") (read_tag "a" "1" ∷ []) (codes ",b=2 f=1i")
 one_tag_is_not_all h = one_tag_is_not_the_most h.longest
 
@@ -47,7 +47,7 @@ pub the_next_field_has_a_fault : NextHasFault field (record { key = part "f"; va
 unfolding on_texts
 the_next_field_has_a_fault = (_, refl, refl)
 
--- After a space no further field is read, so none has a fault.
+-- After a space no further field is read, so no further field has a fault.
 pub no_next_field_has_one : ¬ NextHasFault field (record { key = part "f"; value = integer (pos 1) } ∷ []) (codes " g=9223372036854775808i")
     (integer_value_invalid above (codes "9223372036854775808"))
 no_next_field_has_one h = absurd (cc (h.1))
@@ -57,7 +57,7 @@ pub a_name_ends_at_a_comma : IsBeforeStop (is_stop a_measurement) (codes "m") (c
 unfolding on_texts
 a_name_ends_at_a_comma = record { none = grind arith; at_stop = (refl, refl) }
 
--- It does not end before a comma that a backslash escapes.
+-- A measurement does not end before a comma that a backslash escapes, as in `m\,t=x`.
 pub an_escaped_comma_ends_none : ¬ IsBeforeStop (is_stop a_measurement) (codes "m\\") (codes ",t=x")
 unfolding on_texts
 an_escaped_comma_ends_none h = let bare = h.at_stop.0 in absurd (cc)

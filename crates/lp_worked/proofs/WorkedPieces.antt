@@ -1,4 +1,4 @@
--- Where pieces end, and which pieces a text has: an example that each relation covers, and one just outside.
+-- Worked lines about the ends of pieces and the pieces of a text: an example that each relation covers, and one just outside.
 use Rattle.std.proofs.Common.{[], ◌∷◌, None, Some, refl, codes, arith, pos}
 use Rattle.std.proofs.lemmas.Bool.{false≢true}
 use Rattle.lp_format.specs.format.{Strict, NewlineDelimited, string, integer, HasNoNewline, IsCutPiece, IsLastPiece, IsFirstCut, PiecesLeft}
@@ -25,7 +25,7 @@ a_line_is_one is = a_line_has_no_newline
 pub two_lines_are_not_one : ¬ IsOneLineIn NewlineDelimited (codes "m f=\"a\nb\"")
 two_lines_are_not_one h = a_string_has_a_newline (h refl)
 
--- By the strict rules it is.
+-- The two lines of `m f="a⏎b"` are one line by the strict rules.
 pub two_lines_are_one_strictly : IsOneLineIn Strict (codes "m f=\"a\nb\"")
 two_lines_are_one_strictly never = cc
 
@@ -73,7 +73,7 @@ two_pieces = cut (codes "m f=1i") (codes "m f=2i") _ one_is_cut (last (codes "m 
 pub one_piece : Pieces Strict (codes "m f=\"a\nb\"") (codes "m f=\"a\nb\"" ∷ [])
 one_piece = last (codes "m f=\"a\nb\"") a_closed_quote_is_last
 
--- It has not the pieces `m f="a` and `b"`.
+-- The text `m f="a⏎b"` does not have the pieces `m f="a` and `b"`.
 pub not_two_pieces : ¬ Pieces Strict (codes "m f=\"a\nb\"") (codes "m f=\"a" ∷ codes "b\"" ∷ [])
 not_two_pieces h = let same = same_pieces Strict refl h one_piece in absurd (cc)
 

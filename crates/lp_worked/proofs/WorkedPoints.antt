@@ -31,7 +31,7 @@ pub a_newline_is_not_admitted : ¬ IsAdmittedIn NewlineDelimited (point_of_m (st
 unfolding on_texts
 a_newline_is_not_admitted h = never h.admitted refl
 
--- In the strict dialect it is.
+-- The string `a⏎b` is admitted in the strict dialect.
 pub a_newline_is_admitted_strictly : IsAdmittedIn Strict (point_of_m (string (codes "a\nb")))
 unfolding on_texts
 a_newline_is_admitted_strictly = record { is_point = is_point_of_m (string (codes "a\nb")) tt; admitted = refl }
@@ -40,7 +40,7 @@ a_newline_is_admitted_strictly = record { is_point = is_point_of_m (string (code
 pub a_name_is_parsed : IsParsedName a_measurement (codes "m")
 a_name_is_parsed = names_are_parsed Strict _ _ one_line a_measurement (codes "m") two_answers (grind arith) (grind arith)
 
--- No line has the measurement `#m`, since it begins a comment.
+-- No line has the measurement `#m`, because this measurement begins a comment.
 pub a_comment_is_no_name : ¬ IsParsedName a_measurement (codes "#m")
 a_comment_is_no_name h = h.begins refl
 
@@ -48,7 +48,7 @@ a_comment_is_no_name h = h.begins refl
 pub a_point_is_readable : IsReadableIn Strict one
 a_point_is_readable = items_have_readable_names Strict _ _ one two_items (grind arith)
 
--- No line has those of a point with the measurement `#m`.
+-- No line has the names of a point with the measurement `#m`.
 pub a_comment_is_not_readable : ¬ IsReadableIn Strict (record one { measurement = codes "#m" })
 a_comment_is_not_readable h = a_comment_is_no_name (h.0 a_measurement (codes "#m") (grind arith))
 
@@ -57,7 +57,7 @@ pub a_line_is_as_written : IsAsWritten (codes "m f=1i")
 unfolding on_texts
 a_line_is_as_written = record { point = one; is_point = a_field_makes_a_point; admitted = refl; written = refl }
 
--- It does not write `m f=01i`: that line is read, and written again as `m f=1i`.
+-- The builder does not write `m f=01i`: the line is read, and written again as `m f=1i`.
 pub a_zero_is_not_as_written : ¬ IsAsWritten (codes "m f=01i")
 unfolding on_texts
 a_zero_is_not_as_written h =
@@ -72,17 +72,17 @@ pub fields_end : EndsItsFields (codes "m f=1i") one_line
 unfolding on_texts
 fields_end = strict_fields_end (codes "m f=1i") one_line refl
 
--- what is left after a reading
+-- The text that a reading leaves.
 abbrev after : {A : Type 0} → Reading A → List ℕ
 after (reads x rest) = rest
 after other = []
 
--- what is left after a set of tags
+-- The text that a reading of a set of tags leaves.
 abbrev after_set : {A : Type 0} → Result (Read A) Fault → List ℕ
 after_set (Ok r) = r.rest
 after_set (Err e) = []
 
--- Bytes follow those of `m f=1i,`, which only the reader of the crate takes.
+-- A comma follows the field of `m f=1i,`, so the line does not end its fields. Only the reader of the crate takes this comma.
 pub fields_do_not_end : ¬ EndsItsFields (codes "m f=1i,") one_line
 unfolding on_texts
 fields_do_not_end h =

@@ -1,4 +1,4 @@
--- What other readers make of a line: an example that each relation covers, and one just outside.
+-- Worked lines about other readers of a line: an example that each relation covers, and one just outside.
 use Rattle.std.proofs.Common.{ℕ, List, [], ◌∷◌, length, false, refl, ap, codes, arith, pos}
 use Rattle.lp_format.specs.format.{Strict, Line, string, integer, backslash, equals, quote, a_field_key, a_measurement, a_tag_key, a_tag_value}
 use Rattle.lp_format.proofs.lemmas.split.SplitPieces.{IsLastPiece-cut}
@@ -85,7 +85,7 @@ a_key_is_spelled = record {
 abbrev keys_len : Spelling → ℕ
 keys_len names = sum_by length names.keys
 
--- It is not spelled `f g`, which is its logical text.
+-- The field key of `m f\ g=1i` is not spelled `f g`, which is the logical text of the key.
 pub a_logical_text_is_no_spelling : ¬ IsSpelled (codes "m f\\ g=1i") spaced (spaced_names (codes "f g"))
 a_logical_text_is_no_spelling h =
     omega (arith, ap keys_len (spelled_once (codes "m f\\ g=1i") spaced (spaced_names (codes "f\\ g")) (spaced_names (codes "f g")) a_key_is_spelled h))
@@ -95,7 +95,7 @@ pub a_spelling_is_read : SpellsNamesOf spaced (spaced_names (codes "f\\ g"))
 unfolding on_texts
 a_spelling_is_read = record { measurement = refl; tags = refl; keys = refl }
 
--- That of `f\,g` is another.
+-- The logical text of the spelling `f\,h` is not the field key of `m f\ g=1i`.
 pub another_spelling_is_not : ¬ SpellsNamesOf spaced (spaced_names (codes "f\\,h"))
 unfolding on_texts
 another_spelling_is_not h = omega (arith, ap (λ (keys : List (List ℕ)). sum_by (λ k. slice_index k 1) keys) h.keys)

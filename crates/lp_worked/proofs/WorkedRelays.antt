@@ -15,14 +15,14 @@ one_ended = cut (codes "m f=1i") [] ([] ∷ []) (m_is_cut (integer (pos 1)) refl
 pub parts_have_pieces : HavePieces Strict (codes "m f=1i\n" ∷ codes "m f=1i" ∷ []) (codes "m f=1i" ∷ codes "m f=1i" ∷ [])
 parts_have_pieces = (codes "m f=1i" ∷ [], codes "m f=1i" ∷ [], one_ended, one_alone, refl)
 
--- One part alone has the piece of its text, and not none.
+-- A single part that holds `m f=1i` has a piece: it does not have no pieces.
 pub a_part_has_its_piece : ¬ HavePieces Strict (codes "m f=1i" ∷ []) []
 a_part_has_its_piece h = omega (arith, ap length (same_pieces Strict refl h one_alone))
 
--- Each of the parts has pieces of its own, the first also the empty one.
+-- Each of the parts has pieces of its own. The first part also has an empty piece.
 pub each_part_has_pieces : HaveEach Strict (codes "m f=1i\n" ∷ codes "m f=1i" ∷ []) ((codes "m f=1i" ∷ [] ∷ []) ∷ (codes "m f=1i" ∷ []) ∷ [])
 each_part_has_pieces = (one_ended, (one_alone, tt))
 
--- No part is left out.
+-- No part is left out: the second part has its piece.
 pub no_part_is_left_out : ¬ HaveEach Strict (codes "m f=1i\n" ∷ codes "m f=1i" ∷ []) ((codes "m f=1i" ∷ [] ∷ []) ∷ [])
 no_part_is_left_out h = h.1

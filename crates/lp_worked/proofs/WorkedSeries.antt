@@ -1,4 +1,4 @@
--- What bases and keys tell of series: an example that each relation covers, and one just outside.
+-- Worked lines about bases and keys of series: an example that each relation covers, and one just outside.
 use Rattle.std.proofs.Common.{◌≡◌, ℕ, List, [], ◌∷◌, length, false, Option, Some, Result, Ok, Err, refl, sym, ap, ◌∙◌, codes, arith}
 use Rattle.lp_format.specs.format.{Text, Pair, Read, Fault, tag_set}
 use Rattle.lp_lines.specs.code.Bases.{first_repeated}
@@ -51,7 +51,7 @@ tags_in_any_order = record { measurement_is = refl; tags_are = IsPermutation-mid
 pub another_measurement : ¬ IsSameSeries (part "m") (part "mm") (read_tag "a" "1" ∷ []) (read_tag "a" "1" ∷ [])
 another_measurement h = omega (arith, ap length h.measurement_is)
 
--- By their keys, `m,a=1,b=2` and `m,b=2,a=1` are one series.
+-- The series `m,a=1,b=2` and `m,b=2,a=1` are the same series by their keys.
 pub one_key_in_any_order : IsSameByKeys (codes "m") (codes "m") (tag_of "a" "1" ∷ tag_of "b" "2" ∷ []) (tag_of "b" "2" ∷ tag_of "a" "1" ∷ [])
 unfolding on_texts series_key
 one_key_in_any_order = (keys_tell_series (codes "m") (codes "m") _ _).0 refl
@@ -61,7 +61,7 @@ pub two_keys_for_two_orders : ¬ IsSameByKeys (codes "m") (codes "m") (tag_of "a
 unfolding on_texts series_key
 two_keys_for_two_orders h = omega (arith, ap (λ (t : List ℕ). slice_index t 4) ((keys_tell_series (codes "m") (codes "m") _ _).1 h))
 
--- The key `m,a=1` reads back as the series of which it is the key.
+-- The key `m,a=1` reads back as the series that has this key.
 pub a_key_reads_back : ReadsAsSeries (codes "m,a=1") (codes "m") (tag_of "a" "1" ∷ [])
 unfolding on_texts series_key
 a_key_reads_back = keys_read_back (codes "m") (tag_of "a" "1" ∷ []) refl refl
@@ -83,7 +83,7 @@ a_key_is_admitted = record { measurement = codes "m"; tags = tag_of "a" "x\\y" �
 abbrev read_x : Pair Text Text
 read_x = record { key = part "a"; value = record { bytes = codes "x\\y"; is_single = false } }
 
--- It does not write `m,a=x\y`, which reads as the same series.
+-- The text `m,a=x\y` is not the key of a series, although it reads as a series.
 pub a_spelling_is_no_key : ¬ IsAdmittedKey (codes "m,a=x\\y")
 unfolding on_texts series_key
 a_spelling_is_no_key h =

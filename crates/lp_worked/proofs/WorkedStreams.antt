@@ -1,4 +1,4 @@
--- What streams give, and what lines add to a text: an example that each relation covers, and one just outside.
+-- Worked lines about streams, and about lines that are added to a text: an example that each relation covers, and one just outside.
 use Rattle.std.proofs.Common.{◌≡◌, ℕ, List, [], ◌∷◌, length, Result, Ok, Err, refl, ap, codes, arith, pos, length-append}
 use Rattle.lp_format.specs.format.{Strict, Fault, Point, integer, HasAnswers, HasItems, take_while1, HasNoNewline, Pieces.Pieces, Pieces.last}
 use Rattle.lp_format.proofs.lemmas.split.SplitPieces.{pieces_exist, same_pieces, IsLastPiece-nil, IsLastPiece-cut, IsLastPiece-extend}
@@ -12,13 +12,13 @@ use Rattle.lp_worked.proofs.WorkedTexts.{on_texts, one, one_line, m_is_cut, is_p
 use Rattle.lp_worked.proofs.WorkedPieces.{an_open_quote_is_not_cut, one_piece}
 use Rattle.lp_worked.proofs.WorkedAnswers.{items_are}
 
--- Of `m f=1i⏎m f` a stream gives the piece `m f=1i`, and holds `m f`.
+-- A stream to which `m f=1i⏎m f` was pushed gives the piece `m f=1i`, and holds `m f`.
 pub a_stream_gives_a_piece : Run Strict (codes "m f=1i\nm f") (codes "m f=1i" ∷ []) (codes "m f")
 unfolding on_texts
 a_stream_gives_a_piece =
     taken (codes "m f=1i\nm f") [] (codes "m f=1i") (codes "m f") (pushed [] [] [] (codes "m f=1i\nm f") begun) (m_is_cut (integer (pos 1)) refl)
 
--- Of `m f="a⏎b` it gives no piece yet, since the quote is open.
+-- A stream to which `m f="a⏎b` was pushed gives no piece yet, because the quote is open.
 pub an_open_quote_gives_none : ¬ Run Strict (codes "m f=\"a\nb") (codes "m f=\"a" ∷ []) (codes "b")
 an_open_quote_gives_none h =
     let more = pieces_exist Strict (codes "b\"") in
@@ -26,16 +26,16 @@ an_open_quote_gives_none h =
     let same : codes "m f=\"a" ∷ more.0 ≡ codes "m f=\"a\nb\"" ∷ [] = same_pieces Strict refl is one_piece in
     absurd (cc)
 
--- what a stream by the strict rules holds
+-- A stream of the strict dialect that holds these bytes.
 abbrev pub holding : List ℕ → Held
 holding bytes = record { dialect = Strict; bytes = bytes; capacity = 64; given = 0 }
 
--- A call takes `m f=1i` and its newline of what is held.
+-- A call takes `m f=1i` and its newline from the bytes that a stream holds.
 pub a_piece_is_taken : TakesPiece (holding (codes "m f=1i\nm f")) (codes "m f=1i") (holding (codes "m f"))
 unfolding on_texts
 a_piece_is_taken = record { dialect = refl; bytes = refl; is_cut = m_is_cut (integer (pos 1)) refl }
 
--- It does not take `m f="a`.
+-- A stream that holds `m f="a⏎b` does not take the piece `m f="a`.
 pub an_open_quote_is_not_taken : ¬ TakesPiece (holding (codes "m f=\"a\nb")) (codes "m f=\"a") (holding (codes "b"))
 an_open_quote_is_not_taken h = an_open_quote_is_not_cut h.is_cut
 
@@ -51,11 +51,11 @@ two_texts_have_answers =
     let first : HasAnswers Strict (codes "m f=1i") (Ok one_line ∷ []) = record { pieces = codes "m f=1i" ∷ []; are = one_alone; answered = refl } in
     (Ok one_line ∷ [], Ok one_line ∷ [], first, (Ok one_line ∷ [], [], first, refl, refl), refl)
 
--- No text has one.
+-- A list of no texts has no answer.
 pub no_text_has_answers : ¬ HaveAnswers Strict [] (Ok one_line ∷ [])
 no_text_has_answers h = omega (arith, ap length h)
 
--- A line with a newline after it is closed: what follows it changes no item of it.
+-- A line with a newline after it is closed: no text after the line changes its item.
 pub a_line_is_closed : AreClosedLines Strict (codes "m f=1i\n") (Ok one ∷ [])
 unfolding on_texts
 a_line_is_closed =

@@ -9,7 +9,7 @@ use Rattle.lp_format.specs.format.{answers_of_piece, name, without_escapes, firs
 use Rattle.lp_lines.proofs.lemmas.read_back.LinePieces.{admitted_point, line_is_cut_piece}
 use Rattle.lp_portable.specs.format.Spellings.{holds}
 
--- what the worked lines unfold to be computed
+-- The definitions that have to be unfolded to compute the answers for the worked lines.
 unfoldable pub on_texts : ⊤
 unfolding line_of escaped is_admitted_point is_admitted_name digits answers_of_piece answer trimmed tag field name without_escapes first_bare
     is_escaped_after value integer_at unsigned_at float_at string_at boolean_at holds
@@ -31,7 +31,7 @@ read_tag key text = record { key = part key; value = part text }
 abbrev pub point_of_m : Value (List ℕ) → Point
 point_of_m v = record { measurement = codes "m"; tags = []; fields = record { key = codes "f"; value = v } ∷ []; timestamp = None }
 
--- the line that is read for it
+-- The line that is read from the text of the point `m` with this value.
 abbrev pub line_of_m : Value Text → Line
 line_of_m v = record { series = codes "m"; measurement = part "m"; tags = None; fields = record { key = part "f"; value = v } ∷ []; timestamp = None }
 
@@ -46,16 +46,16 @@ one_line = line_of_m (integer (pos 1))
 pub is_point_of_m : (v : Value (List ℕ)) → IsValue v → IsPoint (point_of_m v)
 is_point_of_m v fits = record { some_field = omega arith; values = (fits, tt); timestamp = tt }
 
--- its line is a piece that a newline ends
+-- The line of a point `m` with this value is a piece that a newline ends, by the strict rules.
 pub m_is_cut : (v : Value (List ℕ)) → IsValue v → IsCutPiece Strict (line_of (point_of_m v))
 unfolding on_texts
 m_is_cut v fits = line_is_cut_piece Strict (point_of_m v) (admitted_point (point_of_m v) (is_point_of_m v fits) refl) (λ never. cc)
 
--- and so by the rules of the crate
+-- The line of a point `m` with this value is a piece that a newline ends, by the rules of the crate.
 pub m_is_cut_in_crate : (v : Value (List ℕ)) → IsValue v → IsCutPiece Crate (line_of (point_of_m v))
 unfolding on_texts
 m_is_cut_in_crate v fits = line_is_cut_piece Crate (point_of_m v) (admitted_point (point_of_m v) (is_point_of_m v fits) refl) (λ never. cc)
 
--- what is both true and false is not
+-- A test cannot be both true and false.
 pub never : {A : Type 0} {b : Bool} → b ≡ true → b ≡ false → A
 never is not = absurd (false≢true (sym not ∙ is))

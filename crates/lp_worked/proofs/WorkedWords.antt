@@ -1,4 +1,5 @@
--- What is written, and what laws say of words, tags and differences: an example that each covers, and one just outside.
+-- Worked lines about written texts, and about the laws of words, tags and differences: an example that each relation covers, and one just
+-- outside.
 use lib.Utf8.{encode}
 use Rattle.std.specs.{Prelude.IsUtf8, Str.chars, Str.is_utf8}
 use Rattle.std.proofs.lemmas.Str.{is_utf8-from_IsUtf8}
@@ -15,7 +16,7 @@ use Rattle.lp_worked.proofs.WorkedTexts.{never, on_texts, read_tag}
 pub a_whole_word_is_read : word_len true_words (codes "true,") ≡ 4
 a_whole_word_is_read = refl
 
--- Of `tru,` the word `t` alone is read.
+-- Only the word `t` of `tru,` is read.
 pub half_a_word_is_not : word_len true_words (codes "tru,") ≡ 1
 half_a_word_is_not = refl
 
@@ -24,7 +25,7 @@ pub tags_by_their_keys : by_key (read_tag "b" "2" ∷ read_tag "a" "1" ∷ []) �
 unfolding by_key
 tags_by_their_keys = refl
 
--- The tags `a=1` and `a=2` repeat a key, so the law says nothing of them.
+-- The tags `a=1` and `a=2` repeat a key, so the law does not apply to them.
 pub tags_repeat_a_key : first_repeated (keys_of (read_tag "a" "1" ∷ read_tag "a" "2" ∷ [])) ≢ 2
 unfolding first_repeated
 tags_repeat_a_key h = absurd (cc)

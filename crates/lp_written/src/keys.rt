@@ -1,7 +1,7 @@
-//! Keys of series that a text begins with, as they stand.
+//! Finds the key of a series at the start of a text.
 //!
-//! A line as the builder writes it begins with the key of its series if its tags are in order. A test of that is a walk over the names,
-//! without memory, where a key that is made takes memory and a copy of each name.
+//! A line that the builder writes begins with the key of its series if its tags are in order. Checking this is a walk over the
+//! names that takes no memory. Making a key takes memory and copies each name.
 
 ghost use Rattle.std.specs.Prelude.{◌≡◌, ◌<◌, ◌≤◌, ℕ, List, IfSome, length, not};
 ghost use Rattle.std.specs.{Cmp.Lexicographic.slice_cmp, Ordering.is_lt, Ordering.nat_cmp};
@@ -13,7 +13,7 @@ use crate::tokens::after_written_name;
 use lp_scan::trim::strip_byte;
 use lp_values::names::NameKind;
 
-// The first byte of a name, and the name after it, of its text as the builder writes it.
+// Returns the first byte of a name and the text of its other bytes, from the text that the builder writes for the name.
 #[tactic(auto, using(crate::proofs::lemmas::parts::WrittenKeys::byte_steps))]
 #[inline(always)]
 fn split_byte(text: &[u8]) -> Option<(u8, &[u8])>
@@ -32,7 +32,8 @@ fn split_byte(text: &[u8]) -> Option<(u8, &[u8])>
     Some((*byte, rest))
 }
 
-// Whether a tag key is not less than the one before it, by their texts as the builder writes them.
+// Tells whether a tag key is not less than the key before it. Both keys are given by the texts that the builder writes for
+// them.
 fn is_in_order(before: &[u8], key: &[u8]) -> bool
     ensures { (b k : List ℕ) → before.now ≡ spelling a_tag_key b → key.now ≡ spelling a_tag_key k
         → result ≡ not (is_lt (slice_cmp nat_cmp k b)) }
@@ -52,8 +53,8 @@ fn is_in_order(before: &[u8], key: &[u8]) -> bool
     true
 }
 
-// The key of the tag at the start of `text`, as it is written, and what follows the tag, if that is as the builder writes it, and its key
-// not less than the one before it.
+// Returns the key of the tag at the start of `text`, as it is written, and the rest after the tag. Returns `None` if the tag is
+// not as the builder writes it, or its key is less than the key before it.
 #[inline(always)]
 fn next_tag<'a>(before: &[u8], text: &'a str) -> Option<(&'a [u8], &'a str)>
     ensures value { IsTagAfter before.now text.now result }
@@ -75,7 +76,8 @@ fn next_tag<'a>(before: &[u8], text: &'a str) -> Option<(&'a [u8], &'a str)>
     Some((key, rest))
 }
 
-// What follows the tags at the start of `text`, each after a comma, if they are as the builder writes them, and in order.
+// Returns the rest after the tags at the start of `text`, each after a comma. Returns `None` if a tag is not as the builder
+// writes it, or the tags are not in order.
 #[inline(always)]
 fn after_tags(text: &str) -> Option<&str>
     ensures { IsOnlyRest (AreTagsFront text.now) EndsSeries result }
@@ -92,12 +94,13 @@ fn after_tags(text: &str) -> Option<&str>
     Some(left)
 }
 
-/// The key of the series at the start of a text, lent, if it stands there as it is.
+/// Returns the key of the series at the start of a text, if the text begins with this key. The key is a part of `text`.
 ///
-/// It does if the text begins with a measurement and tags as the builder writes them, the tags are in the order of their keys, by
-/// bytes, and all names are admitted. The series ends at a space or at the end of the text. So the text may be a line or the
-/// `raw_input` of a [`Series`](lp_lines::Series). The key is then what [`Series::key`](lp_lines::Series::key) makes of that series;
-/// `laws::keys_stand_in_texts` says so. It takes no memory, and reads the names once.
+/// The text can be a line, or the `raw_input` of a [`Series`](lp_lines::Series). Returns `None` unless the text begins with a
+/// measurement and tags as the builder writes them, the tags are in the order of their keys, by bytes, and all names are
+/// admitted. The series ends at a space or at the end of the text. The key is the text that
+/// [`Series::key`](lp_lines::Series::key) makes of this series; `laws::keys_tell_series` has the theorem. Takes no memory, and
+/// reads the names once.
 ///
 /// ```text
 /// cpu,az=b,host=a usage=1  ->  cpu,az=b,host=a

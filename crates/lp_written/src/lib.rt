@@ -1,7 +1,7 @@
-//! Lines that are as the builder writes them.
+//! Checks whether a text is a line as the builder writes it.
 //!
-//! Whether a text is such a line is told from the text alone, by readers of its parts that take only what the builder writes. It
-//! uses nothing of the builder, so a change of either leaves the other as it was proved.
+//! Each part of the text is checked by a reader that takes only what the builder writes. The crate uses nothing of the builder,
+//! so a change of one needs no new proof of the other.
 #![tactic(auto)]
 
 mod keys;

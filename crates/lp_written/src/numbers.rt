@@ -1,4 +1,4 @@
-//! Values at the start of a text, if they are as the builder writes them.
+//! Checks whether the value at the start of a text is written as the builder writes it.
 
 ghost use Rattle.std.specs.Prelude.{◌≡◌, ◌≢◌, ◌<◌, IsCharBoundary, codes, drop, length, slice_index, take};
 ghost use Rattle.lp_format.specs.format.{letter_i, letter_u, quote, byte, miss, IsSigned, integer_len};
@@ -12,10 +12,10 @@ use lp_values::digits::{integer_value, unsigned_value};
 use lp_values::literals::integer_len;
 use lp_values::values::has_byte_at;
 
-// A shorter number, with `-` or not, is in the range of an i64.
+// A number with fewer bytes, with `-` or without, is in the range of an `i64`.
 const LEAST_IN_DOUBT: usize = 19;
 
-// Whether a number begins with a zero that the builder does not write.
+// Returns true if a number begins with a zero that the builder does not write.
 #[inline(always)]
 fn has_extra_zero(number: &[u8]) -> bool
     ensures { result ≡ has_extra_zero number.now }
@@ -23,7 +23,7 @@ fn has_extra_zero(number: &[u8]) -> bool
     matches!(number, [b'-', b'0', ..] | [b'0', _, ..])
 }
 
-// Whether the builder writes `number`, at the start of `text`, so as an integer.
+// Returns true if the builder writes `number`, which is at the start of `text`, in this way as an integer.
 #[tactic(auto, using(crate::proofs::lemmas::parts::WrittenNumbers::short_written))]
 #[inline(always)]
 pub(crate) fn is_written_integer(number: &str, text: &str) -> bool
@@ -35,7 +35,7 @@ pub(crate) fn is_written_integer(number: &str, text: &str) -> bool
         && (number.len() < LEAST_IN_DOUBT || integer_value(number, text).is_some())
 }
 
-// Whether the builder writes `number`, at the start of `text`, so as an unsigned number.
+// Returns true if the builder writes `number`, which is at the start of `text`, in this way as an unsigned integer.
 #[inline(always)]
 fn is_written_unsigned(number: &str, text: &str) -> bool
     requires signed { IsSigned (codes "-") number.now }
@@ -46,7 +46,8 @@ fn is_written_unsigned(number: &str, text: &str) -> bool
     !has_byte_at(bytes, 0, b'-') && !has_extra_zero(bytes) && unsigned_value(number, text).is_some()
 }
 
-// What follows the longest float at the start of `text`, where an integer takes `whole` bytes, and no mark of it follows.
+// Returns the rest after the longest float at the start of `text`. An integer there takes `whole` bytes, and no mark of an
+// integer follows it.
 #[tactic(auto, using(crate::proofs::lemmas::parts::WrittenNumbers::float_steps))]
 #[inline(always)]
 fn after_float(text: &str, whole: usize) -> Option<&str>
@@ -60,7 +61,8 @@ fn after_float(text: &str, whole: usize) -> Option<&str>
     Some(rest)
 }
 
-// What follows a number at the start of `text`, where an integer takes `whole` bytes.
+// Returns the rest after the number at the start of `text`, if it is as the builder writes it. An integer there takes `whole`
+// bytes.
 #[tactic(auto, using(crate::proofs::lemmas::parts::WrittenNumbers::number_steps))]
 #[inline(always)]
 fn after_number(text: &str, whole: usize) -> Option<&str>
@@ -79,7 +81,8 @@ fn after_number(text: &str, whole: usize) -> Option<&str>
     after_float(text, whole)
 }
 
-// What follows the word for a Boolean at the start of `text`, if neither a number nor a string is.
+// Returns the rest after the word for a boolean at the start of `text`, if the builder writes this word. The text begins with no
+// number and no string.
 #[tactic(auto, using(crate::proofs::lemmas::parts::WrittenNumbers::last_word))]
 #[inline(always)]
 fn after_word(text: &str) -> Option<&str>
@@ -93,7 +96,7 @@ fn after_word(text: &str) -> Option<&str>
     text.strip_prefix("false")
 }
 
-/// What follows the value at the start of `text`, if that is as the builder writes it.
+/// Returns the rest after the value at the start of `text`, or `None` if the builder does not write the value in this way.
 #[tactic(auto, using(crate::proofs::lemmas::parts::WrittenNumbers::string_only_value))]
 #[inline(always)]
 pub(crate) fn after_written_value(text: &str) -> Option<&str>

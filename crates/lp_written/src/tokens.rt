@@ -1,4 +1,4 @@
-//! Names and strings as the builder spells them, at the start of a text.
+//! Checks whether the name or the string at the start of a text is spelled as the builder spells it.
 
 ghost use Rattle.std.specs.Prelude.{◌≡◌, ◌<◌, ◌≤◌, ℕ, length, not, slice_index, true};
 ghost use Rattle.lp_scan.specs.code.{IsRunAt, is_mark, known_of, stops_of};
@@ -11,7 +11,8 @@ use lp_scan::sets::TokenKind;
 use lp_scan::trim::strip_byte;
 use lp_values::names::NameKind;
 
-// The end of the run of bytes from `at` on that neither end a token nor get a backslash in it, one by one.
+// Returns the end of the run of bytes, from `at` on, that neither end a token nor get a backslash in it. Looks at one byte at a
+// time.
 #[inline(always)]
 fn unmarked_tail(kind: TokenKind, bytes: &[u8], at: usize) -> usize
     requires { at ≤ length bytes.now }
@@ -24,7 +25,8 @@ fn unmarked_tail(kind: TokenKind, bytes: &[u8], at: usize) -> usize
     end
 }
 
-// The same, 16 at a time.
+// Returns the end of the run of bytes, from `at` on, that neither end a token nor get a backslash in it. Looks at 16 bytes at a
+// time.
 #[inline(always)]
 fn unmarked_end(kind: TokenKind, bytes: &[u8], at: usize) -> usize
     requires { at ≤ length bytes.now }
@@ -41,7 +43,7 @@ fn unmarked_end(kind: TokenKind, bytes: &[u8], at: usize) -> usize
     unmarked_tail(kind, bytes, end)
 }
 
-// How many bytes at the start are those of a token as the builder spells it.
+// Returns the number of bytes at the start that the builder spells for a token.
 #[tactic(auto, using(crate::proofs::lemmas::parts::WrittenNames::token_steps))]
 #[inline(always)]
 fn written_len(kind: TokenKind, bytes: &[u8]) -> usize
@@ -56,7 +58,7 @@ fn written_len(kind: TokenKind, bytes: &[u8]) -> usize
     end
 }
 
-// Whether a name of this kind that is spelled so is admitted, as far as its first and last bytes tell.
+// Returns true if a name of this kind with this spelling is admitted, as far as its first and last bytes tell.
 #[inline(always)]
 fn is_admitted_spelling(kind: NameKind, spelled: &[u8]) -> bool
     ensures { result ≡ is_admitted_spelling (kind_of kind) spelled.now }
@@ -67,7 +69,8 @@ fn is_admitted_spelling(kind: NameKind, spelled: &[u8]) -> bool
     !(matches!(kind, NameKind::Measurement) && spelled[0] == b'#')
 }
 
-/// What follows the name at the start of `text`, if that is spelled as the builder spells it, and is admitted.
+/// Returns the rest after the name at the start of `text`, or `None` if the builder does not spell the name in this way or the
+/// name is not admitted.
 #[inline(always)]
 pub(crate) fn after_written_name(kind: NameKind, text: &str) -> Option<&str>
     ensures { IsOnlyRest (IsWrittenName (kind_of kind) text.now) (EndsName (kind_of kind)) result }
@@ -81,7 +84,7 @@ pub(crate) fn after_written_name(kind: NameKind, text: &str) -> Option<&str>
     }
 }
 
-/// What follows the string at the start of `text`, if that is spelled as the builder spells it.
+/// Returns the rest after the string at the start of `text`, or `None` if the builder does not spell the string in this way.
 #[inline(always)]
 pub(crate) fn after_written_string(text: &str) -> Option<&str>
     ensures { IsOnlyRest (IsWrittenString text.now) (λ rest. Unit) result }

@@ -1,4 +1,4 @@
-//! Lines that are as the builder writes them.
+//! Checks whether a text is a line as the builder writes it.
 
 ghost use Rattle.std.specs.Prelude.{◌≡◌, ◌↔◌, true};
 ghost use Rattle.lp_format.specs.format.{a_tag_value, IsAsWritten};
@@ -11,7 +11,7 @@ use lp_scan::trim::strip_byte;
 use lp_values::literals::integer_len;
 use lp_values::names::NameKind;
 
-// What follows the tag at the start of `text`, if that is as the builder writes it.
+// Returns the rest after the tag at the start of `text`, or `None` if the builder does not write the tag in this way.
 #[tactic(auto, using(crate::proofs::lemmas::parts::WrittenLines::pair_steps))]
 #[inline(always)]
 fn after_tag(text: &str) -> Option<&str>
@@ -22,7 +22,7 @@ fn after_tag(text: &str) -> Option<&str>
     after_written_name(NameKind::TagValue, value)
 }
 
-// What follows the field at the start of `text`, if that is as the builder writes it.
+// Returns the rest after the field at the start of `text`, or `None` if the builder does not write the field in this way.
 #[tactic(auto, using(crate::proofs::lemmas::parts::WrittenLines::pair_steps))]
 #[inline(always)]
 fn after_field(text: &str) -> Option<&str>
@@ -33,7 +33,7 @@ fn after_field(text: &str) -> Option<&str>
     after_written_value(value)
 }
 
-// Whether the builder writes `text` for a timestamp, or for none.
+// Returns true if the builder writes `text` for a timestamp, or if `text` is empty.
 #[tactic(auto, using(crate::proofs::lemmas::parts::WrittenLines::stamp_steps))]
 #[inline(always)]
 fn is_timestamp(text: &str) -> bool
@@ -55,7 +55,7 @@ fn is_timestamp(text: &str) -> bool
     is_written_integer(number, number)
 }
 
-// Whether the builder writes `text` after a field.
+// Returns true if the builder writes `text` after a field.
 #[tactic(auto, using(crate::proofs::lemmas::parts::WrittenLines::field_steps))]
 #[inline(always)]
 fn is_after_field(text: &str) -> bool
@@ -71,7 +71,7 @@ fn is_after_field(text: &str) -> bool
     is_timestamp(left)
 }
 
-// Whether the builder writes `text` for the fields after the space before them, and a timestamp.
+// Returns true if the builder writes `text` after the space before the fields: fields, and a timestamp or none.
 #[tactic(auto, using(crate::proofs::lemmas::parts::WrittenLines::first_step))]
 #[inline(always)]
 fn are_fields(text: &str) -> bool
@@ -83,7 +83,7 @@ fn are_fields(text: &str) -> bool
     is_after_field(rest)
 }
 
-// Whether the builder writes `text` after a measurement.
+// Returns true if the builder writes `text` after a measurement.
 #[tactic(auto, using(crate::proofs::lemmas::parts::WrittenLines::tag_steps))]
 #[inline(always)]
 fn is_after_name(text: &str) -> bool
@@ -102,7 +102,8 @@ fn is_after_name(text: &str) -> bool
     are_fields(fields)
 }
 
-/// Whether the builder writes this text, before a newline, for a point whose names are all admitted. It takes no memory.
+/// Returns true if the builder writes exactly this text, before a newline, for a point whose names are all admitted. Takes no
+/// memory.
 ///
 /// ```text
 /// m,t=x a=1i 7    is as written

@@ -1,4 +1,4 @@
--- Where reading stops, by the row of the answer; and what is left of a line there.
+-- The place where reading stops, by the row of the answer, and the text that is left there.
 use Rattle.std.specs.Prelude.{◌≡◌, ◌+◌, ℕ, List, [], ◌∷◌, ◌++◌, length, Result, Ok}
 use Rattle.lp_format.specs.format.{comma, equals, space, Dialect, Fault, Line, Text, NameKind, a_field_key, a_tag_key, answer, name, reads}
 use Rattle.lp_format.specs.format.{some_tags}
@@ -9,40 +9,42 @@ use Rattle.lp_events.specs.code.Stops.{Place, reading_stop, series_part}
 use Rattle.lp_events.specs.declared.stops.LinePart.{LinePart}
 use Rattle.lp_events.specs.declared.stops.LinePart.TheVariants.{Measurement, TagKey, TagValue, FieldKey, FieldValue, Timestamp}
 
--- where a tag or a field stops that does not read: its key does not, or no equals sign follows it, or the value after that does not
+-- The place where reading of a tag or a field stops that cannot be read: at its key, at the missing equals sign, or at its value.
 pub data IsStopInPair (kind : NameKind) (key value : LinePart) (text : List ℕ) : Place → Type 0 where
   -- no key is read
   at_key : ((k : Text) (rest : List ℕ) → ¬ (name kind text ≡ reads k rest)) → IsStopInPair kind key value text (key, text)
-  -- no equals sign follows its key
+  -- no equals sign follows the key
   at_sign : (k : Text) (rest : List ℕ) → name kind text ≡ reads k rest → ¬ BeginsWith equals rest
       → IsStopInPair kind key value text (key, rest)
-  -- its key and an equals sign are read
+  -- the key and an equals sign are read, and the value is not
   at_value : (k : Text) (rest : List ℕ) → name kind text ≡ reads k (equals ∷ rest) → IsStopInPair kind key value text (value, rest)
 
--- where the tag of this number stops
+-- The place where reading of the tag of this number stops.
 abbrev pub IsStopInTag : ℕ → List ℕ → Place → Type 0
 IsStopInTag number text place = IsStopInPair a_tag_key (TagKey number) (TagValue number) text place
 
--- where the field of this number stops
+-- The place where reading of the field of this number stops.
 abbrev pub IsStopInField : ℕ → List ℕ → Place → Type 0
 IsStopInField number text place = IsStopInPair a_field_key (FieldKey number) (FieldValue number) text place
 
--- where the one after these stops: it is at the front if none is there, and else after a comma
+-- The place where reading of the next tag or field stops, after the ones that were read. If none was read, it begins at the front of the
+-- text; otherwise it begins after a comma.
 abbrev pub IsStopInNext : {A : Type 0} → (ℕ → List ℕ → Place → Type 0) → List A → List ℕ → Place → Type 0
 IsStopInNext IsStop [] last place = IsStop 1 last place
 IsStopInNext IsStop (x ∷ xs) last place = (after : List ℕ) × (last ≡ comma ∷ after) × IsStop (length (x ∷ xs) + 1) after place
 
--- if a comma is left, the part is the one in which the tag or the field of this number stops after it
+-- If the text that is left begins with a comma, the part is the part in which the tag or field of this number stops after the comma.
 abbrev pub IsPartAtComma : (ℕ → List ℕ → Place → Type 0) → ℕ → List ℕ → LinePart → Type 0
 IsPartAtComma IsStop number last part = (after : List ℕ) → last ≡ comma ∷ after → (rest : List ℕ) × IsStop number after (part, rest)
 
--- the part after fields: a timestamp if a space is there; and else the last value, or the part at a comma
+-- The part of the line in which reading stops after the fields: the timestamp if a space follows; otherwise the last value, or the part
+-- after a comma if a comma follows.
 abbrev pub IsPartAfter : ℕ → (last rest : List ℕ) → LinePart → Type 0
 IsPartAfter fields last rest part =
     (BeginsWith space rest → part ≡ Timestamp)
     × (¬ BeginsWith space rest → (¬ BeginsWith comma last → part ≡ FieldValue fields) × IsPartAtComma IsStopInField (fields + 1) last part)
 
--- where reading stops, by the row of the answer
+-- The place where reading stops, for each row of the table of answers.
 abbrev pub IsStopByRow : {dialect : Dialect} {text : List ℕ} {a : Result Line Fault} → IsAnswer dialect text a → Place → Type 0
 IsStopByRow {text = text} (fatal_measurement e h) place = place ≡ (Measurement, text)
 IsStopByRow {text = text} (no_measurement h) place = place ≡ (Measurement, text)
@@ -57,15 +59,15 @@ IsStopByRow (fatal_timestamp line last side number r stamp) place = place ≡ (T
 IsStopByRow (left line last b more r stamp) place = (place.1 ≡ b ∷ more) × IsPartAfter (length line.fields) r.after_fields last place.0
 IsStopByRow (all_read line last r stamp) place = (place.1 ≡ []) × IsPartAfter (length line.fields) r.after_fields last place.0
 
--- Reading stops where the row of the answer says.
+-- Reading stops at the place that the row of the answer names.
 abbrev pub StopsAreByRows : Type 0
 StopsAreByRows =
     (dialect : Dialect) (text : List ℕ) (a : Result Line Fault) (row : IsAnswer dialect text a) → IsStopByRow row (reading_stop dialect text)
 
--- What is left where reading stops is an end of the text.
+-- The text that is left where reading stops is an end of the whole text.
 abbrev pub StopsAreInText : Type 0
 StopsAreInText = (dialect : Dialect) (text : List ℕ) → (front : List ℕ) × (text ≡ front ++ (reading_stop dialect text).1)
 
--- If a line reads, nothing is left.
+-- If a text is read as a line, no text is left.
 abbrev pub LinesAreReadWhole : Type 0
 LinesAreReadWhole = (dialect : Dialect) (text : List ℕ) (line : Line) → answer dialect text ≡ Ok line → (reading_stop dialect text).1 ≡ []

@@ -19,12 +19,12 @@ use lp_split::Dialect;
 use lp_values::{EscapedStr, FieldValue};
 use lp_written::is_as_written;
 
-/// Why a line was not written, with the builder as it was before the call.
+/// The error of a call that wrote no line. It holds the builder as the builder was before the call.
 #[derive(Drop)]
 pub enum Unwritten<B: BufMut> {
     /// The line is not admitted in the dialect, or has no field.
     NotAdmitted(LineProtocolBuilder<B, BeforeMeasurement>),
-    /// The buffer has no room for the line, or no `usize` holds its length.
+    /// The buffer has no room for the line, or no `usize` can hold the length of the line.
     Refused(Refused<B, BeforeMeasurement>),
 }
 
@@ -47,7 +47,7 @@ fn value_fits(value: &FieldValue<'_>)
     }
 }
 
-// So it is with the value of each field.
+// The value of each field is in the range of its type, and each float is a literal.
 fn values_fit(fields: &[(EscapedStr<'_>, FieldValue<'_>)])
     ensures { AreValues fields.now }
 {
@@ -56,12 +56,12 @@ fn values_fit(fields: &[(EscapedStr<'_>, FieldValue<'_>)])
     }
 }
 
-// And with the timestamp.
+// A timestamp is in the range of an `i64`.
 fn timestamp_fits(timestamp: Option<i64>)
     ensures { IfSome timestamp (λ t. fits_i64 t ≡ true) }
 {}
 
-// Whether a line is written in this dialect: whether it has a field and is admitted.
+// Returns true if a line is written in a dialect: if it has a field and is admitted there.
 fn is_written_in(dialect: Dialect, line: &ParsedLine<'_>) -> bool
     ensures written { result ≡ true → IsAdmittedIn (rules_of dialect) (parsed_point line.now) }
     ensures unwritten { result ≡ false → IsNotAdmitted (rules_of dialect) (parsed_point line.now) }
@@ -71,7 +71,9 @@ fn is_written_in(dialect: Dialect, line: &ParsedLine<'_>) -> bool
     is_admitted_in(dialect, line) && line.field_set.len() > 0
 }
 
-/// Appends a parsed line, with its newline, if it reads back: [`write_admitted_line_in`] in the dialect of the Rust crate.
+/// Appends a parsed line and a newline if the line reads back, in the dialect of the Rust crate.
+///
+/// Calls [`write_admitted_line_in`] with [`Dialect::Crate`].
 ///
 /// ```
 /// let lines = match write_admitted_line(lines, &line) {
@@ -84,7 +86,7 @@ fn is_written_in(dialect: Dialect, line: &ParsedLine<'_>) -> bool
 ///
 /// # Errors
 ///
-/// Those of [`write_admitted_line_in`].
+/// Returns the errors of [`write_admitted_line_in`]. The returned builder then holds the bytes that it had.
 pub fn write_admitted_line<B: BufMut>(
     builder: LineProtocolBuilder<B, BeforeMeasurement>,
     line: &ParsedLine<'_>,
@@ -95,19 +97,29 @@ pub fn write_admitted_line<B: BufMut>(
     write_admitted_line_in(builder, Dialect::Crate, line)
 }
 
-/// Appends a parsed line, with its newline, if it reads back: if it has a field and is admitted in the dialect, as
-/// [`is_admitted_in`] says. It is written as [`write_line`] writes it.
+/// Appends a parsed line and a newline if the line reads back in a dialect: if the line has a field, and [`is_admitted_in`] is
+/// true of it. The text is the same as [`write_line`] writes.
 ///
-/// If the buffer held closed lines, as an empty one does, it does so again. In each dialect in which the line is admitted it then says
-/// what it said and the point of this line, and nothing else, whatever text comes after it. So no text in a name begins a line of its own, or
-/// changes another line.
+/// If the buffer held closed lines, it holds closed lines again; an empty buffer holds closed lines. In each dialect in which the
+/// line is admitted, the buffer then parses to its old items and the point of this line, whatever text comes after them. No text
+/// in a name can begin a line or change another line.
 ///
-/// It asks for memory only if the buffer has to grow. It goes over the line for its names, its length and its text.
+/// The function asks for memory only if the buffer has to grow. It reads the line three times: for its names, for its length, and
+/// to copy its text.
+///
+/// ```text
+/// a line with                   in Crate and Strict      in NewlineDelimited
+/// the string `a b` as field `s` appends m s="a b"        appends m s="a b"
+/// the string `a⏎b` as field `s` appends m s="a⏎b"        returns NotAdmitted
+/// the tag `user=guest⏎payments` returns NotAdmitted      returns NotAdmitted
+/// ```
 ///
 /// # Errors
 ///
-/// `NotAdmitted` if the line is not admitted, or if it has no field; `Refused` if the buffer has no room for the whole line,
-/// or no `usize` holds its length. No part of the line is written, and the builder is handed back with the bytes that it had.
+/// * `NotAdmitted` if the line is not admitted in the dialect, or has no field.
+/// * `Refused` if the buffer has no room for the whole line, or no `usize` can hold the length of the line.
+///
+/// No part of the line is then written, and the error holds the builder with the bytes that it had.
 pub fn write_admitted_line_in<B: BufMut>(
     builder: LineProtocolBuilder<B, BeforeMeasurement>,
     dialect: Dialect,
@@ -125,10 +137,11 @@ pub fn write_admitted_line_in<B: BufMut>(
     }
 }
 
-/// Whether the builder writes this text, before a newline, for a point that is admitted in this dialect, and it is one line there.
+/// Returns true if the builder writes exactly this text, before a newline, for a point that is admitted in the dialect, and the
+/// dialect reads the text as one line.
 ///
-/// In the two dialects where a string may hold a newline this is what [`is_as_written`] says. If each newline ends a line, the text,
-/// besides, holds none. It takes no memory.
+/// In the dialects `Crate` and `Strict`, where a string can hold a newline, the result is the result of [`is_as_written`]. In
+/// `NewlineDelimited`, the text must also hold no newline. The function takes no memory.
 ///
 /// ```text
 /// m s="a

@@ -9,21 +9,21 @@ ghost use Rattle.lp_build.specs.declared.builder.buffer.NoRoom.TheVariants.{OutO
 use arrayvec::ArrayVec;
 use std::alloc::Allocator;
 
-/// Why a call was refused.
+/// The cause of a refusal: why a call could not write its text.
 #[derive(Clone, Copy, Debug, PartialEq, Eq)]
 pub enum NoRoom {
     /// A request for memory was refused.
     OutOfMemory,
-    /// The buffer cannot grow, and has less room than the text of the call has bytes.
+    /// The buffer cannot grow, and has less room than the text has bytes.
     Full,
-    /// No `usize` holds the length of the text of the call.
+    /// No `usize` can hold the length of the text.
     TooLong,
 }
 
-/// A buffer that bytes can be appended to.
+/// A buffer to which bytes can be appended. Implement this trait to let the builder write to your own buffer.
 ///
-/// Its meaning is `bytes`, what it holds, and `room`, how many bytes can be put before a refusal.
-/// `refuses` says which causes its refusals have.
+/// Contracts know three facts about a buffer: `bytes`, the bytes that it holds; `room`, how many more bytes it takes without a
+/// refusal; and `refuses`, the causes that it can give. `Vec<u8>` and `ArrayVec<u8, CAP>` implement the trait.
 pub trait BufMut: Drop {
     ghost bytes: { Self → List ℕ };
 
@@ -31,12 +31,16 @@ pub trait BufMut: Drop {
 
     ghost refuses: { NoRoom → Type 0 };
 
-    /// Makes room for `n` more bytes. The bytes stay, and the room is no less, whatever the answer.
+    /// Makes room for `n` more bytes. The bytes stay as they are, and the room does not shrink, even if the call fails.
+    ///
+    /// ```text
+    /// an ArrayVec<u8, 8> that holds 5 bytes:  reserve(3) returns Ok(()),  and  reserve(4) returns Err(NoRoom::Full)
+    /// ```
     ///
     /// # Errors
     ///
-    /// If the room was less than `n` and no more could be had: by a cause of the buffer's own,
-    /// never `TooLong`.
+    /// Returns a cause of the buffer if the room was less than `n` and the buffer could not get more. The cause is never
+    /// `TooLong`.
     fn reserve(&mut self, n: usize) -> Result<(), NoRoom>
         ensures bytes { bytes self.new ≡ bytes self.old }
         ensures kept { room self.old ≤ room self.new }
@@ -46,15 +50,15 @@ pub trait BufMut: Drop {
         ensures cause { IfErr result (λ e. refuses e) }
         ensures fits { IfErr result (λ e. e ≢ TooLong) };
 
-    /// Appends `s`, for which there must be room. It takes no more room than that.
+    /// Appends `s`. The buffer must have room for it: call [`BufMut::reserve`] first. The room shrinks by at most the length of
+    /// `s`.
     fn put(&mut self, s: &[u8])
         requires { length s.now ≤ room self.old }
         ensures bytes { bytes self.new ≡ bytes self.old ++ s.now }
         ensures room { room self.old ≤ room self.new + length s.now };
 }
 
-/// A `Vec` grows, so its room is what its capacity leaves free, and it refuses for `OutOfMemory`
-/// alone.
+/// A `Vec` can grow. Its room is the part of its capacity that is free, and the only cause that it gives is `OutOfMemory`.
 impl<A: Allocator> BufMut for Vec<u8, A> {
     ghost bytes = { λ v. v.items };
 
@@ -69,13 +73,13 @@ impl<A: Allocator> BufMut for Vec<u8, A> {
         Ok(())
     }
 
-    // There is room, so nothing is refused.
+    // The `Vec` has room, so it refuses nothing.
     fn put(&mut self, s: &[u8]) {
         let _ = self.extend_from_slice(s);
     }
 }
 
-/// An `ArrayVec` never grows, and is full exactly if it has less room than is asked for.
+/// An `ArrayVec` never grows. It gives the cause `Full` exactly if it has less room than the call asks for.
 impl<const CAP: usize> BufMut for ArrayVec<u8, CAP> {
     ghost bytes = { λ v. v.items };
 
@@ -99,7 +103,7 @@ impl<const CAP: usize> BufMut for ArrayVec<u8, CAP> {
         Ok(())
     }
 
-    // There is room, so nothing is refused.
+    // The `ArrayVec` has room, so it refuses nothing.
     fn put(&mut self, s: &[u8]) {
         let _ = self.try_extend_from_slice(s);
     }

@@ -1,4 +1,4 @@
-//! Parsed lines that are written again.
+//! Writes parsed lines again.
 
 ghost use Rattle.std.specs.Prelude.{◌≡◌, ℕ, ◌+◌, ◌<◌, ◌≤◌, ◌^◌, ◌∷◌, ◌++◌, length, not, SomeIff, flat_map};
 ghost use Rattle.std.specs.List.{list_all};
@@ -25,7 +25,7 @@ use lp_split::Dialect;
 use lp_values::names::NameKind;
 use lp_values::{EscapedStr, FloatText, values};
 
-/// The literal, as it is.
+/// A float is written as its literal.
 impl FieldValue for FloatText<'_> {
     ghost text = { λ f. built_value (float (literal_of f)) };
 
@@ -38,7 +38,7 @@ impl FieldValue for FloatText<'_> {
     }
 }
 
-// The bytes that a name of this kind may not hold.
+// Returns the bytes that a name of this kind may not hold.
 #[inline(always)]
 fn never_in(kind: NameKind) -> [u8; 4]
     ensures { (b : ℕ) → is_one_of result b ≡ is_one_of (never_in (kind_of kind)) b }
@@ -49,7 +49,7 @@ fn never_in(kind: NameKind) -> [u8; 4]
     }
 }
 
-// Whether the name is admitted as one of this kind.
+// Returns true if the name is admitted as a name of this kind.
 #[tactic(auto, unfolding(lp_format::specs::format::Points::is_admitted_name))]
 #[inline(always)]
 fn is_admitted_name(kind: NameKind, name: &EscapedStr<'_>) -> bool
@@ -63,7 +63,7 @@ fn is_admitted_name(kind: NameKind, name: &EscapedStr<'_>) -> bool
     is_free_of(never_in(kind), bytes) && !begins_comment
 }
 
-// Whether the key and the value of each tag are admitted.
+// Returns true if the key and the value of each tag are admitted.
 fn are_tags_admitted(tags: &[(EscapedStr<'_>, EscapedStr<'_>)]) -> bool
     ensures { result ≡ list_all (λ t. is_admitted_tag (point_tag t)) tags.now }
 {
@@ -72,7 +72,7 @@ fn are_tags_admitted(tags: &[(EscapedStr<'_>, EscapedStr<'_>)]) -> bool
     })
 }
 
-// Whether the key of each field is admitted.
+// Returns true if the key of each field is admitted.
 fn are_fields_admitted(fields: &[(EscapedStr<'_>, values::FieldValue<'_>)]) -> bool
     ensures { result ≡ list_all (λ f. is_admitted_field (logical_field (field_of f))) fields.now }
 {
@@ -81,10 +81,16 @@ fn are_fields_admitted(fields: &[(EscapedStr<'_>, values::FieldValue<'_>)]) -> b
         .all(|(key, _)| is_admitted_name(NameKind::FieldKey, key))
 }
 
-/// Whether a line reads back if it is written again: whether each of its names is admitted.
+/// Returns true if a line reads back when it is written again: if each of its names is admitted. Takes no memory.
 ///
-/// A name is admitted if it is not empty, holds no tab and no newline, and does not end in a
-/// backslash; a measurement, besides, holds no NUL and does not begin with `#`. It takes no memory.
+/// A name is admitted if it is not empty, holds no tab and no newline, and does not end in a backslash. A measurement must also
+/// hold no NUL and must not begin with `#`.
+///
+/// ```text
+/// login,user=guest ok=t              is admitted
+/// login,user=guest\⏎payments ok=t    is not: the tag value holds a newline
+/// w\⇥ f=1i                           is not: the measurement holds a tab
+/// ```
 #[tactic(auto, using(crate::proofs::lemmas::builder::WrittenAgainLemmas::sets), unfolding(lp_format::specs::format::Points::is_admitted_point))]
 pub fn is_admitted(line: &ParsedLine<'_>) -> bool
     ensures { result ≡ is_admitted_point (parsed_point line.now) }
@@ -94,7 +100,7 @@ pub fn is_admitted(line: &ParsedLine<'_>) -> bool
         && are_fields_admitted(line.field_set.as_slice())
 }
 
-// Whether the value is written without a newline.
+// Returns true if the value is written without a newline.
 fn is_value_on_one_line(value: &values::FieldValue<'_>) -> bool
     ensures { result ≡ is_value_on_one_line (logical_value (value_of value.now)) }
 {
@@ -104,17 +110,17 @@ fn is_value_on_one_line(value: &values::FieldValue<'_>) -> bool
     }
 }
 
-// Whether each value is.
+// Returns true if each value is written without a newline.
 fn are_values_on_one_line(fields: &[(EscapedStr<'_>, values::FieldValue<'_>)]) -> bool
     ensures { result ≡ list_all (λ f. is_value_on_one_line (logical_field (field_of f)).value) fields.now }
 {
     fields.iter().all(|(_, value)| is_value_on_one_line(value))
 }
 
-/// Whether a line reads back in a dialect if it is written again: whether each of its names is admitted, and, if each newline
-/// ends a line, no string holds one.
+/// Returns true if a line reads back in a dialect when it is written again: if each of its names is admitted, and, in the
+/// newline-delimited dialect, no string holds a newline. Takes no memory.
 ///
-/// In the other two dialects this is what [`is_admitted`] says. It takes no memory.
+/// In the other two dialects, the result is the result of [`is_admitted`].
 ///
 /// ```text
 /// m s="a
@@ -132,7 +138,7 @@ pub fn is_admitted_in(dialect: Dialect, line: &ParsedLine<'_>) -> bool
     }
 }
 
-/// The value, as the call for its own type writes it.
+/// A parsed value is written as the implementation for its own type writes it.
 impl FieldValue for values::FieldValue<'_> {
     ghost text = { λ v. value_text v };
 
@@ -157,7 +163,7 @@ impl FieldValue for values::FieldValue<'_> {
     }
 }
 
-// The length of the tags, each with its comma, if a `usize` holds it.
+// Returns the length of the tags, each with its comma, or `None` if no `usize` can hold the length.
 fn tags_len(tags: &[(EscapedStr<'_>, EscapedStr<'_>)]) -> Option<usize>
     ensures { let text = flat_map tag_text tags.now in
         SomeIff result (length text < 2 ^ 64) (length text) }
@@ -180,7 +186,7 @@ fn put_tags<B: BufMut>(buf: &mut B, tags: &[(EscapedStr<'_>, EscapedStr<'_>)])
     }
 }
 
-// The length of the fields, each with the byte before it, if a `usize` holds it.
+// Returns the length of the fields, each with the byte before it, or `None` if no `usize` can hold the length.
 #[tactic(auto, using(crate::proofs::lemmas::builder::WrittenAgainLemmas::length_fields_after))]
 fn fields_len(fields: &[(EscapedStr<'_>, values::FieldValue<'_>)]) -> Option<usize>
     ensures { let text = fields_text space fields.now in
@@ -206,7 +212,8 @@ fn put_fields<B: BufMut>(buf: &mut B, fields: &[(EscapedStr<'_>, values::FieldVa
     }
 }
 
-// The length of the timestamp with the space before it: 0, if there is none. A space is as long as the letter of an integer.
+// Returns the length of the timestamp with the space before it, or 0 if there is none. `fmt_len` counts the letter of an integer,
+// which is as long as a space.
 fn timestamp_len(timestamp: Option<i64>) -> Option<usize>
     ensures { SomeIff result (length (built_timestamp timestamp) < 2 ^ 64) (length (built_timestamp timestamp)) }
 {
@@ -229,7 +236,7 @@ fn put_timestamp<B: BufMut>(buf: &mut B, timestamp: Option<i64>)
     }
 }
 
-// The length of the line and its newline, if a `usize` holds it.
+// Returns the length of the line and its newline, or `None` if no `usize` can hold the length.
 #[tactic(auto, unfolding(crate::specs::code::WrittenAgain::line_text))]
 fn line_len(line: &ParsedLine<'_>) -> Option<usize>
     ensures { let text = line_text line.now in
@@ -258,14 +265,24 @@ fn put_line<B: BufMut>(buf: &mut B, line: &ParsedLine<'_>)
     buf.put(b"\n");
 }
 
-/// Appends a parsed line as the builder writes it, with its newline: the measurement, the tags, the
-/// fields and the timestamp by their logical texts. The line has at least one field, as each has
-/// that `parse_lines` gave. If [`is_admitted`] holds, it reads back.
+/// Appends a parsed line and a newline, as the builder writes it: the measurement, the tags, the fields and the timestamp, from
+/// their logical texts.
+///
+/// The line must have at least one field, as each line has that `parse_lines` gave. The line reads back if [`is_admitted`] is
+/// true of it; `write_admitted_line` of `influxdb_line_protocol` also makes this check. Asks for memory only if the buffer has to
+/// grow.
+///
+/// ```text
+/// the line that was read  is written as
+/// m,k=a=b f=007i          m,k=a\=b f=7i
+/// m a,b=1i  9             m a\,b=1i 9
+/// m,k=\v s="a\b"          m,k=\\v s="a\\b"
+/// ```
 ///
 /// # Errors
 ///
-/// `TooLong` if no `usize` holds the length of the line, and else what the buffer answers if
-/// it has no room for the whole of it. The builder is then as before: no part of the line is written.
+/// Returns `TooLong` if no `usize` can hold the length of the line, and otherwise the cause that the buffer gives if the buffer
+/// has no room for the whole line. The builder is then as it was: no part of the line is written.
 #[tactic(auto, using(crate::proofs::lemmas::builder::WrittenAgainLemmas::line_text_is))]
 pub fn write_line<B: BufMut>(
     builder: LineProtocolBuilder<B, BeforeMeasurement>,

@@ -1,4 +1,4 @@
-//! Texts that are written with their backslashes, and how long they are so.
+//! Writes texts with their backslashes, and counts their bytes.
 
 ghost use Rattle.std.specs.Prelude.{◌≡◌, ◌+◌, ◌<◌, ◌≤◌, ◌∷◌, ◌++◌, ℕ, length, not, IfNone, IfSome};
 ghost use Rattle.std.specs.List.{list_all};
@@ -9,7 +9,7 @@ use super::buffer::BufMut;
 use lp_scan::marks::before_first;
 use lp_scan::sets::TokenKind;
 
-// Whether the text holds none of these bytes.
+// Returns true if the text holds none of these bytes.
 #[tactic(auto, using(crate::proofs::lemmas::builder::BuilderLemmas::first_decides))]
 #[inline(always)]
 pub(super) fn is_free_of(marks: [u8; 4], text: &[u8]) -> bool
@@ -18,7 +18,7 @@ pub(super) fn is_free_of(marks: [u8; 4], text: &[u8]) -> bool
     before_first(marks, text) == text.len()
 }
 
-// The first byte of `text` that gets a backslash: what comes before it, the byte, and what follows.
+// Finds the first byte of `text` that gets a backslash. Returns the text before it, the byte, and the text after it.
 #[tactic(auto, using(crate::proofs::lemmas::builder::BuilderLemmas::escaped_first))]
 #[inline(always)]
 fn next_escape(kind: TokenKind, text: &[u8]) -> Option<(&[u8], u8, &[u8])>
@@ -34,7 +34,8 @@ fn next_escape(kind: TokenKind, text: &[u8]) -> Option<(&[u8], u8, &[u8])>
     Some((&text[..at], text[at], &text[at + 1..]))
 }
 
-// The length of `text` with its backslashes. A text takes at most half of what a `usize` holds.
+// Returns the length of `text` with its backslashes. The sum cannot overflow, because a text has at most half as many bytes as a
+// `usize` can count.
 #[inline(always)]
 pub(super) fn escaped_len(kind: TokenKind, text: &[u8]) -> usize
     ensures value { result ≡ length (escaped (known_of kind) text.now) }
@@ -49,7 +50,7 @@ pub(super) fn escaped_len(kind: TokenKind, text: &[u8]) -> usize
     len
 }
 
-// Appends `text` with its backslashes. What is between two of them is copied as one run.
+// Appends `text` with its backslashes. The bytes between two backslashes are copied as one run.
 #[inline(always)]
 pub(super) fn put_escaped<B: BufMut>(buf: &mut B, kind: TokenKind, text: &[u8])
     requires { length (escaped (known_of kind) text.now) ≤ B.room buf.old }

@@ -7,24 +7,28 @@ use super::buffer::BufMut;
 use super::texts::{escaped_len, put_escaped};
 use lp_scan::sets::TokenKind;
 
-/// A value that a field can have.
+/// A value that the builder can write for a field: `i64`, `u64`, `bool`, `&str`, a `FloatText`, or the value of a parsed field.
 ///
-/// Its meaning is `text`, the bytes that a line has for it.
+/// Contracts know `text`, the bytes that a line has for the value.
 pub trait FieldValue: Drop {
     ghost text: { Self → List ℕ };
 
-    /// The length of the text, and `None` if no `usize` holds it.
+    /// Returns the length of the text, or `None` if no `usize` can hold it.
+    ///
+    /// ```text
+    /// (-7i64).fmt_len() returns Some(3): the text is `-7i`
+    /// ```
     fn fmt_len(&self) -> Option<usize>
         ensures { SomeIff result (length (text self.now) < 2 ^ 64) (length (text self.now)) };
 
-    /// Appends the text, for which there must be room. It takes no more room than that.
+    /// Appends the text. The buffer must have room for it, and its room shrinks by at most the length of the text.
     fn fmt<B: BufMut>(&self, buf: &mut B)
         requires { length (text self.now) ≤ B.room buf.old }
         ensures bytes { B.bytes buf.new ≡ B.bytes buf.old ++ text self.now }
         ensures room { B.room buf.old ≤ B.room buf.new + length (text self.now) };
 }
 
-// How many digits the number has.
+// Returns the number of decimal digits of `n`.
 #[tactic(auto, using(crate::proofs::lemmas::builder::BuilderLemmas::lengths_of_decimals))]
 fn decimal_len(n: u64) -> usize
     ensures value { result ≡ length (decimal n) }
@@ -36,7 +40,7 @@ fn decimal_len(n: u64) -> usize
     }
 }
 
-/// The number and `i`.
+/// An integer is written as its digits and `i`, such as `-7i`.
 impl FieldValue for i64 {
     ghost text = { λ z. built_value (integer z) };
 
@@ -52,7 +56,7 @@ impl FieldValue for i64 {
     }
 }
 
-/// The number and `u`.
+/// An unsigned integer is written as its digits and `u`, such as `7u`.
 impl FieldValue for u64 {
     ghost text = { λ n. built_value (unsigned n) };
 
@@ -67,7 +71,7 @@ impl FieldValue for u64 {
     }
 }
 
-/// `true` or `false`.
+/// A boolean is written as `true` or `false`.
 impl FieldValue for bool {
     ghost text = { λ b. built_value (boolean b) };
 
@@ -84,7 +88,7 @@ impl FieldValue for bool {
     }
 }
 
-/// The text between quotes, with a backslash before each `"` and `\`.
+/// A string is written between quotes, with a backslash before each `"` and `\`.
 impl FieldValue for &str {
     ghost text = { λ s. built_value (string s.now) };
 

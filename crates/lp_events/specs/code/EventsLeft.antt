@@ -13,7 +13,7 @@ use Rattle.lp_events.specs.declared.{place.LinePlace.LinePlace, place.LinePlace.
 use Rattle.lp_events.specs.declared.{place.LinePlace.TheVariants.Fields, pull.ParseEvents.ParseEvents}
 use Rattle.lp_events.specs.declared.pull.Event as given
 
--- an event that was given, as a sink is told of it
+-- the event that a sink is told for an event that a call gives
 abbrev pub told : given.Event → Event
 told (Measurement text) = named (spelled_text text)
 told (Tag key value) = tagged (spelled_tag (key, value))
@@ -21,14 +21,14 @@ told (Field key value) = valued (spelled_field (key, value))
 told (End series timestamp) = ended series.now timestamp
 told (Fault fault) = failed (spelled_fault fault)
 
--- the measurement and these tags of a line were read, and this is left; tags may follow
+-- the measurement and these tags of a line were read, `rest` follows them, and more tags can follow
 pub record NamesRead (line : List ℕ) (measurement : Text) (tags : List (Pair Text Text)) (rest : List ℕ) (is_first : Bool) : Type 0 where
   pub start : List ℕ
   pub name_is : name a_measurement line ≡ reads measurement start
   pub tags_are : AreRead (after_comma tag) (after_comma tag) tags start rest
   pub first_is : is_first ≡ (length tags == 0)
 
--- the measurement and all tags of a line are these, and this is left
+-- these are the measurement and all tags of a line, and `rest` follows them
 pub record SeriesRead (line : List ℕ) (measurement : Text) (tags : List (Pair Text Text)) (rest : List ℕ) : Type 0 where
   pub start : List ℕ
   pub set : Option (List (Pair Text Text))
@@ -37,7 +37,8 @@ pub record SeriesRead (line : List ℕ) (measurement : Text) (tags : List (Pair 
   pub set_is : tag_set start ≡ Ok (record { value = set; rest = rest })
   pub tags_are : some_tags set ≡ tags
 
--- the series of a line and these fields were read, and this is left; fields may follow, and there is one alone if it is the first
+-- the series of a line and these fields were read, `rest` follows them, and more fields can follow; `is_first` says whether there is only one
+-- field
 pub record FieldsRead (line series : List ℕ) (measurement : Text) (tags : List (Pair Text Text)) (fields : List (Pair Text (Value Text)))
     (rest : List ℕ) (is_first : Bool) : Type 0 where
   pub after : List ℕ
@@ -55,7 +56,8 @@ pub record AreEventsLeft (left : Left) (events : List Event) : Type 0 where
   pub are_left : PiecesLeft left pieces
   pub are : AreEventsOfAll left.dialect events pieces
 
--- with the front that was given, the first of these are the events of the line, and the others those of the pieces after it
+-- the first of `events`, after the events `front` that were given, complete the events of the line, and the others are the events of the
+-- pieces that are left
 pub record Completes (line : List ℕ) (front : List Event) (left : Left) (events : List Event) : Type 0 where
   pub first : List Event
   pub others : List Event
@@ -63,7 +65,7 @@ pub record Completes (line : List ℕ) (front : List Event) (left : Left) (event
   pub line_is : AreEventsOf line (front ++ first) (answer left.dialect line)
   pub others_are : AreEventsLeft left others
 
--- these events are left after the tags of a line, whichever they are
+-- these events are left after the series of a line, whichever measurement and tags the line has
 abbrev pub AreLeftAfterSeries : List ℕ → List ℕ → Left → List Event → Type 0
 AreLeftAfterSeries line rest left events =
     (measurement : Text) (tags : List (Pair Text Text)) → SeriesRead line measurement tags rest
@@ -86,21 +88,21 @@ Steps Are (Ok p) = (left : Left) (others : List Event) → AreLeftFrom p.1 left 
 Steps Are (Err fault) =
     (left : Left) (others : List Event) → AreEventsLeft left others → Are left (failed (spelled_fault fault) ∷ others)
 
--- these events are left to be given
+-- these events are left for a reader to give
 abbrev pub HasEventsLeft : ParseEvents → List Event → Type 0
 HasEventsLeft reader events = AreLeftFrom reader.place reader.lines events
 
--- so many events are left of a line at most
+-- the greatest number of events that can be left of a line from a place on
 abbrev pub most_of_line : LinePlace → ℕ
 most_of_line Between = 0
 most_of_line (Names p) = length p.rest.now + 1
 most_of_line (Fields p) = length p.rest.now + 1
 
--- so many events are left at most
+-- the greatest number of events that a reader can have left
 abbrev pub most_events : ParseEvents → ℕ
 most_events reader = most_of_line reader.place + most_pieces reader.lines.text
 
--- a call gives the first of the events that are left and leaves the others; or `None` if none is left, and then none comes
+-- a call gives the first of the events that are left and leaves the others, or gives `None` if no event is left, and then no event can come
 abbrev pub GivesEvent : ParseEvents → Option given.Event → ParseEvents → Type 0
 GivesEvent before None after = HasEventsLeft before [] × HasEventsLeft after [] × (most_events after ≡ 0)
 GivesEvent before (Some event) after = (others : List Event) → HasEventsLeft after others → HasEventsLeft before (told event ∷ others)

@@ -3,11 +3,11 @@ use Rattle.std.specs.Prelude.{◌≡◌, ℕ, ◌<◌, List, ◌∷◌, [], ◌+
 use Rattle.std.specs.Borrow.{Bor}
 use Rattle.lp_format.specs.format.{Left, PiecesLeft, trimmed}
 
--- nothing is left of the piece when it is trimmed
+-- a piece is blank: its trimmed text is empty
 abbrev pub IsBlankPiece : List ℕ → Type 0
 IsBlankPiece piece = length (trimmed piece) ≡ 0
 
--- blank pieces were left, then a piece that is not blank, of which this line is left when it is trimmed, and then the others
+-- blank pieces were left, then a piece whose trimmed text is `line` and not empty, and then the others
 pub record GaveLine (before : Left) (line : List ℕ) (others : List (List ℕ)) : Type 0 where
   pub skipped : List (List ℕ)
   pub piece : List ℕ
@@ -22,14 +22,14 @@ pub record HadBlankPieces (before : Left) : Type 0 where
   pub left : PiecesLeft before skipped
   pub blank : All IsBlankPiece skipped
 
--- the line of the first piece that is not blank is given, and the pieces after it are left; or `None` if only blank
--- pieces are left, and then none is left
+-- a call gives the line of the first piece that is not blank and leaves the pieces after it, or gives `None` if only blank pieces are left,
+-- and then leaves no piece
 abbrev pub GivesLine : Left → Option (Bor (List ℕ)) → Left → Type 0
 GivesLine before None after = HadBlankPieces before × PiecesLeft after []
 GivesLine before (Some line) after =
     (after.dialect ≡ before.dialect) × ((others : List (List ℕ)) → PiecesLeft after others → GaveLine before line.now others)
 
--- so many items are left at most
+-- the greatest number of items that the text left can have
 abbrev pub most_items : Option (List ℕ) → ℕ
 most_items None = 0
 most_items (Some text) = length text

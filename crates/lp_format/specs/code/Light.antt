@@ -1,4 +1,4 @@
--- Which lines are answered without memory.
+-- Light lines: the reader answers them without memory.
 use Rattle.std.specs.Prelude.{ℕ, zero, suc, ◌&&◌, Bool, true, false, not, List, length, drop, Result, Ok, Err, nat_le}
 use Rattle.std.specs.List.{list_all}
 use Rattle.lp_format.specs.format.{Dialect, backslash, comma, space, is_one_of, Text, Fault, integer_value_invalid, uinteger_value_invalid}
@@ -13,16 +13,16 @@ carries_no_text (timestamp_value_invalid side text) = false
 carries_no_text (cannot_parse_entire_line text) = false
 carries_no_text other = true
 
--- whether a value holds no copy
+-- whether a value is not a string that had to be copied
 abbrev pub is_single_value : Value Text → Bool
 is_single_value (string t) = t.is_single
 is_single_value other = true
 
--- whether a tag holds no copy
+-- whether neither the key nor the value of a tag had to be copied
 abbrev pub is_single_tag : Pair Text Text → Bool
 is_single_tag t = t.key.is_single && t.value.is_single
 
--- whether a field holds no copy
+-- whether neither the key nor the string value of a field had to be copied
 abbrev pub is_single_field : Pair Text (Value Text) → Bool
 is_single_field f = f.key.is_single && is_single_value f.value
 
@@ -36,51 +36,51 @@ abbrev pub is_light_answer : List ℕ → Result Line Fault → Bool
 is_light_answer line (Ok l) = is_single_line l
 is_light_answer line (Err fault) = not (is_one_of line backslash) && carries_no_text fault
 
--- this many after what a reading reads, and none if it does not read
+-- a count of the rest after a reading, or 0 if the reading misses or is fatal
 abbrev pub count_after : {A : Type 0} → Reading A → (List ℕ → ℕ) → ℕ
 count_after (reads x rest) count = count rest
 count_after other count = 0
 
--- how many are at the start one after another, at most n, whatever follows them
+-- how many elements `one` reads, one after another, at the start of the line, at most `n`
 abbrev pub many_count : {A : Type 0} → (List ℕ → Reading A) → ℕ → List ℕ → ℕ
 many_count one zero line = 0
 many_count one (suc n) line = count_after (one line) (λ rest. suc (many_count one n rest))
 
--- how many are at the start, joined by commas, whatever follows them, also a fatal one
+-- how many elements `one` reads at the start of the line, joined by commas, whatever follows them, also if the next element is fatal
 abbrev pub read_count : {A : Type 0} → (List ℕ → Reading A) → List ℕ → ℕ
 read_count one line = count_after (one line) (λ rest. suc (many_count (after_comma one) (length rest) rest))
 
--- how many tags are read: those after the measurement and a comma
+-- how many tags are read after the measurement and a comma
 unfoldable pub tags_in : List ℕ → ℕ
 tags_in line = count_after (name a_measurement line) (λ rest. count_after (byte comma rest) (λ after. read_count tag after))
 
--- this many after a part, and none if it is at fault
+-- a count of the rest after a part, or 0 if the part is at fault
 abbrev pub count_then : {A : Type 0} → Result (Read A) Fault → (List ℕ → ℕ) → ℕ
 count_then (Ok r) count = count r.rest
 count_then (Err fault) count = 0
 
--- how many fields are read: those after the measurement, the tags and the spaces
+-- how many fields are read after the measurement, the tags and the spaces
 unfoldable pub fields_in : List ℕ → ℕ
 fields_in line =
     count_after (name a_measurement line) (λ rest.
     count_then (tag_set rest) (λ after.
     count_after (byte space after) (λ some. read_count field (drop (spaces after) after))))
 
--- whether a trimmed text is answered without memory if there is room for so many tags and fields: no more are read,
--- and the answer needs none
+-- whether a trimmed text is answered without memory by a reader with room for this many tags and fields: no more of them are read, and the
+-- names, strings and fault of the answer need no memory
 unfoldable pub is_light_in : ℕ → ℕ → Dialect → List ℕ → Bool
 is_light_in tags fields dialect line =
     nat_le (tags_in line) tags && nat_le (fields_in line) fields && is_light_answer line (answer dialect line)
 
--- how many tags a new line holds without memory
+-- how many tags a line can hold without memory
 abbrev pub inline_tags : ℕ
 inline_tags = 8
 
--- how many fields a new line holds without memory
+-- how many fields a line can hold without memory
 abbrev pub inline_fields : ℕ
 inline_fields = 4
 
--- whether a trimmed text is light, that is, answered without memory: at most `inline_tags` tags, which are 8, and
--- `inline_fields` fields, which are 4, are read, and the answer needs none
+-- whether a trimmed text is light, that is, answered without memory: at most `inline_tags` tags, which are 8, and `inline_fields` fields,
+-- which are 4, are read, and the names, strings and fault of the answer need no memory
 abbrev pub is_light : Dialect → List ℕ → Bool
 is_light dialect line = is_light_in inline_tags inline_fields dialect line

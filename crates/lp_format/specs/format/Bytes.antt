@@ -49,7 +49,7 @@ letter_i = 105
 abbrev pub letter_u : ℕ
 letter_u = 117
 
--- whether the byte is one of these
+-- whether a list of bytes holds this byte
 abbrev pub is_one_of : List ℕ → ℕ → Bool
 is_one_of bytes b = list_any (λ c. c == b) bytes
 

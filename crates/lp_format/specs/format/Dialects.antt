@@ -1,6 +1,6 @@
 -- The dialects of line protocol.
 
--- whose rules hold: those of the Rust crate; the strict ones, which differ in comments and in the comma after the first field; or
--- the strict ones with every newline the end of a line
+-- the sets of rules: `Crate` has the rules of the Rust crate; `Strict` differs in comments and in the comma after the first field;
+-- `NewlineDelimited` has the strict rules, and each newline ends a line
 pub data Dialect : Type 0 where
   Crate Strict NewlineDelimited : Dialect

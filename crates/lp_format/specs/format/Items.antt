@@ -3,7 +3,7 @@ use Rattle.std.specs.Prelude.{◌≡◌, ℕ, ◌==◌, List, [], ◌∷◌, len
 use Rattle.lp_format.specs.format.{Dialects.Dialect, Readings.Fault, Points.Point, Trimming.trimmed, Pieces.Pieces}
 use Rattle.lp_format.specs.format.Lines.{Line, answer, point_of}
 
--- the answer for a piece: none if nothing is left of it when it is trimmed
+-- the answers for a piece: no answer if its trimmed text is empty, else the answer for its trimmed text
 unfoldable pub answers_of_piece : Dialect → List ℕ → List (Result Line Fault)
 answers_of_piece dialect piece = if length (trimmed piece) == 0 then [] else answer dialect (trimmed piece) ∷ []
 
@@ -11,17 +11,17 @@ answers_of_piece dialect piece = if length (trimmed piece) == 0 then [] else ans
 abbrev pub answers_of : Dialect → List (List ℕ) → List (Result Line Fault)
 answers_of dialect pieces = flat_map (answers_of_piece dialect) pieces
 
--- the answers for a text are those of its pieces, in order
+-- the answers for a text are the answers for its pieces, in order
 pub record HasAnswers (dialect : Dialect) (text : List ℕ) (answers : List (Result Line Fault)) : Type 0 where
   pub pieces : List (List ℕ)
   pub are : Pieces dialect text pieces
   pub answered : answers ≡ answers_of dialect pieces
 
--- an answer by its logical texts: a point, or a fault
+-- the item of an answer: the point of a line, or the fault
 abbrev pub item_of : Result Line Fault → Result Point Fault
 item_of (Ok line) = Ok (point_of line)
 item_of (Err fault) = Err fault
 
--- the items of a text are its answers, by their logical texts
+-- the items of a text are the items of its answers, in order
 abbrev pub HasItems : Dialect → List ℕ → List (Result Point Fault) → Type 0
 HasItems dialect text items = (answers : List (Result Line Fault)) × HasAnswers dialect text answers × (items ≡ map item_of answers)

@@ -13,35 +13,35 @@ pub record Pair (K A : Type 0) : Type 0 where
   pub key : K
   pub value : A
 
--- a tag by its logical texts
+-- a tag with the logical texts of its key and its value
 abbrev pub Tag : Type 0
 Tag = Pair (List ℕ) (List ℕ)
 
--- a field by its logical texts
+-- a field with the logical texts of its key and of its string
 abbrev pub Field : Type 0
 Field = Pair (List ℕ) (Value (List ℕ))
 
--- what a line says, by its logical texts
+-- a point: the measurement, tags, fields and timestamp of a line, with their logical texts
 pub record Point : Type 0 where
   pub measurement : List ℕ
   pub tags : List Tag
   pub fields : List Field
   pub timestamp : Option ℤ
 
--- a number in the range of its type, or a float literal; any string and either boolean
+-- a value of a point: a number in the range of its type, a float literal, any string, or a Boolean
 abbrev pub IsValue : Value (List ℕ) → Type 0
 IsValue (integer z) = fits_i64 z ≡ true
 IsValue (unsigned n) = n < 2 ^ 64
 IsValue (float t) = IsFloat t
 IsValue other = Unit {0}
 
--- at least one field, numbers in range, floats that are literals; names and strings are any texts
+-- a point with at least one field, with numbers in range and with literals for its floats; its names and strings can be any texts
 pub record IsPoint (p : Point) : Type 0 where
   pub some_field : 0 < length p.fields
   pub values : AllByRecursion (λ f. IsValue f.value) p.fields
   pub timestamp : IfSome p.timestamp (λ t. fits_i64 t ≡ true)
 
--- the bytes that a name may not hold, since no escape keeps them in it
+-- the bytes that a name of this kind must not hold, because no escape keeps them in the name
 abbrev pub never_in : NameKind → List ℕ
 never_in a_measurement = tab ∷ newline ∷ nul ∷ []
 never_in other = tab ∷ newline ∷ []
@@ -73,12 +73,12 @@ is_admitted_point p = is_admitted_name a_measurement p.measurement && list_all i
 abbrev pub is_on_one_line : List ℕ → Bool
 is_on_one_line text = list_all (λ b. not (b == newline)) text
 
--- whether a value is written without a newline: it is no string that holds one
+-- whether the text of a value has no newline: the value is not a string that holds one
 abbrev pub is_value_on_one_line : Value (List ℕ) → Bool
 is_value_on_one_line (string t) = is_on_one_line t
 is_value_on_one_line other = true
 
--- whether a point is admitted in a dialect: all its names are, and if each newline ends a line, no string holds one
+-- whether a point is admitted in a dialect: all its names are admitted, and, in the newline-delimited dialect, no string holds a newline
 abbrev pub is_admitted_in : Dialect → Point → Bool
 is_admitted_in NewlineDelimited p = is_admitted_point p && list_all (λ f. is_value_on_one_line f.value) p.fields
 is_admitted_in other p = is_admitted_point p
@@ -87,7 +87,7 @@ is_admitted_in other p = is_admitted_point p
 abbrev pub spelling : NameKind → List ℕ → List ℕ
 spelling kind name = escaped (escapable kind) name
 
--- a value as it is written, if its string is written so
+-- the text of a value, where `written` gives the text of a string
 abbrev pub written_value : {T : Type 0} → (T → List ℕ) → Value T → List ℕ
 written_value written (integer z) = signed_decimal z ++ letter_i ∷ []
 written_value written (unsigned n) = decimal n ++ letter_u ∷ []
@@ -104,20 +104,20 @@ built_value v = written_value (λ t. quote ∷ escaped quotable t ++ quote ∷ [
 abbrev pub built_tag : Tag → List ℕ
 built_tag t = comma ∷ spelling a_tag_key t.key ++ equals ∷ spelling a_tag_value t.value
 
--- a field whose value has this text, without what divides it from what comes before
+-- the text of a field whose value has this text: the spelled key, `=` and the value
 abbrev pub field_text : List ℕ → List ℕ → List ℕ
 field_text key value = spelling a_field_key key ++ equals ∷ value
 
--- a field as the builder writes it, without the byte that divides it from what comes before
+-- the text of a field: the spelled key, `=` and the value
 abbrev pub built_field : Field → List ℕ
 built_field f = field_text f.key (built_value f.value)
 
--- the fields, the first after this byte and each other after a comma
+-- the text of fields: the byte `before` comes before the first field, and a comma before each other field
 abbrev pub built_fields : ℕ → List Field → List ℕ
 built_fields before [] = []
 built_fields before (f ∷ fields) = before ∷ built_field f ++ built_fields comma fields
 
--- a timestamp with the space before it, or nothing
+-- the text of a timestamp: a space and the number, or nothing if there is no timestamp
 abbrev pub built_timestamp : Option ℤ → List ℕ
 built_timestamp None = []
 built_timestamp (Some t) = space ∷ signed_decimal t
@@ -126,22 +126,22 @@ built_timestamp (Some t) = space ∷ signed_decimal t
 unfoldable pub line_of : Point → List ℕ
 line_of p = spelling a_measurement p.measurement ++ flat_map built_tag p.tags ++ built_fields space p.fields ++ built_timestamp p.timestamp
 
--- what the builder writes for a point: its line and a newline
+-- the text that the builder writes for a point: its line and a newline
 abbrev pub built : Point → List ℕ
 built p = line_of p ++ newline ∷ []
 
--- what the builder writes for points
+-- the text that the builder writes for points
 abbrev pub built_all : List Point → List ℕ
 built_all points = flat_map built points
 
--- a text is as written if the builder writes it, before a newline, for a point whose names are all admitted
+-- a text is as written if it is the line of a point whose names are all admitted
 pub record IsAsWritten (text : List ℕ) : Type 0 where
   pub point : Point
   pub is_point : IsPoint point
   pub admitted : is_admitted_point point ≡ true
   pub written : line_of point ≡ text
 
--- a text is as written in a dialect if, besides, it is one line there
+-- a text is as written in a dialect if it is as written and, in the newline-delimited dialect, holds no newline
 abbrev pub IsAsWrittenIn : Dialect → List ℕ → Type 0
 IsAsWrittenIn NewlineDelimited text = (newlines_in text ≡ 0) × IsAsWritten text
 IsAsWrittenIn other text = IsAsWritten text

@@ -1,9 +1,9 @@
--- What is dropped at the start of a piece.
+-- Trimming: the blanks and comments at the start of a piece are dropped.
 use Rattle.std.specs.Prelude.{ℕ, ◌==◌, Bool, true, List, [], ◌∷◌, drop}
 use Rattle.std.specs.List.{join_with_byte, prefix_len, slice_split}
 use Rattle.lp_format.specs.format.Bytes.{tab, newline, space, hash, is_one_of}
 
--- what follows the front whose elements pass
+-- a list without its longest front of elements that pass
 abbrev pub without_front : {X : Type 0} → (X → Bool) → List X → List X
 without_front passes xs = drop (prefix_len passes xs) xs
 
@@ -11,7 +11,7 @@ without_front passes xs = drop (prefix_len passes xs) xs
 abbrev pub without_blanks : List ℕ → List ℕ
 without_blanks line = without_front (is_one_of (space ∷ tab ∷ [])) line
 
--- nothing, or a comment
+-- whether a line is empty or a comment
 abbrev pub is_comment_or_empty : List ℕ → Bool
 is_comment_or_empty [] = true
 is_comment_or_empty (b ∷ rest) = b == hash

@@ -1,4 +1,4 @@
--- What the answer for a trimmed text means: the table of answers, row by row.
+-- The meaning of the answer for a trimmed text: the table of answers, row by row.
 use Rattle.std.specs.Prelude.{◌≡◌, ◌↔◌, ℕ, List, [], ◌∷◌, ◌++◌, drop, Option, Some, None, Result, Ok, Err}
 use Rattle.lp_format.specs.format.{Dialect, comma, space, Side, Fault, measurement_value_invalid, field_set_missing, ends_with_backslash}
 use Rattle.lp_format.specs.format.{tag_set_malformed, take_while1, timestamp_value_invalid, cannot_parse_entire_line, Text, miss, fatal}
@@ -10,19 +10,20 @@ abbrev pub BeginsWith : ℕ → List ℕ → Type 0
 BeginsWith b [] = ⊥
 BeginsWith b (c ∷ rest) = c ≡ b
 
--- what follows all spaces at the start of a text
+-- the text after all spaces at its start
 abbrev pub after_spaces : List ℕ → List ℕ
 after_spaces text = drop (spaces text) text
 
--- a measurement and its tags are read, and this is the rest; if no comma follows the measurement, there is no tag set
+-- a measurement and its tags are read at the start of a text, and the last argument is the rest; if no comma follows the measurement, there is
+-- no tag set
 pub data ReadsSeries (text : List ℕ) : Text → Option (List (Pair Text Text)) → List ℕ → Type 0 where
   -- no comma follows the measurement
   alone : (m : Text) (rest : List ℕ) → name a_measurement text ≡ reads m rest → ¬ BeginsWith comma rest → ReadsSeries text m None rest
-  -- a comma follows it, and then at least one tag
+  -- a comma follows the measurement, and then at least one tag
   tagged : (m : Text) (tags : List (Pair Text Text)) (after rest : List ℕ)
       → name a_measurement text ≡ reads m (comma ∷ after) → WholeList tag after tags rest → ReadsSeries text m (Some tags) rest
 
--- a series is read, a space follows it, and after all spaces these fields are read
+-- the series of a line is read, a space follows it, after all spaces the fields of the line are read, and `rest` follows them
 pub record ReadsFields (dialect : Dialect) (text : List ℕ) (line : Line) (rest : List ℕ) : Type 0 where
   pub after_series : List ℕ
   pub series_is : text ≡ line.series ++ after_series
@@ -32,7 +33,7 @@ pub record ReadsFields (dialect : Dialect) (text : List ℕ) (line : Line) (rest
   pub fields_read : WholeList field (after_spaces after_series) line.fields after_fields
   pub rest_is : rest ≡ without_comma dialect line.fields after_fields
 
--- what a text is answered with, by the rows of the table; each row says too that none before it holds
+-- the answer for a text, by the rows of the table; each row also says that no row before it holds
 pub data IsAnswer (dialect : Dialect) (text : List ℕ) : Result Line Fault → Type 0 where
   -- the measurement is fatal
   fatal_measurement : (e : Fault) → name a_measurement text ≡ fatal e → IsAnswer dialect text (Err ends_with_backslash)
@@ -53,21 +54,21 @@ pub data IsAnswer (dialect : Dialect) (text : List ℕ) : Result Line Fault → 
       (rest : List ℕ) (e : Fault)
       → ReadsSeries text m tags after → BeginsWith space after → LongestList field (after_spaces after) fields rest
       → NextHasFault field fields rest e → IsAnswer dialect text (Err e)
-  -- the first field misses
+  -- after all spaces, the first field misses
   no_field : (m : Text) (tags : Option (List (Pair Text Text))) (after : List ℕ) → ReadsSeries text m tags after → BeginsWith space after
       → field (after_spaces after) ≡ miss → IsAnswer dialect text (Err field_set_missing)
-  -- the timestamp is fatal
+  -- the timestamp after the fields is out of range
   fatal_timestamp : (line : Line) (rest : List ℕ) (side : Side) (number : List ℕ) → ReadsFields dialect text line rest
       → timestamp rest ≡ Err (timestamp_value_invalid side number) → IsAnswer dialect text (Err (timestamp_value_invalid side number))
-  -- something is left
+  -- text is left after the timestamp
   left : (line : Line) (rest : List ℕ) (b : ℕ) (more : List ℕ)
       → ReadsFields dialect text line rest → timestamp rest ≡ Ok (record { value = line.timestamp; rest = b ∷ more })
       → IsAnswer dialect text (Err (cannot_parse_entire_line (b ∷ more)))
-  -- nothing is left
+  -- nothing is left after the timestamp
   all_read : (line : Line) (rest : List ℕ)
       → ReadsFields dialect text line rest → timestamp rest ≡ Ok (record { value = line.timestamp; rest = [] })
       → IsAnswer dialect text (Ok line)
 
--- A text has the answer that the rows of the table give it, and no other.
+-- The answer for a text is exactly the answer that the rows of the table give it.
 abbrev pub AnswerIsByRows : Type 0
 AnswerIsByRows = (dialect : Dialect) (text : List ℕ) (a : Result Line Fault) → (answer dialect text ≡ a) ↔ IsAnswer dialect text a

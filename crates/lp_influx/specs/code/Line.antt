@@ -1,4 +1,4 @@
--- Lines of the code, as the definitions have them.
+-- Values of the code as values of the definitions: fields, tags, lines and their parts.
 use Rattle.std.specs.Prelude.{ℕ, List, map, Option, Some, None}
 use Rattle.std.specs.Borrow.{Bor}
 use Rattle.lp_format.specs.format.{Pair, Point, Value, boolean, float, integer, string, unsigned}
@@ -7,7 +7,7 @@ use Rattle.lp_influx.specs.declared.lines.InfluxValue.TheVariants.{Integer, Unsi
 use Rattle.lp_influx.specs.format.InfluxLines as lines
 use Rattle.lp_influx.specs.code.Read.{spelled_field, spelled_tag}
 
--- a value
+-- The value of the definitions that a value of the code is.
 abbrev pub value_of : InfluxValue → Value (List ℕ)
 value_of (Integer z) = integer z
 value_of (Unsigned n) = unsigned n
@@ -15,15 +15,15 @@ value_of (Float literal) = float literal.items
 value_of (String text) = string text.items
 value_of (Boolean b) = boolean b
 
--- a tag
+-- The tag of the definitions that a tag of the code is.
 abbrev pub tag_of : InfluxTag → Pair (List ℕ) (List ℕ)
 tag_of t = record { key = t.key.items; value = t.value.items }
 
--- a field
+-- The field of the definitions that a field of the code is.
 abbrev pub field_of : InfluxField → Pair (List ℕ) (Value (List ℕ))
 field_of f = record { key = f.key.items; value = value_of f.value }
 
--- a line
+-- The point that a line of the code is.
 abbrev pub point_of : InfluxLine → Point
 point_of p = record {
   measurement = p.measurement.items;
@@ -32,12 +32,12 @@ point_of p = record {
   timestamp = p.timestamp;
 }
 
--- what was read of one
+-- The point that was read, if a line was read.
 abbrev pub point_seen : Option InfluxLine → Option Point
 point_seen None = None
 point_seen (Some p) = Some (point_of p)
 
--- the parts of a line
+-- The parts of a line, as the definitions have them.
 abbrev pub parts_of : Parts → lines.Parts
 parts_of p = record {
   measurement = p.measurement.now;
@@ -47,6 +47,6 @@ parts_of p = record {
   timestamp = p.timestamp;
 }
 
--- the keys of tags that are lent
+-- The keys of lent tags.
 abbrev pub keys_in : List (Bor (List ℕ) × Bor (List ℕ)) → List (List ℕ)
 keys_in tags = map (λ t. t.key) (map spelled_tag tags)

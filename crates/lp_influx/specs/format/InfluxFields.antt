@@ -1,4 +1,5 @@
--- Fields, as InfluxDB 1.x reads them, in two scans: the first finds where they end, and whether each has a value; the second reads them.
+-- Fields, as InfluxDB 1.x reads them, in two scans. The first scan finds the end of the fields, and checks that each field has a value. The
+-- second scan reads the fields.
 use Rattle.std.specs.Prelude.{ℕ, ◌+◌, ◌-◌, ◌==◌, ◌&&◌, ◌||◌, Bool, true, false, not, List, [], ◌∷◌, length, take, drop, slice_index, nat_lt}
 use Rattle.std.specs.Prelude.{Option, Some, None, if◌then◌else◌}
 use Rattle.lp_format.specs.format.{Pair, Reading, Text, Value, ◌>>=◌, ◌otherwise◌, backslash, boolean_at, byte, comma, digits_len, equals, exponent_len}
@@ -7,17 +8,17 @@ use Rattle.lp_format.specs.format.{space, string, true_words, unsigned_at}
 use Rattle.lp_portable.specs.format.Portable.{begins_with, is_finite}
 use Rattle.lp_influx.specs.format.InfluxNames.{until}
 
--- whether the end, a comma or a space is here
+-- Whether the text is empty, or begins with a comma or a space.
 abbrev pub is_literal_end : List ℕ → Bool
 is_literal_end [] = true
 is_literal_end (b ∷ rest) = is_one_of (comma ∷ space ∷ []) b
 
--- a literal, if it ends where it was read
+-- A literal, if it ends where it was read and is finite.
 abbrev pub ended : Reading (Value Text) → Reading (Value Text)
 ended (reads x rest) = if is_literal_end rest && is_finite x then reads x rest else miss
 ended other = miss
 
--- how many bytes a number takes that has a point, and a digit before it or after it
+-- The number of bytes of a number that has a point and a digit before or after the point; 0 if there is no such number.
 abbrev pub pointed_len : List ℕ → ℕ
 pointed_len text =
     let sign = if slice_index text 0 == minus then 1 else 0 in
@@ -27,17 +28,17 @@ pointed_len text =
     let front = point + 1 + fraction in
     if begins_with 46 (drop point text) && nat_lt 0 (whole + fraction) then front + exponent_len (drop front text) else 0
 
--- such a number
+-- Reads a number that has a point and a digit before or after the point.
 abbrev pub pointed_at : List ℕ → Reading (Value Text)
 pointed_at text = if pointed_len text == 0 then miss else reads (float (take (pointed_len text) text)) (drop (pointed_len text) text)
 
--- a number or a Boolean: an integer in its range; a finite float, also one without digits before its point, or after it
+-- Reads a number or a boolean: an integer in its range, or a finite float, also a float without digits before its point or after it.
 unfoldable pub literal : List ℕ → Reading (Value Text)
 literal text =
     ended (integer_at text) otherwise ended (float_at text) otherwise ended (pointed_at text) otherwise ended (boolean_at true true_words text)
     otherwise ended (boolean_at false false_words text)
 
--- whether a value is here: the quote of a string, or a literal
+-- Whether a value is at the start of the text: the quote of a string, or a literal.
 abbrev pub has_value : List ℕ → Bool
 has_value text = begins_with quote text || is_read (literal text)
   where
@@ -45,15 +46,15 @@ has_value text = begins_with quote text || is_read (literal text)
     is_read (reads x rest) = true
     is_read other = false
 
--- what is right before a byte of the fields: a backslash that escapes it; a backslash that is escaped itself; the comma or the space after
--- which a key begins; or any other byte
+-- The thing directly before a byte of the fields: a backslash that escapes the byte; a backslash that is escaped itself; the comma or the
+-- space after which a key begins; or any other byte.
 pub data Before : Type 0 where
   an_escape a_backslash a_divider a_byte : Before
 
--- What follows the fields: the end, or the first space that is neither escaped nor in quotes. A backslash escapes any byte. A quote counts
--- if more equals signs than commas came before it; bytes up to the next one are in quotes. An equals sign outside of quotes has a value
--- after it, and a key before it. At the end there is one more of these than of commas. Given are how many came so far, whether the text is
--- in quotes, and what is right before it.
+-- The text after the fields: nothing, or the text from the first space that is neither escaped nor in quotes. A backslash escapes any byte.
+-- A quote counts if more equals signs than commas came before it, and the bytes up to the next such quote are in quotes. Each equals sign
+-- outside of quotes must have a key before it and a value after it. At the end there must be one more of these equals signs than commas.
+-- The arguments are the numbers of equals signs and commas so far, whether the text is in quotes, and the thing directly before the text.
 unfoldable pub after_fields : ℕ → ℕ → Bool → Before → List ℕ → Option (List ℕ)
 after_fields signs commas quoted before [] = if not quoted && signs == commas + 1 then Some [] else None
 after_fields signs commas quoted an_escape (b ∷ rest) = after_fields signs commas quoted (if b == backslash then a_backslash else a_byte) rest
@@ -73,26 +74,26 @@ after_fields signs commas quoted before (b ∷ rest) =
     divider b a_backslash = a_byte
     divider b before = if b == comma then a_divider else a_byte
 
--- the text of a value: what is before the first comma that is in no quotes, where a backslash escapes a quote or a backslash; given is whether
--- the text is in quotes, and whether its first byte is escaped
+-- The text of a value: the text before the first comma outside of quotes, where a backslash escapes a quote or a backslash. The arguments
+-- are whether the text is in quotes, and whether its first byte is escaped.
 unfoldable pub value_text : Bool → Bool → List ℕ → List ℕ
 value_text quoted escaped [] = []
 value_text quoted escaped (b ∷ text) =
     if not quoted && b == comma then []
     else b ∷ value_text (if not escaped && b == quote then not quoted else quoted) (not escaped && b == backslash) text
 
--- a string: what is between the first byte of such a text and its last
+-- Reads a string: the text of the value without its first and its last byte.
 abbrev pub influx_string : List ℕ → Reading (Value Text)
 influx_string text =
     let whole = value_text false false text in
     if nat_lt (length whole) 2 then miss
     else reads (string (read_text quotable (take (length whole - 2) (drop 1 whole)))) (drop (length whole) text)
 
--- a value, as the second scan reads it
+-- Reads a value, as the second scan does.
 unfoldable pub influx_value : List ℕ → Reading (Value Text)
 influx_value text = if begins_with quote text then influx_string text else (literal text otherwise ended (unsigned_at text))
 
--- a field
+-- Reads a field.
 abbrev pub influx_field : List ℕ → Reading (Pair (List ℕ) (Value Text))
 influx_field text =
     let key = until (equals ∷ []) false text in
@@ -100,7 +101,7 @@ influx_field text =
     influx_value sign.rest >>= λ x.
     reads (record { key = key; value = x.value }) x.rest
 
--- all fields of such a text, after which one comma may be left
+-- All fields of a text, after which one comma may be left.
 abbrev pub whole_fields : List ℕ → Option (List (Pair (List ℕ) (Value Text)))
 whole_fields text = whole (separated_list influx_field text)
   where
@@ -109,7 +110,7 @@ whole_fields text = whole (separated_list influx_field text)
     whole (reads fields (b ∷ [])) = if b == comma then Some fields else None
     whole other = None
 
--- the fields at the start of a text, before which this byte is
+-- Reads the fields at the start of a text. The first argument is the byte before the text.
 abbrev pub influx_fields : ℕ → List ℕ → Reading (List (Pair (List ℕ) (Value Text)))
 influx_fields gap text = found (after_fields 0 0 false (if gap == space then a_divider else a_byte) text)
   where

@@ -7,15 +7,15 @@ use Rattle.lp_portable.specs.format.Portable.{begins_with, has_repeats, is_hundr
 use Rattle.lp_influx.specs.format.InfluxNames.{influx_name, influx_names, influx_tags, measurement_at}
 use Rattle.lp_influx.specs.format.InfluxFields.{influx_fields}
 
--- a text without the spaces, tabs and bytes 0 at its start
+-- A text without the spaces, tabs and bytes 0 at its start.
 abbrev pub without_gap : List ℕ → List ℕ
 without_gap text = without_front (is_one_of (space ∷ tab ∷ nul ∷ [])) text
 
--- the last byte of the gap before this rest of a text
+-- The last byte of the gap before this rest of a text.
 abbrev pub gap_before : List ℕ → List ℕ → ℕ
 gap_before text rest = slice_index text (length text - length rest - 1)
 
--- a number that spaces alone may follow, in the range of times
+-- Reads a number in the range of times, which only spaces may follow.
 abbrev pub stamp_at : List ℕ → Reading (Option ℤ)
 stamp_at text =
     let number = signed_digits_value 10 (take (integer_len text) text) in
@@ -23,11 +23,11 @@ stamp_at text =
     if integer_len text == 0 || is_outside (negsuc 9223372036854775805) (pos 9223372036854775806) (Some number) then miss
     else if length rest == spaces rest then reads (Some number) [] else miss
 
--- the time after the fields, if there is one, and nothing else
+-- Reads the time after the fields, or no time if only a gap is left.
 abbrev pub influx_time : List ℕ → Reading (Option ℤ)
 influx_time text = if length (without_gap text) == 0 then reads None [] else stamp_at (without_gap text)
 
--- the parts of a line as they are spelled, but for its values
+-- The parts of a line as they are spelled, except for its values.
 pub record Parts : Type 0 where
   pub measurement : List ℕ
   pub tags : List (Pair (List ℕ) (List ℕ))
@@ -35,7 +35,7 @@ pub record Parts : Type 0 where
   pub fields : List (Pair (List ℕ) (Value Text))
   pub timestamp : Option ℤ
 
--- the parts of a line that has no gap at its start
+-- Reads the parts of a line that has no gap at its start.
 abbrev pub parts_at : List ℕ → Reading Parts
 parts_at line = do
   m ← measurement_at line
@@ -51,11 +51,12 @@ parts_at line = do
     timestamp = time.value;
   }) time.rest
 
--- a field by its texts
+-- A field with its logical texts.
 abbrev pub influx_logical : Pair (List ℕ) (Value Text) → Pair (List ℕ) (Value (List ℕ))
 influx_logical f = record { key = influx_name f.key; value = logical_value f.value }
 
--- the point of such parts: none if two tags have the same key, if a key is too long, or if so many tags make the server panic
+-- The point of the parts of a line. There is none if two tags have the same key, if a key is too long, or if the number of tags makes the
+-- server panic.
 abbrev pub point_of_parts : Parts → Option Point
 point_of_parts p =
     if has_repeats (map (λ t. t.key) p.tags) || is_hundreds (length p.tags) || list_any (λ f. is_long_after p.series_len f.key) p.fields then None
@@ -66,8 +67,8 @@ point_of_parts p =
       timestamp = p.timestamp;
     })
 
--- What InfluxDB 1.x reads of one line, without the newline that ends it: a point, its tags in the order of the line, or none. It gives
--- none of a comment, of a blank line and of a line that it refuses.
+-- The point that InfluxDB 1.x reads from one line, without the newline that ends the line. Its tags are in the order of the line. There is
+-- none for a comment, for a blank line and for a line that InfluxDB rejects.
 unfoldable pub influx_line : List ℕ → Option Point
 influx_line text = if begins_with hash (without_gap text) then None else point (parts_at (without_gap text))
   where

@@ -1,11 +1,11 @@
--- What a call of `next_into` on a `ParseLines` gives, and the line that it reads into.
+-- The result of a call of `next_into` on a `ParseLines`, and the line that it reads into.
 use Rattle.std.specs.Prelude.{◌≡◌, ℕ, ◌≤◌, true, List, [], Option, Some, None, IfSome, Result, Ok, Err, OnErr}
 use Rattle.lp_values.specs.{declared.error.Error.Error, code.Outcomes.IsNotOutOfMemory, code.Texts.text_of}
 use Rattle.lp_lines.specs.{declared.parsed.ParsedLine.ParsedLine, code.Lookups.room_of, code.Lookups.some_items}
 use Rattle.lp_format.specs.{code.Light.is_light_in, format.Pieces.Left, format.Pieces.PiecesLeft}
 use Rattle.lp_events.specs.code.LineSteps.{GaveLine}
 
--- a line that says nothing: it has no text, no name, no tags, no fields and no timestamp
+-- an empty line: it has no series text, no measurement, no tags, no fields and no timestamp
 pub record IsEmptyLine (line : ParsedLine) : Type 0 where
   pub raw : line.series.raw_input.now ≡ []
   pub measurement : text_of line.series.measurement ≡ []
@@ -13,27 +13,27 @@ pub record IsEmptyLine (line : ParsedLine) : Type 0 where
   pub fields : line.field_set.items ≡ []
   pub timestamp : line.timestamp ≡ None
 
--- the item that an answer is, if a line that was read is in this one
+-- the item of an answer, where `line` is the line that was read into
 abbrev pub item_in : {X : Type 0} → ParsedLine → Result X Error → Result ParsedLine Error
 item_in line (Ok done) = Ok line
 item_in line (Err e) = Err e
 
--- if the answer is a fault, the line is empty
+-- the line is empty if the answer is an error
 abbrev pub LeavesEmpty : {X : Type 0} → ParsedLine → Option (Result X Error) → Type 0
 LeavesEmpty line answer = IfSome answer (λ r. OnErr r (IsEmptyLine line))
 
--- the tag set of the new line, if it has one, has at least the room of the old line's
+-- the tag set of the new line, if there is one, has at least the room of the old tag set
 abbrev pub KeepsTagRoom : ParsedLine → ParsedLine → Type 0
 KeepsTagRoom old new = IfSome new.series.tag_set (λ tags. room_of old.series.tag_set ≤ tags.capacity)
 
--- the line of the first piece that is not blank was read into sets with room for so many tags and fields: it is not
--- answered with `OutOfMemory` if none is needed in that room
+-- the line of the first piece that is not blank was read into sets with room for this many tags and fields: the answer is not `OutOfMemory` if
+-- the line is light in this room
 pub record GaveInRoom {X : Type 0} (tags fields : ℕ) (before : Left) (answer : Result X Error) (others : List (List ℕ)) : Type 0 where
   pub line : List ℕ
   pub gave : GaveLine before line others
   pub light : is_light_in tags fields before.dialect line ≡ true → IsNotOutOfMemory answer
 
--- so it is with a call, if it answers
+-- a call that gives an answer gives it for the first line that is left, and not `OutOfMemory` if this line is light in this room
 abbrev pub GivesInRoom : {X : Type 0} → ℕ → ℕ → Left → Option (Result X Error) → Left → Type 0
 GivesInRoom tags fields before None after = Unit {0}
 GivesInRoom tags fields before (Some answer) after =

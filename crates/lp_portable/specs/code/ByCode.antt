@@ -1,4 +1,4 @@
--- Which clauses a line breaks, by what the code has of it.
+-- The clauses that a line breaks, computed from the parts that the code has of the line.
 use Rattle.std.specs.Prelude.{◌≡◌, ℕ, pos, negsuc, ◌+◌, ◌-◌, ◌==◌, ◌||◌, not, List, [], ◌∷◌, length, map, codes, nat_lt, slice_index, slice_index_or}
 use Rattle.std.specs.{Prelude.bytes_eq, List.list_any}
 use Rattle.lp_format.specs.format.{is_one_of, newline, quote, space, tab}
@@ -10,7 +10,7 @@ use Rattle.lp_portable.specs.format.Portable.{holds_text, is_finite, is_hundreds
 use Rattle.lp_portable.specs.format.Portable.{is_system_measurement, is_unsigned}
 use Rattle.lp_portable.specs.declared.{names.NameBreaks.NameBreaks, portable.Parts.Parts, portable.Repeats.Repeats}
 
--- these are what was read of a line
+-- The parts are the parts of the line that was read.
 pub record ArePartsOf (read : ParsedLine) (parts : Parts) : Type 0 where
   pub series : parts.series.now ≡ read.series.raw_input.now
   pub measurement : parts.measurement.now ≡ text_of read.series.measurement
@@ -18,7 +18,7 @@ pub record ArePartsOf (read : ParsedLine) (parts : Parts) : Type 0 where
   pub fields : parts.fields.now ≡ read.field_set.items
   pub timestamp : parts.timestamp ≡ read.timestamp
 
--- the clauses that a line breaks
+-- The clauses that a line breaks, by the parts that the code has of the line.
 abbrev pub broken_by_code : Limits → List ℕ → Parts → Repeats → NameBreaks → Broken
 broken_by_code limits text parts repeats names =
     record {

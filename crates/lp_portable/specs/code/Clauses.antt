@@ -1,4 +1,4 @@
--- The clauses, limits and servers of the code, as the definitions have them.
+-- The clauses, the limits and the servers of the code, as values of the definitions.
 use Rattle.std.specs.Prelude.{◌≡◌, ℕ, ◌&&◌, Bool, List, [], ◌∷◌, Option, Some, None, if◌then◌else◌}
 use Rattle.lp_format.specs.format.{Line, trimmed}
 use Rattle.lp_portable.specs.format as format
@@ -7,17 +7,17 @@ use Rattle.lp_portable.specs.format.{IsOneLine, IsSpelled, Spelling, breaks}
 use Rattle.lp_portable.specs.declared.{broken.Broken.Broken, broken.Clause.Clause, broken.TheConstants.CLAUSES, limits.Limits.Limits, limits.Servers.Servers}
 use Rattle.lp_portable.specs.declared.limits.Servers.TheVariants.{Influx1, Victoria, All}
 
--- the servers that the code's word names
+-- The servers of the definitions that a value of the code names.
 abbrev pub servers_of : Servers → format.Servers
 servers_of Influx1 = portable.influx1
 servers_of Victoria = portable.victoria
 servers_of All = portable.all
 
--- the limits
+-- The limits of the definitions that a value of the code names.
 abbrev pub limits_of : Limits → format.Limits
 limits_of l = record { line = l.line; tags = l.tags; earliest = l.earliest; latest = l.latest }
 
--- the clause that the code's word names
+-- The clause of the definitions that a value of the code names.
 abbrev pub clause_of : Clause → format.Clause
 clause_of Clause.LeadingBlank = portable.leading_blank
 clause_of Clause.TrailingSpace = portable.trailing_space
@@ -52,7 +52,7 @@ clause_of Clause.TooManyTags = portable.too_many_tags
 clause_of Clause.LongLine = portable.long_line
 clause_of Clause.TimeNotKept = portable.time_not_kept
 
--- whether a clause is broken
+-- Whether a clause is broken.
 abbrev pub is_broken : Broken → Clause → Bool
 is_broken broken Clause.LeadingBlank = broken.leading_blank
 is_broken broken Clause.TrailingSpace = broken.trailing_space
@@ -87,20 +87,20 @@ is_broken broken Clause.TooManyTags = broken.too_many_tags
 is_broken broken Clause.LongLine = broken.long_line
 is_broken broken Clause.TimeNotKept = broken.time_not_kept
 
--- whether a clause concerns these servers and is broken
+-- Whether a clause concerns these servers and is broken.
 abbrev pub is_broken_for : Servers → Broken → Clause → Bool
 is_broken_for to broken clause = format.concerns (servers_of to) (clause_of clause) && is_broken broken clause
 
--- the first of these clauses that passes
+-- The first of these clauses that passes a test.
 abbrev pub first_of : (Clause → Bool) → List Clause → Option Clause
 first_of passes [] = None
 first_of passes (clause ∷ clauses) = if passes clause then Some clause else first_of passes clauses
 
--- the first clause that concerns these servers and is broken
+-- The first clause that concerns these servers and is broken.
 unfoldable pub first_broken : Servers → Broken → Option Clause
 first_broken to broken = first_of (is_broken_for to broken) CLAUSES.now
 
--- the text is one line that breaks these clauses and no others
+-- The text is one line that breaks these clauses and no others.
 pub record Breaks (limits : Limits) (text : List ℕ) (broken : Broken) : Type 0 where
   pub line : Line
   pub names : Spelling

@@ -1,13 +1,13 @@
--- How the names of a line are spelled.
+-- The spellings of the names of a line.
 use Rattle.std.specs.Prelude.{◌≡◌, ℕ, ◌==◌, ◌&&◌, ◌||◌, Bool, false, List, [], ◌∷◌, drop, length, if◌then◌else◌}
 use Rattle.lp_format.specs.format.{NameKind, a_measurement, after_comma, a_tag_key, a_tag_value, a_field_key, backslash, byte, equals, is_one_of, name}
 use Rattle.lp_format.specs.format.{Line, Pair, Reading, reads, some_tags, spaces, spelled, value, ◌>>=◌}
 
--- a name, as it is spelled
+-- Reads a name and gives it as it is spelled.
 abbrev pub name_text : NameKind → List ℕ → Reading (List ℕ)
 name_text kind text = name kind text >>= λ n. reads (spelled kind text) n.rest
 
--- a tag, its names as they are spelled
+-- Reads a tag and gives its names as they are spelled.
 abbrev pub tag_text : List ℕ → Reading (Pair (List ℕ) (List ℕ))
 tag_text text = do
   key ← name_text a_tag_key text
@@ -15,7 +15,7 @@ tag_text text = do
   x ← name_text a_tag_value sign.rest
   reads (record { key = key.value; value = x.value }) x.rest
 
--- a field, of which the key is given as it is spelled
+-- Reads a field and gives its key as it is spelled.
 abbrev pub key_text : List ℕ → Reading (List ℕ)
 key_text text = do
   key ← name_text a_field_key text
@@ -23,23 +23,23 @@ key_text text = do
   x ← value sign.rest
   reads key.value x.rest
 
--- these parts, each after a comma, are at the start of a text, and this follows them
+-- The text begins with these parts, each after a comma, and then this rest follows.
 abbrev pub AreAfterCommas : {A : Type 0} → (List ℕ → Reading A) → List A → List ℕ → List ℕ → Type 0
 AreAfterCommas one [] text rest = text ≡ rest
 AreAfterCommas one (x ∷ xs) text rest = (after : List ℕ) × (after_comma one text ≡ reads x after) × AreAfterCommas one xs after rest
 
--- the first of these parts is at the start of a text, the others each after a comma, and this follows them
+-- The text begins with these parts, with commas between them, and then this rest follows.
 abbrev pub AreJoined : {A : Type 0} → (List ℕ → Reading A) → List A → List ℕ → List ℕ → Type 0
 AreJoined one [] text rest = text ≡ rest
 AreJoined one (x ∷ xs) text rest = (after : List ℕ) × (one text ≡ reads x after) × AreAfterCommas one xs after rest
 
--- the names of a line as they are spelled: the measurement, the tags, and the keys of the fields
+-- The names of a line as they are spelled: the measurement, the tags, and the keys of the fields.
 pub record Spelling : Type 0 where
   pub measurement : List ℕ
   pub tags : List (Pair (List ℕ) (List ℕ))
   pub keys : List (List ℕ)
 
--- the names of a line are spelled so: each stands at its place in the text, and they are as many as were read
+-- The names of a line have this spelling: each name stands at its place in the text, and there are as many names as the line has.
 pub record IsSpelled (text : List ℕ) (line : Line) (names : Spelling) : Type 0 where
   pub after_name : List ℕ
   pub after_tags : List ℕ
@@ -50,14 +50,15 @@ pub record IsSpelled (text : List ℕ) (line : Line) (names : Spelling) : Type 0
   pub all_tags : length names.tags ≡ length (some_tags line.tags)
   pub all_keys : length names.keys ≡ length line.fields
 
--- whether a spelling holds one of some bytes escaped, or one of others bare: a bare backslash escapes the byte after it
+-- Whether a spelling holds one of some bytes escaped, or one of other bytes bare. A bare backslash escapes the byte after it.
 unfoldable pub holds : List ℕ → List ℕ → List ℕ → Bool
 holds escaped bare [] = false
 holds escaped bare (b ∷ []) = is_one_of bare b
 holds escaped bare (b ∷ c ∷ rest) =
     if b == backslash then is_one_of escaped c || holds escaped bare rest else is_one_of bare b || holds escaped bare (c ∷ rest)
 
--- the logical text for a reader that takes each backslash by itself: one goes if a known byte follows it, and else it stays
+-- The logical text for a reader that takes each backslash by itself: a backslash is dropped if a known byte follows it, and otherwise
+-- stays.
 abbrev pub without_each : List ℕ → List ℕ → List ℕ
 without_each known [] = []
 without_each known (b ∷ []) = b ∷ []

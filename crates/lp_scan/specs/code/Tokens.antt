@@ -1,4 +1,4 @@
--- The kinds of token, in the words of the definitions.
+-- The kinds of token: the bytes that end each kind, and the bytes that a backslash escapes in it.
 use Rattle.std.specs.Prelude.{ℕ, ◌==◌, ◌||◌, Bool, not, List}
 use Rattle.lp_format.specs.format.{quote, backslash, is_one_of, a_measurement, a_tag_key, a_tag_value, a_field_key, is_stop, escapable}
 use Rattle.lp_format.specs.format.{quotable}
@@ -13,7 +13,7 @@ stops_of TagValue = λ b. is_stop a_tag_value b
 stops_of FieldKey = λ b. is_stop a_field_key b
 stops_of String = λ b. b == quote
 
--- the bytes that a backslash escapes in it
+-- the bytes that a backslash escapes in a token of this kind
 abbrev pub known_of : TokenKind → List ℕ
 known_of Measurement = escapable a_measurement
 known_of TagKey = escapable a_tag_key
@@ -29,6 +29,6 @@ is_end stops b = stops b || b == backslash
 abbrev pub is_plain : (ℕ → Bool) → ℕ → Bool
 is_plain stops b = not (is_end stops b)
 
--- whether a byte ends a token of this kind if it is bare, or gets a backslash in it
+-- whether a byte ends a token of this kind if it is bare, or is a byte that a backslash escapes in it
 abbrev pub is_mark : TokenKind → ℕ → Bool
 is_mark kind b = stops_of kind b || is_one_of (known_of kind) b

@@ -1,8 +1,8 @@
 //! A search for the first cut that goes on as bytes come.
 //!
-//! At first the splitter's own search looks for the cut. If the text is one piece, the cut waits for a newline: once one
-//! has come, that search looks again, and if it finds no cut, the bytes are tracked, and the track is kept. So however the
-//! bytes come, each is searched a few times at most.
+//! At first, the splitter's own search looks for the cut. If the text is one piece, the search waits for a newline. When one has
+//! come, the splitter's search looks again. If it finds no cut, the bytes are tracked, and the track is kept. However the bytes
+//! come, each byte is searched only a few times.
 
 ghost use Rattle.std.specs.Prelude.{◌≤◌, Some, length, take};
 ghost use Rattle.lp_format.specs.format.{IsBareAfter, IsFirstCut};
@@ -12,30 +12,30 @@ ghost use Rattle.lp_split.specs.code.{rules_of, CutsOrTracks, EndsIn, IsKnown, S
 use super::tracked::Place;
 use super::{Dialect, Mark, Track, first_cut, first_newline, late_cut, track_on};
 
-/// A region of a piece, by what ends its stretches.
+/// A region of a piece. Its stretches end at different bytes.
 #[derive(Clone, Copy)]
 pub enum Region {
-    /// What comes before the first bare space: the measurement and the tags.
+    /// The bytes before the first bare space: the measurement and the tags.
     Head,
-    /// Fields and what follows them, outside of quotes.
+    /// The fields and the bytes after them, outside of quotes.
     Plain,
-    /// What is between the quotes of a string.
+    /// The bytes between the quotes of a string.
     Quoted,
 }
 
-/// What a search knows of a text.
+/// The knowledge of a search about a text.
 #[derive(Clone, Copy)]
 pub(crate) enum Search {
-    /// It begins, and these bytes that tell of a cut were seen.
+    /// The search begins. This is the mask of the bytes at the start of the text that can tell of a cut.
     Begins(u64),
-    /// So many of its first bytes hold no cut.
+    /// The number of bytes at the start of the text that hold no cut.
     Quiet(usize),
-    /// Its bytes up to this place have this track.
+    /// The track of the bytes before the place `at`.
     Within { at: usize, track: Track },
 }
 
-// The place of the newline that ends the first piece, from where the search stopped; or what is known now, if the text is
-// one piece.
+// Returns the place of the newline that ends the first piece, by a search that goes on where it stopped. If the text is one
+// piece, the error is the new knowledge of the search.
 fn cut_from(text: &[u8], at: usize, track: Track) -> Result<Mark, Search>
     requires within { at ≤ length text.now }
     requires few { most_counted track ≤ at }
@@ -54,7 +54,7 @@ fn cut_from(text: &[u8], at: usize, track: Track) -> Result<Mark, Search>
     }
 }
 
-// The same of a text that begins no comment, from a bare place on that is in this region of a piece, with these counts.
+// Does what `cut_from` does, for a text that begins no comment, from a bare place in this region and with these counts on.
 pub(super) fn cut_after(
     text: &[u8],
     at: usize,
@@ -74,9 +74,10 @@ pub(super) fn cut_after(
     }
 }
 
-/// The place of the newline that ends the first piece of a text; or the track of all its bytes, if it is one piece.
+/// Returns the place of the newline that ends the first piece of a text. If the text is one piece, the error is the track of all
+/// its bytes.
 ///
-/// If the piece goes on, [`track_on`] searches the bytes that come after these. No memory is taken.
+/// With this track, [`track_on`] searches the bytes that come after the text. No memory is taken.
 #[tactic(auto, using(crate::proofs::lemmas::split::TrackedPieces::tracks_all))]
 pub fn cut_or_track(dialect: Dialect, text: &[u8]) -> Result<usize, Track>
     ensures { CutsOrTracks (rules_of dialect) text.now result }
@@ -87,8 +88,8 @@ pub fn cut_or_track(dialect: Dialect, text: &[u8]) -> Result<usize, Track>
     }
 }
 
-/// The place of the newline that ends the first piece, by what is known of the text; or what is known now, if the text
-/// is one piece.
+/// Returns the place of the newline that ends the first piece, by the knowledge of an earlier search of the text. If the text is
+/// one piece, the error is the new knowledge.
 pub(crate) fn search_on(dialect: Dialect, text: &[u8], known: Search) -> Result<Mark, Search>
     requires { IsKnown (rules_of dialect) text.now known }
     ensures { SearchesOn (rules_of dialect) text.now result }

@@ -1,4 +1,4 @@
-//! The track of a piece whose bytes are not kept: what they say of the byte that comes next.
+//! The track of a piece: the data about its bytes, which are not kept, that decides the meaning of the next byte.
 
 ghost use Rattle.std.specs.Prelude.{◌≡◌, ◌+◌, ◌<◌, ◌≤◌, ◌^◌, [], false, true, length, take, IfSome};
 ghost use Rattle.lp_split.specs.code.{rules_of, Plain, Line, IsTrackOf, Leads, LeadsTo, most_counted, Steps, TracksOn};
@@ -7,22 +7,22 @@ use super::resumed::Region;
 use super::{Dialect, HEAD, QUOTED, bare_len, load_ahead};
 use lp_scan::scan::{WIDE, ones_below};
 
-/// A place in a piece: in which region it is, whether its byte is escaped, and how many bare `=` and `,` the plain
-/// stretches before it hold.
+/// A place in a piece: its region, whether the byte there is escaped, and how many bare `=` and `,` the plain stretches before it
+/// hold.
 #[derive(Clone, Copy)]
 pub struct Place {
-    /// The region.
+    /// The region of the place.
     pub region: Region,
-    /// Whether a bare backslash comes before it.
+    /// Whether a bare backslash comes before the place.
     pub is_escaped: bool,
-    /// How many bare `=` the plain stretches before it hold.
+    /// How many bare `=` the plain stretches before the place hold.
     pub equals: usize,
-    /// How many bare `,` they hold.
+    /// How many bare `,` the plain stretches before the place hold.
     pub commas: usize,
 }
 
 impl Place {
-    /// A bare place of this region of a piece, with these counts.
+    /// Returns a bare place of this region of a piece, with these counts.
     #[inline(always)]
     pub(crate) fn bare(region: Region, equals: usize, commas: usize) -> Place
         ensures { result ≡ record { region = region; is_escaped = false; equals = equals; commas = commas } }
@@ -36,18 +36,18 @@ impl Place {
     }
 }
 
-/// What the bytes of a piece so far tell.
+/// The data about the bytes of a piece so far.
 #[derive(Clone, Copy)]
 pub enum Track {
-    /// The next newline ends it: they begin a comment, or each newline ends a line.
+    /// The next newline ends the piece: the bytes begin a comment, or each newline ends a line.
     ToNewline,
-    /// They are blanks, which may yet begin one.
+    /// The bytes are blanks, after which a comment can begin.
     Blanks(Place),
-    /// They begin none.
+    /// The bytes do not begin a comment.
     Line(Place),
 }
 
-// The place after one byte more, or `None` if the piece ends before it.
+// Returns the place after one more byte, or `None` if the piece ends before this byte.
 #[tactic(auto, using(crate::proofs::lemmas::split::SplitWalk::byte_steps))]
 fn after_byte(place: Place, byte: u8) -> Option<Place>
     requires room { (place.equals + 1 < 2 ^ 64) × (place.commas + 1 < 2 ^ 64) }
@@ -72,7 +72,7 @@ fn after_byte(place: Place, byte: u8) -> Option<Place>
     Some(next)
 }
 
-// The track after one byte more, or `None` if the piece ends before it.
+// Returns the track after one more byte, or `None` if the piece ends before this byte.
 fn after(track: Track, byte: u8) -> Option<Track>
     requires room { most_counted track + 1 < 2 ^ 64 }
     ensures leads { Leads track byte result }
@@ -91,7 +91,7 @@ fn after(track: Track, byte: u8) -> Option<Track>
 }
 
 impl Track {
-    /// The track of no bytes.
+    /// Returns the track before the first byte of a piece.
     #[tactic(auto, using(crate::proofs::lemmas::split::TrackedPieces::first_tracks))]
     pub(crate) fn new(dialect: Dialect) -> Track
         ensures track { IsTrackOf (rules_of dialect) [] result }
@@ -106,8 +106,8 @@ impl Track {
     }
 }
 
-// How many bytes of a plain stretch a load at the start of the text shows, and the place after them: those up to the first
-// bare newline or quote, or all that it tells of. A text that is no longer than a load is not looked at.
+// Returns how many bytes of a plain stretch a load at the start of the text shows, and the place after them: the bytes up to the
+// first bare newline or quote, or all bytes that the load shows. A text that is no longer than a load is not looked at.
 #[inline(always)]
 fn plain_leap(place: Place, text: &[u8]) -> (usize, Place)
     requires plain { place.region ≡ Region.Plain }
@@ -138,8 +138,8 @@ fn plain_leap(place: Place, text: &[u8]) -> (usize, Place)
     (run, next)
 }
 
-// How many bytes can be passed together, and the track after them. In a head or a quoted stretch they are those up to the bare
-// byte that ends it, or to the last bare place; in a plain stretch those that a load shows.
+// Returns how many bytes can be passed together, and the track after them. In a head or a quoted stretch these are the bytes up
+// to the bare byte that ends it, or to the last bare place; in a plain stretch, the bytes that a load shows.
 #[inline(always)]
 fn leap(track: Track, text: &[u8]) -> (usize, Track)
     requires room { most_counted track + length text.now < 2 ^ 64 }
@@ -160,9 +160,11 @@ fn leap(track: Track, text: &[u8]) -> (usize, Track)
     }
 }
 
-/// The place of the newline that ends the piece, among the bytes that come after those of its track; or the track of all.
+/// Returns the place, in `text`, of the newline that ends the piece of the track `from`, where `text` comes after the bytes of
+/// the track.
 ///
-/// Each of these bytes is looked at once. No memory is taken.
+/// If no newline ends the piece, the error is the track of all bytes, from which the next call can go on. Each byte is looked at
+/// once. No memory is taken.
 pub fn track_on(text: &[u8], from: Track) -> Result<usize, Track>
     requires room { most_counted from + length text.now < 2 ^ 64 }
     ensures { TracksOn text.now from result }

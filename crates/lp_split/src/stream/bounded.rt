@@ -1,4 +1,4 @@
-//! Lines that come in parts, of which a piece has a greatest length.
+//! Lines that come in parts, with a greatest length of a piece.
 
 ghost use Rattle.std.specs.Prelude.{◌≡◌, ◌+◌, ◌++◌, ◌<◌, ◌≤◌, ◌^◌, ℕ, List, [], length, OnOk, OnErr};
 ghost use Rattle.std.specs.Borrow.{sem};
@@ -13,18 +13,18 @@ use lp_scan::newlines::newlines_in;
 use std::alloc::{AllocError, Global};
 use std::marker::Model;
 
-/// A piece was longer than it may be.
+/// The fault of a piece that is longer than the limit of its stream.
 #[derive(Clone, Copy, Debug, PartialEq, Eq)]
 pub struct PieceTooLong<'a> {
-    /// How many newlines the piece has, not counting the one that ends it.
+    /// How many newlines the piece has, without the newline that ends it.
     pub newlines: usize,
-    /// How many bytes it has.
+    /// How many bytes the piece has.
     pub len: usize,
-    /// Its first bytes, as many as the limit.
+    /// The first bytes of the piece, as many as the limit.
     pub front: &'a [u8],
 }
 
-// How many bytes were counted, and how many of them are newlines.
+// The number of bytes of a text, and the number of newlines among them.
 #[derive(Clone, Copy)]
 struct Counted {
     len: usize,
@@ -32,7 +32,7 @@ struct Counted {
 }
 
 impl Counted {
-    // The count of these bytes.
+    // Counts these bytes.
     fn of(bytes: &[u8]) -> Counted
         ensures few { result.newlines ≤ result.len }
         ensures counts { Counts result bytes.now }
@@ -43,7 +43,7 @@ impl Counted {
         }
     }
 
-    // The count with that of these bytes after them.
+    // Adds the counts of these bytes.
     fn with(self, bytes: &[u8]) -> Counted
         requires few { self.newlines ≤ self.len }
         requires room { self.len + length bytes.now < 2 ^ 64 }
@@ -58,22 +58,23 @@ impl Counted {
     }
 }
 
-// What was counted of a piece that is too long, of which the first bytes are held, as many as the limit.
+// The counts of a piece that is too long, of which the first bytes are held, as many as the limit.
 #[derive(Clone, Copy)]
 enum Skipped {
-    // There is no such piece.
+    // There is no piece that is too long.
     Nothing,
-    // Its bytes so far, which have this track.
+    // The bytes of the piece that came so far, with their track.
     Within { track: Track, counted: Counted },
-    // All of it.
+    // The whole piece.
     Ended { counted: Counted },
 }
 
-/// The pieces of a text that comes in parts, as [`LineStream`] gives them, but a piece of more bytes than the limit is one
-/// fault. It says how many newlines and bytes the piece has, and lends its first bytes, as many as the limit.
+/// The pieces of a text that comes in parts, as [`LineStream`] gives them, with a limit: a piece that has more bytes than the
+/// limit is a fault. The fault tells how many newlines and bytes the piece has, and lends its first bytes, as many as the limit.
 ///
-/// Once more bytes are held than a piece may have, and no newline that came ends it, all but so many are let go, and so are
-/// those that come, up to the end of the piece. The next pieces are given.
+/// If more bytes are held than a piece can have, and no newline that came ends the piece, the stream keeps the first bytes of the
+/// piece, as many as the limit. It lets go of the other bytes and of all that come, up to the end of the piece. The pieces after
+/// it are given.
 #[derive(Drop)]
 pub struct BoundedLineStream {
     stream: LineStream,
@@ -94,8 +95,8 @@ impl Model for BoundedLineStream {
 impl BoundedLineStream {
     ghost use Rattle.lp_split.specs.code.Lending.{EndsWithinBy};
 
-    /// A stream that holds nothing, by the rules of a dialect, whose pieces have so many bytes at most. A limit of
-    /// `usize::MAX` is none: no piece is too long. No memory is taken.
+    /// Makes a stream that holds nothing and splits by the rules of a dialect, into pieces of at most `limit` bytes. The limit
+    /// `usize::MAX` means no limit. No memory is taken.
     pub fn new_in(alloc: Global, dialect: Dialect, limit: usize) -> BoundedLineStream
         ensures dialect { result.held.dialect ≡ rules_of dialect }
         ensures limit { result.limit ≡ limit }
@@ -109,10 +110,12 @@ impl BoundedLineStream {
         }
     }
 
-    /// Takes the next part of the text.
+    /// Appends the next part of the text.
     ///
-    /// If memory was refused, nothing is lost, and the same part can be given again. It is also refused if no `usize`
-    /// may hold how many bytes a piece has that is too long.
+    /// # Errors
+    ///
+    /// A request for memory was refused, or the length of a piece that is too long does not fit a `usize`. The stream then holds
+    /// all that it held before, and you can push the same part again.
     pub fn push(&mut self, part: &[u8]) -> Result<(), AllocError>
         ensures rules { KeepsRules self.old self.new }
         ensures ok { OnOk result ((text : List ℕ) → Holds self.old text → Holds self.new (text ++ part.now)) }
@@ -139,7 +142,7 @@ impl BoundedLineStream {
         Ok(())
     }
 
-    // Lets go what is held after as many bytes as a piece may have.
+    // Lets go of the bytes that are held after as many bytes as a piece can have.
     fn let_go(&mut self)
         requires nothing { self.old.skipped ≡ Skipped.Nothing }
         requires is_last { IsLastPiece self.old.held.dialect self.old.held.bytes }
@@ -158,8 +161,8 @@ impl BoundedLineStream {
         }
     }
 
-    // The cut of the first piece, or if that is too long what was counted of it and how many bytes of it are held, with its
-    // newline, or `None` until its newline has come.
+    // Returns the cut of the first piece. If the piece is too long, returns its counts and how many bytes of it are held, its
+    // newline included. Returns `None` until its newline has come.
     #[tactic(auto, using(crate::proofs::lemmas::stream::HeldTexts::first_pieces))]
     fn first(&mut self) -> Option<Result<Mark, (Counted, usize)>>
         ensures { FindsWithin self.old result self.new }
@@ -182,7 +185,7 @@ impl BoundedLineStream {
         }
     }
 
-    // Takes so many bytes, which are held of a piece that is too long, and gives its fault.
+    // Takes the first `held` bytes, which are of a piece that is too long, and returns its fault.
     fn take_long(&mut self, counted: Counted, held: usize) -> PieceTooLong<'_>
         requires within { (self.old.limit ≤ held) × (held ≤ kept self.old) }
         ensures* after { sem 𝓛 (EndsWithinBy self.entry (λ before after. TakesLong before counted held result after)) }
@@ -196,8 +199,8 @@ impl BoundedLineStream {
         }
     }
 
-    /// The first piece that a newline ends, or a fault in its place if it is too long, or `None` until that newline has
-    /// come.
+    /// Takes and returns the first piece that a newline ends, or its fault if it is too long. Returns `None` until this newline
+    /// has come. No memory is taken.
     pub fn next(&mut self) -> Option<Result<&[u8], PieceTooLong<'_>>>
         ensures* after { sem 𝓛 (EndsWithinBy self.entry (λ before held. GivesWithin before result held)) }
     {
@@ -207,7 +210,7 @@ impl BoundedLineStream {
         }
     }
 
-    // What was counted of all that is held, if that is of a piece that is too long.
+    // Returns the counts of all bytes that are held, if they are of a piece that is too long.
     #[tactic(auto, using(lp_format::proofs::lemmas::split::SplitPieces::no_cut_within))]
     fn long_last(&self) -> Option<Counted>
         ensures { FindsLast self.now result }
@@ -219,12 +222,13 @@ impl BoundedLineStream {
         }
     }
 
-    /// What came of the first piece, once [`next`](Self::next) has given `None`, if it is too long already: how many newlines and
-    /// bytes it has so far, and its first bytes, as many as the limit. So a caller can tell of it before it ends. `None` if no more
-    /// bytes of it came than the limit.
+    /// Returns the fault of the first piece, if this piece is already too long although it has not ended. Call it when
+    /// [`next`](Self::next) has given `None`, to report a piece before it ends. The fault has the newlines and bytes that came so
+    /// far, and the first bytes of the piece, as many as the limit. Returns `None` if no more bytes of the piece came than the
+    /// limit.
     ///
-    /// Nothing is changed: the fault of the piece comes from `next` or [`finish`](Self::finish) as ever. It takes no memory, and no
-    /// more time for a longer piece.
+    /// Nothing is changed: `next` or [`finish`](Self::finish) still gives the fault when the piece ends. It takes no memory, and
+    /// no more time for a longer piece.
     ///
     /// ```text
     /// new_in(alloc, Dialect::Crate, 6)
@@ -242,8 +246,8 @@ impl BoundedLineStream {
         })
     }
 
-    /// The last piece, or a fault in its place if it is too long, once [`next`](Self::next) has given `None` and no more
-    /// parts come. Then nothing is held, and the parts of another text can be given.
+    /// Takes and returns the last piece, or its fault if it is too long. Call it when [`next`](Self::next) has given `None` and
+    /// no more parts come. The stream then holds nothing, and the parts of another text can be pushed.
     pub fn finish(&mut self) -> Result<&[u8], PieceTooLong<'_>>
         ensures* after { sem 𝓛 (EndsWithinBy self.entry (λ before held. GivesLastWithin before result held)) }
     {

@@ -17,7 +17,7 @@ fault_text (format.uinteger_value_invalid side value) = codes "Unable to parse u
 fault_text (format.timestamp_value_invalid side value) = codes "Unable to parse timestamp value '" ++ value ++ codes "'"
 fault_text (format.cannot_parse_entire_line rest) = codes "Could not parse entire line. Found trailing content: '" ++ rest ++ codes "'"
 
--- what `{}` writes of an error
+-- the text that `{}` writes of an error
 abbrev pub error_text : Error → List ℕ
 error_text (error.DuplicateTag key) = codes "Must not contain duplicate tags, but \"" ++ string_bytes key ++ codes "\" was repeated"
 error_text e = option_map_or fault_text (fault_of e) (codes "out of memory")

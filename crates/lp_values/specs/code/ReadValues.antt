@@ -5,7 +5,7 @@ use Rattle.lp_values.specs.declared.values.FieldValue.TheVariants.{I64, U64, F64
 use Rattle.lp_format.specs.format.{Text, Value, integer, unsigned, float, string, boolean}
 use Rattle.lp_values.specs.code.Texts.{literal_of, read_of}
 
--- a value as it was read
+-- the value of the definitions that a value of the code is
 abbrev pub value_of : FieldValue → Value Text
 value_of (I64 z) = integer z
 value_of (U64 n) = unsigned n

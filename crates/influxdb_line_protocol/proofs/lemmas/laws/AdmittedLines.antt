@@ -46,7 +46,7 @@ admitted_lines_add_points before points all dialect items admitted closed t othe
     (closed (built_all points ++ t) (map Ok points ++ others)
     (map Ok batch.0 ++ h.0, batch.2, grind (arith, map-append, map-map)))
 
--- and one line adds its point
+-- The line of one point adds this point.
 pub one_line_adds_its_point : (before after : List ℕ) (p : Point) → IsPoint p → after ≡ before ++ built p
     → AddsPoints before (p ∷ []) after
 one_line_adds_its_point before after p h e =

@@ -17,12 +17,12 @@ use Rattle.lp_lines.proofs.lemmas.series.SortedTags.{by_key_placed}
 use Rattle.lp_lines.proofs.lemmas.series.KeyParts.{Begins}
 use Rattle.lp_lines.proofs.lemmas.series.BasesTellSeries.{base_is, tag_parts, tags_separated, value_part, same_series_have_one_base}
 
--- a text that begins with the byte does not begin with one of those before it
+-- A text that begins with a byte does not begin with a part in which the byte does not occur.
 no_other : (c y : ℕ) (ys us vs : List ℕ) → is_one_of (y ∷ ys) c ≡ false → Begins c us → us ≡ y ∷ ys ++ vs → ⊥
 no_other c y ys [] vs none begins e = cc
 no_other c y ys (u ∷ us) vs none begins e = grind (arith, false≢true, or_parts, eq-eqb)
 
--- the first such byte fixes the part before it
+-- The first occurrence of a byte fixes the part of the text before it.
 first_part : (c : ℕ) (xs ys us vs : List ℕ) → is_one_of xs c ≡ false → is_one_of ys c ≡ false → Begins c us → Begins c vs
     → xs ++ us ≡ ys ++ vs → (xs ≡ ys) × (us ≡ vs)
 first_part c [] [] us vs h k p q e = (refl, e)
@@ -64,7 +64,7 @@ same_tags ((a, b) ∷ es) ((c, d) ∷ fs) h k same =
     (tags_begin es) (tags_begin fs) after in
     cc (keys.0, values.0, same_tags es fs one.1 other.1 values.1)
 
--- the same test, of tags and of entries
+-- A test of keys and values holds for some tag exactly if it holds for some entry of the tags in order.
 same_test : (p : List ℕ × List ℕ → Bool) (tags : List (Pair Text Text))
     → list_any p (in_order tags) ≡ list_any (λ t. p (t.key.bytes, t.value.bytes)) tags
 same_test p [] = refl
@@ -75,7 +75,7 @@ same_parts : (m n : List ℕ) (es fs : List (List ℕ × List ℕ)) → is_one_o
     → list_any is_parted es ≡ false → list_any is_parted fs ≡ false → base_text m es ≡ base_text n fs → (m ≡ n) × (es ≡ fs)
 same_parts m n es fs h k p q same = grind (arith, first_part, tags_begin, same_tags)
 
--- one base is one series, if both are clear
+-- Two clear series with one base are one series, if no delimiter is in their names.
 pub one_base_is_one_series : OneBaseIsOneSeries
 one_base_is_one_series raw text m other tags others h k p q same =
     let left = or_parts (is_one_of m.bytes comma) (list_any is_tag_delimited tags) p in
@@ -91,13 +91,13 @@ one_base_is_one_series raw text m other tags others h k p q same =
     (IsPermutation-sym (in_order others) (by_key others) two) in
     record { measurement_is = parts.0; tags_are = IsPermutation-trans (in_order tags) (by_key tags) (in_order others) one back }
 
--- what a text does not hold, neither part of it holds
+-- A byte that a text does not hold is in neither part of the text.
 none_in_parts : (c n : ℕ) (text : List ℕ) → is_one_of text c ≡ false
     → (is_one_of (take n text) c ≡ false) × (is_one_of (drop n text) c ≡ false)
 none_in_parts c n text none = or_parts (is_one_of (take n text) c) (is_one_of (drop n text) c)
     (sym (list_any-append (λ b. b == c) (take n text) (drop n text)) ∙ ap (λ xs. is_one_of xs c) (take-append-drop n text) ∙ none)
 
--- before the first bare byte that passes is none that would be bare
+-- In a text without a backslash, the part before the first bare byte that passes a test does not hold a byte that passes it.
 none_before : (passes : ℕ → Bool) (c : ℕ) (text : List ℕ) → passes c ≡ true → is_one_of text backslash ≡ false
     → is_one_of (take (bare_len passes false text) text) c ≡ false
 none_before passes c [] hit none = refl
@@ -114,13 +114,13 @@ no_stop kind c text hit none = grind (arith, first_bare_len, none_before)
 abbrev IsClearName : NameKind → ℕ → List ℕ → Text → Type 0
 IsClearName kind divider text t = (is_one_escape (escapable kind) (spelled kind text) ≡ false) × (is_one_of t.bytes divider ≡ false)
 
--- what is known of tags and their text shows that both names of the first are clear, and is known of the others
+-- Facts about tags and their text show that both names of the first tag are clear, and they hold for the other tags.
 abbrev ShowsClear : (List (Pair Text Text) → List ℕ → Type 0) → Type 0
 ShowsClear Known = (t : Pair Text Text) (tags : List (Pair Text Text)) (suffix after : List ℕ) → Known (t ∷ tags) (comma ∷ suffix)
     → tag suffix ≡ reads t after
     → IsClearName a_tag_key equals suffix t.key × IsClearName a_tag_value comma (value_part suffix) t.value × Known tags after
 
--- tags are clear if each of them is
+-- All tags are clear if the known facts show that each of them is.
 tags_clear : (Known : List (Pair Text Text) → List ℕ → Type 0) → ShowsClear Known → (tags : List (Pair Text Text)) (text : List ℕ)
     → SeparatedAfterComma tag tags text [] → Known tags text
     → (list_any is_tag_one_escape (spelled_tags (length tags) text) ≡ false) × (list_any is_tag_delimited tags ≡ false)

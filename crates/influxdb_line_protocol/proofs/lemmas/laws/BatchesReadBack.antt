@@ -1,4 +1,4 @@
--- Batches of points: those with admitted names read back, and no others do.
+-- Batches of admitted points read back, and batches with another point do not.
 use Rattle.std.proofs.Common.{◌≡◌, [], ◌∷◌, ◌++◌, refl, ap, subst, append_assoc, Ok, ℕ, ◌+◌, List, map, true, false, ◌&&◌, sym, ◌∙◌, arith}
 use Rattle.std.proofs.Common.{inl, inr, Err, Result, Contains, flat_map}
 use Rattle.lp_format.specs.format.{Dialect, Crate, Strict, NewlineDelimited, HasNoNewline, HasItems, is_admitted_in, Point, line_of, built_all, IsPoint, Tag, Field, IsValue, is_admitted_name, is_admitted_tag}
@@ -42,7 +42,7 @@ admitted_names Crate p h = h
 admitted_names Strict p h = h
 admitted_names NewlineDelimited p h = (and_parts (is_admitted_point p) _ h).0
 
--- its line
+-- The line of a point that is admitted in a dialect is one line in this dialect.
 admitted_line : (dialect : Dialect) (p : Point) → IsAdmittedIn dialect p → IsOneLineIn dialect (line_of p)
 admitted_line dialect p h e = admitted_on p (subst (λ d. IsAdmittedIn d p) e h)
 
@@ -84,12 +84,12 @@ tags_line_fails m ts more named f =
 abbrev InPlain : List ℕ → Type 0
 InPlain piece = (counted : List ℕ) × EndsPlain piece counted
 
--- fields of which one stops too early, without the byte before them
+-- Reading one of these fields stops too early, in the text of the fields without the byte before them.
 abbrev FieldsFail : List Field → Type 0
 FieldsFail fs = (text : List ℕ) × (built_fields comma fs ≡ comma ∷ text)
     × StopsEarly (λ front. (m : ℕ) → Leads (Reaches Plain m m) InPlain front) (λ at. (spaces at ≡ 0) × ManyFail field at) text
 
--- fields whose keys are parsed names, not all of them admitted
+-- Reading fields fails early if their keys are parsed names and not all of them are admitted.
 fields_fail : (fs : List Field) → ((f : Field) → Contains fs f → IsParsedName a_field_key f.key × IsValue f.value)
     → list_all is_admitted_field fs ≡ false → FieldsFail fs
 unfolding field
@@ -135,11 +135,11 @@ fields_line_fails m ts (g ∷ fs) more named tagged f =
       ) refl,
     )) (and_more more f.2))
 
--- what is made of an element is among what is made of all
+-- If a list contains an element, the list of the images of its elements contains the image of this element.
 made_element : {X Y : Type 0} (make : X → Y) (xs : List X) (x : X) → Contains xs x → Contains (map make xs) (make x)
 made_element make xs x h = grind (arith, length-map, get_or-map)
 
--- the line of a point whose names are parsed names, not all of them admitted
+-- Reading the line of a point fails early if its names are parsed names and not all of them are admitted.
 pub point_fails : (p : Point) → IsPoint p → HasReadableNames p → is_admitted_point p ≡ false → Fails (line_of p)
 unfolding is_admitted_point
 point_fails p h names bad =
@@ -182,14 +182,15 @@ line_of_item (first ∷ answers) p h = elim (first_or_later (item_of first) (Ok 
     here (Ok line) is = (line, first_element (Ok line) answers, cc)
     here (Err fault) is = absurd (cc)
 
--- no item is a point with a name that no line has
+-- The names of each point among the items of a text are names that lines can have.
 items_have_names : (dialect : Dialect) (text : List ℕ) (items : List (Result Point Fault)) (p : Point) → HasItems dialect text items
     → Contains items (Ok p) → HasReadableNames p
 items_have_names dialect text items p h here kind n named =
     let found = line_of_item h.0 p (subst (λ xs. Contains xs (Ok p)) h.2 here) in
     names_are_parsed dialect text h.0 found.0 kind n h.1 found.1 (subst (λ q. Contains (names_of kind q) n) (sym found.2) named)
 
--- nor, if each newline ends a line, with a newline in its line
+-- The names of each point among the items of a text are names that lines can have, and if each newline ends a line, the line of the point
+-- holds no newline.
 pub items_have_readable_names : ItemsHaveReadableNames
 items_have_readable_names dialect text items p h here =
     let found = line_of_item h.0 p (subst (λ xs. Contains xs (Ok p)) h.2 here) in (
@@ -197,7 +198,7 @@ items_have_readable_names dialect text items p h here =
       λ e. subst (λ q. HasNoNewline (line_of q)) found.2 (answered_on text h.0 found.0 (subst (λ d. HasAnswers d text h.0) e h.1) found.1),
     )
 
--- such a point that is not admitted has a name that is not
+-- A point that has readable names and is not admitted in a dialect has a name that is not admitted.
 bad_name : (dialect : Dialect) (p : Point) → IsPoint p → IsReadableIn dialect p → is_admitted_in dialect p ≡ false → is_admitted_point p ≡ false
 bad_name Crate p is h bad = bad
 bad_name Strict p is h bad = bad
@@ -237,7 +238,7 @@ not_all : (before : List Point) (p : Point) (after : List Point) (fault : Fault)
 not_all [] p after fault more others e = cc
 not_all (q ∷ before) p after fault more others e = not_all before p after fault more others (cc)
 
--- no batch with another name reads back
+-- No batch that has a point which is not admitted reads back.
 pub other_batches_do_not : OtherBatchesDoNotReadBack
 other_batches_do_not dialect points t items others all bad h k e =
     let f = first_failing (is_admitted_in dialect) points bad in

@@ -25,8 +25,8 @@ abbrev pub StopsWith : ℕ → List ℕ → Type 0
 StopsWith stop [] = Unit {0}
 StopsWith stop (b ∷ rest) = b ≡ stop
 
--- a text that stops too early: `Reached` holds of a front of it, and `AtStop` of each text that ends after that front or goes on
--- with the same byte as this text
+-- Reading a text stops early: `Reached` holds of a front of the text, and `AtStop` holds of each text that is this front alone or this
+-- front and a text that begins with the same byte.
 pub record StopsEarly (Reached AtStop : List ℕ → Type 0) (text : List ℕ) : Type 0 where
   pub front : List ℕ
   pub stop : ℕ
@@ -35,18 +35,18 @@ pub record StopsEarly (Reached AtStop : List ℕ → Type 0) (text : List ℕ) :
   pub reached : Reached front
   pub fails : (rest : List ℕ) → StopsWith stop rest → AtStop (front ++ rest)
 
--- so does a text that goes on after it
+-- If reading a text stops early, it also stops early in each longer text that begins with this text.
 pub and_more : {R A : List ℕ → Type 0} {text : List ℕ} (more : List ℕ) → StopsEarly R A text → StopsEarly R A (text ++ more)
 and_more more f = grind (arith, append_assoc)
 
 module _ {R A S B : List ℕ → Type 0} {text : List ℕ} where
-  -- and a text with a front and a byte before it
+  -- If reading a text stops early, it also stops early in the text with a front and a byte before it.
   pub and_before : (before : List ℕ) (b : ℕ) → ((front : List ℕ) → R front → S (before ++ b ∷ front))
       → ((front rest : List ℕ) → R front → A (front ++ rest) → B (before ++ b ∷ (front ++ rest)))
       → StopsEarly R A text → StopsEarly S B (before ++ b ∷ text)
   and_before before b reached fails f = grind (arith, append_assoc)
 
-  -- what holds of its front and of the texts at its stop, said in another way
+  -- Stopping early may be stated by other properties that follow from the properties of the front and of the texts at the stop.
   pub stops_as : ((front : List ℕ) → R front → S front) → ((front rest : List ℕ) → R front → A (front ++ rest) → B (front ++ rest))
       → StopsEarly R A text → StopsEarly S B text
   stops_as reached fails f = grind arith
@@ -55,13 +55,13 @@ module _ {R A S B : List ℕ → Type 0} {text : List ℕ} where
 abbrev pub Fails : List ℕ → Type 0
 Fails line = StopsEarly IsClosed (λ text. BeginsLine text × ((dialect : Dialect) → answer dialect text ≡ Err ends_with_backslash)) line
 
--- the piece that holds such a front
+-- The piece that begins with the front at which a line fails is answered with a fault.
 piece_fails : (dialect : Dialect) (line : List ℕ) (f : Fails line) (rest : List ℕ) → StopsWith f.stop rest
     → answers_of_piece dialect (f.front ++ rest) ≡ Err ends_with_backslash ∷ []
 unfolding answers_of_piece
 piece_fails dialect line f rest stops = grind (arith, line_trimmed, line_some)
 
--- such a front is a piece of its own
+-- The front at which reading a line fails is a piece of its own.
 front_is_piece : (dialect : Dialect) (line : List ℕ) (f : Fails line) → IsOneLineIn dialect line → IsLastPiece dialect f.front
 front_is_piece Crate line f whole = inl f.reached
 front_is_piece Strict line f whole = inr (line_no_comment f.front (subst BeginsLine (append-nil f.front) (f.fails [] tt).0), inl f.reached)
@@ -69,7 +69,7 @@ front_is_piece NewlineDelimited line f whole =
     subst HasNoNewline (take_at f.front (f.stop ∷ f.after) (length f.front) refl)
     (All-take (λ b. b ≢ newline) (length f.front) (f.front ++ f.stop ∷ f.after) (subst HasNoNewline f.is (whole refl)))
 
--- the first answer for such a line is a fault
+-- The first answer for a text that begins with such a failing line is a fault.
 pub first_fails : (dialect : Dialect) (line : List ℕ) (f : Fails line) → IsOneLineIn dialect line → (after : List ℕ) {text : List ℕ}
     {pieces : List (List ℕ)} → text ≡ f.front ++ f.stop ∷ after → Pieces dialect text pieces
     → (others : List (Result Line Fault)) × (answers_of dialect pieces ≡ Err ends_with_backslash ∷ others)
@@ -109,7 +109,7 @@ pub record FirstFailing {X : Type 0} (test : X → Bool) (xs : List X) : Type 0 
   pub pass : list_all test front ≡ true
   pub fails : test stop ≡ false
 
--- if not all elements pass, there is a first that fails
+-- If not all elements pass a test, there is a first element that fails.
 pub first_failing : {X : Type 0} (test : X → Bool) (xs : List X) → list_all test xs ≡ false → FirstFailing test xs
 first_failing test [] h = absurd (false≢true (sym h))
 first_failing test (x ∷ xs) h = elim (cases_Bool (test x)) [
@@ -119,7 +119,7 @@ first_failing test (x ∷ xs) h = elim (cases_Bool (test x)) [
   | inr failing ↦ record { front = []; stop = x; after = xs; is = refl; pass = refl; fails = failing }
 ]
 
--- a parsed name without such bytes is admitted
+-- A parsed name that holds only allowed bytes is admitted.
 admitted_from : (kind : NameKind) (n : List ℕ) → IsParsedName kind n → list_all (may_hold kind) n ≡ true → is_admitted_name kind n ≡ true
 unfolding is_admitted_name
 admitted_from kind n h all = grind (arith, ne_eqb, and_right)
@@ -160,22 +160,22 @@ unfolding answer
 measurement_fails n more h f = and_more more (stops_as (λ front r. inl (reaches_head r.spelled [] reaches_start).1.0)
     (λ front rest r e. (spelled_begins r.spelled r.some (λ i. h.begins (sym r.first ∙ i)) rest, λ dialect. rw e refl)) f)
 
--- what is fatal for all that are joined by commas, the first of which this is or which come after others
+-- Reading a list with commas between its elements is fatal: either the first element is fatal, or an element after a comma is.
 pub record ManyFail {A : Type 0} (one : List ℕ → Reading A) (text : List ℕ) : Type 0 where
   pub at_first : separated_list one text ≡ fatal ends_with_backslash
   pub at_later : (n : ℕ) → length text < n → many (after_comma one) n (comma ∷ text) ≡ fatal ends_with_backslash
 
 module _ {A : Type 0} (one : List ℕ → Reading A) where
-  -- the first of them is fatal
+  -- A list whose first element is fatal fails.
   pub first_of_many : (text : List ℕ) → one text ≡ fatal ends_with_backslash → ManyFail one text
   first_of_many text e = grind arith
 
-  -- one is read, and then one is fatal
+  -- If an element is read, and the elements after the comma fail, the whole list fails.
   pub later_of_many : (front more : List ℕ) (x : A) → one (front ++ comma ∷ more) ≡ reads x (comma ∷ more)
       → ManyFail one more → ManyFail one (front ++ comma ∷ more)
   later_of_many front more x e h = grind (arith, length-append)
 
--- elements with commas before them: if one fails a test and stops too early, all of them stop so, from after the first comma on
+-- Reading elements with commas before them stops early if reading one element that fails a test does.
 pub elements_fail : {E : Type 0} {Known : E → Type 0} {R A : List ℕ → Type 0} (test : E → Bool) (text : E → List ℕ)
     (all : List E → List ℕ) → ((e : E) (es : List E) → all (e ∷ es) ≡ comma ∷ (text e ++ all es))
     → ((e : E) → Known e → test e ≡ false → StopsEarly R A (text e))
@@ -196,17 +196,17 @@ elements_fail test text all next stops reached fails (e ∷ es) known bad = elim
   | inr refused ↦ (text e ++ all es, next e es, and_more (all es) (stops e (known e (first_element e es)) refused))
 ]
 
--- what leaves a text in its head
+-- A front that leaves the scan of a text in the head of the line.
 abbrev ReachesHead : List ℕ → Type 0
 ReachesHead front = Leads (Reaches Head 0 0) (Reaches Head 0 0) front
 
--- a key, a byte that neither ends a head nor escapes, and what comes after it
+-- A key, a byte that neither ends a head nor escapes, and a text that stays in the head leave the scan in the head.
 reaches_after : (front : List ℕ) (b : ℕ) (more : List ℕ) → b ≢ backslash → b ≢ space → b ≢ newline → ReachesHead front → ReachesHead more
     → ReachesHead (front ++ b ∷ more)
 reaches_after front b more e s n before after = leads_then (Reaches Head 0 0) front (b ∷ more) before
     (leads_then (Reaches Head 0 0) (b ∷ []) more (reaches_other b e s n) after)
 
--- a tag whose names are parsed names, not both of them admitted
+-- Reading a tag stops early if its names are parsed names and not both of them are admitted.
 tag_fails : (t : Tag) → IsParsedName a_tag_key t.key × IsParsedName a_tag_value t.value → is_admitted_tag t ≡ false
     → StopsEarly ReachesHead (ManyFail tag) (tag_text t)
 unfolding tag
@@ -228,11 +228,11 @@ tag_fails t names bad =
           (name_stops a_tag_key t.key names.0 refused))
     ]
 
--- tags of which one stops too early, without the first comma
+-- Reading one of these tags stops too early, in the text of the tags without the first comma.
 abbrev pub TagsFail : List Tag → Type 0
 TagsFail ts = (text : List ℕ) × (flat_map built_tag ts ≡ comma ∷ text) × StopsEarly ReachesHead (ManyFail tag) text
 
--- tags whose names are parsed names, not all of them admitted
+-- Reading tags stops early if their names are parsed names and not all of them are admitted.
 pub tags_fail : (ts : List Tag) → ((t : Tag) → Contains ts t → IsParsedName a_tag_key t.key × IsParsedName a_tag_value t.value)
     → list_all is_admitted_tag ts ≡ false → TagsFail ts
 tags_fail ts names bad = elements_fail is_admitted_tag tag_text (flat_map built_tag) (λ t more. refl) tag_fails

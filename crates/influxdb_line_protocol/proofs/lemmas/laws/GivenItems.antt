@@ -1,4 +1,4 @@
--- The items and the events that calls of `next` give are those of the text, one after another.
+-- The items and the events that calls of `next` give are the items and the events of the text, one after another.
 use Rattle.std.proofs.Common.{◌≡◌, ℕ, ◌<◌, List, [], ◌∷◌, ◌++◌, length, map, refl, sym, subst, arith, append_assoc, append-nil, Some}
 use Rattle.std.proofs.Common.{Result, All, eq-eqb, ne_eqb}
 use Rattle.std.specs.Iterator.{Yields}
@@ -19,12 +19,13 @@ blank_lines [] h = refl
 blank_lines (p ∷ pieces) h =
     rw (eq-eqb (length (trimmed p)) 0 (h 0 p (omega arith))) (blank_lines pieces (All-tail IsBlankPiece p pieces h))
 
--- what is left of blank pieces, one that is not blank, and others
+-- The trimmed texts of blank pieces, a piece that is not blank, and other pieces are the trimmed text of that piece and the trimmed texts
+-- of the others.
 lines_from : (skipped : List (List ℕ)) (piece : List ℕ) (front : List (List ℕ)) → All IsBlankPiece skipped → 0 < length (trimmed piece)
     → trimmed_lines (skipped ++ piece ∷ front) ≡ trimmed piece ∷ trimmed_lines front
 lines_from skipped piece front blank some = grind (arith, flat_map-append, blank_lines, ne_eqb)
 
--- the items that calls gave are those of the pieces before the ones that are left
+-- The items that calls gave are the items of the pieces before the pieces that are left.
 given_items : (items : List (Result ParsedLine Error)) (before left : Left) (others : List (List ℕ)) → Yields GivesItem before items left
     → PiecesLeft left others
     → (front : List (List ℕ)) × PiecesLeft before (front ++ others) × AreItemsOf before.dialect (trimmed_lines front) items
@@ -44,11 +45,11 @@ given_items (item ∷ items) before left others steps h =
 pub items_so_far : ItemsSoFar
 items_so_far dialect text items left others steps h = given_items items (record { dialect = dialect; text = Some text }) left others steps h
 
--- and up to the last one
+-- Up to the last call of `next`, the items are the items of the trimmed pieces.
 pub items_are_of_pieces : ItemsAreOfPieces
 items_are_of_pieces dialect text pieces items h drained = grind (arith, items_so_far, same_pieces, flat_map-append, blank_lines, append-nil)
 
--- the answers for pieces are those for what is left of them
+-- The answers for pieces are the answers for their trimmed texts.
 answers_of_lines : (dialect : Dialect) (pieces : List (List ℕ)) → answers_of dialect pieces ≡ map (answer dialect) (trimmed_lines pieces)
 unfolding answers_of_piece
 answers_of_lines dialect [] = refl
@@ -61,7 +62,7 @@ items_answer dialect [] items h = grind arith
 items_answer dialect (line ∷ lines) [] h = absurd h
 items_answer dialect (line ∷ lines) (item ∷ items) h = (h.0.answers, items_answer dialect lines items h.1)
 
--- so the items of a text are its answers
+-- The items of a text are its answers, or `OutOfMemory` in the place of an answer.
 pub items_are_answers : ItemsAreAnswers
 items_are_answers dialect text answers items has drained = grind (arith, items_are_of_pieces, answers_of_lines, items_answer)
 
@@ -72,11 +73,11 @@ given_lines_were_read before after line gives =
     let gave = gives.1 left.0 left.1 in
     record { dialect = before.dialect; text = gave.piece; answered = gave.item_is.answers }
 
--- the events that came were left, and those that are left after them
+-- The events that came, followed by the events that are left, are the events that were left at the start.
 pub so_far : EventsSoFar
 so_far start reader [] others same left = subst (λ r. HasEventsLeft r others) (sym same) left
 so_far start reader (event ∷ came) others (next, given, more) left = grind (arith, so_far next reader came others more left)
 
--- so all come before `None`
+-- All events that were left at the start come before `None`.
 pub all_come : AllEventsCome
 all_come start came (end, (reader, more, none)) = rw append-nil at (so_far start reader came [] more none.0)

@@ -31,13 +31,13 @@ ties_by_key z t = rw (nat_list_cmp_total.antisymm z.key t.key) (tie_tests (slice
 tags_that_tie : (z : Tag) (ts : List Tag) → filter (ties (by_key (λ (u : Tag). u.key)) z) ts ≡ tags_with z.key ts
 tags_that_tie z ts = filter_agree _ _ (ties_by_key z) ts
 
--- what is sorted has the same tags of each key
+-- Sorting tags by their keys keeps the tags of each key, in their order.
 tags_sorted : (key : List ℕ) (ts : List Tag) → tags_with key (sorted_by (λ t. t.key) ts) ≡ tags_with key ts
 tags_sorted key ts =
     let z : Tag = record { key = key; value = [] } in
     sym (tags_that_tie z (sorted_by (λ t. t.key) ts)) ∙ stable_sorted (λ t. t.key) z ts ∙ tags_that_tie z ts
 
--- one key is one series
+-- Two series have one key exactly if they have the same measurement and, for each tag key, the same tags in the same order.
 pub keys_tell_series : KeysTellSeries
 unfolding series_key
 keys_tell_series m n ts us = (
@@ -79,7 +79,7 @@ keys_read_back m ts named tagged =
       };
     }
 
--- what is read to the end is one set
+-- A text that is read to its end as tags has one set of tags.
 one_set : (text : List ℕ) (x y : Option (List (Pair Text Text))) → tag_set text ≡ Ok (record { value = x; rest = [] })
     → tag_set text ≡ Ok (record { value = y; rest = [] }) → x ≡ y
 one_set text x y h k =
@@ -87,7 +87,7 @@ one_set text x y h k =
     let read : (let r : Read (Option (List (Pair Text Text))) = record { value = x; rest = [] } in r) ≡ record { value = y; rest = [] } = cc in
     ap (λ r. r.value) read
 
--- what a text reads as is one series
+-- A text reads as one series: its measurement and its tags are determined by the text.
 one_reading : (text : List ℕ) (m n : Text) (ts us : List (Pair Text Text)) → IsParsedSeries text m ts → IsParsedSeries text n us
     → (m ≡ n) × (ts ≡ us)
 one_reading text m n ts us p q =
@@ -96,12 +96,12 @@ one_reading text m n ts us p q =
     let sets = one_set p.after p.set q.set p.set_is (ap tag_set after ∙ q.set_is) in
     (cc, sym p.tags_are ∙ ap some_tags sets ∙ q.tags_are)
 
--- what each tag passes, all pass
+-- If each tag of a list is admitted, the list passes the test of all tags.
 all_admitted : (ts : List Tag) → AllByRecursion IsTag ts → list_all is_admitted_tag ts ≡ true
 all_admitted [] all = refl
 all_admitted (t ∷ ts) all = rw (all.0, all_admitted ts all.1) refl
 
--- a key that stands in a text is that of the series that is read there
+-- A key that stands in a text is the key of the series that is read there.
 pub keys_stand_in_texts : KeysStandInTexts
 keys_stand_in_texts text m ts k read =
     let back = keys_read_back k.measurement k.tags k.named (all_admitted k.tags k.tagged) in
@@ -127,7 +127,7 @@ lines_begin_with_keys p sorted some =
           ∙ ap (λ (ts : List Tag). (spelling a_measurement p.measurement ++ flat_map built_tag ts) ++ (space ∷ after.0)) (sym sorted),
     )
 
--- a tag of these texts
+-- The tag with this key and this value.
 abbrev pair : String → String → Tag
 pair key value = record { key = codes key; value = codes value }
 

@@ -23,7 +23,7 @@ use Rattle.lp_format.specs.laws.{NamesOfLines.IsOneLineIn, NamesOfLines.IsParsed
 use Rattle.lp_format.proofs.lemmas.split.SplitBare.{is_escaped-push_other}
 use Rattle.lp_lines.proofs.lemmas.read_back.{LinePieces.reaches_simple, LineReadsBack.answer_from_parts}
 
--- what comes before an ASCII byte of a text that is UTF-8 is UTF-8, and so is what follows it
+-- If a text is UTF-8, the text before an ASCII byte in it and the text after this byte are UTF-8.
 pub utf8_around : (front rest : List ℕ) (b : ℕ) → IsUtf8 (front ++ b ∷ rest) → b < 128 → IsUtf8 front × IsUtf8 rest
 utf8_around front rest b u ascii =
     let whole = front ++ b ∷ rest in
@@ -77,27 +77,27 @@ text kind s = read_text (escapable kind) s
 abbrev from_field : List ℕ → List ℕ
 from_field f = f ++ equals ∷ 49 ∷ letter_i ∷ []
 
--- from the value of its tag on
+-- The line from the value of its tag on.
 abbrev from_value : List ℕ → List ℕ → List ℕ
 from_value v f = v ++ space ∷ from_field f
 
--- from the key of its tag on
+-- The line from the key of its tag on.
 abbrev from_key : List ℕ → List ℕ → List ℕ → List ℕ
 from_key k v f = k ++ equals ∷ from_value v f
 
--- all of it
+-- The whole line.
 abbrev whole : List ℕ → List ℕ → List ℕ → List ℕ → List ℕ
 whole m k v f = m ++ comma ∷ from_key k v f
 
--- what its tag is read as
+-- The tag that is read from a spelled key and a spelled value.
 abbrev tag_of : List ℕ → List ℕ → Pair Text Text
 tag_of k v = record { key = text a_tag_key k; value = text a_tag_value v }
 
--- what its field is read as
+-- The field that is read from a spelled key and the value 1.
 abbrev field_of : List ℕ → Pair Text (Value Text)
 field_of f = record { key = text a_field_key f; value = integer (pos 1) }
 
--- and the whole line
+-- The line that is read from these spelled names.
 abbrev line_of : List ℕ → List ℕ → List ℕ → List ℕ → Line
 line_of m k v f =
     record {
@@ -108,7 +108,7 @@ line_of m k v f =
       timestamp = None;
     }
 
--- what is read of it
+-- Reading the text of the tag gives the tag, and the field is left.
 tag_read : {U : Type 0} {k n v x : List ℕ} → Spelled U a_tag_key n k → Spelled U a_tag_value x v → (f : List ℕ)
     → tag (from_key k v f) ≡ reads (tag_of k v) (space ∷ from_field f)
 unfolding tag
@@ -118,7 +118,7 @@ tag_read {v = v} key value
       spelled_reads value.spelled value.some value.ends (space ∷ from_field f) refl,
     ) refl
 
--- and the set of its field
+-- Reading the text of the field gives a set of this one field, and nothing is left.
 fields_read : {U : Type 0} (dialect : Dialect) {f n : List ℕ} → Spelled U a_field_key n f
     → field_set dialect (from_field f) ≡ reads (field_of f ∷ []) []
 unfolding field value integer_at
@@ -141,11 +141,11 @@ spelled_on (pair c n s never more) h =
 
 module _ {U : Type 0} {m k v f m' k' v' f' : List ℕ} (first : Spelled U a_measurement m' m) (key : Spelled U a_tag_key k' k)
     (value : Spelled U a_tag_value v' v) (field : Spelled U a_field_key f' f) where
-  -- it begins with no blank, no newline and no `#`
+  -- The whole line begins with no blank, no newline and no `#`.
   begins : BeginsLine (whole m k v f)
   begins = spelled_begins first.spelled first.some first.begins (comma ∷ from_key k v f)
 
-  -- it ends in a plain stretch
+  -- The scan of the whole line ends in a plain stretch.
   reaches_end : Reaches Plain 1 0 (whole m k v f)
   reaches_end =
       let front = reaches_other comma (omega arith) (omega arith) (omega arith) m (reaches_head first.spelled [] reaches_start) in
@@ -159,7 +159,7 @@ module _ {U : Type 0} {m k v f m' k' v' f' : List ℕ} (first : Spelled U a_meas
       (text ++ equals ∷ []) = (is_escaped-push_other text equals (omega arith), Plain-equals 0 0 text named.0 named.1) in
       subst (Reaches Plain 1 0) (simp append_assoc) (reaches_simple 1 0 (49 ∷ letter_i ∷ []) refl (text ++ equals ∷ []) sign)
 
-  -- its answer is the line
+  -- The answer for the whole text is the line.
   answered : (dialect : Dialect) → answer dialect (whole m k v f) ≡ Ok (line_of m k v f)
   answered dialect = answer_from_parts dialect (whole m k v f) (front_before (whole m k v f) (space ∷ from_field f)) (from_field f)
       (comma ∷ from_key k v f) [] (text a_measurement m) (Some (tag_of k v ∷ [])) (field_of f ∷ []) None
@@ -169,7 +169,7 @@ module _ {U : Type 0} {m k v f m' k' v' f' : List ℕ} (first : Spelled U a_meas
       (fields_read dialect field)
       refl
 
-  -- it is a piece
+  -- The whole text is one piece.
   is_piece : (dialect : Dialect) → IsOneLineIn dialect (whole m k v f) → IsLastPiece dialect (whole m k v f)
   is_piece Crate one = let closed = reaches_end in grind (arith, common_steps)
   is_piece Strict one =
@@ -178,7 +178,7 @@ module _ {U : Type 0} {m k v f m' k' v' f' : List ℕ} (first : Spelled U a_meas
       grind (arith, common_steps)
   is_piece NewlineDelimited one = one refl
 
-  -- and has one answer
+  -- The line is the only answer for the whole text.
   only_answer : (dialect : Dialect) → IsOneLineIn dialect (whole m k v f) → HasAnswers dialect (whole m k v f) (Ok (line_of m k v f) ∷ [])
   unfolding answers_of_piece
   only_answer dialect one =
@@ -194,7 +194,7 @@ module _ {U : Type 0} {m k v f m' k' v' f' : List ℕ} (first : Spelled U a_meas
       (joined k (equals ∷ from_value v f) (spelled_on key.spelled h.1)
       (joined v (space ∷ from_field f) (spelled_on value.spelled h.2) (joined f _ (spelled_on field.spelled h.3) refl))))
 
-  -- so the line has each of its names
+  -- The line holds each of its names.
   in_line : (dialect : Dialect) (kind : NameKind) (n : List ℕ)
       → (dialect ≡ NewlineDelimited → OnOne m' × OnOne k' × OnOne v' × OnOne f') → Contains (names_of kind (point_of (line_of m k v f))) n
       → (text : List ℕ) × (line : Line) × HasAnswers dialect text (Ok line ∷ []) × Contains (names_of kind (point_of line)) n
@@ -211,7 +211,7 @@ x kind =
     let is_utf8 = utf8_joined IsUtf8-nil (omega arith) IsUtf8-nil in
     record { spelled = (as_it_is kind).0; some = omega arith; ends = refl; begins = (as_it_is kind).1; utf8 = λ u. is_utf8 }
   where
-    -- its spelling
+    -- The name `x` is spelled as itself for each kind of name.
     as_it_is : (kind : NameKind) → SpelledAs kind (120 ∷ []) (120 ∷ []) × BeginsNoComment kind (120 ∷ [])
     as_it_is a_measurement = (plain 120 [] [] refl refl done, omega arith)
     as_it_is a_tag_value = (plain 120 [] [] refl refl done, tt)

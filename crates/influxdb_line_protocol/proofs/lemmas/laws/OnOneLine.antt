@@ -1,4 +1,5 @@
--- Points whose lines hold no newline: those that are read from a text without one, and those that are admitted if each newline ends a line.
+-- Points whose lines hold no newline: points that are read from a text without a newline, and points that are admitted in the
+-- newline-delimited dialect.
 use Rattle.std.proofs.Common.{codes}
 use Rattle.std.proofs.Common.{◌≡◌, ◌≢◌, ℕ, length, ℤ, List, [], ◌∷◌, ◌++◌, drop, take, Bool, cond, true, false, not, ◌==◌}
 use Rattle.std.proofs.Common.{refl, sym, ap, ◌∙◌, subst, arith, Option, Some, None, Ok, Err, Result, IfSome, Contains, flat_map, take-append-drop}
@@ -44,7 +45,7 @@ one_line [] h = refl
 one_line (b ∷ text) h =
     rw (ne_eqb b newline (All-head (λ c. c ≢ newline) b text h)) (one_line text (All-tail (λ c. c ≢ newline) b text h))
 
--- and the property by the test
+-- A text that passes the test for one line holds no newline.
 pub no_newline : (text : List ℕ) → OnOne text → HasNoNewline text
 no_newline text h = All-from_recursion (λ c. c ≢ newline) text (each text h)
   where
@@ -86,7 +87,7 @@ name_read : (kind : NameKind) (text : List ℕ) (x : Text) (rest : List ℕ) →
 unfolding name
 name_read kind text x rest e h = grind (arith, cases_Bool, front_of, logical_of)
 
--- what a reading gives is on one line
+-- A value that a reading gives is on one line.
 record GivesOn {A : Type 0} (Q : A → Type 0) (r : Reading A) : Type 0 where
   holds : (x : A) (rest : List ℕ) → r ≡ reads x rest → Q x
 
@@ -95,11 +96,11 @@ module _ {A : Type 0} (Q : A → Type 0) where
   none_given : GivesOn Q miss
   none_given = record { holds = λ x rest e. absurd (cc) }
 
-  -- nor does a fault
+  -- A reading that gives a fault gives no value, so each value that it gives is on one line.
   fault_given : (f : Fault) → GivesOn Q (fatal f)
   fault_given f = record { holds = λ x rest e. absurd (cc) }
 
-  -- this is given
+  -- A reading that gives this value gives a value on one line, if this value is.
   this_given : (x : A) (rest : List ℕ) → Q x → GivesOn Q (reads x rest)
   this_given x rest q = record { holds = λ y after e. let same : x ≡ y = cc in subst Q same q }
 
@@ -111,7 +112,7 @@ module _ {A : Type 0} (Q : A → Type 0) where
   one_of_two : (r s : Reading A) → GivesOn Q r → GivesOn Q s → GivesOn Q (r otherwise s)
   one_of_two r s h k = grind arith
 
--- the logical value of what is read
+-- The logical value of a value that was read is on one line.
 abbrev IsOn : Value Text → Type 0
 IsOn v = is_value_on_one_line (logical_value v) ≡ true
 
@@ -136,7 +137,7 @@ TagOn t = OnOne t.key.bytes × OnOne t.value.bytes
 abbrev FieldOn : Pair Text (Value Text) → Type 0
 FieldOn f = OnOne f.key.bytes × IsOn f.value
 
--- what is left after a key and its equals sign
+-- The text that is left after a key and its equals sign is on one line, if the whole text is.
 after_key : (kind : NameKind) (text mid : List ℕ) (k : Text) → name kind text ≡ reads k (equals ∷ mid) → OnOne text → OnOne mid
 after_key kind text mid k e h = (and_parts true (is_on_one_line mid) (end_of text (equals ∷ mid) (name_ends kind text k (equals ∷ mid) e) h)).1
 
@@ -172,7 +173,7 @@ module _ {A : Type 0} (P : A → Type 0) (one : List ℕ → Reading A)
   list_read (x ∷ xs) text rest h on =
       (each text x h.0 h.1 on, many_read xs h.0 rest h.2 (end_of text h.0 (ends text x h.0 h.1) on))
 
--- a point of which no name and no string holds a newline
+-- A point whose names and strings hold no newline.
 pub record PointOn (p : Point) : Type 0 where
   measurement : OnOne p.measurement
   tags : AllByRecursion (λ t. OnOne t.key × OnOne t.value) p.tags
@@ -231,7 +232,7 @@ value_on (boolean false) ok h = refl
 tag_on : (t : Tag) → OnOne t.key → OnOne t.value → OnOne (built_tag t)
 tag_on t k v = joined (spelling a_tag_key t.key) _ (escaped_on _ t.key k) (escaped_on _ t.value v)
 
--- and all tags
+-- The texts of all tags are on one line, if all keys and values are.
 tags_on : (ts : List Tag) → AllByRecursion (λ t. OnOne t.key × OnOne t.value) ts → OnOne (flat_map built_tag ts)
 tags_on [] all = refl
 tags_on (t ∷ ts) all = joined (built_tag t) (flat_map built_tag ts) (tag_on t all.0.0 all.0.1) (tags_on ts all.1)
@@ -240,7 +241,7 @@ tags_on (t ∷ ts) all = joined (built_tag t) (flat_map built_tag ts) (tag_on t 
 field_on : (f : Field) → IsValue f.value → OnOne f.key → is_value_on_one_line f.value ≡ true → OnOne (built_field f)
 field_on f is k v = joined (spelling a_field_key f.key) (equals ∷ built_value f.value) (escaped_on _ f.key k) (value_on f.value is v)
 
--- and all fields
+-- The texts of all fields are on one line, if all keys and values are.
 fields_on : (b : ℕ) (fs : List Field) → is_other b ≡ true → AllByRecursion (λ f. IsValue f.value) fs
     → AllByRecursion (λ f. OnOne f.key × (is_value_on_one_line f.value ≡ true)) fs → OnOne (built_fields b fs)
 fields_on b [] h values all = refl
@@ -252,7 +253,7 @@ stamp_on : (t : Option ℤ) → IfSome t (λ z. fits_i64 z ≡ true) → OnOne (
 stamp_on None ok = refl
 stamp_on (Some z) ok = simple_on (signed_decimal z) (simple_signed z ok)
 
--- the line of such a point
+-- The line of a point whose names and strings are on one line holds no newline.
 pub point_on : (p : Point) → IsPoint p → PointOn p → HasNoNewline (line_of p)
 point_on p is on = no_newline (line_of p) (subst OnOne (sym (line_parts p))
     (joined (spelling a_measurement p.measurement) _ (escaped_on _ p.measurement on.measurement)
@@ -267,7 +268,7 @@ name_on kind n h = bytes n (admitted_parts kind n h).may
     byte_on : (kind : NameKind) (b : ℕ) → may_hold kind b ≡ true → is_other b ≡ true
     byte_on kind b h = grind (arith, common_steps, cases_Bool)
 
-    -- and all of them
+    -- A name whose bytes are all allowed for its kind is on one line.
     bytes : (n : List ℕ) → list_all (may_hold kind) n ≡ true → OnOne n
     bytes [] all = refl
     bytes (b ∷ n) all =
@@ -306,7 +307,7 @@ unescaped_on bytes (b ∷ text) h =
     let parts = parts_of (escaped_byte bytes b) (escaped bytes text) h in
     and_from _ _ (first bytes b parts.0) (unescaped_on bytes text parts.1)
   where
-    -- its first byte
+    -- A byte whose escaped text is on one line is no newline.
     first : (bytes : List ℕ) (b : ℕ) → OnOne (escaped_byte bytes b) → is_other b ≡ true
     first bytes b h = grind (arith, cases_Bool, and_parts)
 
@@ -326,7 +327,7 @@ fields_of b (f ∷ fs) h =
     value_of (float t) h = refl
     value_of (boolean b) h = refl
 
--- and of the point
+-- All strings of a point are on one line, if the line of the point holds no newline.
 pub strings_on : (p : Point) → HasNoNewline (line_of p) → list_all (λ f. is_value_on_one_line f.value) p.fields ≡ true
 strings_on p h =
     let whole = subst OnOne (line_parts p) (one_line (line_of p) h) in
@@ -334,7 +335,7 @@ strings_on p h =
     let after_tags = (parts_of (flat_map built_tag p.tags) _ after_name).1 in
     fields_of space p.fields (parts_of (built_fields space p.fields) _ after_tags).0
 
--- what is left of a text after blanks and comments
+-- The text that is left after blanks and comments is on one line, if the whole text is.
 trimmed_on : (in_comment : Bool) (text : List ℕ) → OnOne text → OnOne (left_of in_comment text)
 trimmed_on in_comment [] h = refl
 trimmed_on in_comment (b ∷ text) h =
@@ -346,12 +347,12 @@ abbrev AnswerOn : Result Line Fault → Type 0
 AnswerOn (Ok line) = IsPoint (point_of line) × PointOn (point_of line)
 AnswerOn (Err fault) = Unit {0}
 
--- what is answered for a trimmed text
+-- The answer for a trimmed text that is on one line is on one line.
 answer_on : (text : List ℕ) (a : Result Line Fault) → answer NewlineDelimited text ≡ a → OnOne text → AnswerOn a
 answer_on text (Ok line) e h = (lines_are_points NewlineDelimited text line e, line_read NewlineDelimited text line e h)
 answer_on text (Err fault) e h = tt
 
--- and for all lines
+-- The answers for all lines without a newline are on one line.
 answers_on : (lines : List (List ℕ)) → AllByRecursion HasNoNewline lines → AllByRecursion AnswerOn (answers_of NewlineDelimited lines)
 unfolding answers_of_piece
 answers_on [] all = tt
@@ -363,7 +364,7 @@ answers_on (line ∷ lines) all =
       | inr some ↦ rw some (answer_on (trimmed line) (answer NewlineDelimited (trimmed line)) refl left, others)
     ]
 
--- so it is with each line of a text that is answered
+-- The line that is built for each line of a text that is answered holds no newline.
 pub answered_on : (text : List ℕ) (answers : List (Result Line Fault)) (line : Line) → HasAnswers NewlineDelimited text answers
     → Contains answers (Ok line) → HasNoNewline (line_of (point_of line))
 answered_on text answers line has here =
@@ -371,7 +372,7 @@ answered_on text answers line has here =
     let on = All-contains AnswerOn answers (Ok line) (All-from_recursion AnswerOn answers all) here in
     point_on (point_of line) on.0 on.1
 
--- and with its strings
+-- No string of a line that is answered holds a newline.
 pub strings_are_on_one_line : StringsAreOnOneLine
 strings_are_on_one_line text answers line has here = strings_on (point_of line) (answered_on text answers line has here)
 

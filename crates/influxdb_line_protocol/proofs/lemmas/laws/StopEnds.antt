@@ -1,4 +1,4 @@
--- What is left of a line where reading stops is an end of the line.
+-- The text that is left where reading a line stops is an end of the line.
 use Rattle.std.proofs.Common.{◌≡◌, ◌⊎◌, ◌==◌, ℕ, zero, suc, List, [], ◌∷◌, drop, length, refl, arith, Bool, true, false, cond, ℤ, Option, Result, Ok, Err, inl, inr}
 use Rattle.std.proofs.lemmas.Bool.{cases_Bool}
 use Rattle.lp_format.specs.format.{comma, equals, space, Dialect, Fault, NameKind, Pair, Read, Reading, Text, Value, a_field_key, a_measurement, a_tag_key}
@@ -33,23 +33,23 @@ pair_ends kind key value text =
     after_ends text (byte equals sign) _ _ named (λ b last at. EndsIn-end text sign last named (byte_ends equals sign b last at)))
 
 module _ {A : Type 0} (one : List ℕ → Reading A) (ends : (text : List ℕ) (x : A) (rest : List ℕ) → one text ≡ reads x rest → EndsIn text rest) where
-  -- after the most parts
+  -- After the longest list of parts, an end of the text is left.
   most_ends : (n : ℕ) (text : List ℕ) → EndsIn text (most one n text).rest
   most_ends zero text = EndsIn-self text
   most_ends (suc n) text = by_first (λ rest. most_ends n rest) (one text) refl
     where
-      -- by what the first one is read as
+      -- After the first part and the longest list of parts that follow, an end of the text is left, by what the first part is read as.
       by_first : ((rest : List ℕ) → EndsIn rest (most one n rest).rest) → (r : Reading A) → one text ≡ r
           → EndsIn text (and_more r text (λ rest. most one n rest)).rest
       by_first others miss e = EndsIn-self text
       by_first others (fatal f) e = EndsIn-self text
       by_first others (reads x rest) e = EndsIn-end text rest _ (ends text x rest e) (others rest)
 
--- after spaces
+-- After spaces, an end of the text is left.
 spaces_end : (text : List ℕ) → EndsIn text (after_spaces text)
 spaces_end text = EndsIn-drop (spaces text) text (after_spaces text) refl
 
--- after a comma that is taken
+-- After a comma that may be taken, an end of the text is left.
 taken_end : (dialect : Dialect) (fields : List (Pair Text (Value Text))) (last : List ℕ) → EndsIn last (without_comma dialect fields last)
 taken_end Strict fields last = EndsIn-self last
 taken_end NewlineDelimited fields last = EndsIn-self last
@@ -61,12 +61,12 @@ taken_end Crate (f ∷ []) (b ∷ last) = elim (cases_Bool (b == comma)) [
   | inr other ↦ rw other (EndsIn-self (b ∷ last))
 ]
 
--- what is left after a timestamp
+-- After a timestamp is read, the text that is left is the text itself or the text after spaces and an integer.
 time_rest : (text : List ℕ) (t : Option ℤ) (rest : List ℕ) → timestamp text ≡ Ok (record { value = t; rest = rest })
     → (rest ≡ text) ⊎ (rest ≡ after_spaces (drop (integer_len (after_spaces text)) (after_spaces text)))
 time_rest text t rest e = grind (arith, cases_Bool)
 
--- it ends the text
+-- After a timestamp is read, an end of the text is left.
 time_end : (text : List ℕ) (t : Option ℤ) (rest : List ℕ) → timestamp text ≡ Ok (record { value = t; rest = rest }) → EndsIn text rest
 time_end text t rest e = elim (time_rest text t rest e) [
   | inl same ↦ rw same (EndsIn-self text)
@@ -82,7 +82,7 @@ time_end text t rest e = elim (time_rest text t rest e) [
 stamp_ends : (text : List ℕ) → EndsIn text (after_time text)
 stamp_ends text = by_stamp (timestamp text) refl
   where
-    -- by what the timestamp is read as
+    -- After a timestamp, an end of the text is left, by what the timestamp is read as.
     by_stamp : (r : Result (Read (Option ℤ)) Fault) → timestamp text ≡ r → EndsIn text (after_time text)
     by_stamp (Ok time) e = rw e (time_end text time.value time.rest e)
     by_stamp (Err f) e = rw e (spaces_end text)
@@ -115,7 +115,7 @@ module _ (dialect : Dialect) where
       (λ b place at.
       cond_ends _ rest _ _ (EndsIn-end rest place _ (byte_ends comma rest b place at) (pair_ends a_tag_key _ _ place)) (EndsIn-self rest))
 
--- what is left is an end
+-- The text that is left where reading stops is an end of the text.
 pub stops_are_in_text : StopsAreInText
 stops_are_in_text dialect text =
     let end : EndsIn text (reading_stop dialect text).1 =
@@ -125,5 +125,5 @@ stops_are_in_text dialect text =
     (EndsIn-end start tags.rest _ (most_ends (after_comma tag) (after_comma_ends tag tag_ends) (length start) start) (series_end dialect tags))) in
     (end.front, end.is)
 
--- what is left at a stop
+-- The laws about the text that is left where reading stops.
 pub ruleset stop_laws = (stops_are_by_rows, stops_are_in_text, lines_are_read_whole)

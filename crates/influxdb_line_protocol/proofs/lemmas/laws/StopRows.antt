@@ -1,4 +1,4 @@
--- Where reading stops, by the row of the answer.
+-- Reading stops at the place that the row of the answer names.
 use Rattle.std.proofs.Common.{◌≡◌, ℕ, zero, suc, ◌≤◌, ◌==◌, ◌||◌, Bool, true, false, List, [], ◌∷◌, ◌++◌, length, refl, sym, ap, ◌∙◌, arith, inl, inr}
 use Rattle.std.proofs.Common.{Option, Result, Ok, Err, cond, eqb-true, length-append, ◌+◌, codes}
 use Rattle.std.proofs.lemmas.Bool.{cases_Bool}
@@ -21,11 +21,11 @@ use Rattle.lp_events.proofs.lemmas.fields.ManyLemmas.{comma_cases}
 use Rattle.influxdb_line_protocol.specs.laws.StopLaws.{IsPartAfter, IsPartAtComma, IsStopByRow, IsStopInField, IsStopInNext, IsStopInPair, IsStopInPair.at_key}
 use Rattle.influxdb_line_protocol.specs.laws.StopLaws.{IsStopInPair.at_sign, IsStopInPair.at_value, IsStopInTag, LinesAreReadWhole, StopsAreByRows}
 
--- this byte is not at the start of a text that does not begin with it
+-- A text that does not begin with a byte does not read as this byte.
 no_byte : (b : ℕ) (text : List ℕ) → ¬ BeginsWith b text → byte b text ≡ miss
 no_byte b text none = grind (arith, cases_Bool, eqb-true)
 
--- one of two holds, if the second does
+-- A test or `true` is `true`.
 or_true : (test : Bool) → (test || true) ≡ true
 or_true true = refl
 or_true false = refl
@@ -36,19 +36,19 @@ not_fatal miss none = refl
 not_fatal (fatal e) none = absurd (none e refl)
 not_fatal (reads x rest) none = refl
 
--- at a comma the part is that of the stop after it
+-- At a comma, the part in which reading stops is the part of the stop after the comma.
 late_part : (b : Bool) (stop : Place) (rest : List ℕ) → (cond b stop (stop.0, rest)).0 ≡ stop.0
 late_part true stop rest = refl
 late_part false stop rest = refl
 
--- what is read after a comma comes after one
+-- An element that is read after a comma comes after a comma in the text.
 comma_there : {A : Type 0} {one : List ℕ → Reading A} (text : List ℕ) (x : A) (after : List ℕ) → after_comma one text ≡ reads x after
     → (place : List ℕ) × (text ≡ comma ∷ place) × (one place ≡ reads x after)
 comma_there text x after e = grind (arith, comma_cases, byte_parts)
 
 -- where a pair stops
 module _ (kind : NameKind) (key value : LinePart) (text : List ℕ) where
-  -- after its key
+  -- After the key of a pair, reading stops as the definition of a pair says.
   after_key : (k : Text) (rest : List ℕ) → name kind text ≡ reads k rest → IsStopInPair kind key value text (pair_stop kind key value text)
   after_key k [] e = rw e (at_sign k [] e (λ s. s))
   after_key k (c ∷ more) e = elim (cases_Bool (c == equals)) [
@@ -56,7 +56,7 @@ module _ (kind : NameKind) (key value : LinePart) (text : List ℕ) where
     | inr other ↦ rw (e, other) (at_sign k (c ∷ more) e (λ is. grind (arith, nat_tests)))
   ]
 
-  -- by what its key is read as
+  -- Reading stops in a pair as its definition says, by what the key is read as.
   pair_stops_by : (r : Reading Text) → name kind text ≡ r → IsStopInPair kind key value text (pair_stop kind key value text)
   pair_stops_by miss e = rw e (at_key (λ k rest is. cc))
   pair_stops_by (fatal d) e = rw e (at_key (λ k rest is. cc))
@@ -83,17 +83,17 @@ module _ {A : Type 0} (one : List ℕ → Reading A)
       let others = most_is n xs h.1 rest h.4 none (omega (arith, room, shorter, ap length h.2)) in
       rw (h.2, h.3, others) refl
 
-  -- one more that reads comes after others
+  -- An element that reads after a comma extends the list of elements that were read.
   one_more : (xs : List A) (text rest after : List ℕ) (y : A) → SeparatedAfterComma one xs text rest → after_comma one rest ≡ reads y after
       → SeparatedAfterComma one (xs ++ y ∷ []) text after
   one_more [] text rest after y h e = let sign = comma_there rest y after e in (sign.0, after, h ∙ sign.1, sign.2, refl)
   one_more (x ∷ xs) text rest after y h e = (h.0, h.1, h.2, h.3, one_more xs h.1 rest after y h.4 e)
 
-  -- after the longest list none reads
+  -- After the longest list of elements, no further element reads.
   longest_end : (x : A) (xs : List A) (text rest : List ℕ) → LongestList one text (x ∷ xs) rest → DoesNotRead (after_comma one rest)
   longest_end x xs text rest h = by_next (after_comma one rest) refl
     where
-      -- by what the next one is read as
+      -- After the longest list of elements, the next element does not read, by what it is read as.
       by_next : (r : Reading A) → after_comma one rest ≡ r → DoesNotRead r
       by_next (reads y after) e =
           let first = h.separated in
@@ -106,11 +106,11 @@ module _ {A : Type 0} (one : List ℕ → Reading A)
       → is_fatal (one place) ≡ false
   whole_fine x xs text rest place h is = not_fatal (one place) (λ e bad. h.no_fault e (place, is, bad))
 
--- what is left after a tag is no longer
+-- After a tag is read, the text that is left is no longer than the text before.
 tag_longer : (text : List ℕ) (t : Pair Text Text) (rest : List ℕ) → tag text ≡ reads t rest → length rest ≤ length text
 tag_longer text t rest e = (tag_no_longer text).holds t rest e
 
--- nor after a field
+-- After a field is read, the text that is left is no longer than the text before.
 field_longer : (text : List ℕ) (f : Pair Text (Value Text)) (rest : List ℕ) → field text ≡ reads f rest → length rest ≤ length text
 field_longer text f rest e = (field_no_longer text).holds f rest e
 
@@ -119,12 +119,12 @@ space_part : (part : LinePart) (rest : List ℕ) → BeginsWith space rest → (
 space_part part [] gap = absurd gap
 space_part part (c ∷ rest) gap = rw gap (grind arith)
 
--- and without one it is in this part
+-- If no space is left, reading stops in the part that was being read.
 bare_part : (part : LinePart) (rest : List ℕ) → ¬ BeginsWith space rest → (end_stop part rest).0 ≡ part
 bare_part part [] none = refl
 bare_part part (c ∷ rest) none = grind (arith, cases_Bool, eqb-true)
 
--- so the part after fields is this
+-- The part in which reading stops after the fields, from the part without a comma and the part at a comma.
 part_after : (fields : ℕ) (last rest : List ℕ) (part : LinePart) → (¬ BeginsWith comma last → part ≡ FieldValue fields)
     → IsPartAtComma IsStopInField (fields + 1) last part → IsPartAfter fields last rest (end_stop part rest).0
 part_after fields last rest part is at = (space_part part rest, λ bare. rw (bare_part part rest bare) (is, at))
@@ -136,7 +136,7 @@ number_stops part rest e stamp = elim (cases_Bool (spaces rest == 0)) [
   | inr gap ↦ rw (stamp, gap) refl
 ]
 
--- after the most tags
+-- After the longest list of tags, the series is read as the row of the answer says.
 module _ (dialect : Dialect) where
   -- where reading goes on from
   series_is : {text : List ℕ} {m : Text} {tags : Option (List (Pair Text Text))} {rest : List ℕ} → ReadsSeries text m tags rest
@@ -225,7 +225,7 @@ module _ (dialect : Dialect) where
             )
       ]
 
-  -- after a whole list of fields it does
+  -- After a whole list of fields, reading stops as the row of the answer says.
   fields_end : (text : List ℕ) (fields : List (Pair Text (Value Text))) (last : List ℕ) → WholeList field text fields last
       → Ends (length fields) last (without_comma dialect fields last) (fields_stop dialect text)
   fields_end text [] last whole = absurd (let some = whole.some in omega arith)
@@ -235,7 +235,7 @@ module _ (dialect : Dialect) where
       let parts = most_is field field_longer (length first.0) fields first.0 last first.2 end (omega arith) in
       rw (first.1, parts) (last_ends (f ∷ fields) last (λ place is. whole_fine field field_longer f fields text last place whole is))
 
-  -- of a line whose fields were all read
+  -- Reading stops as the row of the answer says, in a line whose fields were all read.
   line_ends : {text : List ℕ} {line : Line} {rest : List ℕ} (r : ReadsFields dialect text line rest)
       → Ends (length line.fields) r.after_fields rest (reading_stop dialect text)
   line_ends {line = line} r =
@@ -263,7 +263,7 @@ module _ (dialect : Dialect) where
 pub stops_are_by_rows : StopsAreByRows
 stops_are_by_rows dialect text a row = row_stops dialect text row
 
--- no row but the last is that of a line
+-- Only the last row of the table of answers answers a text with a line, and no text is left then.
 line_left : {dialect : Dialect} {text : List ℕ} {a : Result Line Fault} (line : Line) (row : IsAnswer dialect text a) → a ≡ Ok line
     → (place : Place) → IsStopByRow row place → place.1 ≡ []
 line_left line (all_read l last r stamp) is place h = h.0
@@ -275,12 +275,12 @@ lines_are_read_whole dialect text line is =
     let row = (answer_is_by_rows dialect text (Ok line)).0 is in
     line_left line row refl (reading_stop dialect text) (row_stops dialect text row)
 
--- of this line reading stops at its last comma, in the key of the second tag
+-- Reading `m,t=x,u a=1i` stops at its last comma, in the key of its second tag.
 a_comma_is_left : reading_stop Crate (codes "m,t=x,u a=1i") ≡ (TagKey 2, codes ",u a=1i")
 unfolding tag name without_escapes is_escaped_after escaped first_bare
 a_comma_is_left = refl
 
--- and of this one after the comma of its first field, in the value of the second field
+-- Reading `m a=1i,b=x` stops after the comma of its first field, in the value of its second field.
 a_comma_is_taken : reading_stop Crate (codes "m a=1i,b=x") ≡ (FieldValue 2, codes "b=x")
 unfolding field name without_escapes is_escaped_after escaped first_bare value integer_at unsigned_at float_at string_at boolean_at
 a_comma_is_taken = refl

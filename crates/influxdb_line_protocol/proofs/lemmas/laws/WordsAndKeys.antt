@@ -12,7 +12,7 @@ use Rattle.lp_events.specs.code.OwnBases.{is_strictly_sorted}
 use Rattle.lp_lines.proofs.lemmas.series.SortedTags.{Rise, by_key_placed, passes_rise, same_moved}
 use Rattle.lp_format.proofs.lemmas.line.TrimLemmas.{trimmed_is_after, trimmed_is_longest}
 
--- what is known of the longer of a front and a word
+-- Facts about the longer of a front and a word.
 record Step (text : List ℕ) (n : ℕ) (word : List ℕ) (m : ℕ) : Type 0 where
   more : n ≤ m
   front : (k : ℕ) → k ≤ length text → word ≡ take k text → k ≤ m
@@ -24,23 +24,23 @@ starts text word h =
     let is = (starts_is Decides-eqb text word (starts_with eqb text word) refl).0 h in
     sym (ap (take (length word)) is ∙ take_at word (drop (length word) text) (length word) refl)
 
--- and one that is not there
+-- A word with which a text does not begin is no front of the text.
 starts_not : (text word : List ℕ) (k : ℕ) → k ≤ length text → starts_with eqb text word ≡ false → word ≡ take k text → ⊥
 starts_not text word k fits h e =
     let is : text ≡ word ++ drop k text = sym (take-append-drop k text) ∙ ap (λ (w : List ℕ). w ++ drop k text) (sym e) in
     both_ways (starts_with eqb text word) h ((starts_is Decides-eqb text word (starts_with eqb text word) refl).1 (drop k text) is)
 
--- each step is such
+-- Each step of the search for the longest word takes the longer of the front and the word.
 step_is : (text : List ℕ) (n : ℕ) (word : List ℕ) → Step text n word (longer_front text n word)
 step_is text n word = grind (arith, cases_Bool, ltb-true, ltb-false, length-take-le, starts, starts_not)
 
--- what is known of the longest of a front and words
+-- Facts about the longest of a front and words.
 record Longest (text : List ℕ) (n : ℕ) (words : List (List ℕ)) (len : ℕ) : Type 0 where
   more : n ≤ len
   front : (k : ℕ) → k ≤ length text → Contains words (take k text) → k ≤ len
   one : (len ≡ n) ⊎ Contains words (take len text)
 
--- each longest is such
+-- The search gives the longest of a front and these words.
 longest_is : (text : List ℕ) (n : ℕ) (words : List (List ℕ)) → Longest text n words (fold (λ n word. longer_front text n word) n words)
 longest_is text n [] = record { more = omega arith; front = λ k fits h. absurd (nothing_in_nil (take k text) h); one = inl refl }
 longest_is text n (word ∷ words) =
@@ -59,7 +59,7 @@ longest_is text n (word ∷ words) =
 pub word_front_is_word : WordFrontIsWord
 word_front_is_word words text some = grind (arith, longest_is)
 
--- and no longer front is one
+-- No front that is longer than the word that is taken is one of the words.
 pub word_front_is_longest : WordFrontIsLongest
 word_front_is_longest words text n fits here = (longest_is text 0 words).front n fits here
 
@@ -81,5 +81,5 @@ tags_by_key_are_sorted tags entries once =
           (IsPermutation-sym (in_order tags) entries h.1) placed.0)),
     )
 
--- the laws of what is read by its longest front
+-- The laws of words and blanks that are read by their longest front.
 pub ruleset word_laws = (word_front_is_word, word_front_is_longest, trimmed_is_after, trimmed_is_longest)

@@ -1,5 +1,4 @@
--- Escaped texts: the first byte with a backslash, by the mask of a load, and what comes before and after it. And how many digits
--- a number has.
+-- Escaped texts: the first byte that gets a backslash, the text before it and the text after it. The number of digits of a number.
 use Rattle.std.proofs.Common.{◌≡◌, ℕ, suc, zero, ◌+◌, ◌<◌, Bool, true, false, List, [], ◌∷◌, ◌++◌, length, take, drop, get_or, arith, ap}
 use Rattle.std.proofs.Common.{refl, ◌-◌, add-one, length-drop, length-append, ◌∙◌, ◌≤◌, ◌^◌, ◌*◌, ◌/◌, take_all, decimal, not, pow-suc}
 use Rattle.std.proofs.Common.{eqb, eq-eqb, ne_eqb}
@@ -27,7 +26,7 @@ escaped_same bytes (b ∷ text) none =
     let rest : escaped bytes text ≡ text = escaped_same bytes text (λ k h. none (suc k) (omega arith)) in
     rw (none 0 (omega arith)) (ap (λ (xs : List ℕ). b ∷ xs) rest)
 
--- the first byte that gets one divides it
+-- The first byte that gets a backslash divides a text with its backslashes into the text before it, the backslash, and the rest.
 escaped_at : (bytes text : List ℕ) (at : ℕ)
     → at < length text → is_one_of bytes (get_or text at 0) ≡ true
     → ((k : ℕ) → k < at → is_one_of bytes (get_or text k 0) ≡ false)
@@ -43,7 +42,7 @@ escaped_at bytes (b ∷ text) (suc at) within here before =
 rest_of : (text : List ℕ) (n : ℕ) → take (length text - n) (drop n text) ≡ drop n text
 rest_of text n = take_all (length text - n) (drop n text) (omega (arith, length-drop n text))
 
--- the same, as the code finds the byte and slices after it
+-- The first byte that gets a backslash divides the text, as the code finds this byte and slices the text after it.
 pub escaped_first : (bytes text marks : List ℕ) (at : ℕ)
     → ((b : ℕ) → is_one_of marks b ≡ is_one_of bytes b) → IsRunAt (λ b. not (is_one_of marks b)) text 0 at → at < length text
     → escaped bytes text

@@ -6,7 +6,7 @@ use Rattle.lp_lines.specs.{declared.parsed.ParsedLine.ParsedLine, code.Parsed.pa
 use Rattle.lp_format.specs.format.{comma, space, built, line_of}
 use Rattle.lp_build.specs.code.WrittenAgain.{fields_text, line_text}
 
--- what comes before the first field is one byte, whichever it is
+-- The length of the fields does not depend on the byte before the first field.
 pub length_fields_after : (fields : List (EscapedStr × FieldValue))
     → length (fields_text space fields) ≡ length (fields_text comma fields)
 length_fields_after [] = refl
@@ -15,7 +15,7 @@ length_fields_after (f ∷ fields) = refl
 -- whether all are admitted, by the parsed ones
 pub ruleset sets = (list_all-map)
 
--- the text of a line is that of its point
+-- The text of a parsed line is the text of its point.
 pub line_text_is : (line : ParsedLine) → line_text line ≡ built (parsed_point line)
 unfolding line_text line_of
 line_text_is line = grind (arith, flat_map-map)

@@ -23,7 +23,7 @@ spelled_cut : (kind : NameKind) (front kept lost : List ℕ) → spelled kind (f
     → spelled kind (front ++ kept) ≡ front
 spelled_cut kind front kept lost h = grind (arith, before_stop)
 
--- two texts that spell one name read to it
+-- Two texts with the same spelling of a name read to the same name.
 name_same : (kind : NameKind) (text other : List ℕ) (t : Text) (rest : List ℕ) → name kind text ≡ reads t rest
     → spelled kind other ≡ spelled kind text
     → name kind other ≡ reads t (drop (spelled_len kind other) other)
@@ -74,7 +74,7 @@ record SeparatedCut (tags : List (Pair Text Text)) (text rest : List ℕ) : Type
   is : text ≡ front ++ rest
   separated : SeparatedAfterComma tag tags front []
 
--- tags are in such a front
+-- Tags that are read after commas are in a front of the text.
 separated_cut : (tags : List (Pair Text Text)) (text rest : List ℕ) → SeparatedAfterComma tag tags text rest → SeparatedCut tags text rest
 separated_cut [] text rest h = record { front = []; is = h; separated = refl }
 separated_cut (t ∷ tags) text rest h =
@@ -98,16 +98,16 @@ many_read (suc n) (t ∷ tags) text h room =
     let room : length h.1 ≤ n = omega (arith, ap length h.2, (tag_no_longer h.0).holds t h.1 h.3) in
     rw (h.2, h.3, many_read n tags h.1 h.4 room) refl
 
--- these tags, and no set if there are none
+-- The set of these tags, and `None` if there are none.
 abbrev set_of : List (Pair Text Text) → Option (List (Pair Text Text))
 set_of [] = None
 set_of (t ∷ tags) = Some (t ∷ tags)
 
--- they are its tags
+-- The tags of the set are these tags.
 set_tags : (tags : List (Pair Text Text)) → some_tags (set_of tags) ≡ tags
 set_tags tags = grind (arith)
 
--- they are read as a set
+-- A text of these tags, each after a comma, is read as the set of these tags.
 set_read : (tags : List (Pair Text Text)) (text : List ℕ) → SeparatedAfterComma tag tags text []
     → tag_set text ≡ Ok (record { value = set_of tags; rest = [] })
 set_read tags text h = grind (arith, many_read)

@@ -1,8 +1,8 @@
--- The order of two texts that are equal up to where one of them ends.
+-- The order of two texts that are equal up to the end of one of them.
 use Rattle.std.proofs.Common.{◌≡◌, ◌⊎◌, ℕ, zero, suc, ◌≤◌, List, [], ◌∷◌, drop, length, arith, is_lt, nat_cmp, nat_lt, inl, inr}
 use Rattle.std.specs.Cmp.Lexicographic.{slice_cmp}
 
--- where one of two texts has ended, the shorter one is the lesser
+-- at the end of one of two texts, the shorter text is the lesser
 pub order_end : (xs ys : List ℕ) (at : ℕ) → at ≤ length xs → at ≤ length ys → (length xs ≤ at) ⊎ (length ys ≤ at)
     → nat_lt (length xs) (length ys) ≡ is_lt (slice_cmp nat_cmp (drop at xs) (drop at ys))
 order_end [] [] at within less ends = grind (arith)

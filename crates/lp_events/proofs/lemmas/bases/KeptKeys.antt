@@ -1,4 +1,4 @@
--- What one tag more means for whether the text of a series is its base.
+-- The effect of one more tag on whether the text of a series is its base.
 use Rattle.std.proofs.Common.{◌≡◌, ℕ, ◌<◌, ◌&&◌, true, List, [], ◌∷◌, ◌++◌, length, refl, sym, ap, ◌∙◌, arith, is_lt, nat_cmp, Bool}
 use Rattle.std.proofs.lemmas.{Bool.cases_Bool, List.Folds.list_all-append, List.map_push}
 use Rattle.std.proofs.Math.Bool.{and_assoc, and-true}
@@ -9,7 +9,7 @@ use Rattle.lp_values.proofs.lemmas.fields.ReadingLemmas.{name_parts, pair_parts}
 use Rattle.lp_events.specs.declared.bases.Kept.{Kept}
 use Rattle.lp_events.specs.code.OwnBases.{IsKeptOf, is_own_base, is_strictly_sorted, keys_of, last_of}
 
--- the logical text of a text that is not empty is not empty
+-- a spelling that is not empty has a logical text that is not empty
 logical_some : (known text : List ℕ) → 0 < length text → 0 < length (without_escapes known text)
 unfolding without_escapes
 logical_some known text some = grind (arith, cases_Bool)
@@ -19,12 +19,12 @@ name_some : (kind : NameKind) (text : List ℕ) (t : Text) (rest : List ℕ) →
 unfolding name
 name_some kind text t rest e = grind (arith, cases_Bool, name_parts, logical_some)
 
--- nor is the key of a tag
+-- the key of a tag that was read is not empty
 pub key_some : (text : List ℕ) (t : Pair Text Text) (rest : List ℕ) → tag text ≡ reads t rest → 0 < length t.key.bytes
 unfolding tag
 key_some text t rest e = name_some a_tag_key text t.key _ (pair_parts a_tag_key (name a_tag_value) text t rest e).key
 
--- one text more rises if it is greater than the last one
+-- texts with one more at the end are strictly sorted exactly if the others are and the last of them is less than it
 sorted_more : (keys : List (List ℕ)) (k : List ℕ) → 0 < length k
     → is_strictly_sorted (keys ++ k ∷ []) ≡ (is_strictly_sorted keys && is_lt (slice_cmp nat_cmp (last_of keys) k))
 sorted_more [] [] some = absurd (omega (arith, some))
@@ -34,17 +34,18 @@ sorted_more (l ∷ m ∷ keys) k some =
     ap (λ b. is_lt (slice_cmp nat_cmp l m) && b) (sorted_more (m ∷ keys) k some)
     ∙ sym (and_assoc (is_lt (slice_cmp nat_cmp l m)) (is_strictly_sorted (m ∷ keys)) (is_lt (slice_cmp nat_cmp (last_of (m ∷ keys)) k)))
 
--- the last text is the one that was put there
+-- the last of some texts with one more at the end is this one
 last_more : (keys : List (List ℕ)) (k : List ℕ) → last_of (keys ++ k ∷ []) ≡ k
 last_more [] k = refl
 last_more (l ∷ []) k = refl
 last_more (l ∷ m ∷ keys) k = last_more (m ∷ keys) k
 
--- the last key is that of the last tag
+-- the last key of tags is the key of the last tag
 pub last_key : (tags : List (Pair Text Text)) (t : Pair Text Text) → last_of (keys_of (tags ++ t ∷ [])) ≡ t.key.bytes
 last_key tags t = ap last_of (map_push (λ (t : Pair Text Text). t.key.bytes) tags t) ∙ last_more (keys_of tags) t.key.bytes
 
--- with one tag more the text is still its base if it was, no name of the tag is a copy, and its key is greater than the last one
+-- the text of a series with one more tag is its base exactly if it was before, no name of the tag is a copy, and its key is greater than the
+-- last key
 pub base_more : (m : Text) (tags : List (Pair Text Text)) (t : Pair Text Text) → 0 < length t.key.bytes
     → is_own_base m (tags ++ t ∷ []) ≡ (is_own_base m tags && (is_single_tag t && is_lt (slice_cmp nat_cmp (last_of (keys_of tags)) t.key.bytes)))
 unfolding is_own_base
@@ -52,7 +53,7 @@ base_more m tags t some =
     rw (map_push (λ (t : Pair Text Text). t.key.bytes) tags t, sorted_more (keys_of tags) t.key.bytes some, list_all-append is_single_tag tags (t ∷ []))
     (grind (arith, cases_Bool))
 
--- so what is kept after a tag more is what is kept of all, if it goes by the last key, or holds a copy
+-- the data after one more tag is the data of the series with this tag, if it compares the keys and tells of copies
 pub kept_more : (m : Text) (tags : List (Pair Text Text)) (t : Pair Text Text) (before after : Kept) (single greater : Bool)
     → 0 < length t.key.bytes → IsKeptOf m tags before → single ≡ is_single_tag t
     → (single ≡ true → after.last.now ≡ t.key.bytes)

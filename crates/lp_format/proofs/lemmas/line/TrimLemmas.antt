@@ -17,11 +17,11 @@ is_skipped line = is_comment_or_empty (without_blanks line)
 abbrev lines_of : List ℕ → List (List ℕ)
 lines_of text = slice_split (λ b. b == newline) text
 
--- the text from the first line that is not skipped
+-- the text of these lines from the first line that is not skipped, without the blanks at its start
 abbrev from_lines : List (List ℕ) → List ℕ
 from_lines lines = without_blanks (join_with_byte newline (without_front is_skipped lines))
 
--- what is left of a text, from whether it begins inside a comment
+-- the text that is left after the blanks and comments at its start; `in_comment` says whether the text begins inside a comment
 abbrev pub left_of : Bool → List ℕ → List ℕ
 left_of in_comment [] = []
 left_of in_comment (b ∷ rest) =
@@ -30,12 +30,12 @@ left_of in_comment (b ∷ rest) =
     else if is_blank b then left_of false rest
     else b ∷ rest
 
--- a line that goes on with what follows it
+-- a first byte stays first when lines are joined
 join_first : (b : ℕ) (l : List ℕ) (ls : List (List ℕ)) → join_with_byte newline ((b ∷ l) ∷ ls) ≡ b ∷ join_with_byte newline (l ∷ ls)
 join_first b l ls = grind arith
 
 module _ (b : ℕ) (l : List ℕ) (ls : List (List ℕ)) where
-  -- a blank at the start changes nothing
+  -- a blank at the start of the first line changes nothing
   blank_first : is_blank b ≡ true → from_lines ((b ∷ l) ∷ ls) ≡ from_lines (l ∷ ls)
   blank_first h =
       elim (cases_Bool (is_skipped l)) [
@@ -43,23 +43,23 @@ module _ (b : ℕ) (l : List ℕ) (ls : List (List ℕ)) where
         | inr keep ↦ simp (h, keep, join_first b l ls, one-add)
       ]
 
-  -- a comment takes its line
+  -- a comment at the start of the first line takes the whole line
   comment_first : b ≡ hash → from_lines ((b ∷ l) ∷ ls) ≡ from_lines ls
   comment_first e = rw (e, one-add) refl
 
--- a text is trimmed from left to right, and in a comment from the next line on
+-- skipping line by line leaves of a text what skipping byte by byte leaves, outside a comment and inside one
 record Left (text : List ℕ) : Type 0 where
   outside : from_lines (lines_of text) ≡ left_of false text
   inside : from_lines (drop 1 (lines_of text)) ≡ left_of true text
 
--- what is left of a text that begins with another byte, from what is left after it and the lines after it
+-- skipping line by line and byte by byte agree on a text with one more byte at the front that is no newline, if they agree on the text
 other_left : (b : ℕ) (text : List ℕ) (lines : List (List ℕ)) → lines_of text ≡ lines → (b == newline) ≡ false → Left text → Left (b ∷ text)
 other_left b text [] are on more = absurd (omega (arith, ap length are, length-slice_split (λ b. b == newline) text))
 other_left b text (l ∷ ls) are on more =
     let joined : join_with_byte newline (l ∷ ls) ≡ text = ap (join_with_byte newline) (sym are) ∙ join_with_byte-slice_split 10 text in
     grind (arith, cases_Bool, comment_first, eqb-true, blank_first, join_first)
 
--- skipping byte by byte leaves what skipping line by line does
+-- skipping byte by byte leaves of each text what skipping line by line leaves
 left_is : (text : List ℕ) → Left text
 left_is [] = record { outside = refl; inside = refl }
 left_is (b ∷ text) =
@@ -68,44 +68,44 @@ left_is (b ∷ text) =
       | inr on ↦ other_left b text (lines_of text) refl on (left_is text)
     ]
 
--- a trimmed text is what skipping byte by byte leaves
+-- the trimmed text of a text is the text that skipping byte by byte leaves
 pub trimmed_is : (text : List ℕ) → trimmed text ≡ left_of false text
 unfolding trimmed
 trimmed_is text = (left_is text).outside
 
--- one byte more
+-- the text from a place on is the byte at this place and the text after it
 pub left_step : (in_comment : Bool) (text : List ℕ) (i : ℕ) → i < length text
     → left_of in_comment (drop i text) ≡ left_of in_comment (slice_index text i ∷ drop (i + 1) text)
 left_step in_comment text i lt = ap (left_of in_comment) (drop_more text i 0 lt)
 
--- the text is a front of blanks and comments, and then this
+-- the text is a front of blanks and comments, and then `after`
 abbrev Outside : List ℕ → List ℕ → Type 0
 Outside text after = (front : List ℕ) × (text ≡ front ++ after) × IsBlankFront front after
 
--- the text is the rest of a comment, such a front, and then this
+-- the text is the rest of a comment, a front of blanks and comments, and then `after`
 abbrev Inside : List ℕ → List ℕ → Type 0
 Inside text after =
     (end front : List ℕ) × (text ≡ end ++ (front ++ after)) × All (λ b. b ≢ newline) end × IsLineEnd (front ++ after)
     × IsBlankFront front after
 
 module _ (b : ℕ) (text after : List ℕ) where
-  -- a blank before such a front
+  -- a blank before a front of blanks and comments is in the front
   front_blank : is_one_of (space ∷ tab ∷ newline ∷ []) b ≡ true → Outside text after → Outside (b ∷ text) after
   front_blank h f = (b ∷ f.0, ap (λ t. b ∷ t) f.1, blank b f.0 after h f.2)
 
-  -- a comment before such a front
+  -- a `#` before the rest of a comment begins a front of blanks and comments
   front_comment : b ≡ hash → Inside text after → Outside (b ∷ text) after
   front_comment h f = (hash ∷ f.0 ++ f.1, grind (arith, append_assoc), comment f.0 f.1 after f.3 f.4 f.5)
 
-  -- a comment ends before a newline
+  -- a newline ends the comment before it
   comment_ends : b ≡ newline → Outside (b ∷ text) after → Inside (b ∷ text) after
   comment_ends h f = ([], f.0, f.1, All-nil (λ c. c ≢ newline), subst IsLineEnd f.1 h, f.2)
 
-  -- a comment goes on with any other byte
+  -- any byte but a newline belongs to the comment around it
   comment_more : b ≢ newline → Inside text after → Inside (b ∷ text) after
   comment_more h f = (b ∷ f.0, f.1, ap (λ t. b ∷ t) f.2, All-cons (λ c. c ≢ newline) b f.0 h f.3, f.4, f.5)
 
--- outside a comment and inside one, what is left of a text follows such a front
+-- the text that is left follows a front of blanks and comments; inside a comment, the rest of the comment comes before this front
 fronts_are : (text : List ℕ) → Outside text (left_of false text) × Inside text (left_of true text)
 fronts_are [] = (([], refl, empty []), ([], [], refl, All-nil (λ c. c ≢ newline), tt, empty []))
 fronts_are (b ∷ text) =
@@ -125,11 +125,11 @@ fronts_are (b ∷ text) =
           ]
     ]
 
--- the trimmed text is after such a front
+-- the trimmed text of a piece follows a front of blanks and comments
 pub trimmed_is_after : (piece : List ℕ) → Outside piece (trimmed piece)
 trimmed_is_after piece = subst (Outside piece) (sym (trimmed_is piece)) (fronts_are piece).0
 
--- a comment's text is skipped
+-- the rest of a comment up to its newline is skipped
 pub skip_comment : (end rest : List ℕ) → All (λ b. b ≢ newline) end → left_of true (end ++ rest) ≡ left_of true rest
 skip_comment [] rest plain = refl
 skip_comment (b ∷ end) rest plain =
@@ -141,7 +141,7 @@ front_skipped _ _ (empty after) = refl
 front_skipped _ _ (blank b front after h more) = grind (arith, common_steps, cases_Bool, front_skipped front after more)
 front_skipped _ _ (comment text front after plain stops more) = grind (arith, append_assoc, skip_comment, front_skipped front after more)
 
--- no such front is longer
+-- no front of blanks and comments of a piece is longer than the one before its trimmed text
 pub trimmed_is_longest : (piece front other after : List ℕ) → piece ≡ front ++ trimmed piece → piece ≡ other ++ after
     → IsBlankFront other after → length other ≤ length front
 trimmed_is_longest piece front other after e d h =

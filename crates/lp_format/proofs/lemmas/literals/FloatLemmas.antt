@@ -15,31 +15,31 @@ use Rattle.lp_format.specs.format.{float_at, digits_len, number_len, marked_len,
 use Rattle.lp_format.specs.format.{unsigned_at}
 use Rattle.lp_format.proofs.lemmas.values.ValueLemmas.{front_numeral, integer_unmarked}
 
--- a digit passes the test
+-- a digit passes the test `is_ascii_digit`
 pub digit_passes : (b : ℕ) → digit_value b < 10 → is_ascii_digit b ≡ true
 digit_passes b h = grind (arith, digit_from_value, and_from, le-leb)
 
--- digits take those after them too
+-- digits before a text are counted together with the digits at its start
 pub digits_before : (ds tail : List ℕ) → AllDigits 10 ds → digits_len (ds ++ tail) ≡ length ds + digits_len tail
 digits_before [] tail digits = sym (zero-add (digits_len tail))
 digits_before (d ∷ ds) tail digits = rw (digit_passes d digits.0, digits_before ds tail digits.1, one-add) (omega arith)
 
--- so does a sign or none, and digits
+-- a signed number before a text is counted together with the digits at the start of the text
 pub signed_before : (signs text tail : List ℕ) → ((d : ℕ) → is_ascii_digit d ≡ true → is_one_of signs d ≡ false) → IsSigned signs text
     → number_len signs (text ++ tail) ≡ length text + digits_len tail
 signed_before signs text tail apart never = grind (arith, ne_eqb, digits_before, digit_passes, one-add)
 
--- a signed number has a byte
+-- a signed number is not empty
 pub signed_some : (signs text : List ℕ) → IsSigned signs text → 0 < length text
 signed_some signs text never = grind arith
 
--- and a mark with a part
+-- a mark and its part before a text are counted together with the digits at the start of the text
 pub marked_before : (marks : List ℕ) (part : List ℕ → ℕ) (b : ℕ) (x tail : List ℕ) → is_one_of marks b ≡ true
     → part (x ++ tail) ≡ length x + digits_len tail → 0 < length x
     → marked_len marks part (b ∷ (x ++ tail)) ≡ suc (length x) + digits_len tail
 marked_before marks part b x tail mark len some = rw (mark, len, lt-ltb 0 (length x + digits_len tail) (omega arith)) (omega arith)
 
--- a digit is no minus
+-- a digit is no minus sign
 pub minus_no_digit : (d : ℕ) → is_ascii_digit d ≡ true → is_one_of (codes "-") d ≡ false
 minus_no_digit d h = grind (arith, common_steps)
 
@@ -47,15 +47,15 @@ minus_no_digit d h = grind (arith, common_steps)
 mark_no_digit : (d : ℕ) → is_one_of (codes "eE") d ≡ true → (is_ascii_digit d ≡ false) × (is_one_of (codes ".") d ≡ false)
 mark_no_digit d h = (grind (arith, common_steps), grind (arith, common_steps))
 
--- the longest float is no shorter than the integer at the start
+-- the longest float at the start of a text is no shorter than the integer there
 integer_or_more : (t : List ℕ) → integer_len t ≤ float_len t
 integer_or_more t = grind (arith, cases_Bool, eqb-true)
 
--- how many bytes a fraction and an exponent take
+-- how many bytes a fraction and an exponent have at the start of a text
 abbrev tail_len : List ℕ → ℕ
 tail_len suffix = fraction_len suffix + exponent_len (drop (fraction_len suffix) suffix)
 
--- the length of a float if no digit follows the digits before the point
+-- the length of the longest float if no digit follows the whole part
 float_len_after : (whole suffix : List ℕ) → IsSigned (codes "-") whole → digits_len suffix ≡ 0
     → float_len (whole ++ suffix) ≡ length whole + tail_len suffix
 float_len_after whole suffix w ends =
@@ -64,14 +64,14 @@ float_len_after whole suffix w ends =
     let past : drop (length whole) (whole ++ suffix) ≡ suffix = drop_at whole suffix (length whole) refl in
     grind (arith, nat_tests, signed_some, drop-drop)
 
--- an exponent takes its bytes at least
+-- the exponent at the start of a text is no shorter than an exponent that the text begins with
 exponent_at_least : (m : ℕ) (x rest : List ℕ) → IsMarked (codes "eE") (IsSigned (codes "+-")) (m ∷ x)
     → suc (length x) ≤ exponent_len (m ∷ (x ++ rest))
 exponent_at_least m x rest (mark, part) =
     let digits = signed_before (codes "+-") x rest (λ d h. grind (arith, common_steps)) part in
     omega (arith, marked_before (codes "eE") (number_len (codes "+-")) m x rest mark digits (signed_some (codes "+-") x part))
 
--- a fraction and an exponent take their bytes at least
+-- the fraction and exponent at the start of a text are no shorter than a fraction and exponent that the text begins with
 tail_at_least : (fraction exponent rest : List ℕ) → IsMarked (codes ".") (IsNumeral 10) fraction
     → IsMarked (codes "eE") (IsSigned (codes "+-")) exponent → length fraction + length exponent ≤ tail_len (fraction ++ (exponent ++ rest))
 tail_at_least [] [] rest f e = omega arith
@@ -83,7 +83,7 @@ tail_at_least (p ∷ y) (m ∷ x) rest (point, digits) e =
     grind (arith, marked_before, digits_before, mark_no_digit, add-zero) in
     rw (fraction, drop_at (p ∷ y) after (suc (length y)) refl) (omega (arith, exponent_at_least m x rest e))
 
--- the parts of a float at the start of a text take no more than its longest float
+-- the longest float at the start of a text is no shorter than a whole part, a fraction and an exponent that the text begins with
 float_at_least : (whole fraction exponent rest : List ℕ) → IsSigned (codes "-") whole → IsMarked (codes ".") (IsNumeral 10) fraction
     → IsMarked (codes "eE") (IsSigned (codes "+-")) exponent
     → length whole + length fraction + length exponent ≤ float_len (whole ++ (fraction ++ (exponent ++ rest)))
@@ -96,17 +96,17 @@ float_at_least whole (p ∷ y) exponent rest w f e =
     let len = float_len_after whole (p ∷ (y ++ (exponent ++ rest))) w (grind (arith, common_steps)) in
     omega (arith, len, tail_at_least (p ∷ y) exponent rest f e)
 
--- no front that is a float is longer than the longest one
+-- no float literal at the start of a text is longer than its longest float
 pub float_len_longest : (t : List ℕ) (n : ℕ) → n ≤ length t → IsFloat (take n t) → n ≤ float_len t
 float_len_longest t n fits (whole, fraction, exponent, is, w, f, e) =
     let text : whole ++ (fraction ++ (exponent ++ drop n t)) ≡ t = grind (arith, append_assoc, take-append-drop) in
     omega (arith, length-take-le n t fits, ap length is, length-append {A = ℕ}, float_at_least whole fraction exponent (drop n t) w f e, ap float_len text)
 
--- a number takes no more than there is
+-- the number at the start of a text is no longer than the text
 number_len_fits : (signs t : List ℕ) → number_len signs t ≤ length t
 number_len_fits signs t = grind (arith, prefix_len-le-length, length-drop)
 
--- a number at the start of a text is a sign or none, and digits
+-- a number at the start of a text is digits with at most one sign before them
 pub signed_front : (signs t : List ℕ) → 0 < number_len signs t → IsSigned signs (take (number_len signs t) t)
 signed_front signs [] some = absurd (omega (arith, number_len_fits signs []))
 signed_front signs (b ∷ rest) some = elim (cases_Bool (is_one_of signs b)) [
@@ -123,12 +123,12 @@ signed_front signs (b ∷ rest) some = elim (cases_Bool (is_one_of signs b)) [
   ]
 ]
 
--- a mark and a part at the start of a text, or nothing
+-- the bytes that `marked_len` counts are a mark and a part, or none
 marked_front : (marks : List ℕ) (part : List ℕ → ℕ) (Part : List ℕ → Type 0) (t : List ℕ)
     → ((x : List ℕ) → 0 < part x → Part (take (part x) x)) → IsMarked marks Part (take (marked_len marks part t) t)
 marked_front marks part Part t of_part = grind (arith, take-nil, cases_Bool, and_parts, one-add, ltb-true)
 
--- the longest float at the start of a text is one
+-- the longest float at the start of a text is a float literal
 pub float_len_float : (t : List ℕ) → 0 < float_len t → IsFloat (take (float_len t) t)
 float_len_float t some =
     let w = integer_len t in
@@ -146,26 +146,26 @@ float_len_float t some =
       marked_front (codes "eE") (number_len (codes "+-")) (IsSigned (codes "+-")) after (signed_front (codes "+-")),
     )
 
--- a byte that a float can hold
+-- whether a float can hold the byte
 abbrev pub in_float : ℕ → Bool
 in_float b = is_ascii_digit b || is_one_of (codes "+-.eE") b
 
--- a float can hold digits
+-- a float can hold each digit
 pub digits_float : (ds : List ℕ) → AllDigits 10 ds → list_all in_float ds ≡ true
 digits_float [] all = refl
 digits_float (d ∷ ds) all = rw (digit_passes d all.0, digits_float ds all.1) refl
 
--- and signed numbers
+-- a float can hold each byte of a signed number
 signed_float : (signs text : List ℕ) → ((d : ℕ) → is_one_of signs d ≡ true → in_float d ≡ true) → IsSigned signs text
     → list_all in_float text ≡ true
 signed_float signs text sign never = grind (arith, digits_float)
 
--- and a mark with such a part
+-- a float can hold each byte of a mark and its part
 marked_float : (marks : List ℕ) (Part : List ℕ → Type 0) (text : List ℕ) → ((d : ℕ) → is_one_of marks d ≡ true → in_float d ≡ true)
     → ((x : List ℕ) → Part x → list_all in_float x ≡ true) → IsMarked marks Part text → list_all in_float text ≡ true
 marked_float marks Part text mark of_part marked = grind arith
 
--- each byte of a float is such a byte
+-- each byte of a float is a byte that a float can hold
 pub float_bytes : (t : List ℕ) → IsFloat t → AllPass in_float t
 float_bytes t parts =
     let whole = signed_float (codes "-") parts.0 (λ d h. grind (arith, common_steps)) parts.4 in
@@ -175,27 +175,27 @@ float_bytes t parts =
     (λ x n. signed_float (codes "+-") x (λ d h. grind (arith, common_steps)) n) parts.6 in
     AllPass-from_list_all in_float t (rw (parts.3, list_all-append, list_all-append, whole, fraction, exponent) refl)
 
--- a float is ASCII
+-- each byte of a float is ASCII
 float_ascii : (t : List ℕ) → IsFloat t → IsAscii t
 float_ascii t parts i = let byte = float_bytes t parts i 0 in grind (arith, common_steps, cases_lt, get_or_past)
 
--- the integer at the start of a text fits the text
+-- the integer at the start of a text is no longer than the text
 pub integer_len_fits : (t : List ℕ) → integer_len t ≤ length t
 integer_len_fits t = number_len_fits (codes "-") t
 
--- a mark and a part fit the text
+-- a mark and a part at the start of a text are no longer than the text
 marked_len_fits : (marks : List ℕ) (part : List ℕ → ℕ) (t : List ℕ) → ((x : List ℕ) → part x ≤ length x)
     → marked_len marks part t ≤ length t
 marked_len_fits marks part t fits = grind (arith, length-drop)
 
--- the longest float at the start of a text fits the text
+-- the longest float at the start of a text is no longer than the text
 float_len_fits : (t : List ℕ) → float_len t ≤ length t
 float_len_fits t =
     let fraction = marked_len_fits (codes ".") digits_len (drop (integer_len t) t) (prefix_len-le-length is_ascii_digit) in
     let exponent = λ (x : List ℕ). marked_len_fits (codes "eE") (number_len (codes "+-")) x (number_len_fits (codes "+-")) in
     grind (arith, nat_tests, integer_len_fits, length-drop)
 
--- after the longest float a text may be cut
+-- a UTF-8 text can be cut after the longest float at its start
 pub float_boundary : (t : List ℕ) → IsUtf8 t → float_len t ≤ length t → IsCharBoundary t (float_len t)
 float_boundary t utf8 fits =
     elim (cases_eq (float_len t) 0) [
@@ -209,11 +209,11 @@ float_boundary t utf8 fits =
 pub float_whole : (t : List ℕ) → 0 < float_len t → length t ≤ float_len t → IsFloat t
 float_whole t some fills = grind (arith, take_all, float_len_float)
 
--- and a float fills it
+-- the longest float at the start of a float is the whole float
 pub float_fills : (t : List ℕ) → IsFloat t → (0 < float_len t) × (length t ≤ float_len t)
 float_fills t parts = grind (arith, float_len_longest, take_all, length-append, signed_some)
 
--- what is at the start of a text as a float
+-- no float is read if the longest float at the start of a text is empty
 pub float_misses : (t : List ℕ) → float_len t ≡ 0 → float_at t ≡ miss
 unfolding float_at
 float_misses t none = rw (eq-eqb (float_len t) 0 none) refl
@@ -223,15 +223,15 @@ pub float_reads : (t : List ℕ) → 0 < float_len t → float_at t ≡ reads (f
 unfolding float_at
 float_reads t some = rw (ne_eqb (float_len t) 0 (λ e. absurd (omega arith))) refl
 
--- what no value can go on with: the end, a comma or a space
+-- no value goes on with this text: it is empty, or begins with a comma, a space or a NUL
 abbrev pub Ends : List ℕ → Type 0
 Ends rest = is_one_of (0 ∷ comma ∷ space ∷ []) (slice_index rest 0) ≡ true
 
--- what no value can go on with is neither in a float nor such a mark
+-- a byte with which no value goes on is neither in a float nor the mark of an integer
 no_float_byte : (b : ℕ) → is_one_of (0 ∷ comma ∷ space ∷ []) b ≡ true → (in_float b ≡ false) × (b ≢ letter_i) × (b ≢ letter_u)
 no_float_byte b e = (grind (arith, common_steps), (λ i. grind (arith, common_steps)), (λ i. grind (arith, common_steps)))
 
--- the longest float at the start of a text ends where a float ends and no value can go on
+-- a float before a text with which no value goes on is the longest float there
 float_ends : (t rest : List ℕ) → IsFloat t → Ends rest → float_len (t ++ rest) ≡ length t
 float_ends t rest parts ends =
     let P : List ℕ → Type 0 = IsFloat in
@@ -247,7 +247,7 @@ float_ends t rest parts ends =
       | inr shorter ↦ omega arith
     ]
 
--- no mark of an integer is in a float or after it
+-- neither `i` nor `u` is in a float or directly after it, if no value goes on there
 unmarked : (t rest : List ℕ) (n : ℕ) → IsFloat t → Ends rest → n ≤ length t
     → (slice_index (t ++ rest) n ≢ letter_i) × (slice_index (t ++ rest) n ≢ letter_u)
 unmarked t rest n parts ends fits = elim (cases_lt n (length t)) [
@@ -255,7 +255,8 @@ unmarked t rest n parts ends fits = elim (cases_lt n (length t)) [
   | inr past ↦ let same = rw add-zero at (get_or-append-add t rest 0 0) in grind (arith, no_float_byte)
 ]
 
--- a float at the start of a text: its whole part, after which no mark of an integer is, and what it is read as
+-- a float at the start of a text: it has a whole part, neither `i` nor `u` follows this part, no unsigned integer is read, and the float is
+-- read
 pub record FloatFront (text t rest : List ℕ) : Type 0 where
   pub some : 0 < integer_len text
   pub no_i : slice_index text (integer_len text) ≢ letter_i
@@ -263,7 +264,7 @@ pub record FloatFront (text t rest : List ℕ) : Type 0 where
   pub unsigned : unsigned_at text ≡ miss
   pub reads_it : float_at text ≡ reads (float t) rest
 
--- each float before the end, a comma or a space is at the start
+-- a float before a text with which no value goes on is at the start as `FloatFront` says
 pub float_front : (t rest : List ℕ) → IsFloat t → Ends rest → FloatFront (t ++ rest) t rest
 unfolding unsigned_at
 float_front t rest parts ends =
@@ -272,7 +273,7 @@ float_front t rest parts ends =
     let filled : 0 < float_len text = omega (arith, len, (float_fills t parts).0, float_len_fits t) in
     grind (arith, integer_or_more, cases_eq, ne_eqb, eqb-true, zero-add, cases_Bool, eqb-false, nat_tests, unmarked, float_reads, take_at, drop_at)
 
--- a float reads back before the end, a comma or a space
+-- a float before a text with which no value goes on reads back
 pub float_reads_back : (t rest : List ℕ) → IsFloat t → Ends rest → value (t ++ rest) ≡ reads (float t) rest
 unfolding value
 float_reads_back t rest parts ends = grind (arith, float_front, integer_unmarked)

@@ -7,28 +7,29 @@ use Rattle.lp_format.specs.format.{spaces, reads, digits_len, fits_i64, integer,
 use Rattle.lp_format.proofs.lemmas.values.ValueLemmas.{fits_from_test, integer_parsed}
 use Rattle.lp_format.proofs.lemmas.literals.FloatLemmas.{minus_no_digit, signed_before}
 
--- digits have no sign at the start
+-- digits before a text that begins with no digit are an integer of this length
 pub unsigned_len : (ds tail : List ℕ) → IsNumeral 10 ds → digits_len tail ≡ 0 → integer_len (ds ++ tail) ≡ length ds
 unsigned_len [] tail numeral ends = absurd (omega arith)
 unsigned_len (d ∷ ds) tail numeral ends = omega (arith, signed_before (codes "-") (d ∷ ds) tail minus_no_digit (inr numeral), ends)
 
--- digits without a sign have their value
+-- the value of digits without a sign is the value of the digits
 unsigned_value : (ds : List ℕ) → IsNumeral 10 ds → signed_digits_value 10 ds ≡ pos (digits_value 10 ds)
 unsigned_value ds numeral = grind (arith, digit_from_value, ne_eqb)
 
--- an integer in range, as it is written: its length before what is no digit, its value, and that no space is at the start
+-- the text of an integer in range: it is not empty, begins with no space, has the value of the integer, and is an integer of this length
+-- before any text that begins with no digit
 pub record Written (z : ℤ) : Type 0 where
   pub some : 0 < length (signed_decimal z)
   pub len : (tail : List ℕ) → digits_len tail ≡ 0 → integer_len (signed_decimal z ++ tail) ≡ length (signed_decimal z)
   pub value : signed_digits_value 10 (signed_decimal z) ≡ z
   pub no_space : spaces (signed_decimal z) ≡ 0
 
--- no space comes before digits
+-- a text of digits begins with no space
 no_space_first : (ds : List ℕ) → IsNumeral 10 ds → spaces ds ≡ 0
 no_space_first [] numeral = refl
 no_space_first (d ∷ ds) numeral = grind (arith, digit_from_value, ne_eqb)
 
--- each integer in range is written so
+-- the text of each integer in range is as `Written` says
 pub integer_written : (z : ℤ) → fits_i64 z ≡ true → Written z
 integer_written (pos n) fits = grind (arith, fits_from_test, decimal_is_IsNumeral, unsigned_len, unsigned_value, no_space_first)
 integer_written (negsuc n) fits =
@@ -37,7 +38,7 @@ integer_written (negsuc n) fits =
     let len = signed_before (codes "-") (minus ∷ decimal (suc n)) in
     grind (arith, minus_no_digit)
 
--- an integer and its mark
+-- the text of an integer and `i` read back as the integer
 pub integer_reads_back : (z : ℤ) (rest : List ℕ) → fits_i64 z ≡ true → integer_at (signed_decimal z ++ letter_i ∷ rest) ≡ reads (integer z) rest
 integer_reads_back z rest fits =
     let written = integer_written z fits in

@@ -1,4 +1,4 @@
--- Bare bytes: what a backslash does to the byte after it, and the shape of a piece by its bare bytes, which determine the cut.
+-- Bare bytes: the effect of a backslash on the byte after it, and the shape of a piece by its bare bytes, which determine the cut.
 use Rattle.std.proofs.Common.{◌≡◌, ◌≢◌, ℕ, Bool, true, false, cond, not, eqb, List, [], ◌∷◌, ◌++◌, sym, ◌∙◌, ap, refl, arith, append_assoc}
 use Rattle.std.proofs.Common.{append-nil, ◌⊎◌, inr, subst, ◌&&◌, All, count_by, ne_eqb, lt-ltb, le-ltb, ◌==◌, if◌then◌else◌, nat_lt, fold}
 use Rattle.std.proofs.lemmas.{List.reverse-append, List.Sums.fold-append, Bool.cases_eq, Bool.and_left, Bool.and_right}
@@ -7,49 +7,49 @@ use Rattle.lp_format.specs.format.{HasMoreEquals, IsPlain, EndsPlain, EndsQuoted
 use Rattle.lp_format.specs.format.Piece.{EndsPlain.first, EndsPlain.later, EndsQuoted.opened}
 use Rattle.std.proofs.lemmas.List.Elements.{All-append, All-cons, All-nil, All-push, All-head, All-tail}
 
--- a byte more: only a backslash escapes, and only a bare one
+-- the first byte of a text is not escaped
 pub is_escaped-nil : is_escaped_after [] ≡ false
 unfolding is_escaped_after
 is_escaped-nil = refl
 
--- after a byte something is escaped if that byte is a bare backslash
+-- a byte is escaped exactly if the byte before it is a bare backslash
 pub is_escaped-push : (front : List ℕ) (b : ℕ)
     → is_escaped_after (front ++ b ∷ []) ≡ cond (eqb b backslash) (not (is_escaped_after front)) false
 unfolding is_escaped_after
 is_escaped-push front b = rw reverse-append (grind arith)
 
--- the flag that a walk over a text keeps
+-- the flag that a walk over a text keeps: whether the next byte is escaped
 abbrev pub flag_after : Bool → List ℕ → Bool
 flag_after f [] = f
 flag_after f (b ∷ bs) = flag_after (cond (eqb b backslash) (not f) false) bs
 
--- whether something is escaped after two texts, from whether it is after the first
+-- whether the byte after two texts is escaped, by whether the byte after the first is escaped
 pub is_escaped-append : (front text : List ℕ) → is_escaped_after (front ++ text) ≡ flag_after (is_escaped_after front) text
 is_escaped-append front [] = ap is_escaped_after (append-nil front)
 is_escaped-append front (b ∷ bs) = grind (arith, append_assoc, is_escaped-push, is_escaped-append (front ++ b ∷ []) bs)
 
--- no run of backslashes reaches past another byte
+-- a run of backslashes does not reach past another byte
 pub is_escaped-after_other : (front text : List ℕ) (b : ℕ) → eqb b backslash ≡ false
     → is_escaped_after (front ++ b ∷ text) ≡ is_escaped_after text
 is_escaped-after_other front text b h =
     is_escaped-append front (b ∷ text) ∙ ap (λ t. flag_after (cond t (not (is_escaped_after front)) false) text) h
     ∙ ap (λ f. flag_after f text) (sym is_escaped-nil) ∙ sym (is_escaped-append [] text)
 
--- a last byte is bare unless it is escaped
+-- the last byte of a text is bare unless it is escaped
 pub bare_after-push : (front text : List ℕ) (b : ℕ)
     → bare_after front (text ++ b ∷ []) ≡ bare_after front text ++ cond (is_escaped_after (front ++ text)) [] (b ∷ [])
 bare_after-push front [] b = append-nil _ ∙ ap (λ f. cond (is_escaped_after f) [] (b ∷ [])) (sym (append-nil front))
 bare_after-push front (a ∷ text) b = rw (bare_after-push (front ++ a ∷ []) text b) (simp append_assoc)
 
--- `front` ends in an escaped place, or in a bare one
+-- the byte after an escaped byte is not escaped
 pub is_escaped-push_escaped : (front : List ℕ) (b : ℕ) → is_escaped_after front ≡ true → is_escaped_after (front ++ b ∷ []) ≡ false
 is_escaped-push_escaped front b h = grind (arith, is_escaped-push, eqb)
 
--- after a bare backslash the next byte is escaped
+-- the byte after a bare backslash is escaped
 pub is_escaped-push_backslash : (front : List ℕ) → is_escaped_after front ≡ false → is_escaped_after (front ++ backslash ∷ []) ≡ true
 is_escaped-push_backslash front h = is_escaped-push front backslash ∙ ap not h
 
--- after another byte the next byte is not escaped
+-- the byte after a byte that is no backslash is not escaped
 pub is_escaped-push_other : (front : List ℕ) (b : ℕ) → b ≢ backslash → is_escaped_after (front ++ b ∷ []) ≡ false
 is_escaped-push_other front b h = is_escaped-push front b ∙ ap (λ t. cond t (not (is_escaped_after front)) false) (ne_eqb b backslash h)
 
@@ -57,21 +57,21 @@ is_escaped-push_other front b h = is_escaped-push front b ∙ ap (λ t. cond t (
 pub bare-push_bare : (text : List ℕ) (b : ℕ) → is_escaped_after text ≡ false → bare (text ++ b ∷ []) ≡ bare text ++ b ∷ []
 bare-push_bare text b h = bare_after-push [] text b ∙ ap (λ f. bare text ++ cond f [] (b ∷ [])) h
 
--- of what comes before, only whether it escapes matters
+-- the bare bytes of a text depend on the text before it only by whether its first byte is escaped
 same_bare : (front other text : List ℕ) → is_escaped_after front ≡ is_escaped_after other → bare_after front text ≡ bare_after other text
 same_bare front other [] e = refl
 same_bare front other (b ∷ text) e = grind (arith, is_escaped-push, same_bare (front ++ b ∷ []) (other ++ b ∷ []) text)
 
--- the bare bytes of two texts are those of the first and those of the second after it
+-- the bare bytes of two texts are the bare bytes of the first and the bare bytes of the second after the first
 bare_after-append : (front xs ys : List ℕ) → bare_after front (xs ++ ys) ≡ bare_after front xs ++ bare_after (front ++ xs) ys
 bare_after-append front [] ys = ap (λ t. bare_after t ys) (sym (append-nil front))
 bare_after-append front (x ∷ xs) ys = grind (arith, append_assoc, bare_after-append (front ++ x ∷ []) xs ys)
 
--- the bare bytes of two texts, if nothing is escaped after the first
+-- the bare bytes of two texts are the bare bytes of each, if the first byte of the second is not escaped
 pub bare-append : (xs ys : List ℕ) → IsBareAfter xs → bare (xs ++ ys) ≡ bare xs ++ bare ys
 bare-append xs ys h = bare_after-append [] xs ys ∙ ap (λ t. bare xs ++ t) (same_bare xs [] ys (h ∙ sym is_escaped-nil))
 
--- a place in joined lists is in one of them
+-- a place in two joined lists is in one of the two
 pub place_in_append : (xs ys : List ℕ) (c : ℕ) (before after : List ℕ) → xs ++ ys ≡ before ++ c ∷ after
     → ((rest : List ℕ) × (xs ≡ before ++ c ∷ rest)) ⊎ ((front : List ℕ) × (before ≡ xs ++ front) × (ys ≡ front ++ c ∷ after))
 place_in_append [] ys c before after e = inr (before, refl, e)
@@ -85,24 +85,24 @@ pub nil_has_no_place : {X : Type 0} (before : List X) (c : X) (after : List X) �
 nil_has_no_place [] c after e = cc
 nil_has_no_place (y ∷ before) c after e = cc
 
--- an escaped byte leaves a head a head
+-- a head and an escaped byte after it are a head
 pub IsHead-escaped : (text : List ℕ) (b : ℕ) → IsHead text → is_escaped_after text ≡ true → IsHead (text ++ b ∷ [])
 IsHead-escaped text b h e = rw (bare_after-push, e, append-nil) h
 
--- a bare byte that is no space and no newline leaves a head a head
+-- a head and a bare byte after it that is no space and no newline are a head
 pub IsHead-bare : (text : List ℕ) (b : ℕ) → IsHead text → is_escaped_after text ≡ false → b ≢ space → b ≢ newline → IsHead (text ++ b ∷ [])
 IsHead-bare text b h e s n = rw bare-push_bare (All-push (λ c. (c ≢ space) × (c ≢ newline)) (bare text) b h (s, n))
 
--- no quote opens a string where `added` are the bare bytes that follow those that are counted
+-- no quote among the bare bytes `added` opens a string, where `counted` are the bare bytes before them
 abbrev pub NoOpening : List ℕ → List ℕ → Type 0
 NoOpening counted added = (before after : List ℕ) → added ≡ before ++ quote ∷ after → ¬ HasMoreEquals (counted ++ before)
 
--- one byte opens none, unless it is a quote after more `=` than `,`
+-- one byte opens no string, unless it is a quote after more `=` than `,`
 NoOpening-one : (counted : List ℕ) (b : ℕ) → (b ≡ quote → ¬ HasMoreEquals counted) → NoOpening counted (b ∷ [])
 NoOpening-one counted b q [] after p = rw append-nil (q (cc))
 NoOpening-one counted b q (c ∷ before) after p = absurd (nil_has_no_place before quote after (cc))
 
--- one byte is no newline
+-- one byte that is no newline is a text without a newline
 no_newline : (b : ℕ) → b ≢ newline → All (λ c. c ≢ newline) (b ∷ [])
 no_newline b n = All-cons (λ c. c ≢ newline) b [] n (All-nil (λ c. c ≢ newline))
 
@@ -120,11 +120,11 @@ IsPlain-extend counted xs ys added h e n q =
       no_opening = grind (arith, place_in_append, append_assoc);
     }
 
--- equal texts end in a plain stretch alike
+-- equal texts with equal bare bytes end in a plain stretch alike
 pub EndsPlain-same : {text more counted seen : List ℕ} → text ≡ more → counted ≡ seen → EndsPlain text counted → EndsPlain more seen
 EndsPlain-same {text} {more} {counted} e f h = subst (λ s. EndsPlain more s) f (subst (λ t. EndsPlain t counted) e h)
 
--- what ends in a plain stretch still does if no byte after it ends the piece or opens a string
+-- a text that ends in a plain stretch still does if no byte after it ends the piece or opens a string
 EndsPlain-extend : {piece counted : List ℕ} (text added : List ℕ) → EndsPlain piece counted → bare_after piece text ≡ added
     → All (λ c. c ≢ newline) added → NoOpening counted added → EndsPlain (piece ++ text) (counted ++ added)
 EndsPlain-extend text added (first head plain h i p) e n q =
@@ -140,7 +140,7 @@ EndsPlain-extend text added (later piece counted quoted plain h o k i p) e n q =
     (ap (λ t. counted ++ t) (bare_after-append [] plain text ∙ ap (λ t. bare plain ++ t) f) ∙ sym (append_assoc counted (bare plain) added))
     (later piece counted quoted (plain ++ text) h o k i (IsPlain-extend counted plain text added p f n q))
 
--- an escaped byte leaves the end in a plain stretch
+-- a text that ends in a plain stretch still does after an escaped byte
 pub EndsPlain-escaped : {text counted : List ℕ} (b : ℕ) → EndsPlain text counted → is_escaped_after text ≡ true
     → EndsPlain (text ++ b ∷ []) counted
 EndsPlain-escaped {text} {counted} b h e =
@@ -148,18 +148,18 @@ EndsPlain-escaped {text} {counted} b h e =
     (EndsPlain-extend (b ∷ []) [] h (rw e refl) (All-nil (λ c. c ≢ newline))
     (λ before after p. absurd (nil_has_no_place before quote after p)))
 
--- a bare byte that neither ends the piece nor opens a string leaves the end in a plain stretch
+-- a text that ends in a plain stretch still does after a bare byte that neither ends the piece nor opens a string
 pub EndsPlain-bare : {text counted : List ℕ} (b : ℕ) → EndsPlain text counted → IsBareAfter text → b ≢ newline
     → (b ≡ quote → ¬ HasMoreEquals counted) → EndsPlain (text ++ b ∷ []) (counted ++ b ∷ [])
 EndsPlain-bare {text} {counted} b h e n m = EndsPlain-extend (b ∷ []) (b ∷ []) h (rw e refl) (no_newline b n) (NoOpening-one counted b m)
 
--- the first space
+-- a head and a bare space after it end in a plain stretch
 pub EndsPlain-start : (head : List ℕ) → IsHead head → IsBareAfter head → EndsPlain (head ++ space ∷ []) (space ∷ [])
 EndsPlain-start head h i =
     EndsPlain-same refl (bare-push_bare [] space is_escaped-nil)
     (first head [] h i (IsPlain-one [] space (omega arith) (λ e. absurd (omega arith))))
 
--- what ends in a string still does if no bare byte after it is a quote
+-- a text that ends in a string still does if no bare byte after it is a quote
 EndsQuoted-extend : {text counted : List ℕ} (more : List ℕ) → EndsQuoted text counted → All (λ c. c ≢ quote) (bare_after text more)
     → EndsQuoted (text ++ more) counted
 EndsQuoted-extend more (opened piece counted quoted h o q) n =
@@ -169,17 +169,17 @@ EndsQuoted-extend more (opened piece counted quoted h o q) n =
     subst (λ t. EndsQuoted t counted) (sym (append_assoc piece (quote ∷ quoted) more))
     (opened piece counted (quoted ++ more) h o (subst (All (λ c. c ≢ quote)) (sym (bare_after-append [] quoted more)) quotes))
 
--- an escaped byte leaves the end in a string
+-- a text that ends in a string still does after an escaped byte
 pub EndsQuoted-escaped : {text counted : List ℕ} (b : ℕ) → EndsQuoted text counted → is_escaped_after text ≡ true
     → EndsQuoted (text ++ b ∷ []) counted
 EndsQuoted-escaped b h e = EndsQuoted-extend (b ∷ []) h (rw e (All-nil (λ c. c ≢ quote)))
 
--- a bare byte that is no quote leaves the end in a string
+-- a text that ends in a string still does after a bare byte that is no quote
 pub EndsQuoted-bare : {text counted : List ℕ} (b : ℕ) → EndsQuoted text counted → IsBareAfter text → b ≢ quote
     → EndsQuoted (text ++ b ∷ []) counted
 EndsQuoted-bare b h e n = EndsQuoted-extend (b ∷ []) h (rw e (All-cons (λ c. c ≢ quote) b [] n (All-nil (λ c. c ≢ quote))))
 
--- a quote that opens, and one that closes
+-- a bare quote after more `=` than `,` opens a string
 pub EndsQuoted-start : {text counted : List ℕ} → EndsPlain text counted → IsBareAfter text → HasMoreEquals counted
     → EndsQuoted (text ++ quote ∷ []) counted
 EndsQuoted-start {text} {counted} h i m = opened text counted [] h (i, m) (All-nil (λ c. c ≢ quote))
@@ -189,13 +189,13 @@ pub EndsQuoted-close : {text counted : List ℕ} → EndsQuoted text counted →
 EndsQuoted-close (opened piece counted quoted h o q) e = EndsPlain-same refl (append-nil counted)
     (later piece counted quoted [] h o q e (grind (arith, no_newline, nil_has_no_place)))
 
--- where the machine is, with the bare bytes of the plain stretches so far
+-- the states of a machine that reads the bare bytes of a piece, with the bare bytes of the plain stretches that it has read
 data State : Type 0 where
   in_head : State
   in_plain in_quoted : List ℕ → State
   ended : State
 
--- a byte in a plain stretch
+-- the state after a byte in a plain stretch
 abbrev plain_step : List ℕ → ℕ → State
 plain_step counted b =
     let opens = b == quote && nat_lt (count_by (λ c. c == comma) counted) (count_by (λ c. c == equals) counted) in
@@ -210,17 +210,17 @@ step ended b = ended
 abbrev run : State → List ℕ → State
 run s bs = fold step s bs
 
--- a machine that has ended stays so
+-- a machine that has ended stays in this state
 run-ended : (xs : List ℕ) → run ended xs ≡ ended
 run-ended [] = refl
 run-ended (x ∷ xs) = run-ended xs
 
--- the bare bytes of a text whose first byte is no backslash
+-- the bare bytes of a text whose first byte is no backslash are this byte and the bare bytes after it
 bare-cons : (b : ℕ) (text : List ℕ) → b ≢ backslash → bare (b ∷ text) ≡ b ∷ bare text
 bare-cons b text h =
     bare-append (b ∷ []) text (is_escaped-push_other [] b h) ∙ ap (λ t. t ++ bare text) (bare-push_bare [] b is_escaped-nil)
 
--- a front, a bare byte that is no backslash, and more
+-- a machine reads a front, a bare byte that is no backslash and the text after it one after another
 run-around : (s : State) (front : List ℕ) (b : ℕ) (text : List ℕ) → IsBareAfter front → b ≢ backslash
     → run s (bare (front ++ b ∷ text)) ≡ run (step (run s (bare front)) b) (bare text)
 run-around s front b text i h = grind (arith, bare-append, bare-cons, fold-append)
@@ -254,7 +254,7 @@ opening : (piece counted quoted : List ℕ) → run in_head (bare piece) ≡ in_
     → run in_head (bare (piece ++ quote ∷ quoted)) ≡ in_quoted counted
 opening piece counted quoted r o q = grind (arith, run-around, lt-ltb, run_quoted)
 
--- what ends in a plain stretch leaves the machine in one
+-- a text that ends in a plain stretch leaves the machine in a plain stretch
 ends_plain : {text counted : List ℕ} → EndsPlain text counted → run in_head (bare text) ≡ in_plain counted
 ends_plain (first head plain h i p) =
     let counted = run_plain [] (bare (space ∷ plain)) p.no_newline p.no_opening in
@@ -263,15 +263,15 @@ ends_plain (later piece counted quoted plain h o q i p) =
     run-around in_head (piece ++ quote ∷ quoted) quote plain i (omega arith)
     ∙ rw (opening piece counted quoted (ends_plain h) o q) (run_plain counted (bare plain) p.no_newline p.no_opening)
 
--- what ends in a string leaves the machine in one
+-- a text that ends in a string leaves the machine in a string
 ends_quoted : {text counted : List ℕ} → EndsQuoted text counted → run in_head (bare text) ≡ in_quoted counted
 ends_quoted (opened piece counted quoted h o q) = opening piece counted quoted (ends_plain h) o q
 
--- a newline that is a cut is in no piece
+-- a bare newline after a closed piece ends the machine
 cut_ends : (piece rest : List ℕ) → IsClosed piece → IsBareAfter piece → run in_head (bare (piece ++ newline ∷ rest)) ≡ ended
 cut_ends piece rest h i = grind (arith, run-around, run_head, run-ended, ends_plain)
 
--- a piece that ends before a newline is no beginning of a longer one
+-- a closed piece with a bare newline after it is not the beginning of a longer piece
 pub cut_not_within : (piece rest : List ℕ) → IsClosed piece → IsBareAfter piece → IsClosed (piece ++ newline ∷ rest)
     ⊎ IsOpen (piece ++ newline ∷ rest) → ⊥
 cut_not_within piece rest c i h = let e = cut_ends piece rest c i in grind (arith, run_head, ends_plain, ends_quoted)

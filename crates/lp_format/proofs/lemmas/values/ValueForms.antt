@@ -11,16 +11,16 @@ use Rattle.lp_format.specs.format.{false_words, letter_i, letter_u, minus}
 use Rattle.lp_format.proofs.lemmas.values.ValueLemmas.{byte_at_drop, after_byte, boolean_misses, integer_unmarked, unsigned_reads}
 use Rattle.lp_format.proofs.lemmas.values.ValueLemmas.{unsigned_overflows}
 
--- if a byte misses, the text does not begin with it
+-- a text in which a byte misses does not begin with this byte
 pub byte_missing : (b : ℕ) (text : List ℕ) → byte b text ≡ miss → (rest : List ℕ) → text ≢ b ∷ rest
 byte_missing b text none rest e = grind (arith, eq-eqb)
 
--- the outcomes of a string
+-- no string is read from a text that does not begin with a quote
 pub string_misses : (text : List ℕ) → ((after : List ℕ) → text ≢ quote ∷ after) → string_at text ≡ miss
 unfolding string_at
 string_misses text other = grind (arith, ne_eqb)
 
--- a body that ends before the text does ends in a quote
+-- a quote follows a body that ends before the text does
 closing_quote : (after : List ℕ) → body_len after < length after → slice_index after (body_len after) ≡ quote
 unfolding first_bare
 closing_quote after closes =
@@ -28,7 +28,7 @@ closing_quote after closes =
     let at = get_or-range_with_len 0 (length after) (body_len after) 0 (omega arith) in
     grind (arith, passes_at_first, zero-add, eqb-true, and_parts)
 
--- a string that no quote closes is not there
+-- no string is read if no quote closes it
 pub string_open : (text after : List ℕ) → text ≡ quote ∷ after
     → ((rest : List ℕ) → drop (body_len after) after ≢ quote ∷ rest) → string_at text ≡ miss
 unfolding string_at
@@ -43,18 +43,18 @@ pub string_reads : (text after rest : List ℕ) → text ≡ quote ∷ after →
 unfolding string_at
 string_reads text after rest e closed = grind (arith, common_steps, nat_tests, byte_at_drop, lt-ltb, length-drop)
 
--- if no integer is, no number is
+-- no number is read if no integer is at the start of the text
 pub no_number : (text : List ℕ) → integer_len text ≡ 0 → (integer_at text otherwise unsigned_at text otherwise float_at text) ≡ miss
 unfolding integer_at unsigned_at float_at
 no_number text none = grind (arith, eq-eqb, cases_eq, ne_eqb, cases_Bool, eqb-true, zero-add)
 
--- digits and `u`, without `-`
+-- digits and `u`, without a minus sign before them, are read as an unsigned integer
 pub unsigned_is : (text : List ℕ) → 0 < integer_len text → slice_index text (integer_len text) ≢ letter_i
     → slice_index text (integer_len text) ≡ letter_u → slice_index text 0 ≢ minus
     → (integer_at text otherwise unsigned_at text otherwise float_at text) ≡ unsigned_at text
 unsigned_is text some no_i mark plain = grind (arith, ne_eqb, cases_Bool, eqb-true, zero-add, cases_lt, unsigned_reads, unsigned_overflows, integer_unmarked)
 
--- without either mark, or with `-` at the start of `u`, it is a float or nothing
+-- a number without `i`, and without `u` or with a minus sign, is read as a float or not at all
 pub float_is : (text : List ℕ) → slice_index text (integer_len text) ≢ letter_i
     → (slice_index text (integer_len text) ≢ letter_u) ⊎ (slice_index text 0 ≡ minus)
     → (integer_at text otherwise unsigned_at text otherwise float_at text) ≡ float_at text
@@ -70,18 +70,18 @@ no_integer (b ∷ rest) other = grind (arith, or_parts, ne_eqb, eqb-false)
 no_string : (text : List ℕ) → slice_index text 0 ≢ quote → string_at text ≡ miss
 no_string text other = string_misses text (λ after e. other (ap (λ t. slice_index t 0) e))
 
--- a digit or `-` at the start: a number
+-- a text that begins with a digit or `-` is read as a number
 pub number_form : (text : List ℕ) → (is_ascii_digit (slice_index text 0) || slice_index text 0 == minus) ≡ true
     → value text ≡ (integer_at text otherwise unsigned_at text otherwise float_at text)
 unfolding value
 number_form text first = grind (arith, boolean_misses, ne_eqb, no_string)
 
--- a quote at the start: a text
+-- a text that begins with a quote is read as a string
 pub string_form : (text : List ℕ) → slice_index text 0 ≡ quote → value text ≡ string_at text
 unfolding value
 string_form text first = grind (arith, no_number, no_integer, boolean_misses, ne_eqb)
 
--- else a Boolean
+-- any other text is read as a Boolean
 pub boolean_form : (text : List ℕ) → (is_ascii_digit (slice_index text 0) || slice_index text 0 == minus) ≡ false → slice_index text 0 ≢ quote
     → value text ≡ (boolean_at true true_words text otherwise boolean_at false false_words text)
 unfolding value

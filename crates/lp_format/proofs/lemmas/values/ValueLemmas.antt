@@ -11,11 +11,11 @@ use Rattle.lp_format.specs.format.{Value, digits_len, integer, integer_at, integ
 use Rattle.lp_format.specs.format.{unsigned_at, word_len, Reading, Text, ◌otherwise◌, above, miss, fatal, reads, integer_value_invalid}
 use Rattle.lp_format.specs.format.{uinteger_value_invalid, letter_i, letter_u}
 
--- a digit, by its test
+-- a byte that passes `is_ascii_digit` is a digit
 pub digit_range : (b : ℕ) → is_ascii_digit b ≡ true → (48 ≤ b) × (b ≤ 57)
 digit_range b h = grind (arith, common_steps)
 
--- the digits at the start are digits
+-- the bytes that `digits_len` counts are digits
 pub all_digits : (text : List ℕ) → AllDigits 10 (take (digits_len text) text)
 all_digits [] = tt
 all_digits (b ∷ text) =
@@ -24,15 +24,15 @@ all_digits (b ∷ text) =
       | inr other ↦ rw other tt
     ]
 
--- what fits an i64, by its test
+-- a number that passes `fits_i64` fits an i64
 pub fits_from_test : (z : ℤ) → fits_i64 z ≡ true → FitsSigned w64 z
 fits_from_test z h = grind (arith, ltb-true, leb-true, and_parts)
 
--- the test says yes of an integer that fits an i64
+-- a number that fits an i64 passes `fits_i64`
 pub test_from_fits : (z : ℤ) → FitsSigned w64 z → fits_i64 z ≡ true
 test_from_fits z h = grind (arith, lt-ltb, and_from, le-leb)
 
--- after digits a text may be cut
+-- a UTF-8 text can be cut after a sign and one or more digits
 pub digits_boundary : (text : List ℕ) (sign d : ℕ) → IsUtf8 text → d ≡ digits_len (drop sign text) → 0 < d → IsCharBoundary text (sign + d)
 digits_boundary text sign d utf8 e some =
     let last : is_ascii_digit (get_or (drop sign text) (d - 1) 0) ≡ true = grind (arith, prefix_len_passes) in
@@ -41,12 +41,12 @@ digits_boundary text sign d utf8 e some =
     let next : sign + d ≡ sign + (d - 1) + 1 = omega arith in
     rw next (IsCharBoundary-after_ascii text (sign + (d - 1)) utf8 (omega arith) (omega arith))
 
--- the same, after no digits too
+-- a UTF-8 text can be cut after the digits at its start, also if there are none
 pub digits_end : (text : List ℕ) (d : ℕ) → IsUtf8 text → d ≡ digits_len text → IsCharBoundary text d
 digits_end text zero utf8 e = IsCharBoundary-start text utf8
 digits_end text (suc d) utf8 e = subst (IsCharBoundary text) (zero-add (suc d)) (digits_boundary text 0 (suc d) utf8 e (omega arith))
 
--- and after a sign and digits
+-- a UTF-8 text can be cut after a sign and digits, and at its start if no digit follows the sign
 pub negative_end : (text : List ℕ) (r : ℕ) → IsUtf8 text
     → r ≡ (if digits_len (drop 1 text) == 0 then 0 else 1 + digits_len (drop 1 text)) → IsCharBoundary text r
 negative_end text r utf8 e =
@@ -57,79 +57,79 @@ negative_end text r utf8 e =
           (omega (arith, eqb-false (digits_len (drop 1 text)) 0 some)))
     ]
 
--- digits at the start, if there is one
+-- the digits at the start of a text are a numeral, if there is at least one digit
 pub front_numeral : (text : List ℕ) → digits_len text ≢ 0 → IsNumeral 10 (take (digits_len text) text)
 front_numeral text some = grind (arith, length-take-le, prefix_len-le-length, all_digits)
 
--- digits and their mark
+-- a number that is not empty, with its mark after it, passes the test of `integer_at`
 marked : (n b mark : ℕ) → 0 < n → b ≡ mark → (not (n == 0) && b == mark) ≡ true
 marked n b mark some e = grind (arith, nat_tests)
 
--- the outcomes of an integer: digits without `i` are none
+-- digits without `i` after them are not read as an integer
 pub integer_unmarked : (text : List ℕ) → slice_index text (integer_len text) ≢ letter_i → integer_at text ≡ miss
 unfolding integer_at
 integer_unmarked text other = grind (arith, nat_tests)
 
--- digits in range and `i` are an integer
+-- digits in range and `i` are read as an integer
 pub integer_reads : (text : List ℕ) → 0 < integer_len text → slice_index text (integer_len text) ≡ letter_i
     → fits_i64 (signed_digits_value 10 (take (integer_len text) text)) ≡ true
     → integer_at text ≡ reads (integer (signed_digits_value 10 (take (integer_len text) text))) (drop (integer_len text + 1) text)
 unfolding integer_at
 integer_reads text some mark fits = rw (marked (integer_len text) _ letter_i some mark, fits) refl
 
--- digits out of range and `i` are a fault
+-- digits out of range and `i` are fatal
 pub integer_overflows : (text : List ℕ) → 0 < integer_len text → slice_index text (integer_len text) ≡ letter_i
     → fits_i64 (signed_digits_value 10 (take (integer_len text) text)) ≡ false
     → integer_at text ≡ fatal (integer_value_invalid (side_of (take (integer_len text) text)) (take (integer_len text) text))
 unfolding integer_at
 integer_overflows text some mark fits = rw (marked (integer_len text) _ letter_i some mark, fits) refl
 
--- the byte at a place, from what follows it
+-- the byte at a place and the text after it, by the text from this place on
 pub byte_at_drop : (text rest : List ℕ) (n b : ℕ) → drop n text ≡ b ∷ rest → (slice_index text n ≡ b) × (drop (n + 1) text ≡ rest)
 byte_at_drop text rest n b e =
     let at = ap (λ (xs : List ℕ). get_or xs 0 0) e in
     let after = ap (λ (xs : List ℕ). drop 1 xs) e in
     (rw (get_or-drop n text 0 0, add-zero n) at at, rw (drop-drop 1 n text) at after)
 
--- a byte that is not 0 is in the text
+-- a place whose byte is not 0 is in the text
 in_text : (text : List ℕ) (n b : ℕ) → slice_index text n ≡ suc b → n < length text
 in_text text n b e = grind (arith, cases_lt, get_or_past)
 
--- and what follows a place, from its byte
+-- the text from a place on is the byte at this place and the text after it, if this byte is not 0
 pub after_byte : (text : List ℕ) (n b : ℕ) → slice_index text n ≡ suc b → drop n text ≡ suc b ∷ drop (n + 1) text
 after_byte text n b e = rw (drop_more text n 0 (in_text text n b e), e) refl
 
--- what a parse of the number gives: if it fits
+-- a number that fits an i64, with `i` after it, is read as an integer
 pub integer_parsed : (text number rest : List ℕ) (z : ℤ) → number ≡ take (integer_len text) text → drop (integer_len text) text ≡ letter_i ∷ rest
     → 0 < length number → FitsSigned w64 (signed_digits_value 10 number) → z ≡ signed_digits_value 10 number
     → integer_at text ≡ reads (integer z) rest
 integer_parsed text number rest z e marked some fits same = grind (arith, byte_at_drop, marked, length-take, integer_reads, test_from_fits)
 
--- an integer and its mark decide
+-- if `i` follows an integer, no other case is tried
 pub integer_decides : (text : List ℕ) (other : Reading (Value Text)) → 0 < integer_len text → slice_index text (integer_len text) ≡ letter_i
     → (integer_at text otherwise other) ≡ integer_at text
 unfolding integer_at
 integer_decides text other some mark = grind (arith, marked, cases_Bool)
 
--- after a letter a text may be cut
+-- a UTF-8 text can be cut after an ASCII byte that is not 0
 pub letter_boundary : (text : List ℕ) (n b : ℕ) → IsUtf8 text → slice_index text n ≡ suc b → suc b < 128 → IsCharBoundary text (n + 1)
 letter_boundary text n b utf8 e small = IsCharBoundary-after_ascii text n utf8 (in_text text n b e) (omega (arith, e))
 
--- digits in range and `u` are an unsigned integer
+-- digits in range and `u` are read as an unsigned integer
 pub unsigned_reads : (text : List ℕ) → 0 < digits_len text → slice_index text (digits_len text) ≡ letter_u
     → digits_value 10 (take (digits_len text) text) < 2 ^ 64
     → unsigned_at text ≡ reads (unsigned (digits_value 10 (take (digits_len text) text))) (drop (digits_len text + 1) text)
 unfolding unsigned_at
 unsigned_reads text some mark small = rw (marked (digits_len text) _ letter_u some mark, lt-ltb _ (2 ^ 64) small) refl
 
--- digits out of range and `u` are a fault
+-- digits out of range and `u` are fatal
 pub unsigned_overflows : (text : List ℕ) → 0 < digits_len text → slice_index text (digits_len text) ≡ letter_u
     → 2 ^ 64 ≤ digits_value 10 (take (digits_len text) text)
     → unsigned_at text ≡ fatal (uinteger_value_invalid above (take (digits_len text) text))
 unfolding unsigned_at
 unsigned_overflows text some mark large = rw (marked (digits_len text) _ letter_u some mark, le-ltb _ (2 ^ 64) large) refl
 
--- the outcomes of a Boolean
+-- no Boolean is read if none of its words is at the start of the text
 pub boolean_misses : (b : Bool) (words : List (List ℕ)) (text : List ℕ) → word_len words text ≡ 0 → boolean_at b words text ≡ miss
 unfolding boolean_at
 boolean_misses b words text none = rw (eq-eqb (word_len words text) 0 none) refl

@@ -1,4 +1,4 @@
--- Worked lines: what each text is read as, and what is written for a point. Each row computes.
+-- Worked lines: the answers for texts, and the texts that the builder writes for points. Each row computes.
 use Rattle.std.proofs.Common.{◌≡◌, List, [], ◌∷◌, map, refl, Ok, Err, Option, Some, None, true, false, codes, ℤ, pos, negsuc}
 use Rattle.std.specs.{Prelude.⊤, Fmt.digits}
 use Prim.Native.String.{String}
@@ -9,7 +9,7 @@ use Rattle.lp_format.specs.format.{a_field_key, name, escaped, first_bare, is_es
 use Rattle.lp_format.specs.format.{integer, unsigned, float, string, boolean, integer_at, unsigned_at, float_at, string_at, boolean_at}
 use Rattle.lp_format.specs.format.{Pair, built, built_all, line_of, Line, answer, tag, field}
 
--- what a row unfolds to be computed
+-- the definitions that are unfolded to compute a row
 unfoldable on_literals : ⊤
 unfolding answer tag field name without_escapes escaped first_bare is_escaped_after value integer_at unsigned_at float_at string_at
     boolean_at trimmed line_of digits
@@ -48,16 +48,16 @@ line series measurement tags fields timestamp =
 abbrev of_m : List (Pair Text (Value Text)) → Option ℤ → Line
 of_m fields timestamp = line "m" (part "m") [] fields timestamp
 
--- a row of a table: what is asked, and what is wanted
+-- a row of a table: an argument, and the result that is wanted
 infix 70 ◌gives◌
 abbrev ◌gives◌ : {A B : Type 0} → A → B → A × B
 asked gives wanted = (asked, wanted)
 
--- each row of the table computes
+-- the function gives the wanted result in each row of the table
 abbrev Computes : {A B : Type 0} → (A → B) → List (A × B) → Type 0
 Computes f rows = map (λ r. f r.0) rows ≡ map (λ r. r.1) rows
 
--- what lines are read as: whole lines, with tags and fields of each kind
+-- the answers for lines: whole lines, with tags and fields of each kind
 pub lines : Computes (λ text. answer Crate (codes text)) (
     "cpu,host=A,region=west usage_system=64i 1590488773254420000" gives
     Ok (line "cpu,host=A,region=west" (part "cpu") (tag_of "host" "A" ∷ tag_of "region" "west" ∷ [])
@@ -124,17 +124,17 @@ pub lines : Computes (λ text. answer Crate (codes text)) (
 unfolding on_literals
 lines = refl
 
--- no comma is taken in the strict dialect
+-- in the strict dialect, no comma is taken after the first field
 pub no_comma_is_taken_in_the_strict_dialect : answer Strict (codes "m a=1i, 5") ≡ Err (cannot_parse_entire_line (codes ", 5"))
 unfolding on_literals
 no_comma_is_taken_in_the_strict_dialect = refl
 
--- one name in two spellings
+-- one name has two spellings
 pub one_name_in_two_spellings : name a_measurement (codes "\\wea\\ther f=1i") ≡ name a_measurement (codes "\\\\wea\\\\ther f=1i")
 unfolding on_literals
 one_name_in_two_spellings = refl
 
--- names alone
+-- names at the start of a text
 pub names_alone : Computes (λ (asked : NameKind × String). name asked.0 (codes asked.1)) (
     (a_tag_value, "weat\\\nher,") gives reads (copy "weat\\\nher") (codes ",")  -- an escaped newline stays
     ∷ (a_field_key, "weat\nher=") gives reads (part "weat") (codes "\nher=")  -- a newline ends a name
@@ -144,7 +144,7 @@ pub names_alone : Computes (λ (asked : NameKind × String). name asked.0 (codes
 unfolding on_literals
 names_alone = refl
 
--- trimming
+-- texts after trimming
 pub trimming : Computes (λ text. trimmed (codes text)) (
     "#comment\n #comment2\n#comment\na" gives codes "a"  -- comments are dropped
     ∷ "#comment\tcomment" gives []  -- nothing is left of a comment
@@ -154,7 +154,7 @@ pub trimming : Computes (λ text. trimmed (codes text)) (
 unfolding on_literals
 trimming = refl
 
--- points as they are written
+-- points as the builder writes them
 pub points : Computes built (
     -- a string is written with escapes
     record { measurement = codes "m"; tags = []; fields = pair (codes "s") (string (codes "a\\")) ∷ []; timestamp = None }

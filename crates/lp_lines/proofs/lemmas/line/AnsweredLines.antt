@@ -1,5 +1,5 @@
--- What a line that is answered has: a tag in its tag set, no more columns than bytes, and no need of memory if it is light; and the
--- item of a line that was given.
+-- Lines that are answered: a tag set with at least one tag, no more columns than bytes, no need of memory if the line is light; and the item
+-- of a line that was given.
 use Rattle.std.proofs.Common.{◌≡◌, ℕ, ◌<◌, List, [], ◌∷◌, length, ap, arith, Option, Ok, Err, Result, ◌+◌, ◌≤◌, ◌^◌, drop}
 use Rattle.std.proofs.Common.{length-append, length-drop, true, IfSome, le-leb, leb-true}
 use Rattle.std.proofs.lemmas.{Bool.and_parts, List.length-map}
@@ -19,16 +19,16 @@ use Rattle.lp_lines.{specs.declared.parsed.ParsedLine.ParsedLine, specs.code.Par
 use Rattle.lp_lines.{specs.code.Parsed.line_read, specs.code.ParseSteps.HasNoEmptyTagSet, specs.code.ParseSteps.CanCountColumns}
 use Rattle.lp_lines.{specs.code.ParseSteps.GaveItem, specs.code.ReadInto.item_in, proofs.lemmas.names.ParsedNames.answer_parts}
 
--- what commas join is at least one
+-- a list of elements that are joined by commas has at least one element
 pub joined_some : {A : Type 0} (one : List ℕ → Reading A) (line rest : List ℕ) (xs : List A)
     → separated_list one line ≡ reads xs rest → 0 < length xs
 joined_some one line rest xs h = grind (arith, bind_reads, prepend_parts)
 
--- a set that may be missing holds at least one, if it is there
+-- a set, if there is one, has at least one element
 abbrev pub HasSome : {T : Type 0} → Option (List T) → Type 0
 HasSome o = IfSome o (λ ts. 0 < length ts)
 
--- the tag set of each line that is answered holds at least one tag
+-- the tag set of each line that is answered has at least one tag
 pub line_some_tags : (dialect : Dialect) (text : List ℕ) (l : Line) → answer dialect text ≡ Ok l → HasSome l.tags
 line_some_tags dialect text l h = let parts = answer_parts dialect text l h in grind (arith, tag_set_read, joined_some)
 
@@ -40,16 +40,16 @@ item_has_tags dialect line (Err e) h = tt
 
 module _ {A : Type 0} (one : List ℕ → Reading A)
     (no_longer : (text : List ℕ) (x : A) (rest : List ℕ) → one text ≡ reads x rest → length rest ≤ length text) where
-  -- values that come after commas are no more than the bytes before the rest
+  -- elements after commas are no more than the bytes before the rest
   room_after : (xs : List A) (text rest : List ℕ) → SeparatedAfterComma one xs text rest → length xs + length rest ≤ length text
   room_after [] text rest h = omega (arith, ap length h)
   room_after (x ∷ xs) text rest h = let more = room_after xs h.1 rest h.4 in omega (arith, ap length h.2, no_longer h.0 x h.1 h.3)
 
-  -- with a first one they are at most one more
+  -- elements that are joined by commas are at most one more than the bytes of their text
   room_of : (xs : List A) (text rest : List ℕ) → SeparatedBy one xs text rest → length xs ≤ length text + 1
   room_of xs text rest h = grind (arith, room_after)
 
--- the tags and the fields of a line
+-- the tags and the fields of a line are at most one more than its bytes
 pub line_room : (dialect : Dialect) (text : List ℕ) (l : Line) → answer dialect text ≡ Ok l
     → length (some_tags l.tags) + length l.fields ≤ length text + 1
 line_room dialect text l h =
@@ -70,7 +70,7 @@ item_columns_fit dialect line (Ok parsed) short h =
     let room = line_room dialect line (line_read parsed) h in grind (arith, length-map)
 item_columns_fit dialect line (Err e) short h = tt
 
--- as many are counted as commas join
+-- `read_count` is the number of elements that are joined by commas
 joined_counted : {A : Type 0} (one : List ℕ → Reading A)
     (no_longer : (text : List ℕ) (x : A) (rest : List ℕ) → one text ≡ reads x rest → length rest ≤ length text)
     (text : List ℕ) (xs : List A) (rest : List ℕ) → separated_list one text ≡ reads xs rest → read_count one text ≡ length xs
@@ -79,34 +79,34 @@ joined_counted one no_longer text xs rest h =
     let counted = count_is_of_the_most one no_longer text in
     omega (arith, counted.3, read.most counted.0 counted.1 counted.2.separated, counted.2.most xs rest read.separated)
 
--- and the tags of a set
+-- the count of tags is the number of tags in the tag set
 tags_counted : (text : List ℕ) (tags : Option (List (Pair Text Text))) (rest : List ℕ)
     → tag_set text ≡ Ok (record { value = tags; rest = rest })
     → count_after (byte comma text) (λ after. read_count tag after) ≡ length (some_tags tags)
 tags_counted text tags rest e = grind (arith, tag_set_read, joined_counted tag (λ t. (tag_no_longer t).holds))
 
 module _ (dialect : Dialect) (line : List ℕ) where
-  -- a line that needs no memory in some room needs none in more
+  -- a line that is light in some room is light in more room
   pub more_room : (p q more_tags more_fields : ℕ) → is_light_in p q dialect line ≡ true → p ≤ more_tags → q ≤ more_fields
       → is_light_in more_tags more_fields dialect line ≡ true
   unfolding is_light_in
   more_room p q more_tags more_fields light h k = grind (arith, and_parts, leb-true, le-leb)
 
-  -- as many tags were counted as the line has
+  -- `tags_in` is the number of tags of the line
   tags_are : (l : Line) → answer dialect line ≡ Ok l → tags_in line ≡ length (some_tags l.tags)
   unfolding tags_in
   tags_are l h =
       let parts = answer_parts dialect line l h in
       rw parts.measurement (tags_counted parts.measurement_rest l.tags parts.tags_rest parts.tags)
 
-  -- as many fields were counted as the line has
+  -- `fields_in` is the number of fields of the line
   fields_are : (l : Line) → answer dialect line ≡ Ok l → fields_in line ≡ length l.fields
   unfolding answer fields_in
   fields_are l h =
       let parts = answer_parts dialect line l h in
       grind (arith, fields_joined, joined_counted field (λ t. (field_no_longer t).holds))
 
-  -- a light line that is read has no copy, and fits the room
+  -- a light line that is read has no copy, and its tags and fields fit the room
   pub light_line : (p q : ℕ) (l : Line) → answer dialect line ≡ Ok l → is_light_in p q dialect line ≡ true
       → (length (some_tags l.tags) ≤ p) × (length l.fields ≤ q) × (is_single_line l ≡ true)
   unfolding is_light_in
@@ -118,18 +118,18 @@ module _ (dialect : Dialect) (line : List ℕ) where
   unfolding is_light_in
   light_fault p q fault h light = grind (arith, and_parts)
 
--- the item of the line that was given
+-- the item of the line that was given is the item of its piece
 pub gave_item : (before : Left) (line : List ℕ) (item : Result ParsedLine Error) (others : List (List ℕ)) → GaveLine before line others
     → length line < 2 ^ 63 → Answers item (answer before.dialect line) → (is_light before.dialect line ≡ true → IsNotOutOfMemory item)
     → GaveItem before item others
 gave_item before line item others g short answers light = grind (arith, item_has_tags, item_columns_fit)
 
--- a line that was filled is the item
+-- a line that was filled is the item of the answer
 pub filled_answers : {X : Type 0} (line : ParsedLine) (read : Result X Error) (answer : Result Line Fault)
     → FillsLine line read answer → Answers (item_in line read) answer
 filled_answers line e answer filled = grind (arith)
 
--- `OutOfMemory` is not the item if it is not the answer
+-- the item is not `OutOfMemory` if the answer is not
 pub item_is_no_refusal : {X : Type 0} (line : ParsedLine) (read : Result X Error) → IsNotOutOfMemory read
     → IsNotOutOfMemory (item_in line read)
 item_is_no_refusal line e h = grind (arith)

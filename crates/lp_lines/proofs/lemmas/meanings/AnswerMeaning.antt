@@ -1,4 +1,4 @@
--- Each text is answered by one row of the table.
+-- Each text is answered by exactly one row of the table.
 use Rattle.std.proofs.Common.{◌≡◌, ◌⊎◌, ℕ, ◌==◌, List, [], ◌∷◌, ◌++◌, refl, sym, ap, ◌∙◌, subst, inl, inr, Option, Some, None, Ok, Err}
 use Rattle.std.proofs.Common.{Result, arith, ℤ, eqb-true, eq-eqb}
 use Rattle.std.proofs.lemmas.Bool.{cases_Bool, both_ways}
@@ -18,56 +18,56 @@ use Rattle.lp_events.proofs.lemmas.fields.ManyLemmas.{tag_set_ends}
 use Rattle.lp_lines.proofs.lemmas.read_back.LineReadsBack.{front_is}
 use Rattle.lp_values.proofs.lemmas.fields.ReadingLemmas.{EndsIn, EndsIn-end, name_ends}
 
--- the one fault that a name can have is that it ends in a backslash
+-- a reading is fatal only if a name ends in a backslash
 abbrev FailsByBackslash : {A : Type 0} → Reading A → Type 0
 FailsByBackslash r = (e : Fault) → r ≡ fatal e → e ≡ ends_with_backslash
 
--- of a name
+-- a name is fatal only if it ends in a backslash
 name_fault : (kind : NameKind) (text : List ℕ) → FailsByBackslash (name kind text)
 unfolding name
 name_fault kind text e h = grind (arith, cases_Bool)
 
--- of a tag
+-- a tag is fatal only if a name of it ends in a backslash
 tag_fault : (text : List ℕ) → FailsByBackslash (tag text)
 unfolding tag
 tag_fault text = grind (arith, cases_Bool, name_fault)
 
--- the fault of a timestamp is that it is out of range
+-- a timestamp is at fault only if it is out of range
 stamp_fault : (text : List ℕ) (e : Fault) → timestamp text ≡ Err e → (side : Side) × (number : List ℕ)
     × (e ≡ timestamp_value_invalid side number)
 stamp_fault text e h = grind (arith, cases_Bool)
 
--- the tags in full are what commas join
+-- a whole list of tags is the reading of tags that are joined by commas
 tags_read : (text : List ℕ) (tags : List (Pair Text Text)) (rest : List ℕ) → WholeList tag text tags rest
     → separated_list tag text ≡ reads tags rest
 tags_read text tags rest h = (the_most_is_read tag (λ t. (tag_no_longer t).holds) text tags rest).1 h
 
--- and so are the fields
+-- a whole list of fields is the reading of fields that are joined by commas
 pub fields_read : (text : List ℕ) (fields : List (Pair Text (Value Text))) (rest : List ℕ) → WholeList field text fields rest
     → separated_list field text ≡ reads fields rest
 fields_read text fields rest h = (the_most_is_read field (λ t. (field_no_longer t).holds) text fields rest).1 h
 
--- a text that does not begin with this byte
+-- a byte misses in a text that does not begin with it
 no_byte : (b : ℕ) (text : List ℕ) → ¬ BeginsWith b text → byte b text ≡ miss
 no_byte b rest h = grind (arith, cases_Bool, eqb-true)
 
--- what a series is read from
+-- a series that is read: the reading of its measurement and of its tag set
 pub record Series (text : List ℕ) (m : Text) (tags : Option (List (Pair Text Text))) (rest : List ℕ) : Type 0 where
   pub after : List ℕ
   pub named : name a_measurement text ≡ reads m after
   pub set : tag_set after ≡ Ok (record { value = tags; rest = rest })
 
--- each series that is read is such
+-- each series of a row is read as `Series` says
 pub series_parts : {text : List ℕ} {m : Text} {tags : Option (List (Pair Text Text))} {rest : List ℕ} → ReadsSeries text m tags rest
     → Series text m tags rest
 series_parts h = grind (arith, no_byte, tags_read)
 
--- a space at the start of a text
+-- a text that begins with a space has a rest after this space
 space_here : (text : List ℕ) → BeginsWith space text → (after : List ℕ) × (byte space text ≡ reads space after)
 space_here [] h = absurd h
 space_here (c ∷ rest) h = let e = eq-eqb c space h in (rest, rw e refl)
 
--- a text begins with this byte, or does not
+-- a text begins with this byte or does not
 begins : (b : ℕ) (text : List ℕ) → ((rest : List ℕ) × (text ≡ b ∷ rest)) ⊎ ¬ BeginsWith b text
 begins b [] = inr (λ s. s)
 begins b (c ∷ rest) = elim (cases_Bool (c == b)) [
@@ -76,7 +76,7 @@ begins b (c ∷ rest) = elim (cases_Bool (c == b)) [
 ]
 
 module _ (dialect : Dialect) (text : List ℕ) where
-  -- each row gives its answer, by what the parts read
+  -- each row gives the answer that it has, by the readings of its parts
   row_answers : {a : Result Line Fault} → IsAnswer dialect text a → answer dialect text ≡ a
   unfolding answer
   row_answers (fatal_measurement e h) = grind (arith, name_fault)
@@ -107,11 +107,11 @@ module _ (dialect : Dialect) (text : List ℕ) where
       let fields = fields_read (after_spaces r.after_series) line.fields r.after_fields r.fields_read in
       rw (s.named, s.set, g.1, fields, ap timestamp (sym r.rest_is) ∙ stamp, front_is text line.series r.after_series r.series_is) refl
 
-  -- some row holds
+  -- some row of the table holds
   abbrev SomeRow : Type 0
   SomeRow = (a : Result Line Fault) × IsAnswer dialect text a
 
-  -- once all fields are read
+  -- some row holds after all fields are read
   by_stamp : (series : List ℕ) (m : Text) (tags : Option (List (Pair Text Text))) (fields : List (Pair Text (Value Text))) (rest : List ℕ)
       → (let line : Option ℤ → Line = λ t. record { series = series; measurement = m; tags = tags; fields = fields; timestamp = t } in
       ((t : Option ℤ) → ReadsFields dialect text (line t) rest) → (r : Result (Read (Option ℤ)) Fault) → timestamp rest ≡ r → SomeRow)
@@ -120,12 +120,12 @@ module _ (dialect : Dialect) (text : List ℕ) where
       (Err (timestamp_value_invalid f.0 f.1), fatal_timestamp _ rest f.0 f.1 (h None) (stamp ∙ ap Err f.2))
   by_stamp series m tags fields rest h (Ok r) stamp = whole r.value r.rest stamp
     where
-      -- a line with each of its parts has a row in the table of answers
+      -- a row of the table holds of a line with all its parts
       whole : (t : Option ℤ) (last : List ℕ) → timestamp rest ≡ Ok (record { value = t; rest = last }) → SomeRow
       whole t [] e = (Ok _, all_read _ rest (h t) e)
       whole t (b ∷ more) e = (Err (cannot_parse_entire_line (b ∷ more)), left _ rest b more (h t) e)
 
-  -- once a series is read and a space follows it
+  -- some row holds after a series is read and a space follows it
   by_fields : (series : List ℕ) (m : Text) (tags : Option (List (Pair Text Text))) (after : List ℕ) → text ≡ series ++ after
       → ReadsSeries text m tags after → BeginsWith space after
       → (r : Reading (List (Pair Text (Value Text)))) → separated_list field (after_spaces after) ≡ r → SomeRow
@@ -141,7 +141,7 @@ module _ (dialect : Dialect) (text : List ℕ) where
       let read = (the_most_is_read field (λ t. (field_no_longer t).holds) (after_spaces after) fields last).0 e in
       by_stamp series m tags fields rest (λ t. grind arith) (timestamp rest) refl
 
-  -- once a series is read
+  -- some row holds after a series is read
   by_series : (m : Text) (tags : Option (List (Pair Text Text))) (after : List ℕ) → ReadsSeries text m tags after → SomeRow
   by_series m tags after h = elim (begins space after) [
     | inl here ↦
@@ -153,7 +153,7 @@ module _ (dialect : Dialect) (text : List ℕ) where
     | inr none ↦ (Err take_while1, no_space m tags after h none)
   ]
 
-  -- once a measurement and a comma are read
+  -- some row holds after a measurement and a comma are read
   by_tags : (m : Text) (after : List ℕ) → name a_measurement text ≡ reads m (comma ∷ after) → (r : Reading (List (Pair Text Text)))
       → separated_list tag after ≡ r → SomeRow
   by_tags m after named miss e =
@@ -164,20 +164,20 @@ module _ (dialect : Dialect) (text : List ℕ) where
   by_tags m after named (reads tags rest) e = by_series m (Some tags) rest
       (tagged m tags after rest named ((the_most_is_read tag (λ t. (tag_no_longer t).holds) after tags rest).0 e))
 
-  -- once a measurement is read
+  -- some row holds after a measurement is read
   by_comma : (m : Text) (suffix : List ℕ) → name a_measurement text ≡ reads m suffix → SomeRow
   by_comma m suffix named = elim (begins comma suffix) [
     | inl here ↦ by_tags m here.0 (named ∙ ap (reads m) here.1) (separated_list tag here.0) refl
     | inr none ↦ by_series m None suffix (alone m suffix named none)
   ]
 
-  -- by what the measurement is read as
+  -- some row holds, by the reading of the measurement
   by_name : (r : Reading Text) → name a_measurement text ≡ r → SomeRow
   by_name miss e = (Err measurement_value_invalid, no_measurement e)
   by_name (fatal d) e = (Err ends_with_backslash, fatal_measurement d e)
   by_name (reads m suffix) e = by_comma m suffix e
 
--- the rows give the answer of each text
+-- the answer of each text is the answer of a row
 pub answer_is_by_rows : AnswerIsByRows
 answer_is_by_rows dialect text a =
     let some = by_name dialect text (name a_measurement text) refl in (

@@ -1,4 +1,4 @@
--- The bytes of a name that is read: the text of a spelling is a parsed name.
+-- The bytes of a name that is read: the logical text of a spelling is a parsed name.
 use Rattle.std.proofs.Common.{◌≡◌, ◌≢◌, ℕ, suc, ◌-◌, ◌<◌, List, [], ◌∷◌, ◌++◌, length, take, slice_index, Bool, true, false, not, ◌&&◌}
 use Rattle.std.proofs.Common.{◌||◌, refl, sym, ap, ◌∙◌, arith, ◌==◌, eq-eqb, eqb-true}
 use Rattle.std.proofs.lemmas.Bool.{cases_Bool, false≢true, and_parts, and_from, or_left, or_right, or_cases, not_from_true, not_from_false}
@@ -11,31 +11,31 @@ use Rattle.lp_format.proofs.lemmas.names.NameLemmas.{name_misses, name_fatal, na
 use Rattle.lp_format.proofs.lemmas.read_back.NameReadsBack.{may_hold}
 use Rattle.lp_split.proofs.lemmas.split.ScanLemmas.{bare_len, first_bare_len}
 
--- whether each byte that may only come after a backslash does, from whether a backslash comes before the text
+-- whether each byte that may only come after a backslash comes after one, by whether a backslash comes before the text
 abbrev pub is_kept : NameKind → Bool → List ℕ → Bool
 is_kept kind after [] = true
 is_kept kind after (b ∷ n) = (may_hold kind b || after) && is_kept kind (b == backslash) n
 
--- whether each stop byte of a text is escaped, from whether the place before it is
+-- whether each stop byte of a text is escaped, by whether the first byte of the text is
 abbrev is_closed : NameKind → Bool → List ℕ → Bool
 is_closed kind escaped [] = true
 is_closed kind escaped (b ∷ text) = (not (is_stop kind b) || escaped) && is_closed kind (not escaped && b == backslash) text
 
--- a byte that ends no name may be in one
+-- a byte that ends no name may be in a name
 unstopped_may : (kind : NameKind) (b : ℕ) → is_stop kind b ≡ false → may_hold kind b ≡ true
 unstopped_may kind b h = grind (arith, common_steps)
 
--- a byte that a backslash escapes may be in a name
+-- a byte that a backslash may escape may be in a name
 pub escapable_may : (kind : NameKind) (b : ℕ) → is_escapable kind b ≡ true → may_hold kind b ≡ true
 escapable_may kind b h = grind (arith, common_steps)
 
--- what comes before the first bare stop holds none
+-- no bare stop is in the bytes before the first bare stop
 before_stop_closed : (kind : NameKind) (escaped : Bool) (text : List ℕ)
     → is_closed kind escaped (take (bare_len (is_stop kind) escaped text) text) ≡ true
 before_stop_closed kind escaped [] = refl
 before_stop_closed kind escaped (b ∷ text) = grind (arith, cases_Bool, and_from, before_stop_closed kind (not escaped && b == backslash) text)
 
--- the bytes of the logical text of a spelling are kept
+-- each byte of the logical text of a spelling that may only come after a backslash comes after one
 logical_kept : (kind : NameKind) (after : Bool) (text : List ℕ) → is_closed kind false text ≡ true
     → is_kept kind after (logical kind text) ≡ true
 unfolding without_escapes
@@ -46,21 +46,21 @@ logical_kept kind after (b ∷ c ∷ rest) h =
     let next = logical_kept kind (b == backslash) (c ∷ rest) in
     grind (arith, cases_Bool, unstopped_may, and_parts, and_from, or_left, or_right, escapable_may, more, next)
 
--- whether a text ends in a backslash, or, if it is empty, what is said of the place before it
+-- whether a text ends in a backslash; for the empty text, whether a backslash comes before it
 abbrev ends_after : Bool → List ℕ → Bool
 ends_after after [] = after
 ends_after after (b ∷ text) = ends_after (b == backslash) text
 
--- the same, from the last byte
+-- `ends_after` tells whether a text that is not empty ends in a backslash
 ends_after_is : (b : ℕ) (text : List ℕ) → ends_after (b == backslash) text ≡ ends_in_backslash (b ∷ text)
 ends_after_is b [] = refl
 ends_after_is b (c ∷ text) = let e : length (b ∷ c ∷ text) - 1 ≡ suc (length (c ∷ text) - 1) = omega arith in rw e (ends_after_is c text)
 
--- with nothing before it
+-- `ends_after` tells whether a text ends in a backslash, if no backslash comes before it
 ends_from_start : (text : List ℕ) → ends_after false text ≡ ends_in_backslash text
 ends_from_start text = grind (arith, common_steps, ends_after_is)
 
--- a byte of a text whose bytes are kept
+-- a byte that may only come after a backslash comes after one at its place
 kept_place : (kind : NameKind) (suffix : Bool) (front back : List ℕ) (b : ℕ)
     → is_kept kind suffix (front ++ b ∷ back) ≡ true → is_one_of (never_in kind) b ≡ true
     → ends_after suffix front ≡ true
@@ -68,7 +68,7 @@ kept_place kind suffix [] back b h never = grind (arith, or_cases, may_hold, and
 kept_place kind suffix (x ∷ front) back b h never = kept_place kind (x == backslash) front back b
     (and_parts (may_hold kind x || suffix) _ h).1 never
 
--- and from all such bytes
+-- a text passes `is_kept` if each byte that may only come after a backslash comes after one
 kept_from : (kind : NameKind) (after : Bool) (n : List ℕ)
     → ((front back : List ℕ) (b : ℕ) → n ≡ front ++ b ∷ back → is_one_of (never_in kind) b ≡ true → ends_after after front ≡ true)
     → is_kept kind after n ≡ true
@@ -78,7 +78,7 @@ kept_from kind after (b ∷ n) h =
     (λ front back c e never. h (b ∷ front) back c (ap (λ (xs : List ℕ). b ∷ xs) e) never) in
     grind (arith, cases_Bool, and_from, or_left, or_right, not_from_false, h [] n b refl)
 
--- a parsed name, by the test of its bytes
+-- a parsed name passes `is_kept`
 pub name_kept : (kind : NameKind) (n : List ℕ) → IsParsedName kind n → is_kept kind false n ≡ true
 name_kept kind n h = kept_from kind false n (λ front back b e never. ends_from_start front ∙ h.after_backslash front back b e never)
 
@@ -87,16 +87,16 @@ logical_begins : (text : List ℕ) → slice_index text 0 ≢ hash → slice_ind
 unfolding without_escapes
 logical_begins rest h = grind (arith, common_steps, cases_Bool, false≢true)
 
--- if the text does not begin with `#`, neither does its measurement
+-- a measurement does not begin with `#` if its text does not
 name_begins : (kind : NameKind) (text : List ℕ) → BeginsNoComment kind text → BeginsNoComment kind (logical kind (spelled kind text))
 name_begins kind text h = grind (arith, common_steps, logical_begins)
 
--- the logical text of a text that is not empty is not empty
+-- the logical text of a spelling that is not empty is not empty
 logical_some : (kind : NameKind) (text : List ℕ) → length text ≢ 0 → 0 < length (logical kind text)
 unfolding without_escapes
 logical_some kind rest h = grind (arith, cases_Bool)
 
--- the logical text of a spelling is a parsed name, unless it is empty or ends in a backslash
+-- the logical text of a spelling is a parsed name, if the spelling is not empty and does not end in a backslash
 spelled_is_parsed : (kind : NameKind) (text : List ℕ) → length (spelled kind text) ≢ 0
     → ends_in_backslash (spelled kind text) ≡ false → BeginsNoComment kind text
     → IsParsedName kind (logical kind (spelled kind text))

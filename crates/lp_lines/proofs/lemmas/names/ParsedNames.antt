@@ -1,4 +1,4 @@
--- Which names lines can have, and that they can have each of them.
+-- The names that lines can have: each name of a line is a parsed name, and each parsed name is in some line.
 use Rattle.std.proofs.Common.{◌≡◌, ◌≢◌, ℕ, List, [], ◌∷◌, drop, map, slice_index, Bool, true, false, refl, subst, arith, inl, inr}
 use Rattle.std.proofs.Common.{Option, Ok, Result, ℤ, Contains, eqb-true}
 use Rattle.std.proofs.lemmas.{Bool.cases_Bool, Bool.or_parts, Bool.eqb-false, List.Elements.Contains-append_cases}
@@ -28,21 +28,21 @@ HasParsedNames t = IsParsedName a_tag_key t.key × IsParsedName a_tag_value t.va
 abbrev ParsedField : Pair Text (Value Text) → Type 0
 ParsedField f = IsParsedName a_field_key f.key.bytes
 
--- the names of each tag that is read
+-- both names of each tag that is read are parsed names
 tag_parsed : (line : List ℕ) (t : Pair Text Text) (rest : List ℕ) → tag line ≡ reads t rest → HasParsedNames (logical_tag t)
 unfolding tag
 tag_parsed line t rest h = grind (arith, pair_parts, name_parsed)
 
--- the key of each field that is read
+-- the key of each field that is read is a parsed name
 field_parsed : (line : List ℕ) (f : Pair Text (Value Text)) (rest : List ℕ) → field line ≡ reads f rest → ParsedField f
 unfolding field
 field_parsed line f rest h = grind (arith, pair_parts, name_parsed)
 
--- two parts that are read are the same if their results are
+-- the results of two parts are equal only if the parts are
 pub ok_same : {A : Type 0} (x y : A) → (let f : Result A Fault = Ok x in f) ≡ Ok y → x ≡ y
 ok_same x y h = cc
 
--- what the parts of an answer were read from
+-- the readings of the parts of a line that is answered
 pub record Parts (dialect : Dialect) (line : List ℕ) (l : Line) : Type 0 where
   pub measurement_rest : List ℕ
   pub tags_rest : List ℕ
@@ -53,11 +53,11 @@ pub record Parts (dialect : Dialect) (line : List ℕ) (l : Line) : Type 0 where
   pub fields : field_set dialect (drop (spaces tags_rest) tags_rest) ≡ reads l.fields fields_rest
   pub stamp : timestamp fields_rest ≡ Ok (record { value = l.timestamp; rest = [] })
 
--- the parts of each line that is answered
+-- each line that is answered has its parts read as `Parts` says
 pub answer_parts : (dialect : Dialect) (line : List ℕ) (l : Line) → answer dialect line ≡ Ok l → Parts dialect line l
 answer_parts dialect line l h = by_row ((answer_is_by_rows dialect line (Ok l)).0 h)
   where
-    -- a line that is read has the parts that its row names
+    -- a line that is read by a row has its parts read as `Parts` says
     by_row : IsAnswer dialect line (Ok l) → Parts dialect line l
     by_row (all_read _ rest r stamp) =
         let s = series_parts r.series_reads in
@@ -66,12 +66,12 @@ answer_parts dialect line l h = by_row ((answer_is_by_rows dialect line (Ok l)).
         let is = r.rest_is in
         grind arith
 
--- a text that is a timestamp to its end begins with a space
+-- a text that is a timestamp to its end is empty or begins with a space
 stamp_begins : (text : List ℕ) (t : Option ℤ) → timestamp text ≡ Ok (record { value = t; rest = [] }) → IsNothingOrSpaced text
 stamp_begins [] t h = inl refl
 stamp_begins (b ∷ text) t h = grind (arith, cases_Bool, eqb-true, ok_same)
 
--- nothing follows the fields of a line in the strict dialect, or a space does
+-- in the strict dialect, the fields of a line are followed by nothing or by a space
 pub strict_fields_end : StrictFieldsEnd
 strict_fields_end text line h =
     let parts = answer_parts Strict text line h in
@@ -85,16 +85,16 @@ strict_fields_end text line h =
       ends = stamp_begins parts.fields_rest line.timestamp parts.stamp;
     }
 
--- what is left of a text does not begin with `#`
+-- the text that is left after blanks and comments does not begin with `#`
 left_begins : (in_comment : Bool) (text : List ℕ) → slice_index (left_of in_comment text) 0 ≢ hash
 left_begins in_comment [] = omega arith
 left_begins in_comment (b ∷ rest) = grind (arith, cases_Bool, or_parts, eqb-false, left_begins false rest, left_begins true rest)
 
--- an element of a list that is made from others is made from one of them
+-- the empty list has no elements
 pub nothing_in_nil : {X : Type 0} (x : X) → Contains [] x → ⊥
 nothing_in_nil x h = omega (arith, h.1)
 
--- what each made element has from what it is made of
+-- a property of elements gives a property of the elements that are made of them
 pub all_made : {X Y : Type 0} (P : X → Type 0) (Q : Y → Type 0) (make : X → Y) → ((x : X) → P x → Q (make x)) → (xs : List X)
     → AllByRecursion P xs → AllByRecursion Q (map make xs)
 all_made P Q make part [] all = tt
@@ -106,7 +106,7 @@ pub record ParsedPoint (p : Point) : Type 0 where
   pub tags : AllByRecursion HasParsedNames p.tags
   pub fields : AllByRecursion (λ f. IsParsedName a_field_key f.key) p.fields
 
--- the point of each line that is answered
+-- the point of each line that is answered has parsed names
 pub line_parsed : (dialect : Dialect) (text : List ℕ) (line : Line) → slice_index text 0 ≢ hash
     → answer dialect text ≡ Ok line → ParsedPoint (point_of line)
 line_parsed dialect text line begins h =
@@ -122,7 +122,7 @@ line_parsed dialect text line begins h =
           (joined_of ParsedField field field_parsed (λ t. (field_no_longer t).holds) after joined.0 line.fields joined.1);
     }
 
--- the names of such a point
+-- the names of a point with parsed names are parsed names
 point_names : (kind : NameKind) (p : Point) → ParsedPoint p → AllByRecursion (IsParsedName kind) (names_of kind p)
 point_names a_measurement p h = (h.measurement, tt)
 point_names a_tag_key p h = all_made HasParsedNames (IsParsedName a_tag_key) (λ t. t.key) (λ t both. both.0) p.tags h.tags
@@ -130,19 +130,19 @@ point_names a_tag_value p h = all_made HasParsedNames (IsParsedName a_tag_value)
 point_names a_field_key p h =
     all_made (λ f. IsParsedName a_field_key f.key) (IsParsedName a_field_key) (λ f. f.key) (λ f h. h) p.fields h.fields
 
--- the piece that an answer is given for
+-- the text for which a line is answered: it does not begin with `#`
 pub record Answered (dialect : Dialect) (line : Line) : Type 0 where
   pub text : List ℕ
   pub begins : slice_index text 0 ≢ hash
   pub answered : answer dialect text ≡ Ok line
 
--- a line that is answered for a piece
+-- a line that is answered for a piece is answered for a text that does not begin with `#`
 piece_answered : (dialect : Dialect) (piece : List ℕ) (line : Line)
     → Contains (answers_of_piece dialect piece) (Ok line) → Answered dialect line
 unfolding answers_of_piece
 piece_answered dialect piece line h = grind (arith, cases_Bool, nothing_in_nil, first_or_later, trimmed_is, left_begins)
 
--- a line that is answered for pieces
+-- a line that is answered for pieces is answered for a text that does not begin with `#`
 answered_in : (dialect : Dialect) (pieces : List (List ℕ)) (line : Line)
     → Contains (answers_of dialect pieces) (Ok line) → Answered dialect line
 answered_in dialect [] line h = absurd (nothing_in_nil (Ok line) h)
@@ -152,7 +152,7 @@ answered_in dialect (piece ∷ pieces) line h =
       | inr later ↦ answered_in dialect pieces line later
     ]
 
--- the point of each line that is answered for a text
+-- the point of each line that is answered for a text has parsed names
 pub answers_parsed : (dialect : Dialect) (text : List ℕ) (answers : List (Result Line Fault)) (line : Line)
     → HasAnswers dialect text answers → Contains answers (Ok line)
     → ParsedPoint (point_of line)
@@ -160,7 +160,7 @@ answers_parsed dialect text answers line has here =
     let piece = answered_in dialect has.pieces line (subst (λ xs. Contains xs (Ok line)) has.answered here) in
     line_parsed dialect piece.text line piece.begins piece.answered
 
--- and its names
+-- each name of each line that is answered for a text is a parsed name
 pub names_are_parsed : NamesAreParsed
 names_are_parsed dialect text answers line kind n has here named =
     let names = names_of kind (point_of line) in

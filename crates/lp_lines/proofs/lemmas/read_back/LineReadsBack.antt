@@ -42,7 +42,7 @@ string_reads_back s rest =
     ∙ ap (λ (xs : List ℕ). drop 1 xs) after in
     rw (closed, body, last) refl
 
--- an unsigned number and its mark
+-- an unsigned number and its mark read back
 unsigned_reads_back : (n : ℕ) (rest : List ℕ) → n < 2 ^ 64 → value (built_value (unsigned n) ++ rest) ≡ reads (unsigned n) rest
 unfolding value unsigned_at
 unsigned_reads_back n rest fits =
@@ -59,17 +59,17 @@ unsigned_reads_back n rest fits =
     ∙ ap (λ (xs : List ℕ). drop 1 xs) after in
     rw ((append_assoc (decimal n) (codes "u") rest), no_integer, digits, some, mark, front, written.1, lt-ltb n (2 ^ 64) fits, last) refl
 
--- the first case of a value
+-- an integer and its mark read back as a value
 integer_value_reads : (z : ℤ) (rest : List ℕ) → fits_i64 z ≡ true → value (built_value (integer z) ++ rest) ≡ reads (integer z) rest
 unfolding value
 integer_value_reads z rest fits = rw (append_assoc (signed_decimal z) (codes "i") rest, integer_reads_back z rest fits) refl
 
--- a string is no number
+-- a string reads back as a value, because it is no number
 string_value_reads : (s rest : List ℕ) → value (built_value (string s) ++ rest) ≡ reads (read_value (string s)) rest
 unfolding value integer_at unsigned_at float_at
 string_value_reads s rest = rw (append_assoc (escaped quotable s) (quote ∷ []) rest, string_reads_back s rest) refl
 
--- a word is neither
+-- a Boolean reads back as a value, because it is no number and no string
 boolean_value_reads : (b : Bool) (rest : List ℕ) → value (built_value (boolean b) ++ rest) ≡ reads (boolean b) rest
 unfolding value integer_at unsigned_at float_at string_at boolean_at
 boolean_value_reads x0 rest = grind (arith)
@@ -79,7 +79,7 @@ pub value_reads_back : (v : Value (List ℕ)) (rest : List ℕ) → IsValue v �
     → value (built_value v ++ rest) ≡ reads (read_value v) rest
 value_reads_back b rest fits ends = grind (arith, integer_value_reads, unsigned_reads_back, float_reads_back, string_value_reads, boolean_value_reads)
 
--- a tag without the comma before it
+-- the text of a tag without the comma before it
 abbrev pub tag_text : Tag → List ℕ
 tag_text t = spelling a_tag_key t.key ++ equals ∷ spelling a_tag_value t.value
 
@@ -89,7 +89,7 @@ pub tag_reads_back : (t : Tag) (rest : List ℕ) (stop : ℕ) → AdmittedTag t 
 unfolding tag
 tag_reads_back t rest stop ok ends = grind (arith, append_assoc, name_reads_back)
 
--- a tag before the others, or before the fields
+-- a tag reads back before other tags and before the fields
 tag_before : (t : Tag) (ts : List Tag) (rest : List ℕ) → AdmittedTag t
     → tag (tag_text t ++ (flat_map built_tag ts ++ space ∷ rest)) ≡ reads (read_tag t) (flat_map built_tag ts ++ space ∷ rest)
 tag_before t [] rest ok = tag_reads_back t rest space ok refl
@@ -98,7 +98,7 @@ tag_before t (u ∷ us) rest ok = grind (arith, append_assoc, tag_reads_back)
 module _ {X Y : Type 0} (one : List ℕ → Reading Y) (text : X → List ℕ) (read : X → Y) (Admitted : X → Type 0) (after : List X → List ℕ)
     (begins : (x : X) (xs : List X) → after (x ∷ xs) ≡ comma ∷ (text x ++ after xs)) (ends : byte comma (after []) ≡ miss)
     (each : (x : X) (xs : List X) → Admitted x → one (text x ++ after xs) ≡ reads (read x) (after xs)) where
-  -- parts that come after commas
+  -- parts after commas read back
   more_read : (xs : List X) (n : ℕ) → AllByRecursion Admitted xs → length xs ≤ n
       → many (after_comma one) n (after xs) ≡ reads (map read xs) (after [])
   more_read [] zero all room = refl
@@ -106,12 +106,12 @@ module _ {X Y : Type 0} (one : List ℕ → Reading Y) (text : X → List ℕ) (
   more_read (x ∷ xs) zero all room = absurd (omega arith)
   more_read (x ∷ xs) (suc n) all room = rw (begins x xs, each x xs all.0, more_read xs n all.1 (omega arith)) refl
 
-  -- a part is at least one byte
+  -- the text of a part has at least one byte
   parts_room : (xs : List X) → length xs ≤ length (after xs)
   parts_room [] = omega arith
   parts_room (x ∷ xs) = omega (arith, parts_room xs, ap length (begins x xs), length-append (text x) (after xs))
 
-  -- parts that commas join
+  -- parts that are joined by commas read back
   joined_read : (x : X) (xs : List X) → Admitted x → AllByRecursion Admitted xs
       → separated_list one (text x ++ after xs) ≡ reads (map read (x ∷ xs)) (after [])
   joined_read x xs ok all = rw (each x xs ok, more_read xs (length (after xs)) all (parts_room xs)) refl
@@ -125,17 +125,17 @@ tag_set_reads_back (t ∷ ts) rest all =
     (λ u us. append_assoc (built_tag u) (flat_map built_tag us) (space ∷ rest)) refl (λ u us ok. tag_before u us rest ok) t ts all.0 all.1 in
     grind (arith, append_assoc)
 
--- a field, before the end, a comma or a space
+-- a field reads back before the end, a comma or a space
 pub field_reads_back : (f : Field) (rest : List ℕ) → AdmittedField f → Ends rest → field (built_field f ++ rest) ≡ reads (read_field f) rest
 unfolding field
 field_reads_back f rest ok ends = grind (arith, append_assoc, name_reads_back, value_reads_back)
 
--- what comes after a field
+-- the text after a field is an end if the text after all fields is
 fields_end : (fs : List Field) (rest : List ℕ) → Ends rest → Ends (built_fields comma fs ++ rest)
 fields_end [] rest ends = ends
 fields_end (f ∷ fs) rest ends = refl
 
--- what ends the fields of a built line is no comma
+-- the text after the fields of a built line does not begin with a comma
 timestamp_ends : (dialect : Dialect) (fs : List (Pair Text (Value Text))) (t : Option ℤ)
     → (byte comma (built_timestamp t) ≡ miss) × Ends (built_timestamp t)
     × (without_comma dialect fs (built_timestamp t) ≡ built_timestamp t)
@@ -153,7 +153,7 @@ field_set_reads_back dialect f fs t ok all =
     (λ g gs good. field_reads_back g (built_fields comma gs ++ built_timestamp t) good (fields_end gs (built_timestamp t) ends.1)) f fs ok all in
     rw (joined, ends.2) refl
 
--- a timestamp at the end of a line
+-- a timestamp at the end of a line reads back
 pub timestamp_reads_back : (t : Option ℤ) → IfSome t (λ z. fits_i64 z ≡ true)
     → timestamp (built_timestamp t) ≡ Ok (record { value = t; rest = [] })
 timestamp_reads_back None ok = refl
@@ -171,20 +171,20 @@ timestamp_reads_back (Some z) ok =
       ok,
     ) refl
 
--- the front before a rest of the line
+-- the front of a line before a rest is the text before this rest
 pub front_is : (line front rest : List ℕ) → line ≡ front ++ rest → front_before line rest ≡ front
 front_is line front rest e =
     let n : length (front ++ rest) - length rest ≡ length front = omega (arith, length-append front rest) in
     rw (e, n) (take-append_seam front rest)
 
--- the name before the tags or the fields
+-- the measurement reads back before the tags and before the fields
 pub measurement_reads_back : (m : List ℕ) (ts : List Tag) (rest : List ℕ) → is_admitted_name a_measurement m ≡ true
     → name a_measurement (spelling a_measurement m ++ (flat_map built_tag ts ++ space ∷ rest)) ≡ reads
     (read_name a_measurement m) (flat_map built_tag ts ++ space ∷ rest)
 measurement_reads_back m [] rest ok = name_reads_back a_measurement m rest space ok refl
 measurement_reads_back m (t ∷ ts) rest ok = grind (arith, append_assoc, name_reads_back)
 
--- the parts of a line make its answer
+-- the readings of all parts of a line give its answer
 pub answer_from_parts : (dialect : Dialect) (line front after tagged end : List ℕ) (m : Text)
     (ts : Option (List (Pair Text Text))) (fs : List (Pair Text (Value Text))) (t : Option ℤ)
     → name a_measurement line ≡ reads m tagged

@@ -16,23 +16,23 @@ use Rattle.lp_values.proofs.lemmas.fields.ReadingLemmas.{name_parts, pair_parts}
 use Rattle.lp_events.proofs.lemmas.fields.ManyLemmas.{set_separated}
 use Rattle.lp_lines.proofs.lemmas.series.SortedTags.{by_key_in_order, by_key_same}
 
--- a name that is a part of the text, and no escape alone, is its own logical text
+-- a name that is a part of the text, and is not spelled as one escape, is its own spelling
 single_same : (kind : NameKind) (text : List ℕ) (x : Text) → x ≡ read_text (escapable kind) (spelled kind text)
     → is_one_escape (escapable kind) (spelled kind text) ≡ false → x.is_single ≡ true → x.bytes ≡ spelled kind text
 single_same kind text x is apart single = grind (arith, or_cases, false≢true, without_escapes_same, no_backslash, not-true)
 
--- the value of a tag and what follows it
+-- the text after the key and the equals sign of a tag
 abbrev pub value_part : List ℕ → List ℕ
 value_part text = drop (spelled_len a_tag_key text + 1) text
 
--- how a tag is read
+-- the readings of a tag: its key, its value and the rest, by their spellings
 pub record TagParts (text : List ℕ) (x : Pair Text Text) (rest : List ℕ) : Type 0 where
   pub key_is : x.key ≡ read_text (escapable a_tag_key) (spelled a_tag_key text)
   pub value_is : x.value ≡ read_text (escapable a_tag_value) (spelled a_tag_value (value_part text))
   pub rest_is : rest ≡ drop (spelled_len a_tag_value (value_part text)) (value_part text)
   pub text_is : text ≡ spelled a_tag_key text ++ equals ∷ value_part text
 
--- a tag is a key, `=` and a value
+-- a tag that is read is a key, an equals sign and a value
 pub tag_parts : (text : List ℕ) (x : Pair Text Text) (rest : List ℕ) → tag text ≡ reads x rest → TagParts text x rest
 unfolding tag
 tag_parts text x rest e =
@@ -43,7 +43,7 @@ tag_parts text x rest e =
     ∙ ap (λ (r : List ℕ). drop 1 r) (sym key.1) in
     grind (arith, take-append-drop)
 
--- tags that are parts of the text, none of their names an escape alone, are spelled as they are
+-- the text of tags that are parts of the text, and not spelled as one escape, is the text of the tags in a base
 spells : (tags : List (Pair Text Text)) (text : List ℕ) → SeparatedAfterComma tag tags text []
     → list_any is_tag_one_escape (spelled_tags (length tags) text) ≡ false → list_all is_single_tag tags ≡ true
     → text ≡ flat_map based_tag (in_order tags)
@@ -60,7 +60,7 @@ pub tags_separated : {raw : List ℕ} {m : Text} {tags : List (Pair Text Text)} 
     → SeparatedAfterComma tag tags h.after []
 tags_separated h = rw (← h.tags_are) (set_separated h.after [] h.set h.set_is)
 
--- a clear series whose names are parts of its raw text is spelled as they are
+-- the raw text of a clear series whose names are parts of it is the text of its base
 raw_is : (raw : List ℕ) (m : Text) (tags : List (Pair Text Text)) → IsClearSeries raw m tags
     → (m.is_single && list_all is_single_tag tags) ≡ true
     → raw ≡ base_text m.bytes (in_order tags)
@@ -70,7 +70,7 @@ raw_is raw m tags h single =
     let more = spells tags h.parsed.after (tags_separated h.parsed) in
     grind (arith, or_parts, and_parts, take-append-drop)
 
--- the base of a clear series is its measurement and its tags by their keys
+-- the base of a clear series is the text of its measurement and of its tags by their keys
 pub base_is : (raw : List ℕ) (m : Text) (tags : List (Pair Text Text)) → IsClearSeries raw m tags
     → base_bytes (base_of raw m tags) ≡ Some (base_text m.bytes (by_key tags))
 unfolding base_of base_by_key
@@ -80,10 +80,10 @@ base_is raw m tags h =
     let spelled_so = raw_is raw m tags h in
     grind (arith, cases_Bool)
 
--- two clear series are the same if their bases are
+-- each clear series has a base
 pub clear_series_have_bases : ClearSeriesHaveBases
 clear_series_have_bases raw m tags h = ap is_some (base_is raw m tags h)
 
--- one series has one base, in whatever order its tags are
+-- equal series have one base, in whatever order their tags are
 pub same_series_have_one_base : SameSeriesHaveOneBase
 same_series_have_one_base raw text m other tags others h k same = grind (arith, base_is, by_key_same)

@@ -1,4 +1,4 @@
--- The text of a key fixes its measurement and its tags.
+-- The text of a key determines its measurement and its tags.
 use Rattle.std.proofs.Common.{◌≡◌, ℕ, ◌++◌, ◌==◌, ◌&&◌, ◌↔◌, true, false, List, [], ◌∷◌, refl, sym, ◌∙◌, ap, arith, append_assoc, flat_map, map}
 use Rattle.std.proofs.Common.{Bor, Bool, nat_eq}
 use Rattle.std.specs.Cmp.Lexicographic.{pointwise, same_text}
@@ -8,19 +8,19 @@ use Rattle.lp_format.specs.format.{Tag, built_tag}
 use Rattle.lp_format.proofs.lemmas.read_back.NameReadsBack.{escaped_found, escaped_plain}
 use Rattle.lp_lines.specs.code.Keys.{key_text, lent_tag}
 
--- nothing, or a text that begins with this byte
+-- a text that is empty or begins with this byte
 abbrev pub Begins : ℕ → List ℕ → Type 0
 Begins c [] = Unit {0}
 Begins c (b ∷ text) = b ≡ c
 
 module _ (known : List ℕ) (c : ℕ) (closed : is_one_of known backslash ≡ true) (ends : is_one_of known c ≡ true)
     (other : (c == backslash) ≡ false) where
-  -- a text that begins with the byte does not begin with a byte of a name
+  -- a text that begins with the byte `c` does not begin with an escaped name
   no_byte : (y : ℕ) (ys us vs : List ℕ) → Begins c us → us ≡ escaped known (y ∷ ys) ++ vs → ⊥
   no_byte y ys [] vs begins e = grind (arith, cases_Bool, escaped_found, escaped_plain)
   no_byte y ys (u ∷ us) vs begins e = grind (arith, cases_Bool, false≢true, escaped_found, escaped_plain)
 
-  -- the first such byte that gets no backslash fixes the name before it
+  -- the first byte `c` without a backslash before it determines the name before it
   first_name : (xs ys us vs : List ℕ) → Begins c us → Begins c vs → escaped known xs ++ us ≡ escaped known ys ++ vs
       → (xs ≡ ys) × (us ≡ vs)
   unfolding escaped
@@ -29,21 +29,21 @@ module _ (known : List ℕ) (c : ℕ) (closed : is_one_of known backslash ≡ tr
   first_name (x ∷ xs) [] us vs p q e = absurd (no_byte x xs vs us q (sym e))
   first_name (x ∷ xs) (y ∷ ys) us vs p q e = grind (arith, cases_Bool, false≢true, first_name xs ys us vs p q)
 
--- a measurement ends before a comma
+-- a comma without a backslash before it determines the measurement before it
 measurement_ends : (m n us vs : List ℕ) → Begins comma us → Begins comma vs
     → spelling a_measurement m ++ us ≡ spelling a_measurement n ++ vs → (m ≡ n) × (us ≡ vs)
 measurement_ends = first_name (escapable a_measurement) comma refl refl refl
 
--- tags as they are written begin with a comma
+-- the text of tags is empty or begins with a comma
 tags_begin : (ts : List Tag) → Begins comma (flat_map built_tag ts)
 tags_begin [] = tt
 tags_begin (t ∷ ts) = refl
 
--- tags with the same names are the same
+-- tags with equal keys and equal values are equal
 same_tag : (t u : Tag) → t.key ≡ u.key → t.value ≡ u.value → t ≡ u
 same_tag t u k v = λ i. record { key = k i; value = v i }
 
--- the text of tags fixes them
+-- the text of tags determines them
 same_tags : (ts us : List Tag) → flat_map built_tag ts ≡ flat_map built_tag us → ts ≡ us
 same_tags [] [] same = refl
 same_tags [] (u ∷ us) same = absurd (cc)
@@ -64,13 +64,13 @@ same_tags (t ∷ ts) (u ∷ us) same =
     let more = same_tags ts us values.1 in
     cc
 
--- one text is that of one measurement and of the same tags in the same order
+-- the text of a key determines its measurement and its tags in order
 pub key_parts : (m n : List ℕ) (ts us : List Tag) → key_text m ts ≡ key_text n us → (m ≡ n) × (ts ≡ us)
 key_parts m n ts us same =
     let parts = measurement_ends m n (flat_map built_tag ts) (flat_map built_tag us) (tags_begin ts) (tags_begin us) same in
     (parts.0, same_tags ts us parts.1)
 
--- the texts of one measurement and of such tags are one exactly if the tags are the same
+-- the key texts of one measurement and of two lists of tags are equal exactly if the tags are
 pub same_keys : (m n : List ℕ) (ts us xs ys : List Tag) (same : Bool) → m ≡ n → xs ≡ ts → ys ≡ us → (same ≡ true) ↔ (xs ≡ ys)
     → (same ≡ true) ↔ (key_text m ts ≡ key_text n us)
 same_keys m n ts us xs ys same one left right is = (
@@ -78,11 +78,11 @@ same_keys m n ts us xs ys same one left right is = (
   λ h. let tags = (key_parts m n ts us h).1 in is.1 (left ∙ tags ∙ sym right),
 )
 
--- the names of a tag are equal to those of another
+-- whether the names of one tag equal the names of another
 abbrev pub same_names : Bor (List ℕ) × Bor (List ℕ) → Bor (List ℕ) × Bor (List ℕ) → Bool
 same_names t u = pointwise nat_eq t.0.now u.0.now && pointwise nat_eq t.1.now u.1.now
 
--- names are equal one by one exactly if their tags are the same
+-- names of tags are equal one by one exactly if the tags are
 pub names_same : (ts us : List (Bor (List ℕ) × Bor (List ℕ))) → (pointwise same_names ts us ≡ true) ↔ (map lent_tag ts ≡ map lent_tag us)
 names_same [] [] = (λ h. refl, λ h. refl)
 names_same [] (u ∷ us) = (λ h. absurd (false≢true h), λ h. absurd (cc))

@@ -1,4 +1,4 @@
--- A stable sort by keys gives one list: the one that is in order, and has for each key the same elements in the same order.
+-- A stable sort by keys gives exactly one list: it is in order, and has for each key the same elements in the same order.
 use Rattle.std.proofs.Common.{◌≡◌, ℕ, suc, ◌<◌, ◌≤◌, Bool, true, false, List, [], ◌∷◌, length, get_or, map, refl, sym, ap, ◌∙◌, arith}
 use Rattle.std.proofs.Common.{is_lt, nat_cmp, not, cond}
 use Rattle.std.specs.{Cmp.IsStrictWeakOrder, Cmp.Lexicographic.slice_cmp, List.AllByRecursion, List.filter}
@@ -8,20 +8,20 @@ use Rattle.std.proofs.lemmas.List.{Elements.recursion_from_All, Sorted.ranks_by,
 use Rattle.lp_lines.specs.code.Keys.{placed_by, sorted_by}
 
 module _ {X : Type 0} (lt : X → X → Bool) (o : IsStrictWeakOrder lt) where
-  -- none of these is less than this one
+  -- none of the elements `ys` is less than `x`
   abbrev pub AreNotLess : X → List X → Type 0
   AreNotLess x ys = AllByRecursion (λ y. lt y x ≡ false) ys
 
-  -- none of these is less than one before it
+  -- no element of the list is less than one before it
   abbrev pub Ordered : List X → Type 0
   Ordered [] = Unit {0}
   Ordered (x ∷ xs) = AreNotLess x xs × Ordered xs
 
-  -- what is sorted is in order
+  -- a list that is sorted is in order
   pub ordered_from_sorted : (xs : List X) → IsSortedBy lt xs → Ordered xs
   ordered_from_sorted xs up = from_far xs (sorted_far lt o xs up)
     where
-      -- what is in order at each two places is in order
+      -- a list that is in order at each two places is in order
       from_far : (xs : List X) → ((i j : ℕ) (d : X) → i ≤ j → j < length xs → lt (get_or xs j d) (get_or xs i d) ≡ false) → Ordered xs
       from_far [] far = tt
       from_far (x ∷ xs) far = (
@@ -29,18 +29,18 @@ module _ {X : Type 0} (lt : X → X → Bool) (o : IsStrictWeakOrder lt) where
         from_far xs (λ i j d l m. far (suc i) (suc j) d (omega arith) (omega arith)),
       )
 
-  -- nothing is less than itself
+  -- no element is less than itself
   not_itself : (x : X) → lt x x ≡ false
   not_itself x = grind (arith, cases_Bool, false≢true, o.one_way)
 
-  -- what is less than the first of these ties with none of them
+  -- an element that is less than the first of a list in order ties with none of the list
   none_ties : (x y : X) (ys : List X) → lt x y ≡ true → AreNotLess y ys → filter (ties lt x) ys ≡ []
   none_ties x y [] less after = refl
   none_ties x y (z ∷ ys) less after =
       let apart : lt x z ≡ true = grind (arith, cases_Bool, false≢true, o.chain x z y) in
       rw apart (none_ties x y ys less after.1)
 
-  -- lists in order that have the same ties are the same
+  -- two lists in order with the same ties are equal
   pub same_ordered : (xs ys : List X) → Ordered xs → Ordered ys → IsStableBy lt xs ys → xs ≡ ys
   same_ordered [] [] up rise same = refl
   same_ordered [] (y ∷ ys) up rise same = let s = same y in let i = not_itself y in absurd (grind arith)
@@ -54,12 +54,12 @@ module _ {X : Type 0} (lt : X → X → Bool) (o : IsStrictWeakOrder lt) where
       let more = same_ordered xs ys up.1 rise.1 (λ z. grind (arith, cases_Bool, same z)) in
       cc
 
-  -- one more of these that pass, or do not
+  -- swapping two elements does not change which elements pass, if not both of them pass
   filter_swap : (p : X → Bool) (x y : X) (rest : List X) → (p x ≡ true → p y ≡ true → ⊥)
       → filter p (y ∷ x ∷ rest) ≡ filter p (x ∷ y ∷ rest)
   filter_swap p x y rest apart = grind (arith, cases_Bool)
 
-  -- what ties with one ties with what ties with it
+  -- an element does not tie with two elements of which one is less than the other
   not_both : (z x y : X) → lt y x ≡ true → ties lt z x ≡ true → ties lt z y ≡ true → ⊥
   not_both z x y less one other =
       let a = and_parts (not (lt z x)) (not (lt x z)) one in
@@ -68,25 +68,25 @@ module _ {X : Type 0} (lt : X → X → Bool) (o : IsStrictWeakOrder lt) where
       false≢true (sym c ∙ less)
 
 module _ {X : Type 0} (key : X → List ℕ) where
-  -- one goes before another
+  -- whether one element goes before another by their keys
   abbrev pub by_key : X → X → Bool
   by_key x y = is_lt (slice_cmp nat_cmp (key x) (key y))
 
-  -- that is an order
+  -- the order of elements by their keys is a strict weak order
   pub by_key_order : IsStrictWeakOrder by_key
   by_key_order = ranks_by nat_list_cmp_total key
 
-  -- what holds of these and of one more holds of all once it is placed
+  -- a property of elements and of one more holds of all after it is placed
   all_placed : (P : X → Type 0) (x : X) (ys : List X) → P x → AllByRecursion P ys → AllByRecursion P (placed_by key x ys)
   all_placed P x [] h all = (h, tt)
   all_placed P x (y ∷ ys) h all = grind (arith, cases_Bool, all_placed P x ys)
 
-  -- what is not less than one is not less than what that one is not less than
+  -- elements that are not less than `y` are not less than `x`, if `y` is not less than `x`
   all_later : (x y : X) (zs : List X) → by_key y x ≡ false → AreNotLess by_key by_key_order y zs → AreNotLess by_key by_key_order x zs
   all_later x y [] not_less all = tt
   all_later x y (z ∷ zs) not_less all = (by_key_order.chain z y x all.0 not_less, all_later x y zs not_less all.1)
 
-  -- one is placed in order
+  -- an element that is placed in a list in order leaves it in order
   ordered_placed : (x : X) (ys : List X) → Ordered by_key by_key_order ys → Ordered by_key by_key_order (placed_by key x ys)
   ordered_placed x [] up = (tt, tt)
   ordered_placed x (y ∷ ys) up = grind (
@@ -98,7 +98,7 @@ module _ {X : Type 0} (key : X → List ℕ) where
     all_later x y ys,
   )
 
-  -- one that is placed stays before those of its key
+  -- an element that is placed stays before the elements of its key
   stable_placed : (z x : X) (ys : List X) → filter (ties by_key z) (placed_by key x ys) ≡ filter (ties by_key z) (x ∷ ys)
   stable_placed z x [] = refl
   stable_placed z x (y ∷ ys) = grind (
@@ -109,39 +109,39 @@ module _ {X : Type 0} (key : X → List ℕ) where
     not_both by_key by_key_order z x y,
   )
 
-  -- what is sorted so is in order
+  -- a list that is sorted by keys is in order
   pub ordered_sorted : (xs : List X) → Ordered by_key by_key_order (sorted_by key xs)
   ordered_sorted [] = tt
   ordered_sorted (x ∷ xs) = ordered_placed x (sorted_by key xs) (ordered_sorted xs)
 
-  -- and has for each key the same in the same order
+  -- a list that is sorted by keys has for each key the same elements in the same order
   pub stable_sorted : (z : X) (xs : List X) → filter (ties by_key z) (sorted_by key xs) ≡ filter (ties by_key z) xs
   stable_sorted z [] = refl
   stable_sorted z (x ∷ xs) = stable_placed z x (sorted_by key xs)
       ∙ ap (λ (rest : List X). cond (ties by_key z x) (x ∷ rest) rest) (stable_sorted z xs)
 
-  -- what holds of these holds of them once they are sorted
+  -- a property of all elements of a list holds of all after they are sorted
   pub all_sorted : (P : X → Type 0) (xs : List X) → AllByRecursion P xs → AllByRecursion P (sorted_by key xs)
   all_sorted P [] all = tt
   all_sorted P (x ∷ xs) all = all_placed P x (sorted_by key xs) all.0 (all_sorted P xs all.1)
 
-  -- a stable sort gives this list
+  -- a stable sort gives the list that is sorted by keys
   pub sorted_is : (xs ys : List X) → IsSortedBy by_key ys → IsStableBy by_key xs ys → ys ≡ sorted_by key xs
   sorted_is xs ys up same = same_ordered by_key by_key_order ys (sorted_by key xs) (ordered_from_sorted by_key by_key_order ys up)
       (ordered_sorted xs) (λ z. stable_sorted z xs ∙ sym (same z))
 
-  -- lists that have the same for each key are sorted the same
+  -- lists with the same elements for each key are sorted to the same list
   pub same_sorted : (xs ys : List X) → ((z : X) → filter (ties by_key z) xs ≡ filter (ties by_key z) ys) → sorted_by key xs ≡ sorted_by key ys
   same_sorted xs ys same = same_ordered by_key by_key_order (sorted_by key xs) (sorted_by key ys) (ordered_sorted xs) (ordered_sorted ys)
       (λ z. stable_sorted z ys ∙ sym (same z) ∙ sym (stable_sorted z xs))
 
 module _ {X Y : Type 0} (f : X → Y) (key : Y → List ℕ) where
-  -- one of what is made of these is placed as they are
+  -- mapping elements to others places them alike
   map_placed : (x : X) (ys : List X) → map f (placed_by (λ z. key (f z)) x ys) ≡ placed_by key (f x) (map f ys)
   map_placed x [] = refl
   map_placed x (y ∷ ys) = grind (arith, cases_Bool, map_placed x ys)
 
-  -- what is made of these is sorted as they are
+  -- mapping elements to others sorts them alike
   pub map_sorted : (xs : List X) → map f (sorted_by (λ z. key (f z)) xs) ≡ sorted_by key (map f xs)
   map_sorted [] = refl
   map_sorted (x ∷ xs) = map_placed x (sorted_by (λ z. key (f z)) xs) ∙ ap (placed_by key (f x)) (map_sorted xs)

@@ -13,5 +13,5 @@ returns-clause-shows c = λ enough r same.
     let next = c.place_text-used-2 in
     let both : List ℕ → List ℕ → Option (Pair (List ℕ) (List ℕ)) = λ k v. Some (record { key = k; value = v }) in
     rw c.part_of.ensures (ap₂ both
-    (shows_on (λ r. bytes_at c.args.line.text.now r key.copied key.span) _ _ _ _ _ next.ensures.grows c.place_text-used.ensures.shows enough r same)
+    (shows_on (λ r. bytes_at c.args.part.line.text.now r key.copied key.span) _ _ _ _ _ next.ensures.grows c.place_text-used.ensures.shows enough r same)
     (next.ensures.shows enough r same))

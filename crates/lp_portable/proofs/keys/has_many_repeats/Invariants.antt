@@ -3,7 +3,7 @@ use Rattle.std.specs.{BTreeMap.get_by, Cmp.Lexicographic.slice_cmp, List.list_an
 use Rattle.lp_portable.specs.{code.Walks.keys_in, format.Portable.has_repeats}
 use Rattle.lp_portable.proofs.keys.has_many_repeats.Given as goal
 
--- the map has the keys that come after those that are left, of which none is repeated
+-- The map has the keys after the keys that are left, and none of them is repeated.
 abbrev pub invariant-loop-left : goal.invariant-loop-left
 invariant-loop-left g l = record {
   within : l.left ≤ length l.items;

@@ -1,4 +1,4 @@
--- Which bytes of a load are escaped, by the borrow of one subtraction, and what the mask of the bare marks of a load tells.
+-- The escaped bytes of a load, by the borrow of one subtraction, and the bare marks of a load, by their mask.
 use Rattle.std.proofs.Common.{◌≡◌, ℕ, zero, suc, ◌+◌, ◌-◌, ◌/◌, ◌%◌, ◌^◌, ◌<◌, ◌≤◌, Bool, true, false, cond, not, map, List, ◌∷◌, length}
 use Rattle.std.proofs.Common.{take, get_or, slice_index, bit_and, count_ones, refl, sym, ap, ap₂, ◌∙◌, subst, arith, inl, inr, ◌==◌, w64}
 use Rattle.std.proofs.Common.{count_by, ◌*◌, ◌&&◌, ◌||◌, [], bit_or, bit_xor}
@@ -16,37 +16,37 @@ use Rattle.lp_format.proofs.lemmas.tokens.EscapeLemmas.{is_escaped_more}
 use native.Mathlib.Nat.{pow-suc}
 use Rattle.lp_scan.proofs.lemmas.scan.MaskLemmas.{differs, and_of_maps, or_of_maps, xor_of_maps, not_of_map, mask_mod, mask_fits}
 
--- In what follows `ms` are the backslashes from a place on, `odd` says whether that place is an odd one, `after` whether a
--- backslash comes before it, and `e` whether it is escaped.
+-- In this file, `ms` are the backslashes from a place on, `odd` says whether this place is odd, `after` whether a backslash comes before it,
+-- and `e` whether it is escaped.
 
--- a place: whether it is an odd one, comes after a backslash, is escaped, and is a backslash
+-- a place of a load: whether it is odd, comes after a backslash, is escaped, and is a backslash
 record Place : Type 0 where
   odd : Bool
   after : Bool
   escaped : Bool
   slash : Bool
 
--- the places of the backslashes
+-- the places of a load, by its backslashes
 abbrev places : Bool → Bool → Bool → List Bool → List Place
 places odd after e [] = []
 places odd after e (m ∷ ms) = record { odd = odd; after = after; escaped = e; slash = m } ∷ places (not odd) m (not e && m) ms
 
--- the odd ones of so many places
+-- whether each of `n` places is odd, by whether the first is
 abbrev odds : Bool → ℕ → List Bool
 odds odd zero = []
 odds odd (suc n) = odd ∷ odds (not odd) n
 
--- the odd places alternate
+-- odd places and even places alternate
 alternate : (odd after e : Bool) (ms : List Bool) → map (λ p. p.odd) (places odd after e ms) ≡ odds odd (length ms)
 alternate odd after e [] = refl
 alternate odd after e (m ∷ ms) = ap (λ l. odd ∷ l) (alternate (not odd) m (not e && m) ms)
 
--- the backslashes are those that were given
+-- the backslashes of the places are the backslashes of the load
 slashes : (odd after e : Bool) (ms : List Bool) → map (λ p. p.slash) (places odd after e ms) ≡ ms
 slashes odd after e [] = refl
 slashes odd after e (m ∷ ms) = ap (λ l. m ∷ l) (slashes (not odd) m (not e && m) ms)
 
--- the mask of the places after a backslash is that of the backslashes, one place further
+-- the mask of the places after a backslash is the mask of the backslashes, shifted by one place
 shifted : (odd after e : Bool) (ms : List Bool)
     → (k : ℕ) × (mask_l (map (λ p. p.after) (places odd after e ms)) + 2 ^ length ms * k ≡ cond after 1 0 + 2 * mask_l ms)
 shifted odd after e [] = (cond after 1 0, omega arith)
@@ -54,16 +54,18 @@ shifted odd after e (m ∷ ms) =
     let (k, rest) = shifted (not odd) m (not e && m) ms in
     (k, rw (pow-suc 2 (length ms)) (omega (arith, rest)))
 
--- what is borrowed from a place: at an odd one if it is escaped, at an even one if it is bare after a backslash
+-- whether the subtraction borrows from a place: from an odd place if it is escaped, from an even place if it is bare and comes after a
+-- backslash
 abbrev borrow : Bool → Bool → Bool → Bool
 borrow true after e = e
 borrow false after e = after && not e
 
--- what is left at a place
+-- the bit that the subtraction leaves at a place
 abbrev left : Place → Bool
 left p = differs (differs p.escaped p.odd) p.slash
 
--- the subtraction: what is left, and the backslashes
+-- the subtraction takes the backslashes and one borrow from the mask of the places that are odd or come after a backslash, and gives the
+-- bits that are left
 subtracted : (odd after e : Bool) (ms : List Bool) → (e && not after) ≡ false
     → (k : ℕ) × (mask_l (map (λ p. p.after || p.odd) (places odd after e ms)) + 2 ^ length ms * k
     ≡ mask_l (map left (places odd after e ms)) + mask_l ms + cond (borrow odd after e) 1 0)
@@ -74,11 +76,11 @@ subtracted odd after e (m ∷ ms) h =
     + cond m 1 0 + cond (borrow odd after e) 1 0 = grind arith in
     (k, rw (pow-suc 2 (length ms)) (omega (arith, rest, here)))
 
--- undoing the difference tells whether a place is escaped
+-- undoing the two differences tells whether a place is escaped
 undone : (p : Place) → differs (differs (left p) p.odd) p.slash ≡ p.escaped
 undone p = grind arith
 
--- the mask of the odd ones of 64 places
+-- the mask of the odd places of 64
 abbrev odd_places : ℕ
 odd_places = 0xAAAA_AAAA_AAAA_AAAA
 
@@ -87,12 +89,12 @@ module _ (ms : List Bool) (long : length ms ≡ 64) where
   abbrev ps : List Place
   ps = places false false false ms
 
-  -- a mask of so many places fits
+  -- a mask of 64 places fits 64 bits
   fits : (f : Place → Bool) → mask_l (map f ps) < 2 ^ 64
   fits f = subst (λ (n : ℕ). mask_l (map f ps) < 2 ^ n)
       (length-map ps f ∙ sym (length-map ps (λ p. p.slash)) ∙ ap length (slashes false false false ms) ∙ long) (mask_l-lt (map f ps))
 
-  -- the backslashes among the places have the mask that was given
+  -- the mask of the backslashes among the places is the mask of the backslashes of the load
   slashes_are : mask_l (map (λ p. p.slash) ps) ≡ mask_l ms
   slashes_are = ap mask_l (slashes false false false ms)
 
@@ -100,7 +102,7 @@ module _ (ms : List Bool) (long : length ms ≡ 64) where
   odds_are : mask_l (map (λ p. p.odd) ps) ≡ odd_places
   odds_are = ap mask_l (alternate false false false ms) ∙ ap (λ (n : ℕ). mask_l (odds false n)) long
 
-  -- the minuend of the subtraction is the mask of the places after a backslash and the odd ones
+  -- the minuend of the subtraction is the mask of the places that are odd or come after a backslash
   minuend_is : bit_or (mask_l ms * 2 % 2 ^ 64) odd_places ≡ mask_l (map (λ p. p.after || p.odd) ps)
   minuend_is =
       let (k, whole) = shifted false false false ms in
@@ -108,7 +110,7 @@ module _ (ms : List Bool) (long : length ms ≡ 64) where
       let afters : mask_l ms * 2 % 2 ^ 64 ≡ mask_l (map (λ p. p.after) ps) = omega (arith, rw long at whole, fit) in
       ap₂ bit_or afters (sym odds_are) ∙ or_of_maps (λ p. p.after) (λ p. p.odd) ps
 
-  -- the subtraction gives the mask of what is left
+  -- the subtraction gives the mask of the bits that are left
   left_is : (bit_or (mask_l ms * 2 % 2 ^ 64) odd_places + (2 ^ 64 - mask_l ms)) % 2 ^ 64 ≡ mask_l (map left ps)
   left_is =
       let (k, whole) = subtracted false false false ms refl in
@@ -117,7 +119,7 @@ module _ (ms : List Bool) (long : length ms ≡ 64) where
       let less = fits (λ p. p.slash) in
       ap (λ (n : ℕ). (n + (2 ^ 64 - mask_l ms)) % 2 ^ 64) minuend_is ∙ omega (arith, rw long at whole, from, rest, less, slashes_are)
 
-  -- what the subtraction tells, if the first place is bare
+  -- the subtraction and the two differences give the mask of the escaped places, if the first place is bare
   pub escapes_are : bit_xor
       (bit_xor ((bit_or (mask_l ms * 2 % 2 ^ 64) odd_places + (2 ^ 64 - mask_l ms)) % 2 ^ 64) odd_places)
       (mask_l ms) ≡ mask_l (map (λ p. p.escaped) ps)
@@ -125,9 +127,9 @@ module _ (ms : List Bool) (long : length ms ≡ 64) where
       ap₂ bit_xor (ap₂ bit_xor left_is (sym odds_are) ∙ xor_of_maps left (λ p. p.odd) ps) (sym slashes_are)
       ∙ xor_of_maps (λ p. differs (left p) p.odd) (λ p. p.slash) ps ∙ ap (λ (f : Place → Bool). mask_l (map f ps)) (λ j p. undone p j)
 
--- the places of a text from one on
+-- the places of a text from a place on
 module _ (text : List ℕ) where
-  -- which of them are escaped
+  -- the places that are escaped by `places` are the escaped places of the text
   escaped_places : (n at : ℕ) (odd after e : Bool) → at + n ≤ length text → is_escaped_after (take at text) ≡ e
       → map (λ p. p.escaped) (places odd after e (map (λ k. slice_index text k == backslash) (range_with_len at n)))
       ≡ map (λ k. is_escaped_after (take k text)) (range_with_len at n)
@@ -137,14 +139,14 @@ module _ (text : List ℕ) where
       let next : is_escaped_after (take (at + 1) text) ≡ (not e && m) = is_escaped_more text at (omega arith) ∙ ap (λ f. not f && m) is in
       ap₂ (λ (b : Bool) (bs : List Bool). b ∷ bs) (sym is) (escaped_places n (at + 1) (not odd) m (not e && m) (omega arith) next)
 
-  -- a mask of bytes is one of their places
+  -- the mask of bytes that pass a test is the mask of their places
   pub of_places : (test : ℕ → Bool) (at n : ℕ) → at + n ≤ length text
       → mask_of test text at n ≡ mask_at (λ k. test (slice_index text k)) at n
   of_places test at n room =
       ap (λ (v : List ℕ). mask_l (map test v)) (sym (pick_l-range_with_len 0 text at n room))
       ∙ ap mask_l (map-map test (λ k. get_or text k 0) (range_with_len at n))
 
--- what the subtraction tells of a load that begins at a bare place
+-- the subtraction gives the mask of the escaped bytes of a load that begins at a bare place
 pub tells_escaped : (m r : ℕ)
     → r ≡ bit_xor (bit_xor ((bit_or (m * 2 % 2 ^ 64) odd_places + (2 ^ 64 - m)) % 2 ^ 64) odd_places) m → TellsEscaped m r
 tells_escaped m r made text at room bare is =
@@ -154,7 +156,7 @@ tells_escaped m r made text at room bare is =
     made ∙ ap (λ (n : ℕ). bit_xor (bit_xor ((bit_or (n * 2 % 2 ^ 64) odd_places + (2 ^ 64 - n)) % 2 ^ 64) odd_places) n) places
     ∙ escapes_are ms long ∙ ap mask_l (escaped_places text 64 at false false false room bare)
 
--- the marks that are not escaped are the bare ones
+-- the marks that are not escaped are the bare marks
 pub tells_bare : (marks m e r : ℕ) → TellsEscaped m e → r ≡ bit_and marks (bit_not w64 e) → TellsBare marks m r
 tells_bare marks m e r escaped made test text at room bare is marked =
     let places = range_with_len at 64 in
@@ -170,7 +172,7 @@ module _ (p : ℕ → Bool) (at n r : ℕ) (few : n ≤ 64) (found : r ≡ first
   long : length (range_with_len at n) ≡ n
   long = length-range_with_len at n
 
-  -- the lowest bit is the first place that passes
+  -- the lowest bit is the number of places before the first that passes
   counted : r ≡ prefix_len (λ k. not (p k)) (range_with_len at n)
   counted = found ∙ first_set_mask_l p (range_with_len at n) n long few
 
@@ -191,7 +193,7 @@ module _ (p : ℕ → Bool) (at n r : ℕ) (few : n ≤ 64) (found : r ≡ first
       let there = prefix_len_stops (λ j. not (p j)) (range_with_len at n) 0 (omega (arith, counted, long)) in
       not-false (p (at + r)) (rw (← counted, get_or-range_with_len at n r 0 short) at there)
 
--- the highest bit of a mask of 64 places tells of the last
+-- the highest bit of a mask of 64 places tells whether the last place passes
 pub highest : (p : ℕ → Bool) (at : ℕ) → mask_at p at 64 / 2 ^ 63 ≡ cond (p (at + 63)) 1 0
 highest p at =
     let ms = map p (range_with_len at 64) in
@@ -199,16 +201,16 @@ highest p at =
     bit_mask_l ms 63 ∙ ap (λ (t : Bool). cond t 1 0) (get_or-map-range_with_len p at 64 63 (at + 63) false (omega arith) refl) in
     omega (arith, mask_fits p at 64)
 
--- they tell how many of those pass
+-- the bits that are set among the lowest `n` of a mask count the places that pass among the first `n`
 pub ones_low : (p : ℕ → Bool) (at w n : ℕ) → n ≤ w → count_ones (mask_at p at w % 2 ^ n) ≡ count_by p (range_with_len at n)
 ones_low p at w n few = grind (arith, mask_mod, length-map-range_with_len, take-map-range_with_len, ones-mask_l)
 
--- a mask of places from the next one on, as one of places from this one on
+-- mapping the places from `at + 1` on is mapping the next place of each place from `at` on
 range_next : {X : Type 0} (f : ℕ → X) (n at : ℕ) → map f (range_with_len (at + 1) n) ≡ map (λ k. f (k + 1)) (range_with_len at n)
 range_next f zero at = refl
 range_next f (suc n) at = ap (λ (rest : List _). f (at + 1) ∷ rest) (range_next f n (at + 1))
 
--- the mask of a load one byte further
+-- the mask of the places from `at + 1` on is the mask of the next place of each place from `at` on
 pub mask_next : (p : ℕ → Bool) (at n : ℕ) → mask_at p (at + 1) n ≡ mask_at (λ k. p (k + 1)) at n
 mask_next p at n = ap mask_l (range_next p n at)
 
@@ -221,14 +223,14 @@ pub escaped_is_not_bare : (passes : ℕ → Bool) (text : List ℕ) (k : ℕ) �
     → is_bare_at passes text k ≡ false
 escaped_is_not_bare passes text k h = and_right (passes (slice_index text k)) (not (is_escaped_after (take k text))) (ap not h)
 
--- after a load that begins at a bare place: a bare backslash at its end escapes one byte, and then comes a bare place
+-- the bytes after a load that begins at a bare place: a bare backslash at its end escapes one byte, and then comes a bare place
 module _ (text : List ℕ) (at : ℕ) (room : at + 64 < length text) (last : ℕ)
     (is : last ≡ cond (is_bare_at (λ b. b == backslash) text (at + 63)) 1 0) where
-  -- what follows a load is escaped if its last byte is a bare backslash
+  -- the byte after a load is escaped exactly if the last byte of the load is a bare backslash
   flag : is_escaped_after (take (at + 64) text) ≡ is_bare_at (λ b. b == backslash) text (at + 63)
   flag = grind (arith, escapes_next)
 
-  -- at most one byte after a load is escaped by it
+  -- a load escapes at most one byte after it
   pub at_most_one : last ≤ 1
   at_most_one = grind (arith, cases_Bool)
 
@@ -236,13 +238,13 @@ module _ (text : List ℕ) (at : ℕ) (room : at + 64 < length text) (last : ℕ
   pub one_escaped : 0 < last → is_escaped_after (take (at + 64) text) ≡ true
   one_escaped some = grind (arith, cases_Bool, flag)
 
-  -- nothing is escaped where the next load begins
+  -- the next load begins at a bare place
   pub next_bare : IsBareAfter (take (at + (64 + last)) text)
   next_bare = grind (arith, cases_Bool, escapes_next, escaped_is_not_bare, flag)
 
--- from the mask of the bare stops of a load that begins at a bare place
+-- a load that begins at a bare place, by the mask of its bare stops
 module _ (passes : ℕ → Bool) (text : List ℕ) (at : ℕ) (room : at + 64 < length text) (p : IsBarePassed passes text at) where
-  -- how many bytes come before the first bare stop
+  -- the number of bytes before the first bare stop
   module _ (r : ℕ) (found : r ≡ first_set (mask_at (is_bare_at passes text) at 64) 64) where
     -- no bare byte before the lowest bit passes
     none_to : (k : ℕ) → k < at + r → is_bare_at passes text k ≡ false
@@ -251,15 +253,15 @@ module _ (passes : ℕ → Bool) (text : List ℕ) (at : ℕ) (room : at + 64 < 
       | inr late ↦ none_before (is_bare_at passes text) at 64 r (omega arith) found k late to
     ]
 
-    -- one of the bytes is a bare stop
+    -- the byte at the lowest bit is a bare stop, if a bit is set
     here : r < 64 → (passes (slice_index text (at + r)) ≡ true) × (not (is_escaped_after (take (at + r) text)) ≡ true)
     here short = and_parts _ _ (lowest_passes (is_bare_at passes text) at 64 r (omega arith) found short)
 
-    -- the lowest bit is the first bare byte that passes
+    -- the byte at the lowest bit is the first bare stop
     pub to_stop : r < 64 → IsBarePassed passes text (at + r) × (passes (slice_index text (at + r)) ≡ true)
     to_stop short = grind (arith, not-true, here, none_to)
 
-    -- none is: the next load begins at a bare place too
+    -- if no bit is set, the next load begins at a bare place, with no bare stop before it
     pub to_next : (last : ℕ) → 64 ≤ r → last ≡ cond (is_bare_at (λ b. b == backslash) text (at + 63)) 1 0
         → IsBarePassed passes text (at + (64 + last))
     to_next last far is = record {

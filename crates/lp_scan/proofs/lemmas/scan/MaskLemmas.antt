@@ -1,5 +1,4 @@
--- Masks of loads and of places: what is left of one without its lowest bits, what its bits tell, and what operations on bits
--- make of them.
+-- Masks of loads and of places: the parts of a mask, the meaning of its bits, and operations on it.
 use Rattle.std.proofs.Common.{◌≡◌, ℕ, zero, suc, ◌+◌, ◌-◌, ◌*◌, ◌/◌, ◌^◌, ◌<◌, ◌≤◌, Bool, true, cond, not, List, [], ◌∷◌, map, length, take}
 use Rattle.std.proofs.Common.{drop, sym, ap, ◌∙◌, arith, ◌%◌, ◌++◌, get_or, refl, inl, inr, take-append-drop, subst, drop-drop, length-take}
 use Rattle.std.proofs.Common.{w64, min, max, false, ◌&&◌, ◌||◌, bit_and, bit_or, bit_xor, ap₂}
@@ -30,7 +29,7 @@ mask_l-drop (m ∷ ms) (suc k) =
     ∙ ap (λ n. n / 2 ^ k) (half m (mask_l ms)) ∙ mask_l-drop ms k
 
 module _ (test : ℕ → Bool) (bytes : List ℕ) (at n : ℕ) where
-  -- shifted, the mask of a load is that of the bytes after
+  -- the mask of a load, shifted by `k`, is the mask of its bytes after the first `k`
   pub shifted : (k : ℕ) → k ≤ n → mask_of test bytes at n / 2 ^ k ≡ mask_of test bytes (at + k) (n - k)
   shifted k within =
       mask_l-drop (map test (chunk at n bytes)) k
@@ -39,7 +38,7 @@ module _ (test : ℕ → Bool) (bytes : List ℕ) (at n : ℕ) where
       ap (λ m. drop k (take m (drop at bytes))) (omega arith) ∙ drop-take k (n - k) (drop at bytes)
       ∙ ap (take (n - k)) (drop-drop k at bytes)))
 
-  -- its lowest bit is the first byte that passes the test
+  -- the lowest bit of the mask is the first byte of the load that passes the test
   pub lowest : at + n ≤ length bytes → n ≤ 64 → first_set (mask_of test bytes at n) n ≡ prefix_len (λ b. not (test b)) (chunk at n bytes)
   lowest room few = first_set_mask_l test (chunk at n bytes) n (length-chunk at n bytes room) few
 
@@ -49,11 +48,11 @@ map_agree f g [] same = refl
 map_agree f g (x ∷ v) same = grind (arith, same 0, map_agree f g v (λ k. same (suc k)))
 
 module _ (test : ℕ → Bool) (bytes : List ℕ) (at n : ℕ) (room : at + n ≤ length bytes) (few : n ≤ 64) where
-  -- a byte of a load
+  -- each byte of a load is below 256
   in_load : ((k : ℕ) → get_or bytes k 0 < 256) → (k : ℕ) → get_or (chunk at n bytes) k 0 < 256
   in_load fits k = grind (arith, cases_lt, get_or-chunk, get_or_past, length-chunk)
 
-  -- a test that agrees with it on each of the 256 bytes has the same mask
+  -- two tests that agree on each of the 256 bytes have the same mask
   pub mask_same : (other : ℕ → Bool) → ((k : ℕ) → get_or bytes k 0 < 256) → agree_below test other 256 ≡ true
       → mask_of test bytes at n ≡ mask_of other bytes at n
   mask_same other fits all =
@@ -69,15 +68,15 @@ module _ (test : ℕ → Bool) (bytes : List ℕ) (at n : ℕ) (room : at + n �
       (ap (map (top 7)) lanes ∙ map-map (top 7) f v ∙ ap (λ (g : ℕ → Bool). map g v) (λ j x. same x j))
       ∙ mask_l-mod (map test v) 64 (omega (arith, length-map v test, length-chunk at n bytes room))
 
-  -- the lowest bit of a mask tells how far the bytes go that fail the test
+  -- the lowest bit of the mask is the number of bytes before the first that passes the test
   pub run_is : (r : ℕ) → r ≡ first_set (mask_of test bytes at n) n → IsRunIn (λ b. not (test b)) bytes at n r
   run_is r found = grind (arith, lowest, run_in_chunk_le, run_in_chunk_fails, run_in_chunk_stops)
 
--- no bit of a mask comes after its load
+-- the mask of a load has no bit after the last byte of the load
 after : (test : ℕ → Bool) (bytes : List ℕ) (at n k : ℕ) → at + n ≤ length bytes → n ≤ k → mask_of test bytes at n / 2 ^ k ≡ 0
 after test bytes at n k room past = grind (arith, mask_l-drop, drop_all, length-map, length-chunk)
 
--- the lowest bit of a mask from a place on tells how far the bytes go from there that fail the test
+-- the lowest bit of a mask from a place on is the number of bytes from this place on before the first that passes the test
 pub next_is : (test : ℕ → Bool) (bytes : List ℕ) (at n k r : ℕ) → at + n ≤ length bytes → n ≤ 64
     → r ≡ first_set (mask_of test bytes at n / 2 ^ k) (n - k) → IsRunIn (λ b. not (test b)) bytes (at + k) (n - k) r
 next_is test bytes at n k r room few found =
@@ -90,7 +89,7 @@ next_is test bytes at n k r room few found =
           (found ∙ ap (λ m. first_set m (n - k)) (shifted test bytes at n k inside))
     ]
 
--- a mask of two lists of lanes is the first's mask with the second's above it
+-- the mask of two lists of lanes is the mask of the first with the mask of the second above it
 mask_l-append : (xs ys : List Bool) → mask_l (xs ++ ys) ≡ mask_l xs + mask_l ys * 2 ^ length xs
 mask_l-append [] ys = omega arith
 mask_l-append (x ∷ xs) ys = rw (pow-suc 2 (length xs)) (omega (arith, mask_l-append xs ys))
@@ -105,21 +104,21 @@ mask_mod ms k within =
     ap (λ (n : ℕ). n % 2 ^ k) whole ∙ add-mul-mod_self_right (mask_l (take k ms)) (mask_l (drop k ms)) (2 ^ k)
     ∙ mask_l-mod (take k ms) k (omega (arith, long))
 
--- numbers from a place on, without the first ones
+-- numbers from a place on, without the first `k`, are the numbers from `k` places further on
 drop_range : (k at n m : ℕ) → k + m ≡ n → drop k (range_with_len at n) ≡ range_with_len (at + k) m
 drop_range zero at n m e = grind arith
 drop_range (suc k) at zero m e = absurd (omega arith)
 drop_range (suc k) at (suc n) m e = grind (arith, drop_range k (at + 1) n m)
 
--- a mask of so many places is below that power
+-- a mask of `n` places is below 2 to the power of `n`
 pub mask_fits : (p : ℕ → Bool) (at n : ℕ) → mask_at p at n < 2 ^ n
 mask_fits p at n = subst (λ (k : ℕ). mask_at p at n < 2 ^ k) (length-map-range_with_len p at n) (mask_l-lt (map p (range_with_len at n)))
 
--- a mask without its lowest bits
+-- a mask without its lowest `k` bits is the mask of the places after the first `k`
 pub mask_after : (p : ℕ → Bool) (at n k m : ℕ) → k + m ≡ n → mask_at p at n / 2 ^ k ≡ mask_at p (at + k) m
 mask_after p at n k m e = grind (arith, mask_l-drop, drop-map, drop_range)
 
--- the lowest bit of a mask below a power is below its exponent
+-- the lowest bit of a mask below 2 to the power of `n` is below `n`
 pub tz_below : (m n r : ℕ) → m < 2 ^ n → n ≤ 64 → 0 < m → r ≡ trailing_zeros w64 m → r < n
 tz_below m n r below few some lowest = elim (cases_lt r n) [
   | inl inside ↦ inside
@@ -129,12 +128,12 @@ tz_below m n r below few some lowest = elim (cases_lt r n) [
       absurd (omega (arith, set, bit_at_above m n r below past))
 ]
 
--- one of two, and not both
+-- whether exactly one of the two is true
 abbrev pub differs : Bool → Bool → Bool
 differs true b = not b
 differs false b = b
 
--- the lowest bit of a mask
+-- the remainder of a mask by 2 is its lowest bit
 low : (b : Bool) (n : ℕ) → (cond b 1 0 + 2 * n) % 2 ≡ cond b 1 0
 low b n = grind arith
 
@@ -142,7 +141,7 @@ low b n = grind arith
 module _ (op digit : ℕ → ℕ → ℕ) (both : Bool → Bool → Bool) (none : op 0 0 ≡ 0)
     (step : (a b : ℕ) → op a b ≡ op (a / 2) (b / 2) * 2 + digit (a % 2) (b % 2))
     (one : (x y : Bool) → digit (cond x 1 0) (cond y 1 0) ≡ cond (both x y) 1 0) {V : Type 0} (f g : V → Bool) where
-  -- what holds of each bit holds of the masks of two tests
+  -- an operation on the masks of two tests gives the mask of the operation on the tests
   by_lanes : (vs : List V) → op (mask_l (map f vs)) (mask_l (map g vs)) ≡ mask_l (map (λ v. both (f v) (g v)) vs)
   by_lanes [] = none
   by_lanes (v ∷ vs) =
@@ -150,31 +149,31 @@ module _ (op digit : ℕ → ℕ → ℕ) (both : Bool → Bool → Bool) (none 
       let lows = ap₂ digit (low (f v) (mask_l (map f vs))) (low (g v) (mask_l (map g vs))) ∙ one (f v) (g v) in
       step (mask_l (map f (v ∷ vs))) (mask_l (map g (v ∷ vs))) ∙ ap₂ (λ (a b : ℕ). a * 2 + b) highs lows ∙ omega arith
 
--- if two masks are of the same places, so is what the operations make of them
+-- operations on the masks of two tests of the same values
 module _ {V : Type 0} (f g : V → Bool) where
   -- the and of the masks of two tests is the mask of both
   pub and_of_maps : (vs : List V) → bit_and (mask_l (map f vs)) (mask_l (map g vs)) ≡ mask_l (map (λ v. f v && g v) vs)
   and_of_maps = by_lanes bit_and min (λ a b. a && b) refl and_step (grind arith) f g
 
-  -- the or is that of either
+  -- the or of the masks of two tests is the mask of either
   pub or_of_maps : (vs : List V) → bit_or (mask_l (map f vs)) (mask_l (map g vs)) ≡ mask_l (map (λ v. f v || g v) vs)
   or_of_maps = by_lanes bit_or max (λ a b. a || b) refl or_step (grind arith) f g
 
-  -- the exclusive or is that of one, and not both
+  -- the exclusive or of the masks of two tests is the mask of exactly one of them
   pub xor_of_maps : (vs : List V) → bit_xor (mask_l (map f vs)) (mask_l (map g vs)) ≡ mask_l (map (λ v. differs (f v) (g v)) vs)
   xor_of_maps = by_lanes bit_xor differ differs refl xor_step (grind arith) f g
 
--- the mask of the other places is what is missing to all ones
+-- the mask of the lanes that are not set and the mask of the lanes that are set add up to all ones
 mask_not : (ms : List Bool) → mask_l (map not ms) + mask_l ms + 1 ≡ 2 ^ length ms
 mask_not [] = refl
 mask_not (m ∷ ms) = grind (arith, pow-suc, mask_not ms)
 
--- the places that do not pass, of 64
+-- the complement of the mask of a test of 64 values is the mask of the values that fail it
 pub not_of_map : {V : Type 0} (f : V → Bool) (vs : List V) → length vs ≡ 64
     → bit_not w64 (mask_l (map f vs)) ≡ mask_l (map (λ v. not (f v)) vs)
 not_of_map f vs long = grind (arith, mask_not, length-map, map-map)
 
--- the bits below a place
+-- the lowest `n` bits of a number are its remainder by 2 to the power of `n`
 pub below_is : (m n : ℕ) → n < 64 → bit_and m (1 * 2 ^ n % 2 ^ 64 - 1) ≡ m % 2 ^ n
 below_is m n few =
     let more : 2 ^ suc n ≤ 2 ^ 64 = pow-le-pow_right {n = 2} (omega arith) few in

@@ -2,7 +2,7 @@ use Rattle.std.proofs.Common.{◌≡◌, ℕ, ◌-◌, ◌<◌, ◌≤◌, false
 use Rattle.lp_format.specs.format.Bytes.{is_one_of}
 use Rattle.lp_scan.proofs.marks.loaded_before_first.Given as goal
 
--- what was loaded holds no mark
+-- no byte before `at` is a mark
 abbrev pub invariant-loop-at : goal.invariant-loop-at
 invariant-loop-at g l = (l.at ≤ length l.text) × ((k : ℕ) → k < l.at → is_one_of l.marks (get_or l.text k 0) ≡ false)
 

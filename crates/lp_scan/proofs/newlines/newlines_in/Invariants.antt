@@ -2,7 +2,7 @@ use Rattle.std.proofs.Common.{◌≡◌, ◌+◌, ◌≤◌, length}
 use Rattle.lp_format.specs.format.Bytes.{newlines_in}
 use Rattle.lp_scan.proofs.newlines.newlines_in.Given as goal
 
--- the newlines of the bytes before the rest are counted
+-- `count` is the number of newlines before `rest`
 abbrev pub invariant-loop-rest : goal.invariant-loop-rest
 invariant-loop-rest l =
     (l.count + length l.rest ≤ length l.bytes) × (l.count + newlines_in l.rest ≡ newlines_in l.bytes)

@@ -1,5 +1,5 @@
 use Rattle.std.proofs.Common.{◌≡◌, Some, arith}
-use Rattle.std.specs.BTreeMap.{get_by_text}
+use Rattle.std.specs.HashMap.{get_by_text}
 use Rattle.std.proofs.lemmas.Map.Text.{text_keys}
 use Rattle.lp_series.proofs.KeptCounts.{at_err, set_same}
 use Rattle.lp_series.proofs.tables.count_key.Goals as goal

@@ -1,4 +1,4 @@
--- The first newline, quote or backslash of a text, as loads and searches find it, and the cut that it tells.
+-- The first newline, quote or backslash of a text, as loads and searches find it, and the cut that it shows.
 use Rattle.std.proofs.Common.{◌≡◌, ℕ, ◌+◌, ◌-◌, ◌/◌, ◌^◌, ◌<◌, ◌≤◌, Bool, true, cond, not, List, length, drop, slice_index, Some, sym, ap}
 use Rattle.std.proofs.Common.{subst, ◌∙◌, inl, inr, refl, length-drop, arith, None, ◌≢◌, zero, suc, take, w64, ne_eqb, get_or-drop}
 use Rattle.std.proofs.Common.{take_all, All, length-append, length-take, get_or-take, [], ◌∷◌, ◌++◌}
@@ -19,29 +19,29 @@ use Rattle.std.proofs.Math.Seq.{get_or-append_seam}
 
 module _ (test : ℕ → Bool) (text : List ℕ) (at n m r : ℕ) (room : at + n ≤ length text) (few : n ≤ 64)
     (is : m ≡ mask_of test text at n) (some : 0 < m) (lowest : r ≡ trailing_zeros w64 m) where
-  -- the mask is below the power of as many bytes as it tells of
+  -- the mask of `n` bytes is below 2 to the power of `n`
   below : m < 2 ^ n
   below = grind (arith, length-map, length-chunk, mask_l-lt)
 
-  -- the bit is one of those
+  -- the lowest bit is one of the `n` bytes
   pub one_of : r < n
   one_of = tz_below m n r below few some lowest
 
-  -- and the bytes before it pass no test
+  -- the bytes before the lowest bit fail the test
   run : IsRunIn (λ b. not (test b)) text at n r
   run =
       let set : r ≡ first_set m n = lowest ∙ ap (λ (t : Bool). cond t n (trailing_zeros w64 m)) (sym (ne_eqb m 0 (omega (arith, some)))) in
       run_is test text at n room few r (set ∙ ap (λ (k : ℕ). first_set k n) is)
 
-  -- the byte is a mark
+  -- the byte at the lowest bit passes the test
   pub passes_there : test (slice_index text (at + r)) ≡ true
   passes_there = not-false _ (run.2 one_of)
 
-  -- if none comes before the mask's bytes, it is the first
+  -- the byte at the lowest bit is the first that passes, if no byte before the load passes
   pub first_is : (place : ℕ) → at + r ≡ place → AllPassBetween (λ b. not (test b)) text 0 at → IsFirstByte test text (Some place)
   first_is place to_place before = grind (arith, one_of, cases_lt, false≢true, not-true, run, passes_there)
 
-  -- the bits above it are the mask of the bytes after it
+  -- the bits above the lowest bit are the mask of the bytes after it
   pub later_are : m / 2 ^ r / 2 ≡ mask_of test (drop (at + r + 1) text) 0 (n - (r + 1))
   later_are =
       let inside = one_of in
@@ -49,16 +49,16 @@ module _ (test : ℕ → Bool) (text : List ℕ) (at n m r : ℕ) (room : at + n
       ap (λ (k : ℕ). k / 2 ^ r / 2) is ∙ ap (λ (k : ℕ). k / 2) (shifted test text at n r (omega (arith, inside)))
       ∙ shifted test text (at + r) (n - r) 1 (omega (arith, inside)) ∙ ap (mask_of test text (at + r + 1)) count
 
--- so are they seen
+-- the bits above the lowest bit are the mask of the marks that were seen after it
 pub seen_later : (dialect : Dialect) (text : List ℕ) (at n m r place : ℕ) → at + n ≤ length text → n ≤ 64 → m ≡ mask_of (is_mark dialect) text at n
     → 0 < m → r ≡ trailing_zeros w64 m → at + r ≡ place → AreSeen dialect (drop (place + 1) text) (m / 2 ^ r / 2)
 seen_later dialect text at n m r place room few is some lowest to_place = grind (arith, length-drop, later_are)
 
--- of no bytes nothing is seen
+-- the mask 0 is the mask of the marks among the first 0 bytes of a text
 pub none_are_seen : (dialect : Dialect) (text : List ℕ) → AreSeen dialect text 0
 none_are_seen dialect text = record { count = 0; within = omega arith; few = omega arith; are = refl }
 
--- an empty mask tells that no byte is a mark
+-- if the mask of a load is 0 and no byte before the load passes, no byte up to the end of the load passes
 pub none_seen : (test : ℕ → Bool) (text : List ℕ) (at n m : ℕ) → at + n ≤ length text → n ≤ 64 → m ≡ mask_of test text at n → m ≡ 0
     → AllPassBetween (λ b. not (test b)) text 0 at → AllPassBetween (λ b. not (test b)) text 0 (at + n)
 none_seen test text at n m room few is empty before k from to =
@@ -66,15 +66,15 @@ none_seen test text at n m room few is empty before k from to =
 
 module _ (test : ℕ → Bool) (text rest : List ℕ) (at : ℕ) (within : at ≤ length text) (same : rest ≡ drop at text)
     (quiet : AllPassBetween (λ b. not (test b)) text 0 at) where
-  -- the byte at a place after the loads
+  -- a byte of the rest is the byte of the text at a place after the loads
   here : (k : ℕ) → slice_index rest k ≡ slice_index text (at + k)
   here k = ap (λ (t : List ℕ). slice_index t k) same ∙ get_or-drop at text k 0
 
-  -- what is left is as long as the text after the loads
+  -- the rest is as long as the text after the loads
   left : length rest ≡ length text - at
   left = ap length same ∙ length-drop at text
 
-  -- nothing is found before a place after the loads, if nothing is found before it in what is left
+  -- nothing is found before a place of the text after the loads, if nothing is found before it in the rest
   none_before : (n : ℕ) → Nowhere (Passes test rest) 0 n → Nowhere (Passes test text) 0 (at + n)
   none_before n none k from to found =
       elim (cases_lt k at) [
@@ -84,41 +84,41 @@ module _ (test : ℕ → Bool) (text rest : List ℕ) (at : ℕ) (within : at �
             none (k - at) (omega arith) (omega arith) (ap test (here (k - at) ∙ ap (λ (j : ℕ). slice_index text j) back) ∙ found)
       ]
 
-  -- what is found in what is left is found in the text
+  -- the first byte that is found in the rest is the first byte that is found in the text
   pub found_after : (n : ℕ) → IsFirstByte test rest (Some n) → IsFirstByte test text (Some (at + n))
   found_after n found = (
     record { low = omega arith; high = omega (arith, found.0.high, left); before = none_before n found.0.before },
     ap test (sym (here n)) ∙ found.1,
   )
 
-  -- if nothing is found in what is left, nothing is found in the text
+  -- nothing is found in the text if nothing is found in the rest
   pub none_after : IsFirstByte test rest None → IsFirstByte test text None
   none_after none k from to found = none_before (length rest) none k from (omega (arith, left)) found
 
--- a byte that is none of them
+-- a byte that is no newline, no quote and no backslash
 abbrev IsOther : ℕ → Type 0
 IsOther b = (b ≢ newline) × (b ≢ quote) × (b ≢ backslash)
 
--- the front before the first of them has only other bytes
+-- the front of a text before its first newline, quote or backslash has only other bytes
 others_before : (text : List ℕ) (n : ℕ) → n ≤ length text → Nowhere (Passes (is_byte3 backslash 10 quote) text) 0 n → All IsOther (take n text)
 others_before text n h none = All-from_get_or IsOther (take n text) 0 (λ i l.
     let inside : i < n = omega (arith, l, length-take n text) in
     subst IsOther (sym (get_or-take n text i 0 inside))
     ((λ e. none i (omega arith) inside (rw e refl)), (λ e. none i (omega arith) inside (rw e refl)), (λ e. none i (omega arith) inside (rw e refl))))
 
--- such a front is one piece
+-- a text of other bytes than newlines, quotes and backslashes is one piece
 others_last : (dialect : Dialect) (front : List ℕ) → All IsOther front → IsLastPiece dialect front
 others_last dialect front h =
     IsLastPiece-extend dialect [] front (IsLastPiece-nil dialect) (All-weaker IsOther (λ b. b ≢ newline) (λ b o. o.0) front h)
 
--- it is not open
+-- a text of other bytes than newlines, quotes and backslashes does not end in a quoted stretch
 others_closed : {front counted : List ℕ} → EndsQuoted front counted → All IsOther front → ⊥
 others_closed (opened piece counted quoted e o q) h =
     let front = piece ++ quote ∷ quoted in
     let at = All-get_or IsOther front (length piece) 0 (omega (arith, length-append piece (quote ∷ quoted))) h in
     at.1 (get_or-append_seam piece quote quoted 0)
 
--- after it nothing is escaped
+-- nothing is escaped after a front of other bytes than newlines, quotes and backslashes
 others_bare : (text : List ℕ) (n : ℕ) → n ≤ length text → All IsOther (take n text) → IsBareAfter (take n text)
 others_bare text zero h others = is_escaped-nil
 others_bare text (suc n) h others =
@@ -127,13 +127,13 @@ others_bare text (suc n) h others =
     subst (λ (k : ℕ). IsBareAfter (take k text)) next
     (bare_past text n (omega arith) (λ e. last.2 (get_or-take (suc n) text n 0 (omega arith) ∙ e)))
 
--- nor does a front before the first newline hold one
+-- the front of a text before its first newline has no newline
 none_before_newline : (text : List ℕ) (n : ℕ) → n ≤ length text → Nowhere (Passes (is_byte newline) text) 0 n → HasNoNewline (take n text)
 none_before_newline text n h none = All-from_get_or (λ b. b ≢ newline) (take n text) 0 (λ i l e.
     let inside : i < n = omega (arith, l, length-take n text) in
     none i (omega arith) inside (rw (sym (get_or-take n text i 0 inside) ∙ e) refl))
 
--- in two dialects, a newline that is the first of them is the cut
+-- a newline before all quotes and backslashes is the first cut, in each dialect
 cut_of_others : (dialect : Dialect) (text : List ℕ) (n : ℕ) → IsFirstByte (is_byte3 backslash newline quote) text (Some n)
     → slice_index text n ≡ newline → IsFirstCut dialect text (Some n)
 cut_of_others dialect text n found sign =
@@ -144,7 +144,7 @@ cut_of_others dialect text n found sign =
     let no_newline : HasNoNewline (take n text) = All-weaker IsOther (λ b. b ≢ 10) (λ b o. o.0) (take n text) others in
     (found.0.high, sign, grind arith)
 
--- a newline that is the first mark is the cut
+-- a newline that is the first mark of a text is its first cut
 pub cut_at_newline : (dialect : Dialect) (text : List ℕ) (n : ℕ) → IsFirstByte (is_mark dialect) text (Some n)
     → slice_index text n ≡ newline → IsFirstCut dialect text (Some n)
 cut_at_newline Crate text n found sign = cut_of_others Crate text n found sign
@@ -152,7 +152,7 @@ cut_at_newline Strict text n found sign = cut_of_others Strict text n found sign
 cut_at_newline NewlineDelimited text n found sign =
     (found.0.high, sign, none_before_newline text n (omega (arith, found.0.high)) found.0.before)
 
--- a text without any of them is one piece
+-- a text without newlines, quotes and backslashes is one piece
 none_of_others : (dialect : Dialect) (text : List ℕ) → IsFirstByte (is_byte3 backslash newline quote) text None → IsFirstCut dialect text None
 none_of_others dialect text none =
     let others = others_before text (length text) (omega arith) none in
@@ -166,7 +166,7 @@ no_cut NewlineDelimited text none =
     subst HasNoNewline (take_all (length text) text (omega arith)) (none_before_newline text (length text) (omega arith) none)
 
 module _ (test : ℕ → Bool) (newline_passes : test newline ≡ true) (text : List ℕ) where
-  -- a front of bytes that pass no test that newlines pass has no newline
+  -- a front of bytes that fail a test has no newline, if a newline passes the test
   counts_none : (n : ℕ) → n ≤ length text → Nowhere (Passes test text) 0 n → newlines_in (take n text) ≡ 0
   counts_none zero h none = refl
   counts_none (suc n) h none =

@@ -9,13 +9,13 @@ use Rattle.lp_format.specs.format.{backslash, bare_after, first_bare, is_bare_at
 use Rattle.lp_format.specs.laws.Meanings.{IsAtStop, IsBeforeStop}
 use Rattle.lp_format.proofs.lemmas.{split.SplitBare.is_escaped-nil, tokens.EscapeLemmas.is_escaped_push}
 
--- how far the first bare byte is that passes, from whether the place before the text is escaped
+-- the number of bytes before the first bare byte that passes, by whether the first byte of the text is escaped
 abbrev pub bare_len : (ℕ → Bool) → Bool → List ℕ → ℕ
 bare_len passes escaped [] = 0
 bare_len passes escaped (b ∷ text) = cond (passes b && not escaped) 0 (suc (bare_len passes (not escaped && b == backslash) text))
 
 module _ (passes : ℕ → Bool) where
-  -- so far is it of the places of a text that comes after a front
+  -- `bare_len` is the number of bytes after a front before the first bare byte that passes
   after_front : (front text : List ℕ)
       → position_or_len (is_bare_at passes (front ++ text)) (range_with_len (length front) (length text))
       ≡ bare_len passes (is_escaped_after front) text
@@ -24,30 +24,30 @@ module _ (passes : ℕ → Bool) where
       let more = after_front (front ++ b ∷ []) text in
       grind (arith, get_or-append_seam, take-append_seam, length-append, append_assoc, is_escaped_push, cases_Bool)
 
-  -- the two agree
+  -- `first_bare` and `bare_len` give the same number
   pub first_bare_len : (text : List ℕ) → first_bare passes text ≡ bare_len passes false text
   unfolding first_bare
   first_bare_len text = after_front [] text ∙ ap (λ (e : Bool). bare_len passes e text) is_escaped-nil
 
-  -- none of the bytes passes
+  -- all of these bytes fail the test
   abbrev AllFail : List ℕ → Type 0
   AllFail bytes = All (λ b. passes b ≡ false) bytes
 
-  -- a byte that is escaped or does not pass, and the others
+  -- a byte is escaped or fails the test, if all bare bytes from it on fail
   first_fails : (e : Bool) (b : ℕ) (rest : List ℕ) → AllFail (cond e [] (b ∷ []) ++ rest) → (passes b && not e) ≡ false
   first_fails e b rest h = grind (arith, and_right)
 
-  -- the others
+  -- the bare bytes after the first byte fail the test, if all bare bytes do
   others_fail : (e : Bool) (b : ℕ) (rest : List ℕ) → AllFail (cond e [] (b ∷ []) ++ rest) → AllFail rest
   others_fail true b rest h = h
   others_fail false b rest h = λ k d l. h (suc k) d (omega arith)
 
-  -- one byte before the stop
+  -- one more byte before the stop makes `bare_len` one greater
   len_more : (p : List ℕ) (b : ℕ) (rest : List ℕ) → (passes b && not (is_escaped_after p)) ≡ false
       → bare_len passes (is_escaped_after p) (b ∷ rest) ≡ suc (bare_len passes (is_escaped_after (p ++ b ∷ [])) rest)
   len_more p b rest h = rw h (ap (λ (e : Bool). suc (bare_len passes e rest)) (sym (is_escaped_push p b)))
 
-  -- the front before the stop is as long as the bytes before it
+  -- the front before the stop has `bare_len` bytes
   stop_len : (p front after : List ℕ) → AllFail (bare_after p front) → IsAtStop passes (p ++ front) after
       → bare_len passes (is_escaped_after p) (front ++ after) ≡ length front
   stop_len p [] [] none at = refl
@@ -58,23 +58,23 @@ module _ (passes : ℕ → Bool) where
       let there = subst (λ (t : List ℕ). IsAtStop passes t after) (sym (append_assoc p (b ∷ []) front)) at in
       len_more p b (front ++ after) here ∙ ap suc (stop_len (p ++ b ∷ []) front after others there)
 
-  -- and the other way round
+  -- a front of `bare_len` bytes ends before the stop
   before_by : (p front after : List ℕ) → bare_len passes (is_escaped_after p) (front ++ after) ≡ length front
       → AllFail (bare_after p front) × IsAtStop passes (p ++ front) after
   before_by p [] [] h = grind (arith, append-nil)
   before_by p [] (b ∷ after) h = grind (arith, append-nil, cases_Bool, and_parts, not-true)
   before_by p (b ∷ front) after h = grind (arith, cases_Bool, append_assoc, len_more, (before_by (p ++ b ∷ []) front after))
 
-  -- the length of the front, by what it is
+  -- `first_bare` is `bare_len` at the start of a text
   first_len : (text : List ℕ) → first_bare passes text ≡ bare_len passes (is_escaped_after []) text
   first_len text = first_bare_len text ∙ ap (λ (e : Bool). bare_len passes e text) (sym is_escaped-nil)
 
-  -- the first stop is in the text or at its end
+  -- the first bare byte that passes is in the text, or the number is the length of the text
   first_fits : (text : List ℕ) → first_bare passes text ≤ length text
   unfolding first_bare
   first_fits text = grind (arith, prefix_len-le-length, length-range_with_len)
 
-  -- the front before the first stop
+  -- a front of a text ends before the first bare byte that passes exactly if it has `first_bare` bytes
   pub before_stop : (front after : List ℕ) → (take (first_bare passes (front ++ after)) (front ++ after) ≡ front)
       ↔ IsBeforeStop passes front after
   before_stop front after = (

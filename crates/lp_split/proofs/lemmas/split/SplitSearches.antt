@@ -1,4 +1,4 @@
--- What loads and searches tell: the first bare byte that passes a test, how many bytes pass it, and which end a stretch.
+-- Results of loads and searches: the first bare byte that passes a test, the number of bytes that pass it, and the bytes that end a stretch.
 use Rattle.std.proofs.Common.{◌≡◌, ◌≢◌, ℕ, zero, suc, ◌+◌, ◌<◌, ◌≤◌, List, length, take, drop, slice_index, Bool, true, false}
 use Rattle.std.proofs.Common.{◌||◌, Some, None, length-drop, refl, ap, ◌∙◌, subst, inl, inr, arith}
 use Rattle.std.proofs.Common.{◌==◌, eqb-true, get_or-drop}
@@ -10,16 +10,16 @@ use Rattle.lp_split.{specs.declared.split.Stops.Stops, specs.code.is_stop, proof
 use Rattle.lp_scan.specs.code.{IsBarePassed}
 
 module _ (passes : ℕ → Bool) (text : List ℕ) where
-  -- before the first byte
+  -- no bare byte before the start of a text passes
   pub passed_start : IsBarePassed passes text 0
   passed_start = record { within = omega arith; is_bare = is_escaped-nil; none = λ k h. absurd (omega arith) }
 
-  -- one place more is passed
+  -- no bare byte before the next place passes, if none before this place and none at this place passes
   passed_more : (at : ℕ) → ((k : ℕ) → k < at → is_bare_at passes text k ≡ false) → is_bare_at passes text at ≡ false
       → (k : ℕ) → k < at + 1 → is_bare_at passes text k ≡ false
   passed_more at before here k h = grind (arith, cases_Bool, eqb-true, eqb-false)
 
-  -- several bytes that are no backslashes and do not pass
+  -- several bytes that are no backslashes and fail the test are passed over
   passed_bytes : (at n : ℕ) → at + n ≤ length text
       → ((k : ℕ) → k < n → (slice_index text (at + k) ≢ backslash) × (passes (slice_index text (at + k)) ≡ false))
       → IsBarePassed passes text at → IsBarePassed passes text (at + n)
@@ -29,7 +29,7 @@ module _ (passes : ℕ → Bool) (text : List ℕ) where
       let next : at + n + 1 ≡ at + suc n = omega arith in
       grind (arith, bare_past, passed_more)
 
-  -- a backslash and the byte after it
+  -- a backslash and the byte after it are passed over
   passed_escape : (at : ℕ) → at + 1 < length text → slice_index text at ≡ backslash → passes backslash ≡ false
       → IsBarePassed passes text at → IsBarePassed passes text (at + 2)
   passed_escape at h here fails p =
@@ -38,14 +38,14 @@ module _ (passes : ℕ → Bool) (text : List ℕ) where
       let next : (at + 1) + 1 ≡ at + 2 = omega arith in
       grind (arith, is_escaped_more, passed_more)
 
--- a byte that a search for the backslash and two more does not find
+-- a byte that a search for the backslash and two more bytes does not find is none of the three
 not_found : (c d b : ℕ) → (b == backslash || b == c || b == d) ≡ false → (b ≢ backslash) × ((b == c || b == d) ≡ false)
 not_found c d b h = grind arith
 
--- what a search after a place gives for the backslash and the bytes that end a stretch
+-- a search after a place for the backslash and the two bytes that end a stretch
 module _ (stops : Stops) (fails : is_stop stops backslash ≡ false) {text rest : List ℕ} {at : ℕ} (same : rest ≡ drop at text)
     (p : IsBarePassed (is_stop stops) text at) where
-  -- the bytes before the first that it finds are passed
+  -- the bytes before the first byte that the search finds are passed over
   searched : (n : ℕ) → at + n ≤ length text → Nowhere (Passes (is_byte3 backslash stops.0 stops.1) rest) 0 n
       → IsBarePassed (is_stop stops) text (at + n)
   searched n h none =
@@ -58,19 +58,19 @@ module _ (stops : Stops) (fails : is_stop stops backslash ≡ false) {text rest 
       ])
       p
 
-  -- the bytes before a place that it finds are passed
+  -- the bytes before the byte that the search finds are passed over, and this byte is in the text
   pub found_after : (n : ℕ) → IsFirstByte (is_byte3 backslash stops.0 stops.1) rest (Some n)
       → IsBarePassed (is_stop stops) text (at + n) × (at + n < length text)
   found_after n found =
       let fits : at + n < length text = omega (arith, found.0.high, ap length same, length-drop at text, p.within) in
       (searched n (omega arith) found.0.before, fits)
 
-  -- it finds another backslash
+  -- if the search finds a backslash, the bytes up to the byte after it are passed over
   pub search_goes_on : (n : ℕ) → IsFirstByte (is_byte3 backslash stops.0 stops.1) rest (Some n) → slice_index text (at + n) ≡ backslash
       → at + n + 1 < length text → IsBarePassed (is_stop stops) text (at + n + 2)
   search_goes_on n found here h = passed_escape (is_stop stops) text (at + n) h here fails (found_after n found).0
 
-  -- it finds nothing
+  -- if the search finds nothing, all bytes of the text are passed over
   pub search_ends : IsFirstByte (is_byte3 backslash stops.0 stops.1) rest None → IsBarePassed (is_stop stops) text (length text)
   search_ends none =
       let to : at + length rest ≡ length text = omega (arith, ap length same, length-drop at text, p.within) in

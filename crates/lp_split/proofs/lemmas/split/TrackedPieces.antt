@@ -1,4 +1,4 @@
--- The track of a piece, and what a search knows of a text, by the rules of each dialect.
+-- The track of a piece, and the knowledge of a search about a text, by the rules of each dialect.
 use Rattle.std.proofs.Common.{◌≡◌, ◌≢◌, ℕ, false, List, [], length, take, drop, Err, sym, ap, ◌∙◌, subst, arith, append-nil}
 use Rattle.std.proofs.Common.{take-append-drop, ◌⊎◌, inl, inr, eqb, ◌∷◌, ◌++◌, refl, append_assoc, Some, None, Ok, ◌+◌, ◌≤◌, length-drop}
 use Rattle.std.proofs.Common.{All, take_all, get_or-drop, take-add, ne_eqb, Result}
@@ -12,57 +12,57 @@ use Rattle.std.proofs.lemmas.List.Elements.{All-head, All-nil, All-tail, All-pus
 use Rattle.lp_split.proofs.lemmas.split.SplitStretches.{bare_joined}
 use Rattle.lp_format.specs.format.Bytes.{hash, space, tab}
 
--- a text without a cut up to a place, and without a newline after it, is one piece
+-- a text is one piece if its first bytes are a last piece and the bytes after them have no newline
 pub still_last : (dialect : Dialect) (text after : List ℕ) (quiet : ℕ) → IsLastPiece dialect (take quiet text)
     → after ≡ drop quiet text → All (λ b. b ≢ newline) after → IsLastPiece dialect text
 still_last dialect text after quiet h e n =
     subst (IsLastPiece dialect) (take-append-drop quiet text)
     (IsLastPiece-extend dialect (take quiet text) (drop quiet text) h (subst (All (λ b. b ≢ newline)) e n))
 
--- that is known of all of it
+-- a search knows of a text that is one piece that all its bytes hold no cut
 pub all_quiet : (dialect : Dialect) (text : List ℕ) → IsLastPiece dialect text → SearchesOn dialect text (Err (Quiet (length text)))
 all_quiet dialect text h = grind (arith, take_all)
 
--- such a text begins no comment
+-- a text that cannot begin a comment does not begin one
 pub no_comment : (text : List ℕ) → NeverComment Strict text → begins_comment text ≡ false
 no_comment text never = ap begins_comment (sym (append-nil text)) ∙ never []
 
--- spaces and tabs
+-- the bytes are spaces and tabs
 abbrev pub AreBlanks : List ℕ → Type 0
 AreBlanks bytes = All (λ b. (b ≡ space) ⊎ (b ≡ tab)) bytes
 
--- blanks leave it to what comes after them whether a comment begins
+-- a text after blanks decides whether a comment begins
 after_blanks : (bytes rest : List ℕ) → AreBlanks bytes → begins_comment (bytes ++ rest) ≡ begins_comment rest
 after_blanks [] rest h = refl
 after_blanks (b ∷ bytes) rest h =
     grind (arith, All-head, (after_blanks bytes rest (All-tail (λ c. (c ≡ space) ⊎ (c ≡ tab)) b bytes h)))
 
--- blanks alone begin none
+-- blanks alone do not begin a comment
 pub blanks_begin_none : (bytes : List ℕ) → AreBlanks bytes → begins_comment bytes ≡ false
 blanks_begin_none bytes h = ap begins_comment (sym (append-nil bytes)) ∙ after_blanks bytes [] h
 
--- a piece that begins none is cut if it is closed and bare
+-- a newline can end a piece that cannot begin a comment, if the piece is closed and the newline is bare
 pub cut_of_line : (dialect : Dialect) (bytes : List ℕ) → NeverComment dialect bytes → IsClosed bytes → IsBareAfter bytes
     → IsCutPiece dialect bytes
 cut_of_line dialect bytes never closed is_bare = grind (arith, no_comment)
 
--- the newline that ends it
+-- a newline can end the bytes of a piece that ends at its next newline
 pub ends_at_newline : (dialect : Dialect) (bytes : List ℕ) → EndsAtNewline dialect bytes → IsCutPiece dialect bytes
 ends_at_newline Crate bytes h = absurd h
 ends_at_newline Strict bytes h = inl h
 ends_at_newline NewlineDelimited bytes h = h
 
--- another byte does not
+-- a piece that ends at its next newline still does after a byte that is no newline
 to_newline : (dialect : Dialect) (bytes : List ℕ) (b : ℕ) → b ≢ newline → EndsAtNewline dialect bytes → EndsAtNewline dialect (bytes ++ b ∷ [])
 to_newline Crate bytes b n h = absurd h
 to_newline Strict bytes b n h = (begins_comment-append bytes (b ∷ []) h.0, All-push (λ c. c ≢ newline) bytes b h.1 n)
 to_newline NewlineDelimited bytes b n h = All-push (λ c. c ≢ newline) bytes b h n
 
--- so its track stays
+-- the track of a piece that ends at its next newline stays after a byte that is no newline
 pub goes_on_to_newline : (b : ℕ) → b ≢ newline → Leads ToNewline b (Some ToNewline)
 goes_on_to_newline b n = λ dialect bytes h. to_newline dialect bytes b n h
 
--- after blanks a `#` begins one
+-- a `#` after blanks begins a comment
 pub comment_begins : (place : Place) → Leads (Blanks place) hash (Some ToNewline)
 comment_begins place = λ dialect bytes h. subst (λ d. EndsAtNewline d (bytes ++ hash ∷ [])) (sym h.0) (
   after_blanks bytes (hash ∷ []) h.1,
@@ -72,30 +72,30 @@ comment_begins place = λ dialect bytes h. subst (λ d. EndsAtNewline d (bytes +
       (omega arith),
 )
 
--- a blank after blanks
+-- a blank after blanks leads to blanks
 pub blanks_go_on : (place next : Place) (b : ℕ) → (b ≡ space) ⊎ (b ≡ tab) → Steps place b (Some next)
     → Leads (Blanks place) b (Some (Blanks next))
 blanks_go_on place next b blank step = λ dialect bytes h.
     (h.0, All-push (λ c. (c ≡ space) ⊎ (c ≡ tab)) bytes b h.1 blank, step bytes h.2)
 
--- another byte after blanks
+-- another byte than a blank or a `#` after blanks leads to a line
 pub blanks_end : (place next : Place) (b : ℕ) → b ≢ hash → b ≢ space → b ≢ tab → Steps place b (Some next)
     → Leads (Blanks place) b (Some (Line next))
 blanks_end place next b hash space tab step = grind (arith, append_assoc, after_blanks, eqb, ne_eqb)
 
--- the newline that ends a line
+-- a newline that ends the piece at a place ends the line
 pub line_ends : (place : Place) (b : ℕ) → Steps place b None → Leads (Line place) b None
 line_ends place b step = grind (arith, cut_of_line)
 
--- the place before the first byte
+-- the place before the first byte of a piece
 pub first_place : IsPlace [] (record { region = Head; is_escaped = false; equals = 0; commas = 0 })
 first_place = grind (arith, is_escaped-nil)
 
--- that a text begins no comment holds with more after it
+-- a text that cannot begin a comment cannot with more bytes after it
 never_longer : (dialect : Dialect) (text more : List ℕ) → NeverComment dialect text → NeverComment dialect (text ++ more)
 never_longer dialect text more h = grind (arith, append_assoc)
 
--- bytes of a line that go on from a bare place to another of the same region lead to the counts that they end with
+-- bytes from one bare place of a line to another bare place of the same region lead to the counts at their end
 pub line_goes_on : (place next : Place) (region : Region) (text : List ℕ) → place.region ≡ region → next.region ≡ region
     → place.is_escaped ≡ false → next.is_escaped ≡ false → IsBareAfter text
     → ((bytes : List ℕ) → IsBareAfter bytes → EndsIn region place.equals place.commas bytes
@@ -103,7 +103,7 @@ pub line_goes_on : (place next : Place) (region : Region) (text : List ℕ) → 
     → LeadsTo text (Line place) (Line next)
 line_goes_on place next region text is_part next_part is_bare next_bare text_bare ends dialect bytes h = grind (arith, never_longer, bare_joined)
 
--- so they do if the place stays
+-- bytes that leave the place of a line as it is leave its track as it is
 pub line_stays : (track : Track) (place : Place) (region : Region) (text : List ℕ) → track ≡ Line place → place.region ≡ region
     → place.is_escaped ≡ false → IsBareAfter text
     → ((bytes : List ℕ) → IsBareAfter bytes → EndsIn region place.equals place.commas bytes
@@ -112,7 +112,7 @@ pub line_stays : (track : Track) (place : Place) (region : Region) (text : List 
 line_stays track place region text is is_part is_bare text_bare ends =
     rw is (line_goes_on place place region text is_part is_part is_bare is_bare text_bare ends)
 
--- bytes lead on from what those before them lead to
+-- bytes lead on from the track that the bytes before them lead to
 pub leads_on : (text rest : List ℕ) (at n : ℕ) (from via to : Track) → rest ≡ drop at text → LeadsTo (take at text) from via
     → LeadsTo (take n rest) via to → LeadsTo (take (at + n) text) from to
 leads_on text rest at n from via to same leads more dialect bytes h = grind (arith, append_assoc, take-add)
@@ -122,29 +122,29 @@ pub line_track : (region : Region) (bytes : List ℕ) (e c : ℕ) → IsBareAfte
     → IsTrackOf Crate bytes (Line (record { region = region; is_escaped = false; equals = e; commas = c }))
 line_track region bytes e c is_bare h = (tt, record { escaped_is = is_bare; ends_in = h })
 
--- the place after bytes of a piece that no newline has ended
+-- bytes with a place are a last piece: no newline has ended it
 place_is_last : (region : Region) (e c : ℕ) (bytes : List ℕ) → EndsIn region e c bytes → IsClosed bytes ⊎ IsOpen bytes
 place_is_last region e c bytes h = grind arith
 
--- no newline in bytes that have a track ends a piece
+-- bytes with a track are a last piece
 pub tracked_is_last : (dialect : Dialect) (bytes : List ℕ) (track : Track) → IsTrackOf dialect bytes track → IsLastPiece dialect bytes
 tracked_is_last dialect bytes track h = grind (arith, blanks_begin_none, place_is_last, no_comment)
 
--- bytes after those of a track end the first piece of a text, if they end one
+-- a newline that ends the piece of a track is the first cut of the text from the first byte of the track on
 pub tracks_cut : (dialect : Dialect) (text rest : List ℕ) (at i : ℕ) (track : Track) → rest ≡ drop at text → at ≤ length text
     → IsTrackOf dialect (take at text) track → TracksOn rest track (Ok i) → IsFirstCut dialect text (Some (at + i))
 tracks_cut dialect text rest at i track same within is tracks = grind (arith, get_or-drop, take-add, length-drop)
 
--- and if they end none, they have a track together with the bytes before them
+-- bytes that end no piece, after the bytes of a track, lead to the track of the whole text
 pub tracks_on : (dialect : Dialect) (text rest : List ℕ) (at : ℕ) (from to : Track) → rest ≡ drop at text → at ≤ length text
     → IsTrackOf dialect (take at text) from → TracksOn rest from (Err to) → IsTrackOf dialect text to
 tracks_on dialect text rest at from to same within is tracks = grind (arith, take-append-drop)
 
--- a text that is tracked from its first byte on
+-- a text that is tracked from its first byte on has a first cut or a track
 pub tracks_all : (dialect : Dialect) (text : List ℕ) (first : Track) (result : Result ℕ Track) → IsTrackOf dialect [] first
     → most_counted first ≡ 0 → TracksOn text first result → CutsOrTracks dialect text result
 tracks_all dialect text first (Ok i) begins none h = (h.0, h.1, h.2 dialect [] begins)
 tracks_all dialect text first (Err track) begins none h = (h.1 dialect [] begins, omega (arith, h.0, none))
 
--- the tracks of no bytes
+-- the tracks before the first byte
 pub ruleset first_tracks = (first_place, All-nil)

@@ -1,4 +1,4 @@
--- What a stream holds, with more after it, and if pieces have a greatest length.
+-- The text that a stream holds, with more bytes after it, and with a greatest length of its pieces.
 use Rattle.std.proofs.Common.{◌≡◌, ℕ, Bool, cond, List, ◌++◌, drop, sym, ap, ◌∙◌, subst, arith, length-append, ◌+◌, [], ◌∷◌}
 use Rattle.std.proofs.Common.{take, length, append_assoc, Ok, Err, ◌≤◌}
 use Rattle.std.proofs.lemmas.List.{take-append-le, drop-append-le, drop-take, length-take}
@@ -12,38 +12,38 @@ use Rattle.lp_split.specs.declared.stream.bounded.Skipped.{Skipped, TheVariants.
 use Rattle.std.proofs.lemmas.List.Sums.{sum_by-append}
 use Rattle.lp_format.proofs.lemmas.split.SplitPieces.{no_cut_within, split_at}
 
--- the marks that were seen
+-- the marks that were seen of a text are the marks that were seen of a longer text
 seen_longer : (dialect : Dialect) (text more : List ℕ) (marks : ℕ) → AreSeen dialect text marks → AreSeen dialect (text ++ more) marks
 seen_longer dialect text more marks h = grind (arith, length-append, take-append-le)
 
--- what a search knows
+-- the knowledge of a search about a text is true of a longer text
 pub known_longer : (dialect : Dialect) (text more : List ℕ) (known : Search) → IsKnown dialect text known
     → IsKnown dialect (text ++ more) known
 known_longer dialect text more known h = grind (arith, seen_longer, length-append, take-append-le)
 
--- so it is of the bytes that a stream holds, whether a part comes after them or memory was refused
+-- the knowledge about the bytes that a stream holds stays true, whether a part is appended or memory is refused
 pub held_longer : (dialect : Dialect) (items part new : List ℕ) (start : ℕ) (known : Search) (ok : Bool)
     → IsHeldAt dialect items start known → new ≡ cond ok (items ++ part) items → IsHeldAt dialect new start known
 held_longer dialect items part new start known ok h e = grind (arith, length-append, drop-append-le, known_longer)
 
--- a piece that is too long is so with more bytes
+-- a piece that is too long is too long with more bytes
 longer_is_too_long : (limit : ℕ) (text part : List ℕ) → IsTooLong limit text → IsTooLong limit (text ++ part)
 longer_is_too_long limit text part h = (omega (arith, length-append text part, h.0), h.1)
 
--- the first bytes that are held are those up to a place in the buffer
+-- the first `n` bytes that are held are the bytes of the buffer up to a place
 pub front_of_rest : (items : List ℕ) (start n : ℕ) → drop start (take (start + n) items) ≡ take n (drop start items)
 front_of_rest items start n = drop-take start n items
 
--- the first bytes of a text that is longer stay the first bytes
+-- the first `limit` bytes of a text that is too long stay the first bytes with more after them
 front_stays : (limit : ℕ) (text part : List ℕ) → IsTooLong limit text → take limit (text ++ part) ≡ take limit text
 front_stays limit text part h = take-append-le limit text part (omega (arith, h.0))
 
--- what was counted of a text and of a part after it
+-- the counts of a text and of a part after it add up
 counts_more : (counted more : Counted) (text part : List ℕ) → more.len ≡ counted.len + length part
     → more.newlines ≡ counted.newlines + newlines_in part → Counts counted text → Counts more (text ++ part)
 counts_more counted more text part len newlines h = grind (arith, length-append, sum_by-append)
 
--- a part that goes on in a piece that is too long
+-- the stream holds the longer text after a part that goes on in a piece that is too long
 pub skips_more : (limit : ℕ) (held : Held) (skipped : Skipped) (from to : Track) (counted more : Counted) (part : List ℕ)
     → skipped ≡ Within from counted → TracksOn part from (Err to) → more.len ≡ counted.len + length part
     → more.newlines ≡ counted.newlines + newlines_in part → (text : List ℕ) → HoldsBy limit held skipped text
@@ -56,7 +56,7 @@ skips_more limit held skipped from to counted more part is tracks len newlines t
       counts_more counted more text part len newlines k.3,
     )
 
--- a part that ends one
+-- the stream holds the longer text after a part that ends a piece that is too long
 pub skips_to_end : (limit : ℕ) (old new : Held) (skipped : Skipped) (from : Track) (counted more : Counted) (part : List ℕ) (i : ℕ)
     → skipped ≡ Within from counted → TracksOn part from (Ok i) → new.dialect ≡ old.dialect
     → new.bytes ≡ old.bytes ++ drop (i + 1) part → more.len ≡ counted.len + length (take i part)
@@ -77,23 +77,23 @@ skips_to_end limit old new skipped from counted more part i is tracks dialect by
       counts_more counted more text (take i part) len newlines k.3,
     )
 
--- of what is held, which is too long, the front is kept
+-- the stream keeps the first `limit` bytes and the track of a text that is too long
 pub goes_within : (limit : ℕ) (held after : Held) (d : Dialect) (track : Track) (counted : Counted)
     → d ≡ held.dialect → IsTooLong limit held.bytes → IsTrackOf d held.bytes track → Counts counted held.bytes
     → HoldsThen held (take limit held.bytes) after → HoldsBy limit after (Within track counted) held.bytes
 goes_within limit held after d track counted dialect long tracked counts front = grind arith
 
--- what is one piece has no newline that ends it
+-- a text that is one piece has no newline that ends its piece
 pub no_end_within : (dialect : Dialect) (bytes : List ℕ) (track : Track) (i : ℕ) → IsTrackOf dialect [] track
     → TracksOn bytes track (Ok i) → IsLastPiece dialect bytes → ⊥
 no_end_within dialect bytes track i begins tracks is_last =
     no_cut_within dialect (take i bytes) (drop (i + 1) bytes) (tracks.2 dialect [] begins)
     (subst (λ (t : List ℕ). IsLastPiece dialect t) (split_at bytes i tracks.0 tracks.1) is_last)
 
--- no more is kept of a piece that is skipped than a piece may have
+-- a stream keeps no more bytes of a piece that it skips than a piece can have
 pub few_kept : (stream : HeldWithin) (track : Track) (counted : Counted) (text : List ℕ)
     → stream.skipped ≡ Within track counted → Holds stream text → length stream.held.bytes ≤ stream.limit
 few_kept stream track counted text is h = grind (arith, length-take)
 
--- the first piece, if it does not end yet
+-- rules for a first piece that does not end yet
 pub ruleset first_pieces = (tracked_is_last, few_kept)

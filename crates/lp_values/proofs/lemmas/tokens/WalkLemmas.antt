@@ -1,4 +1,4 @@
--- A walk over a token, from escape to escape and by the masks of one load.
+-- Walks over a token, from escape to escape and by the masks of one load.
 use Rattle.std.proofs.Common.{◌≡◌, ◌≢◌, ℕ, zero, suc, ◌+◌, ◌-◌, ◌<◌, ◌≤◌, Bool, List, [], ◌∷◌, ◌++◌, length, take, slice_index, true, false}
 use Rattle.std.proofs.Common.{cond, eqb, ◌&&◌, refl, sym, ap, ap₂, ◌∙◌, subst, arith, inl, inr, add-zero, append_assoc, ◌%◌}
 use Rattle.std.proofs.Common.{◌^◌, bit_and, count_ones, ◌==◌, eqb-true, length-append, length-take, get_or-take, count_by}
@@ -15,15 +15,15 @@ use Rattle.lp_scan.proofs.lemmas.scan.BareMasks.{at_most_one, escaped_is_not_bar
 use Rattle.lp_scan.proofs.lemmas.scan.BareMasks.{ones_low, to_next, to_stop}
 use Rattle.lp_scan.proofs.lemmas.scan.{BareMasks.of_places, MaskLemmas.and_of_maps}
 
--- whether a text ends in an escape, by a walk from its first byte
+-- whether the byte after a text is escaped, by a walk from its first byte
 escaped_is_flag : (text : List ℕ) → is_escaped_after text ≡ flag_after false text
 escaped_is_flag text = is_escaped-append [] text ∙ ap (λ f. flag_after f text) is_escaped-nil
 
--- what comes after a backslash and a byte is escaped if and only if it is without them
+-- a backslash and another byte before a text do not change whether the byte after the text is escaped
 escaped_after_pair : (c : ℕ) (rest : List ℕ) → is_escaped_after (backslash ∷ c ∷ rest) ≡ is_escaped_after rest
 escaped_after_pair c rest = grind (arith, escaped_is_flag, flag_after, eqb)
 
--- a text that is cut where the next byte is bare has the logical texts of its parts, joined
+-- the logical text of a text cut at a bare place is the logical texts of both parts, joined
 pub without_escapes_append : (known front back : List ℕ) → is_escaped_after front ≡ false
     → without_escapes known (front ++ back) ≡ without_escapes known front ++ without_escapes known back
 unfolding without_escapes
@@ -41,37 +41,37 @@ without_escapes_append known (b ∷ c ∷ rest) back bare =
           rw (e, without_escapes_append known (c ∷ rest) back inner) refl
     ]
 
--- whether a known escape begins at this place: a bare backslash is there, before a byte that it escapes
+-- whether a known escape begins at this place: a bare backslash before a byte that it may escape
 abbrev is_escape_at : List ℕ → List ℕ → ℕ → Bool
 is_escape_at known text k = is_bare_at (λ b. b == backslash) text k && is_one_of known (slice_index text (k + 1))
 
 module _ (known text : List ℕ) where
-  -- at how many of so many places from one on a known escape begins
+  -- the number of known escapes that begin at the `n` places from `at` on
   abbrev pub escapes_from : ℕ → ℕ → ℕ
   escapes_from at n = count_by (is_escape_at known text) (range_with_len at n)
 
-  -- a count of escapes, from the first byte on
+  -- the number of known escapes, by the first place and the places after it
   escapes_first : (at n : ℕ) → escapes_from at (suc n) ≡ cond (is_escape_at known text at) 1 0 + escapes_from (at + 1) n
   escapes_first at n = sum_by-cons (λ k. cond (is_escape_at known text k) 1 0) at (range_with_len (at + 1) n)
 
-  -- a count of escapes, with a byte more
+  -- the number of known escapes, with one more place at the end
   pub escapes_more : (n at j : ℕ) → at + n ≡ j → escapes_from at (suc n) ≡ escapes_from at n + cond (is_escape_at known text j) 1 0
   escapes_more zero at j e = let here : at ≡ j = omega arith in rw (← here) (grind (arith, escapes_first))
   escapes_more (suc n) at j e = omega (arith, escapes_first at (suc n), escapes_first at n, escapes_more n (at + 1) j (omega arith))
 
-  -- none begins where no backslash is
+  -- no known escape begins where no backslash is
   none_escape : (n at : ℕ) → ((k : ℕ) → at ≤ k → k < at + n → (slice_index text k == backslash) ≡ false) → escapes_from at n ≡ 0
   none_escape zero at none = refl
   none_escape (suc n) at none = grind (arith, escapes_first, none_escape n (at + 1), none)
 
-  -- the escapes of two stretches are those of both
+  -- the number of known escapes of two stretches is the number of the first and the number of the second
   joined : (n at : ℕ) → escapes_from 0 (at + n) ≡ escapes_from 0 at + escapes_from at n
   joined zero at = rw (add-zero at) (omega arith)
   joined (suc n) at =
       let place : suc (at + n) ≡ at + suc n = omega arith in
       rw (← place) (omega (arith, escapes_more (at + n) 0 (at + n) (omega arith), escapes_more n at (at + n) refl, joined n at))
 
-  -- none begins at an escaped byte after others
+  -- no known escape begins at an escaped byte after the others
   and_next : (at n last : ℕ) → last ≤ 1 → (0 < last → is_escaped_after (take (at + n) text) ≡ true)
       → escapes_from at (n + last) ≡ escapes_from at n
   and_next at n zero few next = rw (add-zero n) refl
@@ -80,18 +80,18 @@ module _ (known text : List ℕ) where
       let flag = escaped_is_not_bare (λ b. b == backslash) text (at + n) (next (omega arith)) in
       rw one (omega (arith, rw flag at (escapes_more n at (at + n) refl)))
 
-  -- how many bytes the first so many take without their escapes
+  -- the number of bytes that the first `k` bytes have without their escapes
   abbrev kept : ℕ → ℕ
   kept k = length (without_escapes known (take k text))
 
-  -- a bare byte is kept, if it is the last
+  -- a bare byte at the end is kept in the logical text
   kept_byte : (k : ℕ) → k < length text → is_escaped_after (take k text) ≡ false → kept (k + 1) ≡ kept k + 1
   unfolding without_escapes
   kept_byte k within bare =
       let parts = without_escapes_append known (take k text) (slice_index text k ∷ []) bare in
       rw (take_more text k 0 within, parts, length-append (without_escapes known (take k text)) (slice_index text k ∷ [])) refl
 
-  -- of a bare backslash and the byte after it both are kept, unless this is known
+  -- a bare backslash and the byte after it are both kept, except that a known escape leaves out its backslash
   kept_pair : (k : ℕ) (t : Bool) → k + 1 < length text → is_escaped_after (take k text) ≡ false → slice_index text k ≡ backslash
       → is_one_of known (slice_index text (k + 1)) ≡ t → kept (k + 2) + cond t 1 0 ≡ kept k + 2
   unfolding without_escapes
@@ -102,7 +102,7 @@ module _ (known text : List ℕ) where
       let parts = without_escapes_append known (take k text) (backslash ∷ slice_index text (k + 1) ∷ []) bare in
       grind (arith, cases_Bool, length-append)
 
-  -- up to a bare place each escape leaves out one byte
+  -- up to a bare place, each known escape leaves out one byte
   all_counted : (k : ℕ) → k ≤ length text → is_escaped_after (take k text) ≡ false → kept k + escapes_from 0 k ≡ k
   unfolding without_escapes
   all_counted zero within bare = refl
@@ -133,16 +133,16 @@ module _ (known text : List ℕ) where
       ]
 
 module _ (known : List ℕ) (stops : ℕ → Bool) (text : List ℕ) where
-  -- at the start of a text nothing is counted
+  -- a walk starts at the start of a text with no known escapes
   pub walk_start : EscapeScan known stops text 0 0
   unfolding without_escapes
   walk_start = record { within = omega arith; bare = is_escaped-nil; passed = λ k h. absurd (omega arith); counted = refl }
 
-  -- the two tests of a plain byte
+  -- a plain byte is no stop and no backslash
   plain_parts : (b : ℕ) → is_plain stops b ≡ true → (stops b ≡ false) × ((b == backslash) ≡ false)
   plain_parts b h = or_parts (stops b) (b == backslash) (not-true _ h)
 
-  -- up to a bare place, with no bare stop on the way
+  -- a walk goes on to a bare place, if no bare stop is on the way
   pub walk_to : (n at found : ℕ) → EscapeScan known stops text at found → at + n ≤ length text
       → is_escaped_after (take (at + n) text) ≡ false
       → ((k : ℕ) → at ≤ k → k < at + n → is_bare_at stops text k ≡ false)
@@ -154,7 +154,7 @@ module _ (known : List ℕ) (stops : ℕ → Bool) (text : List ℕ) where
     counted = omega (arith, w.counted, all_counted known text at w.within w.bare, all_counted known text (at + n) room bare, joined known text n at);
   }
 
-  -- up to the end of the plain bytes
+  -- a walk goes on to the end of a run of plain bytes
   pub walk_run : (at end found : ℕ) → EscapeScan known stops text at found → IsRunAt (is_plain stops) text at end
       → EscapeScan known stops text end found
   walk_run at end found w run =
@@ -172,7 +172,7 @@ module _ (known : List ℕ) (stops : ℕ → Bool) (text : List ℕ) where
       rw (place, none, add-zero) at (walk_to (end - at) at found w (omega (arith, run.within)) (rw place is_bare)
       (λ k from to. grind (arith, (plain k from (omega arith)).0)))
 
-  -- over a backslash and the byte that it escapes, if it is no stop
+  -- a walk goes on over a backslash and the byte that it escapes
   pub walk_escape : (at found n : ℕ) (t : Bool) → EscapeScan known stops text at found → at + 1 < length text
       → slice_index text at ≡ backslash → stops backslash ≡ false
       → is_one_of known (slice_index text (at + 1)) ≡ t → n ≡ bool_byte t → EscapeScan known stops text (at + 2) (found + n)
@@ -187,12 +187,12 @@ module _ (known : List ℕ) (stops : ℕ → Bool) (text : List ℕ) where
         counted = grind (arith, cases_Bool, kept_pair known text at t within w.bare here is, w.counted);
       }
 
-  -- the token ends where a stop or the end of the text is reached
+  -- a token ends where a walk reaches a stop or the end of the text
   pub walk_ends : (end found : ℕ) → EscapeScan known stops text end found → (end < length text → stops (slice_index text end) ≡ true)
       → first_bare stops text ≡ end
   walk_ends end found w stop = first_bare_is stops text end w.within w.passed (λ h. rw (stop h, w.bare) refl)
 
-  -- or after a backslash that is the last byte
+  -- a token ends after a bare backslash that is the last byte of the text
   pub walk_ends_after : (at found : ℕ) → EscapeScan known stops text at found → at + 1 ≡ length text
       → slice_index text at ≡ backslash → stops backslash ≡ false
       → (first_bare stops text ≡ at + 1) × (length (without_escapes known (take (at + 1) text)) + found ≡ at + 1)
@@ -203,25 +203,25 @@ module _ (known : List ℕ) (stops : ℕ → Bool) (text : List ℕ) where
     omega (arith, kept_byte known text at (omega arith) w.bare, w.counted),
   )
 
-  -- a byte that is not plain and no backslash is a stop
+  -- a byte that is not plain and is no backslash is a stop
   pub is_stop_then : (b : ℕ) → is_plain stops b ≡ false → b ≢ backslash → stops b ≡ true
   is_stop_then b not_plain other = grind (arith, or_cases, not-false, eqb-true)
 
-  -- a stretch that nothing in it ends has no backslash
+  -- a run of plain bytes holds no backslash
   pub run_is_plain : (end : ℕ) → IsRunAt (is_plain stops) text 0 end → is_one_of (take end text) backslash ≡ false
   run_is_plain end run = list_any_none (λ b. b == backslash) (take end text)
       (All-from_get_or (λ b. (b == backslash) ≡ false) (take end text) 0 (λ k l.
       let inside : k < end = omega (arith, l, length-take end text) in
       rw (get_or-take end text k 0 inside) (plain_parts (slice_index text k) (run.passes k (omega arith) inside)).1))
 
-  -- a token without a backslash
+  -- a token without a backslash ends where its run of plain bytes ends
   pub run_ends : (end : ℕ) → IsRunAt (is_plain stops) text 0 end → (end < length text → slice_index text end ≢ backslash)
       → (first_bare stops text ≡ end) × (length (without_escapes known (take end text)) ≡ end)
   run_ends end run other =
       let walked = walk_run 0 end 0 walk_start run in
       (walk_ends end 0 walked (λ h. is_stop_then (slice_index text end) (run.stops h) (other h)), omega (arith, walked.counted))
 
--- the mask of the bare backslashes of which the next byte is known
+-- the bits of both masks are the mask of the known escapes
 pub escapes_mask : (known text : List ℕ) (at m k : ℕ) → at + 64 < length text → m ≡ mask_at (is_bare_at (λ b. b == backslash) text) at 64
     → k ≡ mask_of (is_one_of known) text (at + 1) 64 → bit_and m k ≡ mask_at (is_escape_at known text) at 64
 escapes_mask known text at m k room m_is k_is =
@@ -232,15 +232,15 @@ escapes_mask known text at m k room m_is k_is =
 module _ (known : List ℕ) (stops : ℕ → Bool) (text : List ℕ) (at found : ℕ) (room : at + 64 < length text)
     (w : EscapeScan known stops text at found) (run : ℕ) (run_is : run ≡ first_set (mask_at (is_bare_at stops text) at 64) 64)
     (n : ℕ) (n_is : n ≡ count_ones (mask_at (is_escape_at known text) at 64 % 2 ^ run)) where
-  -- no stop is before the load
+  -- no bare stop is before the load
   passed : IsBarePassed stops text at
   passed = record { within = w.within; is_bare = w.bare; none = w.passed }
 
-  -- the bits of the mask are counted as escapes
+  -- the bits of the mask count the known escapes
   counted : n ≡ escapes_from known text at run
   counted = n_is ∙ ones_low (is_escape_at known text) at 64 run (lowest_within (is_bare_at stops text) at 64 run (omega arith) run_is)
 
-  -- up to a bare stop
+  -- the walk goes on to a bare stop in the load
   pub load_stops : run < 64 → EscapeScan known stops text (at + run) (found + n) × (stops (slice_index text (at + run)) ≡ true)
   load_stops short =
       let stop = to_stop stops text at room passed run run_is short in (
@@ -248,7 +248,7 @@ module _ (known : List ℕ) (stops : ℕ → Bool) (text : List ℕ) (at found :
         stop.1,
       )
 
-  -- or over all of it, and over the byte that its last one escapes
+  -- the walk goes on over a load without a bare stop, and over the byte that its last byte escapes
   pub load_goes_on : (last : ℕ) → 64 ≤ run → last ≡ cond (is_bare_at (λ b. b == backslash) text (at + 63)) 1 0
       → EscapeScan known stops text (at + (64 + last)) (found + n)
   load_goes_on last far is =

@@ -9,18 +9,18 @@ use Rattle.lp_values.proofs.shown.show_escaped.Goals as goal
 use Rattle.lp_values.proofs.shown.show_escaped.Goals.{then-bytes-at-ne92+then-is_known+in_ok-write_str+in_ok-write_str-2}
 use Rattle.lp_values.proofs.shown.show_escaped.Goals.{else-bytes-at-ne92}
 
--- an empty text
+-- an empty text has no escapes to write
 escaped_nil : (bytes : List ℕ) → [] ≡ escaped bytes []
 unfolding escaped
 escaped_nil bytes = refl
 
--- one byte more
+-- one more byte is written with a backslash before it, or as it is
 escaped_more : (bytes text : List ℕ) (i : ℕ) → i < length text
     → escaped bytes (take (i + 1) text) ≡ escaped bytes (take i text) ++ escaped_byte bytes (slice_index text i)
 unfolding escaped
 escaped_more bytes text i h = grind (arith, common_steps, take_more, flat_map-append, append-nil)
 
--- the run that is not yet written, with one byte more
+-- the run that is not yet written, with one more byte
 run_more : (text : List ℕ) (start at : ℕ) → start ≤ at → at < length text
     → take (at + 1 - start) (drop start text) ≡ take (at - start) (drop start text) ++ slice_index text at ∷ []
 run_more text start at low within =
@@ -28,19 +28,19 @@ run_more text start at low within =
     let here : get_or (drop start text) (at - start) 0 ≡ get_or text at 0 = grind (arith, common_steps) in
     rw (n, take_more (drop start text) (at - start) 0 (omega (arith, length-drop start text)), here) refl
 
--- a byte without a backslash goes to the run
+-- a byte without a backslash before it goes to the run
 keep_byte : (bytes text done : List ℕ) (start at : ℕ) → start ≤ at → at < length text → is_one_of bytes (slice_index text at) ≡ false
     → done ++ take (at - start) (drop start text) ≡ escaped bytes (take at text)
     → done ++ take (at + 1 - start) (drop start text) ≡ escaped bytes (take (at + 1) text)
 keep_byte bytes text done start at low within plain whole = grind (arith, run_more, escaped_more, append_assoc)
 
--- a byte with a backslash begins a new run, after the old one and the backslash
+-- a byte with a backslash before it begins a new run, after the old run and the backslash
 escape_byte : (bytes text done : List ℕ) (start at : ℕ) → at < length text → is_one_of bytes (slice_index text at) ≡ true
     → done ++ take (at - start) (drop start text) ≡ escaped bytes (take at text)
     → (done ++ (take (at - start) (drop start text) ++ backslash ∷ [])) ++ take (at + 1 - at) (drop at text) ≡ escaped bytes (take (at + 1) text)
 escape_byte bytes text done start at within special whole = grind (arith, sub_self, run_more, escaped_more, append_assoc)
 
--- a front without such a byte is shown as it is
+-- a front without bytes to escape is written as it is
 free_front : (bytes text : List ℕ) (n : ℕ) → n ≤ length text → ((k : ℕ) → k < n → is_one_of bytes (slice_index text k) ≡ false)
     → [] ++ take (n - 0) (drop 0 text) ≡ escaped bytes (take n text)
 free_front bytes text zero within free = escaped_nil bytes
@@ -49,11 +49,11 @@ free_front bytes text (suc n) within free =
     let next : n + 1 ≡ suc n = omega arith in
     rw next at (keep_byte bytes text [] 0 n (omega arith) (omega arith) (free n (omega arith)) before)
 
--- what is not escaped is not shown with a backslash
+-- a byte that a backslash may not escape is written without one
 not_shown : (kind : TokenKind) (b : ℕ) → is_one_of (known_of kind) b ≡ false → is_one_of (shown_escapes (known_of kind)) b ≡ false
 not_shown kind b h = grind arith
 
--- bytes that are shown with a backslash are ASCII
+-- a byte that is written with a backslash is ASCII
 shown_ascii : (kind : TokenKind) (b : ℕ) → is_one_of (shown_escapes (known_of kind)) b ≡ true → b < 128
 shown_ascii kind b h = grind arith
 

@@ -4,7 +4,7 @@ use Rattle.lp_format.specs.{format.escaped, code.Shown.shown_escapes}
 use Rattle.lp_scan.specs.code.{known_of}
 use Rattle.lp_values.proofs.shown.show_escaped.Given as goal
 
--- what is written, and the run that is not yet written, are the bytes so far with their backslashes
+-- the bytes that are written and the run that is not yet written are the bytes before `at`, with their backslashes
 abbrev pub invariant-loop-at : goal.invariant-loop-at
 invariant-loop-at g l =
     (l.start ≤ l.at) × IsCharBoundary l.fn.text l.start × (done : List ℕ)

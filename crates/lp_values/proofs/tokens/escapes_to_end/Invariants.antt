@@ -3,7 +3,7 @@ use Rattle.lp_scan.specs.code.Tokens.{is_plain, stops_of, known_of}
 use Rattle.lp_format.specs.format.Escapes.{EscapeScan}
 use Rattle.lp_values.proofs.tokens.escapes_to_end.Given as goal
 
--- the walk is at a bare place after plain bytes
+-- the walk is at the bare place `end`, where a run of plain bytes ends
 abbrev pub invariant-loop-end : goal.invariant-loop-end
 invariant-loop-end l = record {
   walked : EscapeScan (known_of l.kind) (stops_of l.kind) l.bytes l.end l.known;

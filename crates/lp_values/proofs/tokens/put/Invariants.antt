@@ -3,7 +3,7 @@ use Rattle.lp_format.specs.format.{without_escapes}
 use Rattle.lp_scan.specs.code.{known_of}
 use Rattle.lp_values.proofs.tokens.put.Given as goal
 
--- what is written and what is left to write make the whole, and there is room for it
+-- the bytes that are written and the rest that is left are the whole, and there is room for it
 abbrev pub invariant-loop-at : goal.invariant-loop-at
 invariant-loop-at l = record {
   within : l.at ≤ length l.spelled;

@@ -6,7 +6,7 @@ use Rattle.lp_written.specs.code.AsWritten.{IsOnlyRest}
 use Rattle.lp_written.specs.code.WrittenKeys.{AreTagsAfter, AreTagsFront, EndsSeries}
 use Rattle.lp_written.proofs.keys.after_tags.Given as goal
 
--- what is told of the tags that are left, after the key of the last, is told of all
+-- The result for the tags that are left, after the key of the last tag, is the result for all tags.
 abbrev pub invariant-loop-tag : goal.invariant-loop-tag
 invariant-loop-tag l = record {
   utf8_left : shadow (Utf8 l.left);

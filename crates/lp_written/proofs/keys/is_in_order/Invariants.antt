@@ -3,7 +3,7 @@ use Rattle.std.specs.{Cmp.Lexicographic.slice_cmp}
 use Rattle.lp_format.specs.format.{a_tag_key, spelling}
 use Rattle.lp_written.proofs.keys.is_in_order.Given as goal
 
--- what is left are the ends of both keys, of which one is less if it is so of the keys
+-- The texts that are left are ends of both keys, and the ends compare as the keys do.
 abbrev pub invariant-loop-byte : goal.invariant-loop-byte
 invariant-loop-byte l = (b k : List ℕ) → l.before ≡ spelling a_tag_key b → l.key ≡ spelling a_tag_key k
     → (c m : List ℕ) × (l.left ≡ spelling a_tag_key c) × (l.right ≡ spelling a_tag_key m)

@@ -19,7 +19,7 @@ use Rattle.lp_written.proofs.lemmas.parts.WrittenNames.{byte_left, stop_ends}
 abbrev tag_key : Tag → List ℕ
 tag_key t = t.key
 
--- an empty text is that of the empty name
+-- If the text of a name is empty, the name is empty.
 pub empty_name : (known name text : List ℕ) → length text ≡ 0 → text ≡ escaped known name → name ≡ []
 empty_name known [] text none e = refl
 empty_name known (c ∷ name) text none e = grind (arith, cases_Bool, escaped_found, escaped_plain)
@@ -53,13 +53,13 @@ pub not_less_than_nothing : (m : List ℕ) → is_lt (slice_cmp nat_cmp m []) �
 not_less_than_nothing [] = refl
 not_less_than_nothing (b ∷ m) = refl
 
--- a front of a text is what is before the rest
+-- A front of a text is the part of the text that its rest leaves.
 pub front_is : (xs ys text : List ℕ) → xs ++ ys ≡ text → take (length text - length ys) text ≡ xs
 front_is xs ys text whole =
     let n : length text - length ys ≡ length xs = omega (arith, ap length whole, length-append xs ys) in
     rw (n, ← whole) (take-append_seam xs ys)
 
--- a spelling is that of one name
+-- Two names with the same spelling are the same name.
 one_name : (kind : NameKind) (m n : List ℕ) → spelling kind m ≡ spelling kind n → m ≡ n
 one_name kind m n same = sym (logical_spelling kind m) ∙ ap (logical kind) same ∙ logical_spelling kind n
 
@@ -76,7 +76,7 @@ pub no_key : (text : List ℕ) → ((rest : List ℕ) → IsWrittenName a_tag_ke
 no_key text none t rest is whole = none _ (key_before_sign t text rest is whole)
     (stop_ends a_tag_key equals (spelling a_tag_value t.value ++ rest) refl (λ e. omega (arith, e)))
 
--- the only key at the start of a text, and what follows it, are those of each tag there
+-- The only key at the start of a text, and the rest after it, are the key and the rest of each tag there.
 pub key_of_tag : (text key_end : List ℕ) (k : IsWrittenName a_tag_key text key_end)
     → ((rest : List ℕ) → IsWrittenName a_tag_key text rest → EndsName a_tag_key rest → rest ≡ key_end)
     → (t : Tag) (rest : List ℕ) → IsTag t → tag_text t ++ rest ≡ text
@@ -88,7 +88,7 @@ key_of_tag text key_end k only t rest is whole =
     let same = ap (λ (r : List ℕ). spelling a_tag_key t.key ++ r) (sym after) ∙ w.written ∙ sym k.written in
     (one_name a_tag_key t.key k.thing (append_cancel_right (spelling a_tag_key t.key) (spelling a_tag_key k.thing) key_end same), sym after)
 
--- what follows the sign of a tag is its value
+-- After the equals sign of a tag, the text is the value of the tag.
 value_after : (value key_end rest : List ℕ) (t : Tag) → key_end ≡ equals ∷ value → IsTag t
     → key_end ≡ equals ∷ (spelling a_tag_value t.value ++ rest) → (w : IsWrittenName a_tag_value value rest) × (w.thing ≡ t.value)
 value_after value key_end rest t sign is whole =
@@ -125,7 +125,7 @@ tag_is text key_end value rest k only sign v last = (
       ((λ i. record { key = key.0 i; value = values i }), same),
 )
 
--- what follows tags and ends a series ends a name before them
+-- A text of tags and an end of the series ends a name that stands before it.
 tags_end : (kind : NameKind) → is_stop kind comma ≡ true → is_stop kind space ≡ true → (ts : List Tag) (rest : List ℕ) → EndsSeries rest
     → EndsName kind (flat_map built_tag ts ++ rest)
 unfolding written_len
@@ -134,7 +134,7 @@ tags_end kind at_comma at_space [] (b ∷ rest) ends =
     subst (λ c. EndsName kind (c ∷ rest)) (sym ends) (stop_ends kind space rest at_space (λ e. omega (arith, e)))
 tags_end kind at_comma at_space (t ∷ ts) rest ends = stop_ends kind comma _ at_comma (λ e. omega (arith, e))
 
--- the first of tags in order that a text begins with after a comma, and what follows it
+-- The first of the tags in order with which a text begins after a comma, and the rest after this tag.
 record IsFirstOf (before tag rest : List ℕ) : Type 0 where
   first : Tag
   more : List Tag
@@ -148,7 +148,7 @@ record IsFirstOf (before tag rest : List ℕ) : Type 0 where
 first_of : (before left tag rest : List ℕ) → left ≡ comma ∷ tag → AreTagsAfter before left rest → EndsSeries rest → IsFirstOf before tag rest
 first_of before left tag rest begins w ends = by_tags w.thing w.is.0 w.is.1 w.written
   where
-    -- by whether there is a tag
+    -- The first of the tags, by whether there is a tag.
     by_tags : (ts : List Tag) → AllByRecursion IsTag ts → AreInOrder before ts → flat_map built_tag ts ++ rest ≡ left → IsFirstOf before tag rest
     by_tags [] all order whole = absurd (no_comma (whole ∙ begins))
       where
@@ -173,20 +173,20 @@ no_tag before left tag begins none rest w ends =
     let f = first_of before left tag rest begins w ends in
     none f.first _ f.is f.whole (tags_end a_tag_value refl refl f.more rest ends) f.not_less
 
--- what is told of the tags after the first is told of them with it
+-- The answer for the tags after the first tag is the answer for all tags.
 pub tag_more : (before left tag after : List ℕ) (t : Tag) → left ≡ comma ∷ tag → IsTag t → tag_text t ++ after ≡ tag → IsNotLess before t.key
     → ((u : Tag) (rest : List ℕ) → IsTag u → tag_text u ++ rest ≡ tag → EndsName a_tag_value rest → (u ≡ t) × (rest ≡ after))
     → (told : Option (Bor (List ℕ))) → IsOnlyRest (AreTagsAfter t.key after) EndsSeries told → IsOnlyRest (AreTagsAfter before left) EndsSeries told
 tag_more before left tag after t begins is whole not_less only told = go told
   where
-    -- the same rest is left of the others
+    -- The rest after all tags is the rest after the tags that follow the first tag.
     others : (rest : List ℕ) → AreTagsAfter before left rest → EndsSeries rest → AreTagsAfter t.key after rest
     others rest w ends =
         let f = first_of before left tag rest begins w ends in
         let same = only f.first _ f.is f.whole (tags_end a_tag_value refl refl f.more rest ends) in
         record { thing = f.more; is = (f.all, subst (λ (u : Tag). AreInOrder u.key f.more) same.0 f.order); written = same.1 }
 
-    -- by what is told of them
+    -- The answer for all tags, by the answer for the tags after the first tag.
     go : (told : Option (Bor (List ℕ))) → IsOnlyRest (AreTagsAfter t.key after) EndsSeries told → IsOnlyRest (AreTagsAfter before left) EndsSeries told
     go None none = λ rest w ends. none rest (others rest w ends) ends
     go (Some r) found = (
@@ -207,7 +207,7 @@ tags_left before left r missed is = (
   λ rest w ends. by_tags rest w.thing w.written ends,
 )
   where
-    -- by whether there is a tag
+    -- The rest after the tags, by whether there is a tag.
     by_tags : (rest : List ℕ) (ts : List Tag) → flat_map built_tag ts ++ rest ≡ left → EndsSeries rest → rest ≡ r.now
     by_tags rest [] whole ends = whole ∙ sym is
     by_tags rest (t ∷ ts) whole ends = absurd (byte_missing comma left missed _ (sym whole ∙ append_assoc (built_tag t) (flat_map built_tag ts) rest))
@@ -267,7 +267,7 @@ key_of_parts text tags rest n f = (
   },
 )
 
--- what is lent is the key before the rest
+-- The lent text is the key before the rest.
 pub lent_key : (text key rest lent : List ℕ) → key ++ rest ≡ text → IsAdmittedKey key → EndsSeries rest
     → lent ≡ take (length text - length rest) text → IsAdmittedKey lent × ((rest : List ℕ) × (lent ++ rest ≡ text) × EndsSeries rest)
 lent_key text key rest lent whole k ends is =

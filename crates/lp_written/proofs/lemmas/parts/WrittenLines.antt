@@ -34,14 +34,14 @@ module _ {V : Type 0} (kind : NameKind) (stops : is_stop kind equals ≡ true) (
       → ((rest : List ℕ) → IsWrittenName kind text rest → EndsName kind rest → ⊥) → IsOnlyRest (Pairs text) Ends o
   pair_no_key text o e none = rw e (λ rest w ends. none _ (key_of text rest w) (sign_ends _))
 
-  -- nor if no sign follows the key
+  -- No pair is read if no equals sign follows the key.
   pub pair_no_sign : (text key_end : List ℕ) (o : Option (Bor (List ℕ))) → o ≡ None
       → ((rest : List ℕ) → IsWrittenName kind text rest → EndsName kind rest → rest ≡ key_end) → byte equals key_end ≡ miss
       → IsOnlyRest (Pairs text) Ends o
   pair_no_sign text key_end o e only missed =
       rw e (λ rest w ends. byte_missing equals key_end missed _ (sym (only _ (key_of text rest w) (sign_ends _))))
 
-  -- what follows a key, a sign and a value is the only rest of a pair
+  -- The rest after a key, an equals sign and a value is the only rest after a pair.
   pub pair_answer : (text key_end after : List ℕ) (o : Option (Bor (List ℕ)))
       → IsWrittenName kind text key_end × ((rest : List ℕ) → IsWrittenName kind text rest → EndsName kind rest → rest ≡ key_end)
       → byte equals key_end ≡ reads equals after → IsOnlyRest (IsWritten print Is after) Ends o → IsOnlyRest (Pairs text) Ends o
@@ -51,12 +51,12 @@ module _ {V : Type 0} (kind : NameKind) (stops : is_stop kind equals ≡ true) (
       left : key_end ≡ equals ∷ after
       left = byte_left equals key_end after sign
 
-      -- the same value comes after it
+      -- The value that follows the key and the equals sign is the value of the pair.
       again : (rest : List ℕ) → Pairs text rest → IsWritten print Is after rest
       again rest w =
           let same = key.1 _ (key_of text rest w) (sign_ends _) in record { thing = w.thing.value; is = w.is.1; written = cc (same, left) }
 
-      -- by what follows the value
+      -- The answer for the pair, by the answer for the value.
       go : (o : Option (Bor (List ℕ))) → IsOnlyRest (IsWritten print Is after) Ends o → IsOnlyRest (Pairs text) Ends o
       go None none = λ rest w ends. none rest (again rest w) ends
       go (Some r) only = (
@@ -64,7 +64,7 @@ module _ {V : Type 0} (kind : NameKind) (stops : is_stop kind equals ≡ true) (
         λ rest w ends. only.1 rest (again rest w) ends,
       )
 
--- what follows a thing is no longer than the text
+-- The rest after a thing is no longer than the text.
 pub written_less : {X : Type 0} (print : X → List ℕ) (Is : X → Type 0) (text rest : List ℕ) → IsWritten print Is text rest
     → length rest ≤ length text
 written_less print is text rest w = omega (arith, ap length w.written, length-append (print w.thing) rest)
@@ -79,14 +79,14 @@ followed_step front after e ends whole text parts (Some r) only = (
   λ w. let f = parts.0 w in subst after (only.1 f.rest f.front (ends f.rest f.after)) f.after,
 )
 
--- what comes after items ends an item, as a comma does, and begins with none
+-- The text after items ends an item, as a comma does, and begins with no comma.
 record ItemsEnd (After Ends : List ℕ → Type 0) : Type 0 where
   comma_ends : (after : List ℕ) → Ends (comma ∷ after)
   after_ends : (text : List ℕ) → After text → Ends text
   no_comma : (after : List ℕ) → After (comma ∷ after) → ⊥
 
--- what a reader of items tells of the whole: that of what is left after an item; nothing, if no item is after a comma; and that of
--- what comes after items, if no comma is
+-- The answers of a reader of items: after an item, the answer for the rest is the answer for the whole; if no item follows a comma, there
+-- is no answer; and without a comma, the answer is the answer for the text after the items.
 pub record ItemSteps (Item : List ℕ → List ℕ → Type 0) (After Ends : List ℕ → Type 0) : Type 0 where
   pub kept : (whole left text : List ℕ) (r : Bor (List ℕ)) → AreItems Item After left ↔ AreItems Item After whole
       → byte comma left ≡ reads comma text → Item text r.now × ((rest : List ℕ) → Item text rest → Ends rest → rest ≡ r.now)
@@ -100,7 +100,7 @@ module _ (Item : List ℕ → List ℕ → Type 0) {After Ends : List ℕ → Ty
   items_end : (text : List ℕ) → AreItems Item After text → Ends text
   items_end text more = grind (arith, end.comma_ends, end.after_ends)
 
-  -- after a comma an item comes, and then items
+  -- After a comma, an item and then more items follow.
   after_comma : (left text : List ℕ) → left ≡ comma ∷ text → AreItems Item After left → IsFollowed Item (AreItems Item After) text
   after_comma left text e more = grind (arith, end.no_comma)
 
@@ -112,7 +112,7 @@ module _ (Item : List ℕ → List ℕ → Type 0) {After Ends : List ℕ → Ty
       followed_step Item (AreItems Item After) Ends items_end (AreItems Item After left) text
       (after_comma left text e, λ f. an_item text f.rest e f.front f.after) o
 
-  -- what a reader of items keeps
+  -- A reader of items keeps its answer from step to step.
   items_read : ItemSteps Item After Ends
   items_read = record {
     kept = λ whole left text r same read only.
@@ -129,7 +129,7 @@ fields_end = record { comma_ends = λ after. refl; after_ends = λ text w. grind
 pub later_fields : ItemSteps IsWrittenField IsWrittenTimestamp EndsValue
 later_fields = items_read IsWrittenField fields_end
 
--- the first field, and what comes after it
+-- A text is written fields exactly if it begins with a written field and its rest is written after a field.
 pub first_step : (text : List ℕ) (o : Option (Bor (List ℕ))) → IsOnlyRest (IsWrittenField text) EndsValue o
     → MatchOption o (AreWrittenFields text → ⊥) (λ r. IsWrittenAfterField r.now ↔ AreWrittenFields text)
 first_step text = followed_step IsWrittenField IsWrittenAfterField EndsValue (items_end IsWrittenField fields_end)
@@ -151,7 +151,7 @@ all_tags = items_read IsWrittenTag (gap_end a_tag_value refl refl)
 pub no_gap : (text : List ℕ) → byte comma text ≡ miss → byte space text ≡ miss → IsWrittenAfterName text → ⊥
 no_gap text no_comma no_space w = let g = (all_tags.last text no_comma).1 w in byte_missing space text no_space g.rest g.front
 
--- after a space the fields come
+-- After a space, the fields follow.
 pub fields_after : (text fields : List ℕ) → byte comma text ≡ miss → byte space text ≡ reads space fields
     → AreWrittenFields fields ↔ IsWrittenAfterName text
 fields_after text fields no_comma read =
@@ -163,7 +163,7 @@ fields_after text fields no_comma read =
 timestamp_number : (number : List ℕ) → IsWrittenTimestamp (space ∷ number) → (z : ℤ) × (fits_i64 z ≡ true) × (signed_decimal z ≡ number)
 timestamp_number number w = grind (arith)
 
--- such a number has a sign or none, and digits
+-- A number that takes the whole text has a sign or none, and digits.
 pub whole_number : (number : List ℕ) → 0 < integer_len number → length number ≤ integer_len number → IsSigned (codes "-") number
 whole_number number some whole =
     subst (IsSigned (codes "-")) (take_all (integer_len number) number whole) (signed_front (codes "-") number some)
@@ -184,7 +184,7 @@ timestamp_tells text number read =
     )
 
 module _ {X : Type 0} (print : X → List ℕ) (Is : X → Type 0) (After : List ℕ → Type 0) where
-  -- the texts of such things, each after a comma
+  -- The texts of these things, each after a comma.
   abbrev texts : List X → List ℕ
   texts xs = flat_map (λ x. comma ∷ print x) xs
 
@@ -194,7 +194,7 @@ module _ {X : Type 0} (print : X → List ℕ) (Is : X → Type 0) (After : List
   items_of (x ∷ xs) rest all after = an_item _ (texts xs ++ rest) (append_assoc (comma ∷ print x) (texts xs) rest)
       (record { thing = x; is = all.0; written = refl }) (items_of xs rest all.1 after)
 
-  -- and items are such texts
+  -- Items that are written after commas are the written text of a list of things.
   listed : (text : List ℕ) → AreItems (IsWritten print Is) After text → IsFollowed (IsWritten texts (AllByRecursion Is)) After text
   listed text (no_item after) = record { rest = text; front = record { thing = []; is = tt; written = refl }; after = after }
   listed text (an_item after rest e item more) =
@@ -228,7 +228,7 @@ after_tags (f ∷ fs) t some all fits = record {
   };
 }
 
--- what each thing passes, all pass
+-- If each thing of a list passes a test, the list passes the test of all its things.
 all_pass : {X : Type 0} (test : X → Bool) (P : X → Type 0) → ((x : X) → P x → test x ≡ true) → (xs : List X) → AllByRecursion P xs
     → list_all test xs ≡ true
 all_pass test P each [] all = refl
@@ -239,7 +239,7 @@ field_values : (fs : List Field) → AllByRecursion AdmittedField fs → AllByRe
 field_values [] all = tt
 field_values (f ∷ fs) all = (all.0.1, field_values fs all.1)
 
--- a line is as written if it is a measurement, and what comes after it
+-- A line is as written exactly if it is a written measurement and a rest that is written after a measurement.
 line_is : (line : List ℕ) → IsAsWritten line ↔ IsFollowed (IsWrittenName a_measurement) IsWrittenAfterName line
 unfolding is_admitted_point
 line_is line = (there, back)
@@ -257,7 +257,7 @@ line_is line = (there, back)
               (after_tags p.fields p.timestamp ok.some_field ok.fields ok.timestamp);
         }
 
-    -- the point of these parts
+    -- A text with a measurement and the parts after it is the text of the point that has these parts.
     back : IsFollowed (IsWrittenName a_measurement) IsWrittenAfterName line → IsAsWritten line
     back w =
         let named = listed (pair_text a_tag_key (spelling a_tag_value)) AdmittedTag IsWrittenAfterTags w.rest w.after in

@@ -20,13 +20,13 @@ pub written_unmarked : (known : List ℕ) (stops : ℕ → Bool) (b : ℕ) (text
 unfolding written_len
 written_unmarked known stops b text plain = grind (arith)
 
--- a backslash before a byte that gets one is two bytes of it
+-- A backslash before a byte that gets a backslash makes two bytes of the token.
 pub written_escape : (known : List ℕ) (stops : ℕ → Bool) (b c : ℕ) (text : List ℕ) → (stops b || is_one_of known b) ≡ true
     → b ≡ backslash → is_one_of known c ≡ true → written_len known stops (b ∷ c ∷ text) ≡ 2 + written_len known stops text
 unfolding written_len
 written_escape known stops b c text mark is found = grind (arith, eq-eqb)
 
--- it ends at a mark that is not such a backslash
+-- The token that the builder spells ends at a mark that is no backslash before a known byte.
 pub written_ends : (known : List ℕ) (stops : ℕ → Bool) (text : List ℕ)
     → (0 < length text → (stops (slice_index text 0) || is_one_of known (slice_index text 0)) ≡ true)
     → (1 < length text → slice_index text 0 ≡ backslash → is_one_of known (slice_index text 1) ≡ true → ⊥)
@@ -38,7 +38,7 @@ written_ends known stops text mark other = grind (arith, cases_Bool, and_parts, 
 abbrev pub can_hold : List ℕ → (ℕ → Bool) → ℕ → Bool
 can_hold known stops b = not (stops b) || is_one_of known b
 
--- what the builder spells ends where no token goes on
+-- The spelling of a name ends where no token goes on.
 pub written_spelling : (known : List ℕ) (stops : ℕ → Bool) (n rest : List ℕ) → is_one_of known backslash ≡ true
     → list_all (can_hold known stops) n ≡ true → written_len known stops rest ≡ 0
     → written_len known stops (escaped known n ++ rest) ≡ length (escaped known n)
@@ -63,7 +63,7 @@ pub record Spelled (known : List ℕ) (stops : ℕ → Bool) (text : List ℕ) :
   pub holds : list_all (can_hold known stops) name ≡ true
   pub spelled : escaped known name ++ drop (written_len known stops text) text ≡ text
 
--- no byte is passed
+-- If no byte is passed, the passed front is the spelling of the empty name.
 spelled_none : (known : List ℕ) (stops : ℕ → Bool) (text : List ℕ) → written_len known stops text ≡ 0 → Spelled known stops text
 unfolding escaped
 spelled_none known stops text none = record { name = []; holds = refl; spelled = rw none refl }
@@ -85,7 +85,7 @@ spelled_escape known stops b c text mark is found more =
     omega (arith, written_escape known stops b c text mark is found) in
     record { name = c ∷ more.name; holds = grind (arith, common_steps); spelled = grind (arith, escaped_found) }
 
--- what is passed is such a front
+-- The front that is passed is the spelling of some name.
 pub written_spelled : (known : List ℕ) (stops : ℕ → Bool) (text : List ℕ) → Spelled known stops text
 unfolding written_len
 written_spelled known stops [] = spelled_none known stops [] refl
@@ -122,7 +122,7 @@ pub first_run : (kind : TokenKind) (bytes : List ℕ) (end : ℕ) → IsRunAt (�
     → end + written_len (known_of kind) (stops_of kind) (drop end bytes) ≡ written_len (known_of kind) (stops_of kind) bytes
 first_run kind bytes end run = let passed = run_passed kind bytes end 0 end (omega arith) run.within run.passes in omega (arith, passed)
 
--- and after a backslash, a byte that gets one and the run after them
+-- After a backslash and a byte that gets a backslash, the token goes on with the run of bytes that follow.
 pub next_run : (kind : TokenKind) (bytes : List ℕ) (at end : ℕ) (found : Bool) → IsRunAt (λ b. not (is_mark kind b)) bytes (at + 2) end
     → at + written_len (known_of kind) (stops_of kind) (drop at bytes) ≡ written_len (known_of kind) (stops_of kind) bytes
     → at + 1 < length bytes → slice_index bytes at ≡ backslash → found ≡ is_one_of (known_of kind) (slice_index bytes (at + 1)) → found ≡ true
@@ -131,7 +131,7 @@ next_run kind bytes at end found run so_far inside here is accepted =
     let passed = run_passed kind bytes (end - (at + 2)) (at + 2) end (omega (arith, run.ordered)) run.within run.passes in
     grind (arith, passed, drop_more, written_escape, run.ordered)
 
--- it ends at any other mark, and at the end of the text
+-- The token ends at any other mark, and at the end of the text.
 pub ends_here : (kind : TokenKind) (bytes : List ℕ) (at : ℕ) → at ≤ length bytes
     → (at < length bytes → is_mark kind (slice_index bytes at) ≡ true)
     → (at + 1 < length bytes → slice_index bytes at ≡ backslash → is_one_of (known_of kind) (slice_index bytes (at + 1)) ≡ true → ⊥)
@@ -141,7 +141,7 @@ ends_here kind bytes at within mark other = grind (arith, common_steps, written_
 -- the steps of a reader of tokens
 pub ruleset token_steps = (run_mark, first_run, next_run, ends_here)
 
--- and so of a text
+-- A text may be spelled as a token exactly if each of its bytes may be in a name of this kind.
 all_same : (kind : NameKind) (n : List ℕ) → list_all (can_hold (escapable kind) (is_stop kind)) n ≡ list_all (may_hold kind) n
 all_same kind n = grind (arith, common_steps)
 
@@ -151,16 +151,16 @@ unfolding escaped
 spelled_empty known [] = refl
 spelled_empty known (b ∷ n) = grind (arith, cases_Bool, escaped_found, escaped_plain, ne_eqb)
 
--- it ends in a backslash if its name does
+-- The spelling of a name ends in a backslash exactly if the name does.
 spelled_ends : (kind : NameKind) (n : List ℕ) → ends_in_backslash (spelling kind n) ≡ ends_in_backslash n
 spelled_ends kind n = sym (logical_ends kind (spelling kind n)) ∙ ap ends_in_backslash (logical_spelling kind n)
 
--- that of a measurement begins with `#` if the measurement does
+-- The spelling of a measurement begins with `#` exactly if the measurement does.
 spelled_hash : (n : List ℕ) → (slice_index (spelling a_measurement n) 0 == hash) ≡ (slice_index n 0 == hash)
 unfolding escaped
 spelled_hash n = grind (arith, common_steps, cases_Bool, escaped_found, escaped_plain)
 
--- so the spelling tells whether a name is admitted
+-- The spelling of a name tells whether the name is admitted.
 spelling_tells : (kind : NameKind) (n : List ℕ) → list_all (may_hold kind) n ≡ true
     → is_admitted_spelling kind (spelling kind n) ≡ is_admitted_name kind n
 unfolding is_admitted_name
@@ -172,7 +172,7 @@ spelling_tells other n may = rw (spelled_empty (escapable other) n, spelled_ends
 abbrev pub name_len : NameKind → List ℕ → ℕ
 name_len kind text = written_len (escapable kind) (is_stop kind) text
 
--- the spelling of a name is what is passed
+-- The spelling of a name at the start of a text is the front that is passed.
 name_passed : (kind : NameKind) (text rest : List ℕ) (w : IsWrittenName kind text rest) → EndsName kind rest
     → name_len kind text ≡ length (spelling kind w.thing)
 name_passed kind text rest w ends =
@@ -180,7 +180,7 @@ name_passed kind text rest w ends =
     subst (λ xs. name_len kind xs ≡ length (spelling kind w.thing)) w.written
     (written_spelling (escapable kind) (is_stop kind) w.thing rest (escapable_backslash kind) may ends)
 
--- what is passed is a name if that is admitted, and no other rest follows a name
+-- If the front that is passed is admitted, it is the written text of a name, and no other rest follows a name.
 pub name_found : (kind : NameKind) (text bytes known rest : List ℕ) (stops : ℕ → Bool) (len : ℕ) (ok : Bool) → rest ≡ drop len text
     → len ≡ written_len known stops bytes → ok ≡ is_admitted_spelling kind (take len bytes) → ok ≡ true
     → bytes ≡ text → known ≡ escapable kind → stops ≡ is_stop kind
@@ -195,7 +195,7 @@ name_found kind text bytes known rest stops len ok left is tells passes same_tex
       λ other w ends. grind (arith, drop_at, name_passed),
     )
 
--- and none does if it is not admitted
+-- If the front that is passed is not admitted, no written name is at the start of the text.
 pub name_none : (kind : NameKind) (text bytes known rest : List ℕ) (stops : ℕ → Bool) (len : ℕ) (ok : Bool)
     → len ≡ written_len known stops bytes → ok ≡ is_admitted_spelling kind (take len bytes) → ok ≡ false
     → bytes ≡ text → known ≡ escapable kind → stops ≡ is_stop kind → IsWrittenName kind text rest → EndsName kind rest → ⊥
@@ -212,28 +212,28 @@ stop_ends kind stop rest stops other =
 abbrev pub is_quote : ℕ → Bool
 is_quote b = b == quote
 
--- any text can be that of a string
+-- Any text can be the text of a string.
 holds_any : (n : List ℕ) → list_all (can_hold quotable is_quote) n ≡ true
 holds_any [] = refl
 holds_any (b ∷ n) = grind (arith, common_steps, holds_any n)
 
--- what is passed after a quote and before the next is the text of a string
+-- The text between a quote and the next quote is the written text of a string.
 pub string_found : (text opened rest : List ℕ) → text ≡ quote ∷ opened → drop (written_len quotable is_quote opened) opened ≡ quote ∷ rest
     → IsWrittenString text rest
 string_found text opened rest e closed =
     let front = written_spelled quotable is_quote opened in
     record { thing = front.name; is = tt; written = grind (arith, append_assoc) }
 
--- and no other rest follows a string
+-- No other rest follows a written string.
 pub string_only : (text opened rest : List ℕ) → text ≡ quote ∷ opened → IsWrittenString text rest
     → drop (written_len quotable is_quote opened) opened ≡ quote ∷ rest
 string_only text opened rest e w = grind (arith, append_assoc, written_spelling, holds_any, drop_at, written_ends)
 
--- what is left of a text if a byte reads comes after that byte
+-- If a byte reads at the start of a text, the text is this byte and the rest.
 pub byte_left : (b : ℕ) (text rest : List ℕ) → byte b text ≡ reads b rest → text ≡ b ∷ rest
 byte_left b text rest e = grind (arith, cases_Bool, eqb-true)
 
--- what comes after both quotes is the only rest of a string
+-- The rest after both quotes is the only rest after a written string.
 pub string_answer : (text opened bytes after : List ℕ) (len : ℕ) (o : Option (Bor (List ℕ))) → byte quote text ≡ reads quote opened
     → after ≡ drop len opened → len ≡ written_len quotable is_quote bytes → bytes ≡ opened
     → MatchOption o (byte quote after ≡ miss) (λ rest. byte quote after ≡ reads quote rest.now)

@@ -20,7 +20,7 @@ use Rattle.lp_written.proofs.lemmas.parts.WrittenNames.{byte_left}
 use Rattle.lp_written.specs.code.AsWritten.{EndsValue, IsOnlyRest, IsWrittenString, IsWrittenValue, has_extra_zero, is_written_integer}
 use Rattle.lp_written.specs.code.AsWritten.{is_written_unsigned}
 
--- digits without a zero before more of them are what the builder writes for their number
+-- Digits without a zero before more digits are the digits that the builder writes for their number.
 pub unsigned_again : (ds : List ℕ) → IsNumeral 10 ds → has_extra_zero ds ≡ false → digits_value 10 ds < 2 ^ 64 → decimal (digits_value 10 ds) ≡ ds
 unsigned_again ds numeral plain fits =
     decimal-digits_value (numerals_by_value (AllDigits 10) tells_digits) ds numeral.1 numeral.0 (alone ds plain numeral.0) fits
@@ -29,7 +29,7 @@ unsigned_again ds numeral plain fits =
     alone : (ds : List ℕ) → has_extra_zero ds ≡ false → 0 < length ds → get_or ds 0 0 ≡ 48 → length ds ≡ 1
     alone ds plain some first = grind (arith, eqb-false, or_parts)
 
--- what begins with no zero has none too many
+-- A number whose first digit is no zero has no zero too many.
 first_digit : (ds : List ℕ) → 48 < get_or ds 0 0 → has_extra_zero ds ≡ false
 first_digit ds more = grind (arith, ne_eqb)
 
@@ -37,11 +37,11 @@ first_digit ds more = grind (arith, ne_eqb)
 minus_zero : (ds : List ℕ) → 48 < get_or ds 0 0 → has_extra_zero (minus ∷ ds) ≡ false
 minus_zero ds more = grind (arith, ne_eqb)
 
--- nor has that of an integer
+-- The digits of an integer in range have no zero too many.
 pub signed_zero : (z : ℤ) → fits_i64 z ≡ true → has_extra_zero (signed_decimal z) ≡ false
 signed_zero n fits = grind (arith, fits_from_test, decimal_digit, first_digit, minus_zero, first_decimal)
 
--- digits after a sign are what the builder writes for their number
+-- A minus sign and digits without a zero too many are the text that the builder writes for their number.
 minus_again : (ds : List ℕ) → IsNumeral 10 ds → has_extra_zero (minus ∷ ds) ≡ false
     → fits_i64 (neg_ℤ (pos (digits_value 10 ds))) ≡ true → signed_decimal (neg_ℤ (pos (digits_value 10 ds))) ≡ minus ∷ ds
 minus_again ds numeral plain fits =
@@ -51,7 +51,7 @@ minus_again ds numeral plain fits =
 plain_value : (d : ℕ) (ds : List ℕ) → IsNumeral 10 (d ∷ ds) → signed_digits_value 10 (d ∷ ds) ≡ pos (digits_value 10 (d ∷ ds))
 plain_value d ds numeral = grind (arith, digit_from_value, ne_eqb)
 
--- an integer without a zero too many is what the builder writes for its number
+-- An integer without a zero too many is the text that the builder writes for its number.
 pub integer_again : (number : List ℕ) → IsSigned (codes "-") number → has_extra_zero number ≡ false
     → fits_i64 (signed_digits_value 10 number) ≡ true → signed_decimal (signed_digits_value 10 number) ≡ number
 integer_again [] never plain fits = absurd never
@@ -62,7 +62,7 @@ integer_again (b ∷ ds) (inr numeral) plain fits = grind (arith, plain_value, f
 short_fits : (number : List ℕ) → IsSigned (codes "-") number → length number < 19 → fits_i64 (signed_digits_value 10 number) ≡ true
 short_fits ds never short = grind (arith, eqb-true, false≢true, plain_value, test_from_fits, pow-le-pow_right, digits_value-lt)
 
--- so whether it is written so is told by its zeros
+-- Whether the builder writes a short number in this way depends only on its zeros.
 pub short_written : (number : List ℕ) → IsSigned (codes "-") number → not (has_extra_zero number) ≡ true → length number < 19
     → nat_lt (length number) 19 ≡ is_written_integer number
 short_written number signed plain short = rw (plain, short_fits number signed short) (lt-ltb _ 19 short)
@@ -73,12 +73,12 @@ pub record NumberText (text number rest : List ℕ) (mark : ℕ) : Type 0 where
   pub front : take (integer_len text) text ≡ number
   pub after : drop (integer_len text) text ≡ mark ∷ rest
 
--- such a text, by its parts
+-- A text of a number, a mark and a rest, by its parts.
 number_text : (number rest : List ℕ) (mark : ℕ) → integer_len (number ++ mark ∷ rest) ≡ length number → 0 < length number
     → NumberText (number ++ mark ∷ rest) number rest mark
 number_text number rest mark len some = grind (arith, take_at, drop_at)
 
--- what a value is that the builder writes at the start of a text
+-- The forms of a value that the builder writes at the start of a text.
 pub data Shape (text rest : List ℕ) : Type 0 where
   an_integer : (z : ℤ) → fits_i64 z ≡ true → NumberText text (signed_decimal z) rest letter_i → Shape text rest
   an_unsigned : (n : ℕ) → n < 2 ^ 64 → NumberText text (decimal n) rest letter_u → Shape text rest
@@ -102,7 +102,7 @@ shape_of (string s) rest fits ends = grind (arith, append_assoc)
 shape_of (boolean true) rest fits ends = a_word true refl refl
 shape_of (boolean false) rest fits ends = a_word false refl refl
 
--- and so has each text that the builder writes for a value and a rest that ends it
+-- Each text of a written value and a rest that ends the value has one of these forms.
 pub shape : (text rest : List ℕ) → IsWrittenValue text rest → EndsValue rest → Shape text rest
 shape text rest w ends = subst (λ xs. Shape xs rest) w.written (shape_of w.thing rest w.is ends)
 
@@ -115,16 +115,16 @@ no_minus : (ds : List ℕ) → IsNumeral 10 ds → (slice_index ds 0 == minus) �
 no_minus [] numeral = refl
 no_minus (d ∷ ds) numeral = grind (arith, digit_from_value, ne_eqb)
 
--- an integer that is written so is that of its number
+-- A number that passes the test for integers is the digits of an integer in range.
 pub integer_told : (number : List ℕ) → IsSigned (codes "-") number → is_written_integer number ≡ true
     → (z : ℤ) × (fits_i64 z ≡ true) × (signed_decimal z ≡ number)
 integer_told number signed ok = grind (arith, and_parts, integer_again, not-true)
 
--- and that of each number is written so
+-- The digits of each integer in range are written as an integer.
 pub integer_tells : (z : ℤ) → fits_i64 z ≡ true → is_written_integer (signed_decimal z) ≡ true
 integer_tells z fits = rw (signed_zero z fits, (integer_written z fits).value, fits) refl
 
--- so is an unsigned number
+-- A number that passes the test for unsigned integers is the digits of an unsigned integer in range.
 unsigned_told : (number : List ℕ) → IsSigned (codes "-") number → is_written_unsigned number ≡ true
     → (n : ℕ) × (n < 2 ^ 64) × (decimal n ≡ number)
 unsigned_told number signed ok =
@@ -137,11 +137,11 @@ unsigned_told number signed ok =
 
 -- a number at the start of a text, as the code finds it
 module _ (text number : List ℕ) (whole : ℕ) (len : whole ≡ integer_len text) (some : 0 < whole) (front : number ≡ take whole text) where
-  -- it has a sign or none, and digits
+  -- The number has a sign or none, and digits.
   pub signed_number : IsSigned (codes "-") number
   signed_number = rw (front, len) (signed_front (codes "-") text (omega (arith, len, some)))
 
-  -- what follows it and its mark
+  -- The answer after a number and its mark.
   module _ (after : List ℕ) (ok : Bool) (r : Bor (List ℕ)) (o : Option (Bor (List ℕ))) (back : after ≡ drop whole text)
       (is : o ≡ then_some ok r) where
     -- a mark that is read after it
@@ -163,7 +163,7 @@ module _ (text number : List ℕ) (whole : ℕ) (len : whole ≡ integer_len tex
           λ rest w ends. (only marked rest (shape text rest w ends)).1,
         )
 
-    -- after `i` the number is an integer
+    -- After the mark `i`, the answer is the rest after an integer.
     pub integer_answer : byte letter_i after ≡ reads letter_i r.now → ok ≡ is_written_integer number → IsOnlyRest (IsWrittenValue text) EndsValue o
     integer_answer read tells = mark_answer letter_i (is_written_integer number) read tells
         (λ ok. let t = integer_told number signed_number ok in (integer t.0, t.1, ap (λ (xs : List ℕ). xs ++ letter_i ∷ []) t.2))
@@ -176,7 +176,7 @@ module _ (text number : List ℕ) (whole : ℕ) (len : whole ≡ integer_len tex
           | a_word b none word ↦ absurd (omega (arith, len, some, none))
         ])
 
-    -- and after `u` it is an unsigned number
+    -- After the mark `u`, the answer is the rest after an unsigned integer.
     pub unsigned_answer : byte letter_u after ≡ reads letter_u r.now → ok ≡ is_written_unsigned number
         → IsOnlyRest (IsWrittenValue text) EndsValue o
     unsigned_answer read tells = mark_answer letter_u (is_written_unsigned number) read tells
@@ -194,7 +194,7 @@ module _ (text number : List ℕ) (whole : ℕ) (len : whole ≡ integer_len tex
 -- the steps of a reader of a number
 pub ruleset number_steps = (signed_number, integer_answer, unsigned_answer)
 
--- what is read as a float is one that the builder writes
+-- A text that reads as a float begins with a written float.
 float_found : (text t rest : List ℕ) → float_at text ≡ reads (float t) rest → IsWrittenValue text rest
 float_found text t rest read =
     let some : 0 < float_len text = grind (arith, cases_eq, float_misses) in
@@ -208,11 +208,11 @@ module _ (text : List ℕ) (whole : ℕ) (len : whole ≡ integer_len text) (som
   float_only rest w ends =
       let t = shape text rest w ends in grind (arith, byte_missing letter_i (drop whole text) no_i rest, byte_missing letter_u (drop whole text) no_u rest)
 
-  -- none, if no float is read
+  -- If no float is read, no rest follows a written value.
   pub no_float : (o : Option (Bor (List ℕ))) → o ≡ None → float_at text ≡ miss → IsOnlyRest (IsWrittenValue text) EndsValue o
   no_float o e missed = rw e (λ rest w ends. let x = float_only rest w ends in absurd (cc (missed, x.1)))
 
-  -- and else what follows the float is the only rest
+  -- If no mark follows the number, the rest after the float is the only rest after a written value.
   pub float_answer : (t left : List ℕ) → float_at text ≡ reads (float t) left
       → IsWrittenValue text left × ((rest : List ℕ) → IsWrittenValue text rest → EndsValue rest → rest ≡ left)
   float_answer t left read = (float_found text t left read, λ rest w ends. let x = float_only rest w ends in cc (read, x.1))
@@ -220,7 +220,7 @@ module _ (text : List ℕ) (whole : ℕ) (len : whole ≡ integer_len text) (som
 -- the steps of a reader of a float
 pub ruleset float_steps = (no_float, float_answer)
 
--- after a quote the builder writes no value but a string
+-- After a quote, the builder writes only a string.
 pub value_string : (text rest : List ℕ) → integer_len text ≡ 0 → slice_index text 0 ≡ quote → IsWrittenValue text rest → EndsValue rest
     → IsWrittenString text rest
 value_string text rest whole first w ends = grind (arith, shape)
@@ -230,11 +230,11 @@ pub value_word : (text rest : List ℕ) → integer_len text ≡ 0 → slice_ind
     → (b : Bool) × (text ≡ built_value (boolean b) ++ rest)
 value_word text rest whole first w ends = let t = shape text rest w ends in grind (arith)
 
--- two words at the start of a text are the same, and so is what follows them
+-- Two words for booleans at the start of one text are the same word, and the same rest follows them.
 word_same : (a b : Bool) (rest left : List ℕ) → built_value (boolean a) ++ rest ≡ built_value (boolean b) ++ left → rest ≡ left
 word_same x0 x1 rest left e = grind (arith)
 
--- what follows a word is the only rest of a value
+-- The rest after a word is the only rest after a written value.
 pub word_answer : (b : Bool) (text left : List ℕ) → integer_len text ≡ 0 → slice_index text 0 ≢ quote
     → StripsPrefix (FindsTextPrefix (built_value (boolean b))) text left
     → IsWrittenValue text left × ((rest : List ℕ) → IsWrittenValue text rest → EndsValue rest → rest ≡ left)
@@ -244,7 +244,7 @@ word_answer b text left whole first s =
       λ rest w ends. let x = value_word text rest whole first w ends in word_same x.0 b rest left (sym x.1 ∙ e),
     )
 
--- if the word for true is not there, what follows that for false is the only rest of a value
+-- If the word for true is not there, the rest after the word for false is the only rest after a value.
 pub last_word : (text : List ℕ) (o : Option (Bor (List ℕ))) → integer_len text ≡ 0 → slice_index text 0 ≢ quote
     → LacksTextAt (codes "true") text 0
     → MatchOption o (LacksTextAt (codes "false") text 0) (λ r. StripsPrefix (FindsTextPrefix (codes "false")) text r.now)
@@ -252,7 +252,7 @@ pub last_word : (text : List ℕ) (o : Option (Bor (List ℕ))) → integer_len 
 last_word text (Some r) whole first no_true found = word_answer false text r.now whole first found
 last_word text None whole first no_true no_false = λ rest w ends. let x = value_word text rest whole first w ends in grind (arith)
 
--- after a quote, what follows a string is the only rest of a value
+-- After a quote, the rest after a string is the only rest after a value.
 pub string_only_value : (text : List ℕ) (o : Option (Bor (List ℕ))) → integer_len text ≡ 0 → slice_index text 0 ≡ quote
     → IsOnlyRest (IsWrittenString text) (λ rest. Unit) o → IsOnlyRest (IsWrittenValue text) EndsValue o
 string_only_value text None whole first none = λ rest w ends. none rest (value_string text rest whole first w ends) tt

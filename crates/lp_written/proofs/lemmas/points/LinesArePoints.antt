@@ -1,5 +1,5 @@
--- The logical texts of each line that is answered are a point: it has a field, and its values and its timestamp fit. And the lines
--- that are as the builder writes them are those that it writes again.
+-- The logical texts of each line that is answered are a point: it has a field, and its values and its timestamp fit. The lines that are as
+-- the builder writes them are the lines that it writes again byte for byte.
 use Rattle.std.proofs.Common.{◌≡◌, ◌≢◌, ℕ, ◌<◌, List, [], length, take, drop, Bool, true, false, cond, subst, arith, Option, Ok}
 use Rattle.std.proofs.Common.{◌==◌, ℤ, IfSome, ◌∷◌, ◌++◌, ap}
 use Rattle.std.specs.List.{AllByRecursion}
@@ -20,7 +20,7 @@ use Rattle.lp_lines.proofs.lemmas.read_back.{LinePieces.admitted_point, LineRead
 abbrev pub Fits : Value Text → Type 0
 Fits x = IsValue (logical_value x)
 
--- what is read if a test fails
+-- If a conditional reading gives a value, its test fails and the value is the value of the other branch.
 no_test : {A : Type 0} (a : Bool) (y x : A) (after rest : List ℕ) → cond a miss (reads y after) ≡ reads x rest → (a ≡ false) × (y ≡ x)
 no_test x0 y x after rest h = grind (arith)
 
@@ -29,7 +29,7 @@ integer_fits : (line : List ℕ) (x : Value Text) (rest : List ℕ) → integer_
 unfolding integer_at
 integer_fits line x rest h = grind arith
 
--- so is an unsigned one
+-- An unsigned integer that is read is in range.
 unsigned_fits : (line : List ℕ) (x : Value Text) (rest : List ℕ) → unsigned_at line ≡ reads x rest → Fits x
 unfolding unsigned_at
 unsigned_fits line x rest h = grind (arith, nat_tests)
@@ -42,7 +42,7 @@ float_fits line x rest h =
     let some : float_len line ≢ 0 = eqb-false (float_len line) 0 parts.0 in
     subst Fits parts.1 (float_len_float line (omega arith))
 
--- and either boolean
+-- A boolean that is read fits, for either boolean.
 boolean_fits : (b : Bool) (words : List (List ℕ)) (line : List ℕ) (x : Value Text) (rest : List ℕ)
     → boolean_at b words line ≡ reads x rest → Fits x
 unfolding boolean_at
@@ -52,7 +52,7 @@ boolean_fits b words line x rest h = grind (arith, no_test)
 abbrev pub FieldFits : Pair Text (Value Text) → Type 0
 FieldFits f = Fits f.value
 
--- so is that of each field
+-- The value of each field that is read is in range, or is a literal.
 field_fits : (line : List ℕ) (f : Pair Text (Value Text)) (rest : List ℕ) → field line ≡ reads f rest → FieldFits f
 unfolding field value string_at
 field_fits line f rest h = grind (arith, pair_parts, integer_fits, unsigned_fits, float_fits, boolean_fits)

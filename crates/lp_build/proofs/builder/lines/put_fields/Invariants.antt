@@ -3,7 +3,7 @@ use Rattle.lp_format.specs.format.Bytes.{space}
 use Rattle.lp_build.specs.code.WrittenAgain.{fields_text}
 use Rattle.lp_build.proofs.builder.lines.put_fields.Given as goal
 
--- what is written and what is left to write make the whole, and there is room for the latter
+-- The text that is written and the text that is left to write make the whole text, and there is room for the rest.
 abbrev pub invariant-loop-key : goal.invariant-loop-key
 invariant-loop-key g l =
     let whole = fields_text space l.fields in

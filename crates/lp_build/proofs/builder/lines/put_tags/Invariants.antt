@@ -3,7 +3,7 @@ use Rattle.std.specs.List.{flat_map}
 use Rattle.lp_build.specs.code.WrittenAgain.{tag_text}
 use Rattle.lp_build.proofs.builder.lines.put_tags.Given as goal
 
--- what is written and what is left to write make the whole, and there is room for the latter
+-- The text that is written and the text that is left to write make the whole text, and there is room for the rest.
 abbrev pub invariant-loop-key : goal.invariant-loop-key
 invariant-loop-key g l =
     let whole = flat_map tag_text l.tags in

@@ -3,7 +3,7 @@ use Rattle.lp_format.specs.format.Escapes.{escaped}
 use Rattle.lp_scan.specs.code.Tokens.{known_of}
 use Rattle.lp_build.proofs.builder.texts.put_escaped.Given as goal
 
--- what is written and what is left to write make the whole, and there is room for the latter
+-- The text that is written and the text that is left to write make the whole text, and there is room for the rest.
 abbrev pub invariant-loop-plain : goal.invariant-loop-plain
 invariant-loop-plain g l =
     let whole = escaped (known_of l.kind) l.text in

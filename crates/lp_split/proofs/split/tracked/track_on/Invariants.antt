@@ -2,7 +2,7 @@ use Rattle.std.proofs.Common.{◌+◌, ◌-◌, ◌≤◌, length, take}
 use Rattle.lp_split.specs.code.Tracks.{LeadsTo, most_counted}
 use Rattle.lp_split.proofs.split.tracked.track_on.Given as goal
 
--- the track is that of the bytes so far
+-- `track` is the track of the bytes before `at`
 abbrev pub invariant-loop-at : goal.invariant-loop-at
 invariant-loop-at l = record {
   within : l.at ≤ length l.text;

@@ -3,7 +3,7 @@ use Rattle.lp_format.specs.format.{without_escapes}
 use Rattle.lp_scan.specs.code.{known_of}
 use Rattle.lp_values.proofs.spelled.Spelled.eq_text.Given as goal
 
--- what is left of the two is the same if the two are
+-- the rest of the logical text equals the rest of the other text exactly if the two texts are equal
 abbrev pub invariant-loop-at : goal.invariant-loop-at
 invariant-loop-at l = record {
   within : l.at ≤ length l.spelling;

@@ -4,7 +4,7 @@ use Rattle.lp_scan.specs.code.Tokens.{known_of}
 use Rattle.lp_values.proofs.lemmas.tokens.TokenLemmas.{IsPut}
 use Rattle.lp_values.proofs.spelled.Spelled.put.Given as goal
 
--- the logical text is what was put and what is left of it
+-- the logical text is the bytes that were put and the rest that is left
 abbrev pub invariant-loop-at : goal.invariant-loop-at
 invariant-loop-at l = record {
   within : l.at ≤ length l.spelling;

@@ -1,7 +1,0 @@
-module yomskafi.example/endpoint
-
-go 1.19
-
-require yomskafi.example/lineprotocol/v3 v3.0.0
-
-replace yomskafi.example/lineprotocol/v3 => ../../bindings/go
