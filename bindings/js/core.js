@@ -53,7 +53,7 @@ const decoder = new TextDecoder("utf-8", { ignoreBOM: true }), strictDecoder = n
 const POWERS = Array.from({ length: 23 }, (_, n) => Number(`1e${n}`));
 const HALF = /(\p{Surrogate})/u;
 
-const SHOWN = 60;
+const MOST_SHOWN = 60;
 
 /** A name or a string of a line cannot be written: the line would not read back, or the text holds half of a surrogate pair. `part` says which
  * part rules the line out, `key` is the key of its tag or field if it is a value, and `value` is its text; `what` is the part in words, and
@@ -62,7 +62,7 @@ export class NotAdmitted extends Error {
     constructor({ part = null, number, key = null, value = null }, index, why = "would not read back") {
         const [beside, thing] = part === null ? ["", "part"] : part.split(" ").reverse();
         const what = part === null ? "a part" : part === "measurement" ? "the measurement" : `the ${beside} of ${thing} ${number}`;
-        const shown = text => JSON.stringify(text.length > SHOWN ? `${text.slice(0, SHOWN)}..` : text);
+        const shown = text => JSON.stringify(text.length > MOST_SHOWN ? `${text.slice(0, MOST_SHOWN)}..` : text);
         super(`${what} of line ${index + 1} ${why}${value === null ? "" : `: ${shown(value)}`}${key === null ? "" : `, of the key ${shown(key)}`}`);
         Object.assign(this, { name: "NotAdmitted", what, index, part, key, value });
     }
