@@ -136,6 +136,13 @@ func (b *safeBuffer) Write(text []byte) (int, error) {
 	return b.text.Write(text)
 }
 
+// Reset forgets the text.
+func (b *safeBuffer) Reset() {
+	b.mu.Lock()
+	defer b.mu.Unlock()
+	b.text.Reset()
+}
+
 func (b *safeBuffer) String() string {
 	b.mu.Lock()
 	defer b.mu.Unlock()
@@ -498,7 +505,8 @@ func TestHangs(t *testing.T) {
 
 // What a client sends that gives up is kept at once.
 func TestGone(t *testing.T) {
-	defer func(had time.Duration) { patience = had }(patience)
+	had := patience
+	t.Cleanup(func() { patience = had }) // once the server has ended
 	patience = time.Hour
 	s, folder := newStub(t), t.TempDir()
 	spool := filepath.Join(folder, "spool")

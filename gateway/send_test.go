@@ -151,7 +151,7 @@ type room struct {
 	*judge
 	dir  string
 	url  string
-	said bytes.Buffer
+	said safeBuffer
 	more []string // options
 }
 
@@ -361,7 +361,9 @@ func TestSendUnread(t *testing.T) {
 	r.says("a batch cannot be read", "b.lp: .*")
 	good := filepath.Join(t.TempDir(), "good")
 	os.WriteFile(good, []byte("m f=4 4\nm\nm f=5 5"), 0o600)
+	back, _ := os.Getwd()
 	os.Chdir(t.TempDir())
+	t.Cleanup(func() { os.Chdir(back) })
 	r = newRoom(t)
 	status := run([]string{"send", "--url", r.url, "--wait", "1ms", "--dead", "dead", "/proc/self/mem", good}, io.Discard, &r.said)
 	want(t, "a file cannot be read", fmt.Sprint(status, r.calls), "2 [204:4,5]")
@@ -481,7 +483,7 @@ func TestSendEachEnd(t *testing.T) {
 			r.same(fmt.Sprint(call, " ", n), 1, 1, "400:1,2 400:3,4 400:4 204:3", "1 3", badLetter+"m bad=1 2\n# 400 "+conflictLetter+"1\"}\nm f=t 4\n", "")
 		}
 	}
-	if kills < 12 {
+	if kills < 6 {
 		t.Errorf("there were only %d kills", kills)
 	}
 }

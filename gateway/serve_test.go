@@ -221,7 +221,7 @@ func TestTCP(t *testing.T) {
 	want(t, "what is rejected", fmt.Sprintf("%.20q", rejected(t, folder)), fmt.Sprintf("%.20q", []string{strings.Repeat("x", 1000), "m conflict=1 1"}))
 	c, _ = net.Dial("tcp", lines)
 	fmt.Fprint(c, "m f=2 2\nm f=3")
-	wait(t, "the line is read", func() bool { return g.door.bytes > 0 })
+	wait(t, "the line is read", func() bool { bytes, _ := g.door.state(); return bytes > 0 })
 	cancel()
 	want(t, "how it ends", fmt.Sprint(<-ended), "<nil>")
 	want(t, "whole lines are kept at the end", fmt.Sprint(inSpool(filepath.Join(folder, "spool")) == 1 || strings.Contains(s.taken(), "m f=2 2")), "true")

@@ -187,7 +187,9 @@ func (s *spool) readHead(e *entry) (h *head, begin int64, err error) {
 	if err == nil {
 		to := s.shared(&h.To)
 		s.mu.Lock()
-		e.at, e.to = h.At, to
+		if e.to == nil {
+			e.at, e.to = h.At, to
+		}
 		s.mu.Unlock()
 	}
 	return h, begin, err
