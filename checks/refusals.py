@@ -264,8 +264,9 @@ def count_few_series():
     text = b"m,t=b f=1i 5\nm,t=a f=2 -3\nx\nn,t=a g=\"s\"\nm,t=c f=t\nm,t=a f=3"
     told = counted(lambda: reported("series", 0, NO_LIMIT, 3, text, numbers([13, 9, 37])))
     must(len(told) == 4 and told[0] == b"1 0 5 5 0 0\nseries m,t=b 1\npoints m 1\nkeys m 1\nfield m f false,true,false,false,false\ntag t b\n", told)
-    must(told[3] == b"5 3 -3 5 1 1\nseries m,t=a 2\nseries m,t=b 1\nseries n,t=a 1\npoints m 3\nkeys m 2\nfield m f true,true,false,false,false\n"
-         b"points n 1\nkeys n 1\nfield n g false,false,false,true,false\ntag t a\ntag t b\n", told)
+    # Series and values of tags come in the order in which they came, measurements and fields in the order of their names.
+    must(told[3] == b"5 3 -3 5 1 1\nseries m,t=b 1\nseries m,t=a 2\nseries n,t=a 1\npoints m 3\nkeys m 2\nfield m f true,true,false,false,false\n"
+         b"points n 1\nkeys n 1\nfield n g false,false,false,true,false\ntag t b\ntag t a\n", told)
 
 
 # ---- calls of the builder ----
