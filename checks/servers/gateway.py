@@ -121,7 +121,7 @@ class Load:
     def __init__(self, trial, threads=4):
         self.trial, self.taken, self.going = trial, [[] for _ in range(threads)], True
         self.last = [0] * threads  # the value of a point of each thread that was taken last
-        self.threads = [threading.Thread(target=self.write, args=(number,)) for number in range(threads)]
+        self.threads = [threading.Thread(target=self.write, args=(number,), daemon=True) for number in range(threads)]
         for thread in self.threads:
             thread.start()
 
