@@ -20,7 +20,7 @@ def examples_of(page):
     """The examples of a page, without the section of frames if there is no pandas."""
     text = page.read_text(encoding="utf-8")
     if pandas is None:
-        text = re.sub("^## Frames$.*?^(?=## )", lambda section: "\n" * section[0].count("\n"), text, flags=re.M | re.S)
+        text = re.sub("^## Use frames of pandas$.*?^(?=## )", lambda section: "\n" * section[0].count("\n"), text, flags=re.M | re.S)
     return doctest.DocTestCase(doctest.DocTestParser().get_doctest(text, {}, page.name, str(page), 0))
 
 

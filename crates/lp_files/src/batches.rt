@@ -247,10 +247,10 @@ impl<'a, 'n> Batches<'a, 'n> {
                 return Err(io::Error::from(ErrorKind::Other));
             }
         }
-        let number = self.number.saturating_add(1);
-        let file = file_of(self.rt, self.word, self.names, number)?;
+        // A batch that cannot be made is told by its number too.
+        self.number = self.number.saturating_add(1);
+        let file = file_of(self.rt, self.word, self.names, self.number)?;
         let_file_go(self.file.replace(file));
-        self.number = number;
         Ok(())
     }
 
