@@ -76,6 +76,20 @@ func (o *options) flags(said io.Writer) *flag.FlagSet {
 	return f
 }
 
+// parse reads options that come before, between or after other words, and returns the other words. Each word after -- is one.
+func parse(f *flag.FlagSet, words []string) (others []string, err error) {
+	for {
+		if err = f.Parse(words); err != nil {
+			return nil, err
+		}
+		rest := f.Args()
+		if at := len(words) - len(rest); len(rest) == 0 || at > 0 && words[at-1] == "--" {
+			return append(others, rest...), nil
+		}
+		others, words = append(others, rest[0]), rest[1:]
+	}
+}
+
 // readOptions reads the words of a command line, after those of the file that they name. Lists have the values of both.
 func readOptions(words []string, said io.Writer) (*options, error) {
 	o := &options{}

@@ -93,7 +93,7 @@ func readSend(words []string, said io.Writer) (r *sendRun, files []string, err e
 		fmt.Fprint(said, "usage: lp_gateway send [--NAME VALUE].. FILE..\n       lp_gateway send [--NAME VALUE].. --spool FOLDER\n\n")
 		f.PrintDefaults()
 	}
-	if err := f.Parse(words); err != nil {
+	if files, err = parse(f, words); err != nil {
 		if errors.Is(err, flag.ErrHelp) {
 			return r, nil, err
 		}
@@ -106,13 +106,13 @@ func readSend(words []string, said io.Writer) (r *sendRun, files []string, err e
 		return r, nil, failed("%v", err)
 	case wrong != nil || address.Host == "":
 		return r, nil, failed("--url is not a URL such as http://127.0.0.1:8086/write?db=DB&precision=ns")
-	case (r.spool == "") == (f.NArg() == 0):
+	case (r.spool == "") == (len(files) == 0):
 		return r, nil, failed("name either files or a folder by --spool")
 	case r.tries < 1 || r.senders < 1 || r.senders > lanes || r.wait < 0 || r.timeout <= 0:
 		return r, nil, failed("--tries, --senders, --wait and --timeout cannot be less than 1, and --senders not more than %d", lanes)
 	}
 	r.authorization = known.forServer(address.Host)
-	return r, f.Args(), nil
+	return r, files, nil
 }
 
 // end tells the counts, or why the run failed, and returns the status.

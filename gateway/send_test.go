@@ -318,6 +318,12 @@ func TestSendFaults(t *testing.T) {
 	r.sends("the server has room again", 0, "204:1 204:2 204:3", "1 2 3", "", "")
 }
 
+// Options come before, between and after files, and each word after -- is a file.
+func TestSendOrder(t *testing.T) {
+	r, files, err := readSend([]string{"a.lp", "--tries", "2", "b.lp", "--gzip", "--", "--c.lp"}, io.Discard)
+	want(t, "what is read", fmt.Sprint(files, r.tries, r.gzip, err), "[a.lp b.lp --c.lp] 2 true <nil>")
+}
+
 // What the folders and files of a run are, and what it finds there.
 func TestSendFolders(t *testing.T) {
 	r := newRoom(t, "a b", "m f=1 1\n", "-c", "m f=2 2\nm bad=1 3\n")
