@@ -176,8 +176,11 @@ func (r *sendRun) cutFiles(files []string) (err error) {
 	number := 0
 	for _, path := range files {
 		if err := r.cutFile(path, &number); err != nil {
-			r.unread = fmt.Sprintf("%s: %v", path, err)
-			r.say("%s: it stays", r.unread)
+			if wrong := (*os.PathError)(nil); errors.As(err, &wrong) {
+				err = wrong.Err
+			}
+			r.unread = fmt.Sprintf("cannot read %s: %v", path, err)
+			r.say("%s; the other files are sent", r.unread)
 		}
 	}
 	return nil
