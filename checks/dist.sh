@@ -187,7 +187,10 @@ install_here() {
     (cd "$work" && DESTDIR=before "$top/bin/install" --built built) >"$work/said"
     are_of_dist "bin/install with DESTDIR" "$work/before/usr/local"
     "$top/bin/install" --libdir lib64/sub --built "$work/built" "$work/wide" >"$work/said"
-    if [ ! -e "$work/wide/lib64/sub/libinfluxdb_line_protocol.a" ] || [ -e "$work/wide/lib" ]; then fail "--libdir is not where the library comes"; fi
+    # Units of systemd lie in lib, whatever the folder of the library is.
+    if [ ! -e "$work/wide/lib64/sub/libinfluxdb_line_protocol.a" ] || [ -n "$(find "$work/wide/lib" -mindepth 1 -maxdepth 1 ! -name systemd 2>/dev/null)" ]; then
+        fail "--libdir is not where the library comes"
+    fi
     if command -v pkg-config >/dev/null; then
         equal "where pkg-config finds it then" "-I$work/wide/include -L$work/wide/lib64/sub" "$(realpaths \
             "$(PKG_CONFIG_PATH=$work/wide/lib64/sub/pkgconfig pkg-config --cflags --libs-only-L influxdb_line_protocol)")"
